@@ -1,0 +1,98 @@
+-- Digits, as the code reads and writes them.
+use Rattle.std.proofs.Common.{◌≡◌, ◌∙◌, sym, ap, ap₂, refl, arith, add-one, ℕ, suc, zero, ◌+◌, ◌*◌, ◌/◌, ◌%◌, ◌^◌, ◌<◌, ◌≤◌, List, [], ◌∷◌, length, get_or, set, drop, min, true, false, cond, eqb, nat_lt, ◌≢◌, inl, inr}
+use Rattle.std.proofs.lemmas.Bool.{cases_lt}
+use Rattle.std.proofs.lemmas.Bool.Decides.{nat_tests}
+use Rattle.std.proofs.lemmas.List.{drop_more, drop_all, drop-set}
+use Rattle.std.proofs.Math.Nat.{mul-le-mul_left, pow-suc, div-lt_iff_lt-mul}
+use Rattle.std.specs.List.{list_all}
+use Rattle.std.specs.Fmt.{digits_onto, digits, digit_glyph}
+use Rattle.std.specs.Char.{digit_value}
+use Rattle.std.specs.Str.Parse.{digits_value_after}
+use Rattle.avr_image.specs.Values.{is_digit_of}
+
+-- ---- read
+
+same_cap : (a b base digit : ℕ) → 1 ≤ base → min a 256 ≡ min b 256 → min (a * base + digit) 256 ≡ min (b * base + digit) 256
+same_cap a b base digit some same = elim (cases_lt a 256) [
+  | inl small ↦ let equal : a ≡ b = omega (arith, same, small) in ap (λ (n : ℕ). min (n * base + digit) 256) equal
+  | inr large ↦
+      let more : a ≤ a * base = omega (arith, mul-le-mul_left a some) in
+      let too : b ≤ b * base = omega (arith, mul-le-mul_left b some) in
+      omega (arith, same, large, more, too)
+]
+
+capped : (base a b : ℕ) (digits : List ℕ) → 1 ≤ base → min a 256 ≡ min b 256 → min (digits_value_after base a digits) 256 ≡ min (digits_value_after base b digits) 256
+capped base a b [] some same = same
+capped base a b (c ∷ digits) some same =
+    capped base (a * base + digit_value c) (b * base + digit_value c) digits some (same_cap a b base (digit_value c) some same)
+
+pub value-step : (base value digit i : ℕ) (digits : List ℕ) → 1 ≤ base → i < length digits → digit ≡ digit_value (get_or digits i 0)
+    → min (digits_value_after base (min (value * base + digit) 256) (drop (i + 1) digits)) 256 ≡ min (digits_value_after base value (drop i digits)) 256
+value-step base value digit i digits some l here =
+    capped base (min (value * base + digit) 256) (value * base + digit) (drop (i + 1) digits) some (omega arith)
+    ∙ ap (λ (d : ℕ). min (digits_value_after base (value * base + d) (drop (i + 1) digits)) 256) here
+    ∙ ap (λ (rest : List ℕ). min (digits_value_after base value rest) 256) (sym (drop_more digits i 0 l))
+
+pub digits-step : (base i : ℕ) (digits : List ℕ) → i < length digits → is_digit_of base (get_or digits i 0) ≡ true
+    → list_all (is_digit_of base) (drop (i + 1) digits) ≡ list_all (is_digit_of base) (drop i digits)
+digits-step base i digits l here = sym (ap (list_all (is_digit_of base)) (drop_more digits i 0 l) ∙ rw here refl)
+
+-- ---- written
+
+pub written-step : (radix rest at next glyph : ℕ) (buffer : List ℕ) → at ≡ next + 1 → next < length buffer → glyph ≡ digit_glyph false (rest % radix)
+    → digits_onto (56 + at) radix false rest (drop at buffer)
+    ≡ cond (eqb (rest / radix) 0) (drop next (set buffer next glyph)) (digits_onto (56 + next) radix false (rest / radix) (drop next (set buffer next glyph)))
+written-step radix rest at next glyph buffer step l here =
+    let fuel : 56 + at ≡ suc (56 + next) = omega (arith, step) in
+    let grown : drop next (set buffer next glyph) ≡ digit_glyph false (rest % radix) ∷ drop at buffer =
+    drop-set buffer next glyph l ∙ ap₂ (λ (n k : ℕ). n ∷ drop k buffer) here (sym step) in
+    rw (fuel, grown) refl
+
+pub digit_left : (radix rest at next : ℕ) → 2 ≤ radix → at ≡ next + 1 → rest < 2 ^ at → rest / radix < 2 ^ next
+digit_left radix rest at next low step l =
+    let power : 2 ^ at ≡ 2 ^ next * 2 = ap (λ (n : ℕ). 2 ^ n) (step ∙ add-one next) ∙ pow-suc 2 next in
+    let wider : 2 ^ next * 2 ≤ 2 ^ next * radix = mul-le-mul_left (2 ^ next) low in
+    let some : zero < radix = omega (arith, low) in
+    let bound : rest < 2 ^ next * radix = omega (arith, l, power, wider) in
+    (div-lt_iff_lt-mul some).1 bound
+
+-- the digits of a byte below `at` are to be written, and the others stand from there on
+pub record IsWritten (radix byte rest at : ℕ) (buffer : List ℕ) : Type 0 where
+  pub joined : digits_onto (56 + at) radix false rest (drop at buffer) ≡ digits radix false byte
+
+pub none_written : (radix byte at : ℕ) (buffer : List ℕ) → at ≡ 8 → length buffer ≡ 8 → IsWritten radix byte byte at buffer
+unfolding digits
+none_written radix byte at buffer start size = record {
+  joined =
+      let fuel : 56 + at ≡ 64 = omega (arith, start) in
+      let none : drop at buffer ≡ [] = drop_all at buffer (omega (arith, start, size)) in
+      ap₂ (λ (k : ℕ) (more : List ℕ). digits_onto k radix false byte more) fuel none;
+}
+
+pub more_written : (radix byte rest at next glyph : ℕ) (buffer : List ℕ) → IsWritten radix byte rest at buffer
+    → at ≡ next + 1 → next < length buffer → glyph ≡ digit_glyph false (rest % radix) → eqb (rest / radix) 0 ≡ false
+    → IsWritten radix byte (rest / radix) next (set buffer next glyph)
+more_written radix byte rest at next glyph buffer before step l here left =
+    let e = written-step radix rest at next glyph buffer step l here in
+    record { joined = rw left at (sym e ∙ before.joined) }
+
+pub all_written : (radix byte rest at next glyph : ℕ) (buffer : List ℕ) → IsWritten radix byte rest at buffer
+    → at ≡ next + 1 → next < length buffer → glyph ≡ digit_glyph false (rest % radix) → eqb (rest / radix) 0 ≡ true
+    → drop next (set buffer next glyph) ≡ digits radix false byte
+all_written radix byte rest at next glyph buffer before step l here last =
+    let e = written-step radix rest at next glyph buffer step l here in
+    rw last at (sym e ∙ before.joined)
+
+pub lt_test : (a b : ℕ) → a < b → nat_lt a b ≡ true
+lt_test a b l = grind (arith, nat_tests, l)
+
+pub eq_test : (a b : ℕ) → a ≡ b → eqb a b ≡ true
+eq_test a b e = grind (arith, nat_tests, e)
+
+pub ne_test : (a b : ℕ) → a ≢ b → eqb a b ≡ false
+ne_test a b n = grind (arith, nat_tests, n)
+
+-- a number that isn't 0 takes a digit
+pub digit_more : (n places : ℕ) → n ≢ 0 → n < 2 ^ places → 0 < places
+digit_more n zero some l = absurd (some (omega (arith, l)))
+digit_more n (suc places) some l = omega arith

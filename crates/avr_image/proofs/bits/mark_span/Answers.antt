@@ -1,0 +1,37 @@
+use Rattle.std.proofs.Common.{◌≡◌, ◌∙◌, ap, sym, arith, ◌||◌, ◌<◌, ◌/◌, ℕ, get_or, length, refl, bit_or, Bool, set}
+use Rattle.std.proofs.lemmas.List.{length-set}
+use Rattle.avr_image.specs.Present.{is_present, is_within}
+use Rattle.avr_image.proofs.Masks.{span_word, spans_join, no_span}
+use Rattle.avr_image.proofs.Shown.{same_default}
+use Rattle.avr_image.proofs.bits.mark_span.Goals as goal
+
+pub loop-at-init : goal.loop-at-init
+loop-at-init c = record {
+  after = omega arith;
+  within = c.requires.ordered;
+  len = refl;
+  marked = λ k. sym (no_span c.args.from k _);
+}
+
+pub loop-at-preserved : goal.loop-at-preserved
+loop-at-preserved c =
+    let kept = c.loop-at.invariant in
+    let items = c.loop-at.words.items in
+    let at = c.loop-at.at in
+    let inside : at / 64 < length items = omega (arith, kept.len, c.requires.within, c.loop-at-test.true) in
+    let word : c.index_mut.result.now ≡ get_or items (at / 64) 0 = c.index_mut.ensures.value ∙ same_default items (at / 64) _ 0 inside in
+    record {
+      after = omega (arith, kept.after, c.min-stop.ensures, c.loop-at-test.true);
+      within = omega (arith, c.min-stop.ensures);
+      len = length-set items (at / 64) _ ∙ kept.len;
+      marked = λ k.
+          ap (λ (w : ℕ). is_present (set items (at / 64) (bit_or w c.ones.result)) k) word
+          ∙ span_word items at c.min-stop.result c.ones.result k (omega (arith, c.min-stop.ensures, c.loop-at-test.true)) (omega (arith, c.min-stop.ensures)) inside c.ones.ensures
+          ∙ ap (λ (b : Bool). is_within at c.min-stop.result k || b) (kept.marked k)
+          ∙ spans_join c.args.from at c.min-stop.result k _ kept.after (omega (arith, c.min-stop.ensures, c.loop-at-test.true));
+    }
+
+pub returns-clause-marked : goal.returns-clause-marked
+returns-clause-marked c = λ k.
+    let ended : c.loop-at.at ≡ c.args.end = omega (arith, c.loop-at.invariant.within, c.loop-at-test.false) in
+    c.loop-at.invariant.marked k ∙ ap (λ (n : ℕ). is_within c.args.from n k || is_present c.args.words.now.items k) ended

@@ -1,0 +1,15 @@
+use Rattle.std.proofs.Common.{◌≡◌, ◌^◌, ◌<◌, ◌≤◌, length}
+use Rattle.avr_image.proofs.Numerals.{IsWritten}
+use Rattle.avr_image.proofs.digits.write_digits.Given as goal
+
+abbrev pub decreases-loop-rest : goal.decreases-loop-rest
+decreases-loop-rest l = l.at
+
+abbrev pub invariant-loop-rest : goal.invariant-loop-rest
+invariant-loop-rest l = record {
+  size : length l.buffer ≡ 8;
+  bound : l.at ≤ 8;
+  some : 0 < l.at;
+  small : l.rest < 2 ^ l.at;
+  written : IsWritten l.radix l.byte l.rest l.at l.buffer;
+}

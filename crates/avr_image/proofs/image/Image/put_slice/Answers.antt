@@ -1,0 +1,56 @@
+use Rattle.std.proofs.Common.{◌≡◌, ◌<◌, ◌+◌, ◌≤◌, ◌∙◌, sym, ap, arith, refl, ℕ, List, Option, length, max}
+use Rattle.std.proofs.lemmas.Bool.Decides.{nat_tests}
+use Rattle.std.specs.List.{enumerate_from}
+use Rattle.avr_image.specs.Image.{laid_over}
+use Rattle.avr_image.specs.Dense.{shown}
+use Rattle.avr_image.proofs.Shown.{sized, length_shown}
+use Rattle.avr_image.proofs.Laying.{shown-pasted, kept-pasted, length-pasted, fits_yes, fits_no}
+use Rattle.avr_image.proofs.image.Image.put_slice.Goals as goal
+
+pub returns-then-bytes-saturating_sub-clause-judged : goal.returns-then-bytes-saturating_sub-clause-judged
+returns-then-bytes-saturating_sub-clause-judged c =
+    let size = sized _ _ c.self.view_is in
+    let past : length c.args.self.now < c.args.addr + length c.args.bytes.now =
+    omega (arith, size, c.len-size.ensures, c.saturating_sub.ensures, c.if-bytes-saturating_sub.true) in
+    let some : 0 < length c.args.bytes.now = omega (arith, c.saturating_sub.ensures, c.if-bytes-saturating_sub.true) in
+    let same : c.max.result ≡ max c.args.addr (length c.args.self.now) = omega (arith, size, c.len-size.ensures, c.max.ensures) in
+    rw (fits_no c.args.addr c.args.bytes.now (length c.args.self.now) some past, same) refl
+
+pub invariant_of-self : goal.invariant_of-self
+invariant_of-self c =
+    let words = c.self.inside.words.items in
+    let bytes = c.self.inside.bytes.items in
+    let some : 0 < length c.args.bytes.now = grind (arith, nat_tests, c.is_empty.ensures, c.if-is_empty.false) in
+    let room : c.args.addr + length c.args.bytes.now ≤ length bytes =
+    omega (arith, some, c.len-size.ensures, c.saturating_sub.ensures, c.if-bytes-saturating_sub.false) in
+    rw c.paste.ensures
+    (kept-pasted words c.mark_span.new.words.items bytes c.args.bytes.now c.args.addr room c.mark_span.ensures.marked c.mark_span.ensures.len c.self.invariant)
+
+pub returns-clause-judged : goal.returns-clause-judged
+returns-clause-judged c =
+    let size = sized _ _ c.self.view_is in
+    let some : 0 < length c.args.bytes.now = grind (arith, nat_tests, c.is_empty.ensures, c.if-is_empty.false) in
+    let room : c.args.addr + length c.args.bytes.now ≤ length c.args.self.now =
+    omega (arith, some, size, c.len-size.ensures, c.saturating_sub.ensures, c.if-bytes-saturating_sub.false) in
+    rw (fits_yes c.args.addr c.args.bytes.now (length c.args.self.now) room) refl
+
+pub returns-clause-laid : goal.returns-clause-laid
+returns-clause-laid c =
+    let words = c.self.inside.words.items in
+    let bytes = c.self.inside.bytes.items in
+    let some : 0 < length c.args.bytes.now = grind (arith, nat_tests, c.is_empty.ensures, c.if-is_empty.false) in
+    let room : c.args.addr + length c.args.bytes.now ≤ length bytes =
+    omega (arith, some, c.len-size.ensures, c.saturating_sub.ensures, c.if-bytes-saturating_sub.false) in
+    ap (shown c.mark_span.new.words.items) c.paste.ensures
+    ∙ shown-pasted words c.mark_span.new.words.items bytes c.args.bytes.now c.args.addr room c.mark_span.ensures.marked
+    ∙ ap (λ (image : List (Option ℕ)). laid_over image (enumerate_from c.args.addr c.args.bytes.now)) c.self.view_is
+
+pub returns-clause-size : goal.returns-clause-size
+returns-clause-size c =
+    let words = c.self.inside.words.items in
+    let bytes = c.self.inside.bytes.items in
+    let some : 0 < length c.args.bytes.now = grind (arith, nat_tests, c.is_empty.ensures, c.if-is_empty.false) in
+    let room : c.args.addr + length c.args.bytes.now ≤ length bytes =
+    omega (arith, some, c.len-size.ensures, c.saturating_sub.ensures, c.if-bytes-saturating_sub.false) in
+    length_shown c.mark_span.new.words.items c.paste.new.bytes.items ∙ ap length c.paste.ensures
+    ∙ length-pasted c.args.addr c.args.bytes.now bytes room ∙ sym (sized _ _ c.self.view_is)

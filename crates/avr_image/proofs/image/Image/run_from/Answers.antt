@@ -1,0 +1,18 @@
+use Rattle.std.proofs.Common.{◌≡◌, ◌∙◌, ap, arith, length, refl, false, min, ℕ}
+use Rattle.avr_image.proofs.Masks.{same_place}
+use Rattle.avr_image.proofs.Shown.{run_is, no_run_past, sized}
+use Rattle.avr_image.proofs.image.Image.run_from.Goals as goal
+
+pub returns-then-addr-size : goal.returns-then-addr-size
+returns-then-addr-size c =
+    no_run_past c.args.self.now c.args.addr c.args.end (omega (arith, c.if-addr-size.true, c.len-size.ensures, sized _ _ c.self.view_is))
+
+pub returns : goal.returns
+returns c =
+    let words = c.self.inside.words.items in
+    let bytes = c.self.inside.bytes.items in
+    let size : c.len-size.result ≡ length bytes = omega (arith, c.len-size.ensures) in
+    let end : c.min.result ≡ min (length bytes) c.args.end = c.min.ensures ∙ ap (λ (n : ℕ). min n c.args.end) size in
+    run_is words bytes c.args.addr c.args.end c.find.result c.self.view_is
+    (same_place _ words false _ c.args.addr _ _ _ c.find.result c.as_slice.ensures.value refl end refl c.find.ensures)
+    (omega (arith, c.if-addr-size.false, size))

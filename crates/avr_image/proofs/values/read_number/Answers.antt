@@ -1,0 +1,22 @@
+use Rattle.std.proofs.Common.{◌≡◌, ◌<◌, ◌∙◌, ap, arith, get_or, length, ℕ, ◌+◌, min, drop}
+use Rattle.std.specs.Char.{digit_value}
+use Rattle.std.specs.Str.Parse.{digits_value_after}
+use Rattle.avr_image.proofs.Numerals.{value-step, digits-step, lt_test}
+use Rattle.avr_image.proofs.values.read_number.Goals as goal
+
+pub loop-c-preserved : goal.loop-c-preserved
+loop-c-preserved c =
+    let kept = c.loop-c.invariant in
+    let digits = c.args.digits.now in
+    let i = c.loop-c.c-index in
+    let l : i < length digits = omega (arith, c.loop-c-test.true) in
+    let item : c.from.result ≡ get_or digits i 0 = c.from.ensures in
+    let value_is : digit_value c.from.result ≡ digit_value (get_or digits i 0) = ap digit_value item in
+    let small : digit_value (get_or digits i 0) < c.args.base = omega (arith, c.in-Some.ensures.value.0, value_is) in
+    record {
+      small = omega (arith, c.min-value.ensures);
+      digits = digits-step c.args.base i digits l (lt_test (digit_value (get_or digits i 0)) c.args.base small) ∙ kept.digits;
+      value =
+          ap (λ (n : ℕ). min (digits_value_after c.args.base n (drop (i + 1) digits)) 256) c.min-value.ensures
+          ∙ value-step c.args.base c.loop-c.value c.in-Some.digit i digits (omega (arith, c.requires.low)) l (c.in-Some.ensures.value.1 ∙ value_is) ∙ kept.value;
+    }

@@ -1,0 +1,64 @@
+-- An image of a memory: for each address below its size the byte that it holds there, if it holds one.
+use Rattle.std.specs.Prelude.{ℕ, zero, suc, Bool, true, nat_le, length, ◌+◌, ◌-◌, List, [], ◌∷◌, ◌++◌, map, take, drop, replicate, Option, Some, None, is_some, unwrap_or, slice_index_or, slice_set, fold, count_by}
+use Rattle.std.specs.List.{position_from, prefix_len}
+
+-- an image that holds nothing
+abbrev pub empty : ℕ → List (Option ℕ)
+empty size = replicate size None
+
+-- the byte at an address
+abbrev pub byte_at : List (Option ℕ) → ℕ → Option ℕ
+byte_at image addr = slice_index_or image addr None
+
+-- the image with this byte at this address
+abbrev pub with_byte : List (Option ℕ) → ℕ → ℕ → List (Option ℕ)
+with_byte image addr byte = slice_set image addr (Some byte)
+
+-- the first byte, if there is one, else the second
+abbrev pub either : Option ℕ → Option ℕ → Option ℕ
+either (Some b) a = Some b
+either None a = a
+
+-- the images of one size laid over each other: where both hold a byte, the second's stands
+abbrev pub over : List (Option ℕ) → List (Option ℕ) → List (Option ℕ)
+over [] bs = []
+over (a ∷ more) [] = a ∷ more
+over (a ∷ more) (b ∷ bs) = either b a ∷ over more bs
+
+-- an image once bytes are laid down at addresses, in their order: a later byte at an address wins
+abbrev pub laid_over : List (Option ℕ) → List (ℕ × ℕ) → List (Option ℕ)
+laid_over image = fold (λ image place. with_byte image place.0 place.1) image
+
+-- the image of bytes at addresses
+abbrev pub laid : ℕ → List (ℕ × ℕ) → List (Option ℕ)
+laid size = laid_over (empty size)
+
+-- the image that holds these bytes from address 0 on
+abbrev pub from_zero : List ℕ → ℕ → List (Option ℕ)
+from_zero bytes size = map (λ byte. Some byte) bytes ++ replicate (size - length bytes) None
+
+-- bytes from an address on lie inside a memory of this size; no byte lies anywhere
+abbrev pub fits : ℕ → List ℕ → ℕ → Bool
+fits addr [] size = true
+fits addr (byte ∷ bytes) size = nat_le (addr + length (byte ∷ bytes)) size
+
+-- how many addresses hold a byte
+abbrev pub held : List (Option ℕ) → ℕ
+held = count_by is_some
+
+-- the least address from `addr` on that holds a byte
+abbrev pub first_from : List (Option ℕ) → ℕ → Option ℕ
+first_from image addr = position_from is_some addr (drop addr image)
+
+-- the end of the run of held addresses that begins at `addr`, at most `end`
+abbrev pub run_end : List (Option ℕ) → ℕ → ℕ → ℕ
+run_end image addr end = addr + prefix_len is_some (take (end - addr) (drop addr image))
+
+-- a byte, or FF in a gap
+abbrev pub or_blank : Option ℕ → ℕ
+or_blank byte = unwrap_or byte 255
+
+-- the n bytes from `start` on, FF in gaps and past the image
+abbrev pub filled : List (Option ℕ) → ℕ → ℕ → List ℕ
+filled image start zero = []
+filled image start (suc n) = or_blank (byte_at image start) ∷ filled image (start + 1) n

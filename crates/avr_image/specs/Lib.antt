@@ -1,0 +1,9 @@
+pub mod Image
+pub mod Present
+pub mod Walk
+pub mod Dense
+pub mod Fault
+pub mod Raw
+pub mod Values
+pub mod Placing
+pub mod Lists

@@ -1,0 +1,32 @@
+-- Lists of numbers.
+use Rattle.std.specs.Prelude.{ℕ, nat_lt, Bool, false, List, [], ◌∷◌, ◌++◌, map, if◌then◌else◌}
+use Rattle.std.specs.List.{join_with_byte}
+use Rattle.std.specs.Fmt.{digits}
+use Rattle.avr_image.specs.declared.base.Base.{Base}
+use Rattle.avr_image.specs.declared.base.Base.TheVariants.{Dec, Hex, Oct, Bin}
+
+-- how many digits a base has
+abbrev pub radix : Base → ℕ
+radix Dec = 10
+radix Hex = 16
+radix Oct = 8
+radix Bin = 2
+
+-- what stands in front of a number: nothing; `0x`; a zero from 8 on; `0b`
+abbrev pub prefix : Base → ℕ → List ℕ
+prefix Dec n = []
+prefix Hex n = 48 ∷ 120 ∷ []
+prefix Oct n = if nat_lt n 8 then [] else 48 ∷ []
+prefix Bin n = 48 ∷ 98 ∷ []
+
+-- a number, in lower case and without padding
+abbrev pub number_text : Base → ℕ → List ℕ
+number_text base n = prefix base n ++ digits (radix base) false n
+
+-- the numbers on one line, with commas between them
+abbrev pub list_text : Base → List ℕ → List ℕ
+list_text base bytes = join_with_byte 44 (map (number_text base) bytes) ++ 10 ∷ []
+
+-- the text that is still to come, once its end may have been reached
+abbrev pub list_rest : Bool → Base → List ℕ → List ℕ
+list_rest ended base bytes = if ended then [] else list_text base bytes

@@ -1,0 +1,75 @@
+-- Values given in the words of a command.
+use Rattle.std.specs.Prelude.{ℕ, Bool, ◌+◌, ◌-◌, ◌^◌, min, ◌==◌, ◌&&◌, ◌||◌, not, nat_lt, nat_le, List, [], ◌∷◌, length, map, filter, Option, Some, None, Result, Ok, Err, if◌then◌else◌}
+use Rattle.std.specs.List.{list_all, slice_split, enumerate_from}
+use Rattle.std.specs.Char.{digit_value}
+use Rattle.std.specs.Str.Parse.{digits_value}
+use Rattle.avr_image.specs.Image.{from_zero}
+use Rattle.avr_image.specs.declared.fault.ImageFault.{ImageFault}
+use Rattle.avr_image.specs.declared.fault.ImageFault.TheVariants.{OutOfRange, BadNumber, TooLarge}
+
+-- a comma, a space or a tab
+abbrev pub is_separator : ℕ → Bool
+is_separator c = c == 44 || c == 32 || c == 9
+
+-- what stands between separators, without the empty pieces
+abbrev pub pieces : List ℕ → List (List ℕ)
+pieces text = filter (λ piece. nat_lt 0 (length piece)) (slice_split is_separator text)
+
+-- a character is a digit of a base
+abbrev pub is_digit_of : ℕ → ℕ → Bool
+is_digit_of base c = nat_lt (digit_value c) base
+
+-- the number that one or more digits of a base write
+abbrev pub number : ℕ → List ℕ → Option ℕ
+number base digits =
+    if nat_lt 0 (length digits) && list_all (is_digit_of base) digits
+    then Some (digits_value base digits) else None
+
+-- what a zero and a letter say of the digits behind them
+abbrev pub prefixed : ℕ → List ℕ → Option ℕ
+prefixed letter digits =
+    if letter == 120 || letter == 88 then number 16 digits
+    else if letter == 98 || letter == 66 then number 2 digits
+    else number 8 (letter ∷ digits)
+
+-- the number that a piece writes: `0x` and hexadecimal digits, `0b` and binary ones, `0` and octal ones, or decimal ones
+abbrev pub value_of : List ℕ → Option ℕ
+value_of (first ∷ second ∷ more) =
+    if first == 48 then prefixed second more else number 10 (first ∷ second ∷ more)
+value_of digits = number 10 digits
+
+-- the place of the value for an address: values are counted from 1, as far as a number of 32 bits counts
+abbrev pub place : ℕ → ℕ
+place addr = min (addr + 1) (2 ^ 32 - 1)
+
+-- the byte that the value for an address is, in a memory of this size
+abbrev pub fitting : ℕ → ℕ → Option ℕ → Result ℕ ImageFault
+fitting size addr None = Err (BadNumber (place addr))
+fitting size addr (Some value) =
+    if not (nat_le value 255) then Err (TooLarge (place addr))
+    else if not (nat_lt addr size) then Err (OutOfRange addr)
+    else Ok value
+
+abbrev pub judged : ℕ → ℕ × List ℕ → Result ℕ ImageFault
+judged size piece = fitting size piece.0 (value_of piece.1)
+
+-- with a value before those that follow
+abbrev pub onto_ok : Result ℕ ImageFault → Result (List ℕ) ImageFault → Result (List ℕ) ImageFault
+onto_ok (Err fault) rest = Err fault
+onto_ok (Ok byte) (Err fault) = Err fault
+onto_ok (Ok byte) (Ok bytes) = Ok (byte ∷ bytes)
+
+-- all bytes, or the first fault
+abbrev pub all_ok : List (Result ℕ ImageFault) → Result (List ℕ) ImageFault
+all_ok [] = Ok []
+all_ok (r ∷ rs) = onto_ok r (all_ok rs)
+
+abbrev pub image_of : ℕ → Result (List ℕ) ImageFault → Result (List (Option ℕ)) ImageFault
+image_of size (Ok bytes) = Ok (from_zero bytes size)
+image_of size (Err fault) = Err fault
+
+-- The values stand at the addresses from 0 on. No value at all is a bad first one.
+abbrev pub values : List ℕ → ℕ → Result (List (Option ℕ)) ImageFault
+values text size =
+    if length (pieces text) == 0 then Err (BadNumber 1)
+    else image_of size (all_ok (map (judged size) (enumerate_from 0 (pieces text))))

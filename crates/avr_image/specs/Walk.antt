@@ -1,0 +1,22 @@
+-- Walking over the bytes of an image, place by place.
+use Rattle.std.specs.Prelude.{◌≡◌, ℕ, ◌+◌, ◌<◌, ◌≤◌, true, List, length, slice_index, Option, None, is_some}
+use Rattle.avr_image.specs.Image.{byte_at, or_blank}
+
+-- the next address from `addr` on that holds a byte
+pub record IsNextHeld (image : List (Option ℕ)) (addr place : ℕ) : Type 0 where
+  pub after : addr ≤ place
+  pub within : place < length image
+  pub held : is_some (byte_at image place) ≡ true
+  pub gap : (k : ℕ) → addr ≤ k → k < place → byte_at image k ≡ None
+
+-- the longest run of bytes from `addr` on that ends at `end` or before
+pub record IsRun (image : List (Option ℕ)) (addr end place : ℕ) : Type 0 where
+  pub after : addr ≤ place
+  pub bound : place ≤ end
+  pub held : (k : ℕ) → addr ≤ k → k < place → is_some (byte_at image k) ≡ true
+  pub stop : place < end → byte_at image place ≡ None
+
+-- so many bytes, each that of its address, or FF in a gap
+pub record IsFilled (image : List (Option ℕ)) (start n : ℕ) (bytes : List ℕ) : Type 0 where
+  pub size : length bytes ≡ n
+  pub byte : (i : ℕ) → i < n → slice_index bytes i ≡ or_blank (byte_at image (start + i))

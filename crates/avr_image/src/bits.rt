@@ -1,0 +1,82 @@
+//! The bits that say which addresses hold a byte: 64 a word, the lowest address in the lowest bit.
+
+ghost use Rattle.std.specs.Prelude.{◌≡◌, ◌+◌, ◌*◌, ◌^◌, ◌<◌, ◌≤◌, ◌==◌, ◌&&◌, ◌||◌, ℕ, length, nat_le, nat_lt, if◌then◌else◌, not};
+ghost use Rattle.std.specs.Int.{bit_at};
+ghost use Rattle.avr_image.specs.Present.{is_present, marked, is_within, NextOne, FirstPlace};
+
+/// Whether the bit of an address is 1.
+pub(crate) fn is_set(words: &[u64], addr: usize) -> bool
+    requires { addr < length words.now * 64 }
+    ensures { result ≡ is_present words.now addr }
+{
+    (words[addr / 64] >> (addr % 64)) & 1 == 1
+}
+
+/// Makes the bit of an address 1.
+pub(crate) fn mark(words: &mut Vec<u64>, addr: usize)
+    requires { addr < length words.old.items * 64 }
+    ensures words { words.new.items ≡ marked words.old.items addr }
+{
+    words[addr / 64] |= 1 << (addr % 64);
+}
+
+/// The place of a word's lowest 1 from `from` on, or 64.
+fn next_one(word: u64, from: u32) -> u32
+    requires { from < 64 }
+    ensures { NextOne word from result }
+{
+    (word & (u64::MAX << from)).trailing_zeros()
+}
+
+/// A word that has a 1 where the bit is the wanted one.
+fn matching(word: u64, wanted: bool) -> u64
+    ensures { (i : ℕ) → i < 64 → (bit_at result i == 1) ≡ (if wanted then bit_at word i == 1 else not (bit_at word i == 1)) }
+{
+    if wanted { word } else { !word }
+}
+
+/// The least address from `from` on, below `end`, that is present or absent as wanted; or `end`.
+pub(crate) fn find(words: &[u64], wanted: bool, from: usize, end: usize) -> usize
+    requires ordered { from ≤ end }
+    requires within { end ≤ length words.now * 64 }
+    requires below { end < 2 ^ 32 }
+    ensures { FirstPlace words.now wanted from end result }
+{
+    let mut at = from;
+    while at < end {
+        let base = at / 64 * 64;
+        let place = next_one(matching(words[at / 64], wanted), (at % 64) as u32);
+        if place < 64 {
+            return end.min(base + place as usize);
+        }
+        at = base + 64;
+    }
+    end
+}
+
+/// The word whose bits from `low` up to `high` are 1.
+fn ones(low: u32, high: u32) -> u64
+    requires low { low < 64 }
+    requires some { 0 < high }
+    requires high { high ≤ 64 }
+    ensures { (i : ℕ) → i < 64 → (bit_at result i == 1) ≡ is_within low high i }
+{
+    (u64::MAX << low) & (u64::MAX >> (64 - high))
+}
+
+/// Makes the bits of the addresses from `from` up to `end` 1.
+pub(crate) fn mark_span(words: &mut Vec<u64>, from: usize, end: usize)
+    requires ordered { from ≤ end }
+    requires within { end ≤ length words.old.items * 64 }
+    requires below { end < 2 ^ 32 }
+    ensures marked { (k : ℕ) → is_present words.new.items k ≡ (is_within from end k || is_present words.old.items k) }
+    ensures len { length words.new.items ≡ length words.old.items }
+{
+    let mut at = from;
+    while at < end {
+        let index = at / 64;
+        let stop = end.min(index * 64 + 64);
+        words[index] |= ones((at % 64) as u32, (stop - index * 64) as u32);
+        at = stop;
+    }
+}

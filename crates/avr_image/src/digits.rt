@@ -1,0 +1,84 @@
+//! Bytes written as numbers.
+
+ghost use Rattle.std.specs.Prelude.{◌≡◌, ◌+◌, ◌<◌, ◌≤◌, ◌++◌, length, drop, false};
+ghost use Rattle.std.specs.Fmt.{digit_glyph, digits};
+ghost use Rattle.arrayvec.specs.ArrayVec.{array_vec_len};
+ghost use Rattle.avr_image.specs.Lists.{number_text, prefix, radix};
+
+use crate::base::Base;
+use arrayvec::ArrayVec;
+
+/// The character of a digit.
+fn glyph(digit: u8) -> u8
+    requires { digit < 16 }
+    ensures { result ≡ digit_glyph false digit }
+{
+    if digit < 10 {
+        b'0' + digit
+    } else {
+        b'a' + (digit - 10)
+    }
+}
+
+/// Writes the digits of a byte into the end of the buffer, and answers where they begin.
+fn write_digits(radix: u8, byte: u8, buffer: &mut [u8; 8]) -> usize
+    requires low { 2 ≤ radix }
+    requires high { radix ≤ 16 }
+    ensures start { result ≤ 8 }
+    ensures written { drop result buffer.new ≡ digits radix false byte }
+{
+    let mut rest = byte;
+    let mut at = 8;
+    loop {
+        at -= 1;
+        buffer[at] = glyph(rest % radix);
+        rest /= radix;
+        if rest == 0 {
+            return at;
+        }
+    }
+}
+
+/// Appends bytes for which there is room.
+fn append(out: &mut ArrayVec<u8, 80>, bytes: &[u8])
+    requires { array_vec_len out.old + length bytes.now ≤ 80 }
+    ensures { out.new.items ≡ out.old.items ++ bytes.now }
+{
+    let _ = out.try_extend_from_slice(bytes);
+}
+
+/// What stands in front of a byte's digits.
+fn prefix_of(base: Base, byte: u8) -> &'static [u8]
+    ensures { result.now ≡ prefix base byte }
+{
+    match base {
+        Base::Dec => b"",
+        Base::Hex => b"0x",
+        Base::Oct => if byte < 8 { b"" } else { b"0" },
+        Base::Bin => b"0b",
+    }
+}
+
+/// The count of a base's digits.
+fn radix_of(base: Base) -> u8
+    ensures { result ≡ radix base }
+{
+    match base {
+        Base::Dec => 10,
+        Base::Hex => 16,
+        Base::Oct => 8,
+        Base::Bin => 2,
+    }
+}
+
+/// Appends a byte as a number.
+pub(crate) fn push_number(base: Base, byte: u8, out: &mut ArrayVec<u8, 80>)
+    requires { array_vec_len out.old + 10 ≤ 80 }
+    ensures written { out.new.items ≡ out.old.items ++ number_text base byte }
+    ensures short { array_vec_len out.new ≤ array_vec_len out.old + 10 }
+{
+    let mut buffer = [0; 8];
+    let start = write_digits(radix_of(base), byte, &mut buffer);
+    append(out, prefix_of(base, byte));
+    append(out, &buffer[start..]);
+}

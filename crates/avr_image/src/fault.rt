@@ -1,0 +1,41 @@
+//! What may be wrong with the bytes of an image.
+
+ghost use Rattle.std.specs.Prelude.{◌≡◌};
+ghost use Rattle.avr_image.specs.Fault.{number_of};
+
+use thiserror::Error;
+
+/// Why no image came of some bytes.
+#[derive(Clone, Copy, Debug, Drop, PartialEq, Eq, Error)]
+pub enum ImageFault {
+    /// This address lies outside the memory. Of a raw file it is the memory's size.
+    #[error("address {0} is outside the memory")]
+    OutOfRange(u32),
+    /// The value at this place, counted from 1, is no number.
+    #[error("value {0} is not a number")]
+    BadNumber(u32),
+    /// The value at this place, counted from 1, is above 255.
+    #[error("value {0} is above 255")]
+    TooLarge(u32),
+    /// The reader met a fault before.
+    #[error("the reader has failed before")]
+    Failed,
+    /// There was no memory for the image.
+    #[error("out of memory")]
+    Memory,
+}
+
+impl ImageFault {
+    /// The fault's number.
+    pub fn number(&self) -> u8
+        ensures { result ≡ number_of self.now }
+    {
+        match self {
+            ImageFault::OutOfRange(_) => 1,
+            ImageFault::BadNumber(_) => 2,
+            ImageFault::TooLarge(_) => 3,
+            ImageFault::Failed => 4,
+            ImageFault::Memory => 5,
+        }
+    }
+}

@@ -1,0 +1,190 @@
+//! Images.
+
+ghost use Rattle.std.specs.Prelude.{◌≡◌, ◌+◌, ◌*◌, ◌^◌, ◌<◌, ◌≤◌, ℕ, List, length, max, nat_lt, Ok, Err, OnOk, OnErr, MatchResult, IfOk, replicate, slice_index, slice_index_or, if◌then◌else◌};
+ghost use Rattle.avr_image.specs.Image.{empty, byte_at, with_byte, held, filled, first_from, run_end, fits, laid_over};
+ghost use Rattle.std.specs.List.{enumerate_from};
+ghost use Rattle.avr_image.specs.Dense.{pasted};
+
+use crate::bits::{find, is_set, mark, mark_span};
+use crate::fault::ImageFault;
+use std::alloc::{AllocError, Global};
+use std::marker::Model;
+
+/// The bytes of a memory, as far as there are any. Contracts see it as the list of optional bytes, one for each address
+/// below its size.
+#[derive(Drop)]
+pub struct Image {
+    bytes: Vec<u8>,
+    words: Vec<u64>,
+}
+
+impl Model for Image {
+    ghost use Rattle.std.specs.Prelude.{ℕ, List, Option};
+    ghost use Rattle.avr_image.specs.Dense.{shown, IsKept};
+
+    ghost Value = { List (Option ℕ) };
+
+    ghost view = { λ i. shown i.words.items i.bytes.items };
+
+    ghost invariant = { λ i. IsKept i.words.items i.bytes.items };
+}
+
+/// So many bytes FF.
+fn blank_bytes(alloc: Global, n: usize) -> Result<Vec<u8>, AllocError>
+    ensures { IfOk result (λ v. v.items ≡ replicate n 255) }
+{
+    vec![in alloc; 255; n]
+}
+
+/// So many words 0.
+fn zero_words(alloc: Global, n: usize) -> Result<Vec<u64>, AllocError>
+    ensures { IfOk result (λ v. v.items ≡ replicate n 0) }
+{
+    vec![in alloc; 0; n]
+}
+
+/// Copies the bytes from `start` on, and FF behind their end.
+fn copy_padded(bytes: &[u8], start: usize, out: &mut [u8])
+    ensures len { length out.new ≡ length out.old }
+    ensures copied { (i : ℕ) → i < length out.old → slice_index out.new i ≡ slice_index_or bytes.now (start + i) 255 }
+{
+    let from = start.min(bytes.len());
+    let count = out.len().min(bytes.len() - from);
+    out.fill(255);
+    out[..count].copy_from_slice(&bytes[from..from + count]);
+}
+
+/// Copies a span over the bytes from `start` on.
+fn paste(bytes: &mut Vec<u8>, start: usize, span: &[u8])
+    requires { start + length span.now ≤ length bytes.old.items }
+    ensures { bytes.new.items ≡ pasted start span.now bytes.old.items }
+{
+    let end = start + span.len();
+    bytes[start..end].copy_from_slice(span);
+}
+
+impl Image {
+    /// An image of this size that holds nothing.
+    pub fn new(alloc: Global, size: u32) -> Result<Image, ImageFault>
+        ensures { MatchResult result (λ image. image ≡ empty size) (λ fault. fault ≡ ImageFault.Memory) }
+    {
+        let size = size as usize;
+        let Ok(bytes) = blank_bytes(alloc, size) else {
+            return Err(ImageFault::Memory);
+        };
+        let Ok(words) = zero_words(alloc, size / 64 + 1) else {
+            return Err(ImageFault::Memory);
+        };
+        Ok(Image { bytes, words })
+    }
+
+    /// How many addresses the memory has.
+    #[tactic(auto, using(crate::proofs::Shown::length_shown))]
+    pub fn size(&self) -> u32
+        ensures { result ≡ length self.now }
+    {
+        self.bytes.len() as u32
+    }
+
+    /// How many addresses hold a byte.
+    pub fn len(&self) -> u32
+        ensures { result ≡ held self.now }
+    {
+        let mut count = 0;
+        for addr in 0..self.size() {
+            if self.get(addr).is_some() {
+                count += 1;
+            }
+        }
+        count
+    }
+
+    /// The byte at an address, if it holds one.
+    pub fn get(&self, addr: u32) -> Option<u8>
+        ensures { result ≡ byte_at self.now addr }
+    {
+        let at = addr as usize;
+        if at < self.bytes.len() && is_set(self.words.as_slice(), at) {
+            Some(self.bytes[at])
+        } else {
+            None
+        }
+    }
+
+    /// Lays a byte down at an address. Outside the memory nothing changes.
+    pub fn put(&mut self, addr: u32, byte: u8) -> Result<(), ImageFault>
+        ensures judged { result ≡ (if nat_lt addr (length self.old) then Ok tt else Err (ImageFault.OutOfRange addr)) }
+        ensures laid { self.new ≡ with_byte self.old addr byte }
+        ensures same { OnErr result (self.new ≡ self.old) }
+        ensures size { length self.new ≡ length self.old }
+    {
+        let at = addr as usize;
+        if at >= self.bytes.len() {
+            return Err(ImageFault::OutOfRange(addr));
+        }
+        self.bytes[at] = byte;
+        mark(&mut self.words, at);
+        Ok(())
+    }
+
+    /// Lays bytes down at the addresses from `addr` on, as `put` of each in their order, and answers the address behind them.
+    /// Where one lies outside the memory none is laid, and the fault names the first that does.
+    pub fn put_slice(&mut self, addr: u32, bytes: &[u8]) -> Result<u32, ImageFault>
+        ensures judged { result ≡ (if fits addr bytes.now (length self.old) then Ok (addr + length bytes.now) else Err (ImageFault.OutOfRange (max addr (length self.old)))) }
+        ensures laid { OnOk result (self.new ≡ laid_over self.old (enumerate_from addr bytes.now)) }
+        ensures same { OnErr result (self.new ≡ self.old) }
+        ensures size { length self.new ≡ length self.old }
+    {
+        if bytes.is_empty() {
+            return Ok(addr);
+        }
+        let start = addr as usize;
+        let size = self.bytes.len();
+        if bytes.len() > size.saturating_sub(start) {
+            return Err(ImageFault::OutOfRange(addr.max(size as u32)));
+        }
+        let end = start + bytes.len();
+        paste(&mut self.bytes, start, bytes);
+        mark_span(&mut self.words, start, end);
+        Ok(end as u32)
+    }
+
+    /// The least address from `addr` on that holds a byte.
+    pub fn first_from(&self, addr: u32) -> Option<u32>
+        ensures { result ≡ first_from self.now addr }
+    {
+        let size = self.bytes.len();
+        let from = size.min(addr as usize);
+        let place = find(self.words.as_slice(), true, from, size);
+        if place < size {
+            Some(place as u32)
+        } else {
+            None
+        }
+    }
+
+    /// The end of the run of addresses that hold a byte and begins at `addr`, at most `end`; `addr` where it holds none.
+    pub fn run_from(&self, addr: u32, end: u32) -> u32
+        requires { addr ≤ end }
+        ensures { result ≡ run_end self.now addr end }
+    {
+        let size = self.bytes.len();
+        if addr as usize >= size {
+            return addr;
+        }
+        find(
+            self.words.as_slice(),
+            false,
+            addr as usize,
+            size.min(end as usize),
+        ) as u32
+    }
+
+    /// Writes the bytes from `start` on, FF in gaps and outside the memory.
+    pub fn fill(&self, start: u32, out: &mut [u8])
+        requires { start + length out.old ≤ 2 ^ 32 }
+        ensures { out.new ≡ filled self.now start (length out.old) }
+    {
+        copy_padded(self.bytes.as_slice(), start as usize, out);
+    }
+}

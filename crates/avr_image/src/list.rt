@@ -1,0 +1,89 @@
+//! Lists of numbers.
+
+ghost use Rattle.std.specs.Prelude.{◌≡◌, ◌==◌, ◌+◌, ◌<◌, ◌≤◌, ◌++◌, ℕ, List, [], length, not, nat_lt, IsTrue};
+ghost use Rattle.arrayvec.specs.ArrayVec.{array_vec_len};
+ghost use Rattle.avr_image.specs.Lists.{list_text};
+
+use crate::base::Base;
+use crate::digits::push_number;
+use arrayvec::ArrayVec;
+use std::marker::Model;
+
+/// The most bytes that a number takes with the comma or the line end behind it.
+const LONGEST: usize = 11;
+
+/// Writes bytes as numbers on one line, joined by commas, in pieces of at most 80 bytes. Contracts see it as the text that is
+/// still to come.
+#[derive(Drop)]
+pub struct ListWriter<'a> {
+    base: Base,
+    rest: &'a [u8],
+    ended: bool,
+}
+
+impl<'a> Model for ListWriter<'a> {
+    ghost use Rattle.std.specs.Prelude.{ℕ, List};
+    ghost use Rattle.avr_image.specs.Lists.{list_rest};
+
+    ghost Value = { List ℕ };
+
+    ghost view = { λ w. list_rest w.ended w.base w.rest.now };
+}
+
+impl<'a> ListWriter<'a> {
+    /// A writer of these bytes, before its first piece.
+    pub fn new(base: Base, bytes: &'a [u8]) -> ListWriter<'a>
+        ensures { result ≡ list_text base bytes.now }
+    {
+        ListWriter {
+            base,
+            rest: bytes,
+            ended: false,
+        }
+    }
+
+    /// Whether the whole text was written.
+    fn is_done(&self) -> bool
+        ensures { result ≡ (length self.now == 0) }
+    {
+        self.ended
+    }
+
+    /// Appends the next number and what stands behind it, or the line end of an empty list.
+    fn push_next(&mut self, out: &mut ArrayVec<u8, 80>)
+        requires more { 0 < length self.old }
+        requires room { array_vec_len out.old + 11 ≤ 80 }
+        ensures moved { out.old.items ++ self.old ≡ out.new.items ++ self.new }
+        ensures longer { array_vec_len out.old < array_vec_len out.new }
+    {
+        match self.rest {
+            [] => {
+                self.ended = true;
+                out.push(b'\n');
+            }
+            [byte] => {
+                push_number(self.base, *byte, out);
+                self.ended = true;
+                out.push(b'\n');
+            }
+            [byte, more @ ..] => {
+                push_number(self.base, *byte, out);
+                self.rest = more;
+                out.push(b',');
+            }
+        }
+    }
+
+    /// Makes `out` the next piece of the text, which is never empty. After the last it empties `out` and answers false.
+    pub fn next_piece(&mut self, out: &mut ArrayVec<u8, 80>) -> bool
+        ensures piece { self.old ≡ out.new.items ++ self.new }
+        ensures some { result ≡ nat_lt 0 (length self.old) }
+        ensures filled { result ≡ nat_lt 0 (array_vec_len out.new) }
+    {
+        out.clear();
+        while !self.is_done() && out.len() + LONGEST <= out.capacity() {
+            self.push_next(out);
+        }
+        !out.is_empty()
+    }
+}

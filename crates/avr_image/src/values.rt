@@ -1,0 +1,127 @@
+//! Values given in the words of a command.
+
+ghost use Rattle.std.specs.Prelude.{◌≡◌, ◌+◌, ◌-◌, ◌<◌, ◌≤◌, ◌==◌, ◌||◌, ◌^◌, ℕ, List, length, min, option_map, Ok, Err, OnOk, MatchResult};
+ghost use Rattle.avr_image.specs.Values.{is_separator, number, value_of, judged, values};
+ghost use Rattle.std.specs.List.{position_or_len};
+ghost use Rattle.avr_image.specs.Placing.{with_piece};
+ghost use Rattle.avr_image.specs.Image.{empty};
+ghost use Rattle.avr_image.specs.Fault.{OrMemory};
+
+use crate::fault::ImageFault;
+use crate::image::Image;
+use std::alloc::Global;
+
+/// Whether a byte separates values.
+fn separates(c: u8) -> bool
+    ensures { result ≡ is_separator c }
+{
+    c == b',' || c == b' ' || c == b'\t'
+}
+
+/// How many bytes stand before the first comma, space or tab.
+fn piece_len(text: &[u8]) -> usize
+    ensures counted { result ≡ position_or_len is_separator text.now }
+    ensures within { result ≤ length text.now }
+{
+    for (i, c) in text.iter().enumerate() {
+        if separates(*c) {
+            return i;
+        }
+    }
+    text.len()
+}
+
+/// The number that the digits of a base write, or 256 where it is larger.
+fn read_number(base: u32, digits: &[u8]) -> Option<u32>
+    requires low { 2 ≤ base }
+    requires high { base ≤ 16 }
+    ensures { result ≡ option_map (λ n. min n 256) (number base digits.now) }
+{
+    if digits.is_empty() {
+        return None;
+    }
+    let mut value = 0;
+    for c in digits {
+        let Some(digit) = char::from(*c).to_digit(base) else {
+            return None;
+        };
+        value = (value * base + digit).min(256);
+    }
+    Some(value)
+}
+
+/// The number that a piece writes, or 256 where it is larger.
+fn read_value(piece: &[u8]) -> Option<u32>
+    ensures { result ≡ option_map (λ n. min n 256) (value_of piece.now) }
+{
+    match piece {
+        [b'0', b'x' | b'X', digits @ ..] => read_number(16, digits),
+        [b'0', b'b' | b'B', digits @ ..] => read_number(2, digits),
+        [b'0', _, ..] => read_number(8, &piece[1..]),
+        _ => read_number(10, piece),
+    }
+}
+
+/// The byte that a piece is for an address.
+fn judge(size: u32, addr: u32, piece: &[u8]) -> Result<u8, ImageFault>
+    ensures { result ≡ judged size (addr, piece.now) }
+{
+    let Some(value) = read_value(piece) else {
+        return Err(ImageFault::BadNumber(addr.saturating_add(1)));
+    };
+    if value > 255 {
+        return Err(ImageFault::TooLarge(addr.saturating_add(1)));
+    }
+    if addr >= size {
+        return Err(ImageFault::OutOfRange(addr));
+    }
+    Ok(value as u8)
+}
+
+/// Lays the value of a piece down at an address.
+fn lay_value(image: &mut Image, addr: u32, piece: &[u8]) -> Result<(), ImageFault>
+    ensures laid { MatchResult result (λ _. with_piece image.old addr piece.now ≡ Ok image.new) (λ fault. with_piece image.old addr piece.now ≡ Err fault) }
+    ensures size { length image.new ≡ length image.old }
+    ensures more { OnOk result (addr + 1 < 2 ^ 32) }
+{
+    match judge(image.size(), addr, piece) {
+        Ok(byte) => image.put(addr, byte),
+        Err(fault) => Err(fault),
+    }
+}
+
+/// Lays the values of a text down from address 0 on.
+fn lay_values(image: &mut Image, text: &[u8]) -> Result<(), ImageFault>
+    requires { image.old ≡ empty (length image.old) }
+    ensures { MatchResult result (λ _. values text.now (length image.old) ≡ Ok image.new) (λ fault. values text.now (length image.old) ≡ Err fault) }
+{
+    let mut addr = 0;
+    let mut rest = text;
+    while !rest.is_empty() {
+        let len = piece_len(rest);
+        if len > 0 {
+            let (piece, more) = rest.split_at(len);
+            lay_value(image, addr, piece)?;
+            addr += 1;
+            rest = more;
+        } else {
+            rest = &rest[1..];
+        }
+    }
+    if addr == 0 {
+        return Err(ImageFault::BadNumber(1));
+    }
+    Ok(())
+}
+
+/// Reads values from the words of a command: `0x` and hexadecimal digits, `0b` and binary digits, `0` and octal digits, or
+/// decimal digits, separated by commas, spaces and tabs. They stand at the addresses 0, 1 and so on. The first value at fault
+/// is told: `BadNumber` or `TooLarge` with its place, counted from 1, or `OutOfRange` with its address. A text without a value
+/// is `BadNumber(1)`.
+pub fn parse_immediate(alloc: Global, text: &str, size: u32) -> Result<Image, ImageFault>
+    ensures { OrMemory result (values text.now size) }
+{
+    let mut image = Image::new(alloc, size)?;
+    lay_values(&mut image, text.as_bytes())?;
+    Ok(image)
+}
