@@ -1,0 +1,44 @@
+-- Where a line ends.
+use Rattle.std.proofs.Common.{◌≡◌, ◌≢◌, ◌∙◌, ap, refl, arith, ℕ, zero, suc, ◌+◌, ◌<◌, ◌≤◌, List, [], ◌∷◌, ◌++◌, length, get_or, take, drop, true, Some, None, inl, inr, add-one}
+use Rattle.std.proofs.lemmas.Bool.{cases_Bool, eqb-true}
+use Rattle.std.proofs.lemmas.List.{take_all}
+use Rattle.std.proofs.lemmas.List.Splits.{slice_split-cons_no}
+use Rattle.std.specs.List.{onto_first}
+use Rattle.memchr.specs.Find.{IsFirstByte, is_byte}
+use Rattle.avr_records.specs.Lines.{lines, is_line_end}
+
+-- no byte of the first n ends a line
+abbrev pub NoneUpTo : ℕ → List ℕ → Type 0
+NoneUpTo n text = (k : ℕ) → k < n → is_line_end (get_or text k 0) ≢ true
+
+-- bytes without a line end are one line
+pub one_line : (n : ℕ) (text : List ℕ) → n ≤ length text → NoneUpTo n text → lines (take n text) ≡ take n text ∷ []
+one_line zero text len none = refl
+one_line (suc n) [] len none = refl
+one_line (suc n) (c ∷ text) len none =
+    elim (cases_Bool (is_line_end c)) [
+      | inl t ↦ absurd (none 0 (omega arith) t)
+      | inr f ↦
+          slice_split-cons_no is_line_end c (take n text) f
+          ∙ ap (onto_first c) (one_line n text (omega (arith, len)) (λ k l. none (suc k) (omega (arith, l))))
+    ]
+
+-- a text is what stands before a place, what stands there, and the rest
+pub cut_at : (n : ℕ) (text : List ℕ) → n < length text → text ≡ take n text ++ get_or text n 0 ∷ drop (n + 1) text
+cut_at n [] len = absurd (omega (arith, len))
+cut_at zero (c ∷ text) len = refl
+cut_at (suc n) (c ∷ text) len =
+    let rest = rw (add-one n) at (cut_at n text (omega (arith, len))) in
+    rw (add-one (suc n)) (ap (λ (zs : List ℕ). c ∷ zs) rest)
+
+pub no_end : (text : List ℕ) → IsFirstByte (is_byte 10) text None → lines text ≡ text ∷ []
+no_end text none =
+    let all = take_all {A = ℕ} (length text) text (omega arith) in
+    rw all at (one_line (length text) text (omega arith) (λ k l. none k (omega arith) l))
+
+pub first_end : (text : List ℕ) (at : ℕ) → IsFirstByte (is_byte 10) text (Some at)
+    → (lines (take at text) ≡ take at text ∷ []) × (text ≡ take at text ++ 10 ∷ drop (at + 1) text)
+first_end text at first = (
+  one_line at text (omega (arith, first.0.high)) (λ k l. first.0.before k (omega arith) l),
+  cut_at at text first.0.high ∙ ap (λ (c : ℕ). take at text ++ c ∷ drop (at + 1) text) (eqb-true (get_or text at 0) 10 first.1),
+)

@@ -1,0 +1,16 @@
+pub mod Rows
+pub mod Laws
+pub mod Sums
+pub mod Decoding
+pub mod Places
+pub mod Ends
+pub mod Holding
+pub mod Feeding
+pub mod Fronts
+pub mod Pieces
+pub mod WrittenRows
+pub mod WrittenLines
+pub mod Rereading
+pub mod WrittenSrec
+pub mod WrittenIhex
+pub mod WriterRows

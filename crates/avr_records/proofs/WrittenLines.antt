@@ -1,0 +1,88 @@
+-- How a written line reads.
+use Rattle.std.proofs.Common.{◌≡◌, ◌∙◌, ap, refl, arith, ℕ, ◌+◌, ◌-◌, ◌≤◌, nat_lt, Bool, true, false, not, ◌&&◌, List, [], ◌∷◌, ◌++◌, length, get_or, fold, inl, inr, Result, Ok, Err}
+use Rattle.std.specs.Prelude.{if◌then◌else◌}
+use Rattle.std.specs.List.{list_all, onto_first, suffix_len}
+use Rattle.std.proofs.lemmas.Bool.{cases_eq, and_parts}
+use Rattle.std.proofs.lemmas.Bool.Decides.{nat_tests}
+use Rattle.std.proofs.lemmas.List.{take_all, append_assoc}
+use Rattle.std.proofs.lemmas.List.Splits.{slice_split-cons_no}
+use Rattle.std.proofs.lemmas.List.Sums.{list_all-from_AllPass, AllPass-from_list_all, suffix_len_is, fold-append}
+use Rattle.hex.specs.Hex.{IsBytes, is_hex_digit, decode_of, encode_upper}
+use Rattle.hex.proofs.HexLemmas.{decode_of-encode_upper, decode_of-ok}
+use Rattle.avr_records.specs.Lines.{lines, is_line_end, is_blank, trimmed}
+use Rattle.avr_records.specs.Record.{Record, bytes_of, decoded, line_says, longest, unless_empty}
+use Rattle.avr_records.specs.declared.fault.LineFault.{LineFault}
+use Rattle.avr_records.specs.declared.fault.LineFault.TheVariants.{Digit, TooLong}
+
+-- neither a line end nor a blank
+abbrev pub is_plain : ℕ → Bool
+is_plain c = not (is_line_end c) && not (is_blank c)
+
+plain-digit : (c : ℕ) → is_hex_digit c ≡ true → is_plain c ≡ true
+plain-digit c digit =
+    elim (cases_eq c 10) [
+      | inl is ↦ let no : false ≡ true = rw is at digit in absurd (cc no)
+      | inr line_end ↦
+          elim (cases_eq c 32) [
+            | inl is ↦ let no : false ≡ true = rw is at digit in absurd (cc no)
+            | inr space ↦
+                elim (cases_eq c 9) [
+                  | inl is ↦ let no : false ≡ true = rw is at digit in absurd (cc no)
+                  | inr tab ↦
+                      elim (cases_eq c 13) [
+                        | inl is ↦ let no : false ≡ true = rw is at digit in absurd (cc no)
+                        | inr return ↦ grind (arith, nat_tests, line_end, space, tab, return)
+                      ]
+                ]
+          ]
+    ]
+
+pub plain-digits : (cs : List ℕ) → list_all is_hex_digit cs ≡ true → list_all is_plain cs ≡ true
+plain-digits [] all = refl
+plain-digits (c ∷ cs) all =
+    let parts = and_parts (is_hex_digit c) (list_all is_hex_digit cs) all in
+    rw (plain-digit c parts.0) (plain-digits cs parts.1)
+
+pub encode-digits : (bytes : List ℕ) → IsBytes bytes → list_all is_hex_digit (encode_upper bytes) ≡ true
+encode-digits bytes all =
+    list_all-from_AllPass is_hex_digit (encode_upper bytes) (decode_of-ok (encode_upper bytes) bytes (decode_of-encode_upper bytes all)).1
+
+-- the digits of bytes read as those bytes
+pub bytes_of-encode : (bytes : List ℕ) → IsBytes bytes → bytes_of (encode_upper bytes) ≡ Ok bytes
+bytes_of-encode bytes all =
+    ap (λ (digits : Bool). if not digits then Err Digit else decoded (decode_of (encode_upper bytes))) (encode-digits bytes all)
+    ∙ ap decoded (decode_of-encode_upper bytes all)
+
+not-blank : (c : ℕ) → is_plain c ≡ true → is_blank c ≡ false
+not-blank c plain = grind (arith, (and_parts (not (is_line_end c)) (not (is_blank c)) plain).1)
+
+-- nothing is trimmed from a line without blanks
+trimmed-plain : (line : List ℕ) → list_all is_plain line ≡ true → trimmed line ≡ line
+trimmed-plain line plain =
+    let all = AllPass-from_list_all is_plain line plain in
+    let none : suffix_len is_blank line ≡ length line - length line =
+    suffix_len_is is_blank line (length line) 0 (omega arith) (λ k from below. absurd (omega arith)) (λ some. not-blank (get_or line (length line - 1) 0) (all (length line - 1) 0 (omega arith))) in
+    take_all (length line - suffix_len is_blank line) line (omega (arith, none))
+
+-- a line that isn't too long says what its marks and digits do
+pub says-plain : (says : List ℕ → Result Record LineFault) (c : ℕ) (cs : List ℕ) → list_all is_plain (c ∷ cs) ≡ true
+    → length (c ∷ cs) ≤ 600 → line_says says (c ∷ cs) ≡ says (c ∷ cs)
+says-plain says c cs plain short =
+    let test : nat_lt longest (length (c ∷ cs)) ≡ false = grind (arith, nat_tests) in
+    ap (λ (long : Bool). if long then Err TooLong else unless_empty says (trimmed (c ∷ cs))) test
+    ∙ ap (unless_empty says) (trimmed-plain (c ∷ cs) plain)
+
+-- a written line is the first of the lines
+pub lines-plain : (line rest : List ℕ) → list_all is_plain line ≡ true → lines (line ++ 10 ∷ rest) ≡ line ∷ lines rest
+lines-plain [] rest plain = refl
+lines-plain (c ∷ cs) rest plain =
+    let parts = and_parts (is_plain c) (list_all is_plain cs) plain in
+    let goes_on : is_line_end c ≡ false = grind (arith, parts.0) in
+    slice_split-cons_no is_line_end c (cs ++ 10 ∷ rest) goes_on ∙ ap (onto_first c) (lines-plain cs rest parts.1)
+
+pub lines-written : (line rest : List ℕ) → list_all is_plain line ≡ true → lines ((line ++ 10 ∷ []) ++ rest) ≡ line ∷ lines rest
+lines-written line rest plain = ap lines (append_assoc line (10 ∷ []) rest) ∙ lines-plain line rest plain
+
+-- the sum with one more byte
+pub sum-push : (xs : List ℕ) (n x : ℕ) → fold (λ (a b : ℕ). a + b) n (xs ++ x ∷ []) ≡ fold (λ (a b : ℕ). a + b) n xs + x
+sum-push xs n x = fold-append (λ (a b : ℕ). a + b) n xs (x ∷ [])

@@ -1,0 +1,30 @@
+-- The numbers of faults.
+use Rattle.std.specs.Prelude.{ℕ, Option, Some, None}
+use Rattle.avr_records.specs.declared.fault.RecordFault.{RecordFault}
+use Rattle.avr_records.specs.declared.fault.RecordFault.TheVariants.{BadMark, BadDigit, BadLength, BadSum, BadType, OutOfRange, LineTooLong, BadCount, Failed, Memory}
+
+-- the number of a fault's kind
+abbrev pub fault_number : RecordFault → ℕ
+fault_number (BadMark line) = 1
+fault_number (BadDigit line) = 2
+fault_number (BadLength line) = 3
+fault_number (BadSum line) = 4
+fault_number (BadType line) = 5
+fault_number (OutOfRange line addr) = 6
+fault_number (LineTooLong line) = 7
+fault_number (BadCount line) = 8
+fault_number Failed = 9
+fault_number Memory = 10
+
+-- the number of the line at fault, if a line is
+abbrev pub fault_line : RecordFault → Option ℕ
+fault_line (BadMark line) = Some line
+fault_line (BadDigit line) = Some line
+fault_line (BadLength line) = Some line
+fault_line (BadSum line) = Some line
+fault_line (BadType line) = Some line
+fault_line (OutOfRange line addr) = Some line
+fault_line (LineTooLong line) = Some line
+fault_line (BadCount line) = Some line
+fault_line Failed = None
+fault_line Memory = None

@@ -1,0 +1,16 @@
+pub mod Fault
+pub mod Lines
+pub mod Record
+pub mod Ihex
+pub mod Srec
+pub mod Reading
+pub mod Progress
+pub mod Reader
+pub mod Closed
+pub mod Steps
+pub mod Laying
+pub mod Judging
+pub mod Detect
+pub mod Text
+pub mod Writing
+pub mod RoundTrip

@@ -1,0 +1,104 @@
+-- How one line changes what the lines before it leave.
+use Rattle.std.specs.Prelude.{ℕ, true, ◌+◌, ◌==◌, ◌≡◌, ◌≤◌, List, [], ◌++◌, length, Option, Some, None, option_map, Result, Ok, Err, IsSome, if◌then◌else◌}
+use Rattle.avr_records.specs.Fault.{fault_line}
+use Rattle.avr_image.specs.Image.{laid_over}
+use Rattle.avr_records.specs.Progress.{Progress, size_of}
+use Rattle.avr_records.specs.Reader.{kept, Reads}
+use Rattle.avr_records.specs.Reading.{Said, places, beyond, in_line, says}
+use Rattle.avr_records.specs.Record.{Record, Nothing, Data, Rebase, Counted, End, longest}
+use Rattle.avr_records.specs.declared.kind.Kind.{Kind}
+use Rattle.avr_records.specs.declared.kind.Kind.TheVariants.{Ihex, Srec}
+use Rattle.avr_records.specs.declared.kind.Ending.{Ending}
+use Rattle.avr_records.specs.declared.kind.Ending.TheVariants.{Ended, NoEnd}
+use Rattle.avr_records.specs.declared.kind.Base.{Base}
+use Rattle.avr_records.specs.declared.kind.Base.TheVariants.{Linear}
+use Rattle.avr_records.specs.declared.fault.LineFault.{LineFault}
+use Rattle.avr_records.specs.declared.fault.LineFault.TheVariants.{Range, Count, TooLong}
+use Rattle.avr_records.specs.declared.fault.RecordFault.{RecordFault}
+use Rattle.avr_records.specs.declared.progress.Progress as declared
+
+-- what the code holds
+abbrev pub seen : declared.Progress → Progress
+seen p = record { image = p.image; base = p.base; data_records = p.data_records; lines = p.lines; ended = p.ended }
+
+-- the fault of a record behind such lines
+abbrev pub fault_at : Progress → Record → Option LineFault
+fault_at p (Data offset bytes) = option_map Range (beyond (size_of p) (places p.base offset bytes))
+fault_at p (Counted n) = if n == p.data_records then None else Some Count
+fault_at p line = None
+
+-- what the record leaves, behind such lines
+abbrev pub with_record : Progress → Record → Progress
+with_record p Nothing = p
+with_record p (Data offset bytes) =
+    record p { image = laid_over p.image (places p.base offset bytes); data_records = p.data_records + 1 }
+with_record p (Rebase base) = record p { base = base }
+with_record p (Counted n) = p
+with_record p End = record p { ended = true }
+
+-- the fault of a line
+abbrev pub fault_behind : Progress → Said → Option LineFault
+fault_behind p (Err fault) = Some fault
+fault_behind p (Ok line) = fault_at p line
+
+-- what the line leaves
+abbrev pub with_line : Progress → Said → Progress
+with_line p (Err fault) = p
+with_line p (Ok line) = with_record p line
+
+-- with one more line counted
+abbrev pub counted : Progress → Progress
+counted p = record p { lines = p.lines + 1 }
+
+abbrev pub unless : Option LineFault → Progress → Progress → Result Progress RecordFault
+unless (Some fault) p new = Err (in_line (p.lines + 1) fault)
+unless None p new = Ok (counted new)
+
+-- what one line more leaves, or its fault
+abbrev pub step : Progress → Said → Result Progress RecordFault
+step p said = unless (fault_behind p said) p (with_line p said)
+
+-- what is kept of a line once more of it came
+abbrev pub grown : Option (List ℕ) → List ℕ → Option (List ℕ)
+grown None more = None
+grown (Some line) more = kept (line ++ more)
+
+-- what a line says of which this was kept
+abbrev pub kept_says : Kind → Option (List ℕ) → Said
+kept_says kind None = Err TooLong
+kept_says kind (Some line) = says kind line
+
+-- What is left once a line has ended, of which this was kept and then this came. Nothing counts behind an end record.
+abbrev pub line_step : Kind → Progress → Option (List ℕ) → List ℕ → Result Progress RecordFault
+line_step kind p part more = if p.ended then Ok p else step p (kept_says kind (grown part more))
+
+-- at least so many bytes came of a line of which this was kept
+abbrev pub least_length : Option (List ℕ) → ℕ
+least_length None = longest + 1
+least_length (Some line) = length line
+
+-- whether an end record came
+abbrev pub ending_of : Progress → Ending
+ending_of p = if p.ended then Ended else NoEnd
+
+-- S-records have no base
+abbrev pub HasBase : Kind → Base → Type 0
+HasBase Ihex base = Unit {0}
+HasBase Srec base = base ≡ Linear 0
+
+-- only a line is at fault
+abbrev pub IsLineFault : RecordFault → Type 0
+IsLineFault fault = IsSome (fault_line fault)
+
+-- what keeps addresses and counts in range
+pub record InRange (kind : Kind) (p : Progress) : Type 0 where
+  pub base : HasBase kind p.base
+  pub counts : p.data_records ≤ p.lines
+
+-- what a reader holds before any byte came
+pub record Begins (kind : Kind) (size : ℕ) (p : Progress) (part : Option (List ℕ)) : Type 0 where
+  pub sized : size_of p ≡ size
+  pub range : InRange kind p
+  pub lines : p.lines ≡ 0
+  pub empty : part ≡ Some []
+  pub reads : Reads kind p part []

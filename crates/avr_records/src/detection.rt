@@ -1,0 +1,94 @@
+//! What the front of a file shows.
+
+ghost use Rattle.std.specs.Prelude.{◌≡◌, Some, length, take, find, not, true, false, MatchOption};
+ghost use Rattle.std.specs.List.{list_all};
+ghost use Rattle.std.specs.Str.{bytes_eq};
+ghost use Rattle.avr_records.specs.Lines.{is_blank, lines};
+ghost use Rattle.avr_records.specs.Detect.{detected, shown, begins_ihex, begins_srec, has_digits as spec_has_digits, elf_mark};
+
+use crate::digits::are_digits;
+use crate::kind::Found;
+use crate::line::is_blank_byte;
+use crate::lines::split_line;
+
+/// How many bytes of a file are looked at.
+const FRONT: usize = 1024;
+
+/// Whether an ELF file begins so.
+fn is_elf(front: &[u8]) -> bool
+    ensures { result ≡ bytes_eq (take 4 front.now) elf_mark }
+{
+    front.starts_with(b"\x7fELF")
+}
+
+/// Whether n hexadecimal digits stand in front.
+fn has_digits(n: usize, text: &[u8]) -> bool
+    ensures { result ≡ spec_has_digits n text.now }
+{
+    n <= text.len() && are_digits(&text[..n])
+}
+
+/// What a line shows that isn't blank.
+fn shown_by(line: &[u8]) -> Found
+    ensures { result ≡ shown (Some line.now) }
+{
+    match line {
+        [b':', more @ ..] if has_digits(10, more) => Found::Ihex,
+        [b'S', kind, more @ ..] if kind.is_ascii_digit() && has_digits(8, more) => Found::Srec,
+        _ => Found::Raw,
+    }
+}
+
+/// Whether a line has nothing but blanks.
+fn is_blank_line(line: &[u8]) -> bool
+    ensures { result ≡ list_all is_blank line.now }
+{
+    line.iter().all(|c| is_blank_byte(*c))
+}
+
+/// What a line shows, unless it is blank.
+fn shown_unless_blank(line: &[u8]) -> Option<Found>
+    ensures { MatchOption result (list_all is_blank line.now ≡ true) (λ found. (list_all is_blank line.now ≡ false) × (found ≡ shown (Some line.now))) }
+{
+    if is_blank_line(line) {
+        None
+    } else {
+        Some(shown_by(line))
+    }
+}
+
+/// What the first line shows that isn't blank.
+fn first_shown(front: &[u8]) -> Found
+    ensures { result ≡ shown (find (λ line. not (list_all is_blank line)) (lines front.now)) }
+{
+    let mut rest = front;
+    while let Some((line, more)) = split_line(rest) {
+        if let Some(found) = shown_unless_blank(line) {
+            return found;
+        }
+        rest = more;
+    }
+    shown_unless_blank(rest).unwrap_or(Found::Raw)
+}
+
+/// The bytes that are looked at.
+fn looked_at(front: &[u8]) -> &[u8]
+    ensures { result.now ≡ take 1024 front.now }
+{
+    if front.len() > FRONT {
+        &front[..FRONT]
+    } else {
+        front
+    }
+}
+
+/// Tells the format of a file from its front, of which the first 1,024 bytes are looked at: an ELF file by its magic
+/// number, a record file by the first line that isn't blank; anything else is raw bytes.
+pub fn detect(front: &[u8]) -> Found
+    ensures { result ≡ detected front.now }
+{
+    if is_elf(front) {
+        return Found::Elf;
+    }
+    first_shown(looked_at(front))
+}

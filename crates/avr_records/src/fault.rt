@@ -1,0 +1,112 @@
+//! What may be wrong with a record file.
+
+ghost use Rattle.std.specs.Prelude.{◌≡◌};
+ghost use Rattle.avr_records.specs.Fault.{fault_number, fault_line};
+ghost use Rattle.avr_records.specs.Reading.{in_line};
+ghost use Rattle.avr_records.specs.Steps.{IsLineFault};
+
+use thiserror::Error;
+
+/// Why no image came of a record file. The first number is that of the line, the first line being 1.
+#[derive(Clone, Copy, Debug, Drop, PartialEq, Eq, Error)]
+pub enum RecordFault {
+    /// The line doesn't begin with `:`, or with `S` and a decimal digit.
+    #[error("line {0}: no record mark")]
+    BadMark(u32),
+    /// Behind the mark stands something else than hexadecimal digits.
+    #[error("line {0}: bad digit")]
+    BadDigit(u32),
+    /// An odd number of digits, or another number of bytes than the record says or its type wants.
+    #[error("line {0}: bad length")]
+    BadLength(u32),
+    #[error("line {0}: bad checksum")]
+    BadSum(u32),
+    /// There is no record of this type.
+    #[error("line {0}: bad record type")]
+    BadType(u32),
+    /// This byte address, the first of the record's that does so, lies outside the memory.
+    #[error("line {0}: address {1:08X} out of range")]
+    OutOfRange(u32, u32),
+    /// More than 600 bytes stand before the line's end.
+    #[error("line {0}: line too long")]
+    LineTooLong(u32),
+    /// The record counts another number of data records than stand before it.
+    #[error("line {0}: bad record count")]
+    BadCount(u32),
+    /// The reader met a fault before.
+    #[error("the reader met a fault before")]
+    Failed,
+    /// The image's memory was refused.
+    #[error("out of memory")]
+    Memory,
+}
+
+impl RecordFault {
+    /// The number of the fault's kind, from 1 on.
+    pub fn number(&self) -> u8
+        ensures { result ≡ fault_number self.now }
+    {
+        match self {
+            RecordFault::BadMark(_) => 1,
+            RecordFault::BadDigit(_) => 2,
+            RecordFault::BadLength(_) => 3,
+            RecordFault::BadSum(_) => 4,
+            RecordFault::BadType(_) => 5,
+            RecordFault::OutOfRange(_, _) => 6,
+            RecordFault::LineTooLong(_) => 7,
+            RecordFault::BadCount(_) => 8,
+            RecordFault::Failed => 9,
+            RecordFault::Memory => 10,
+        }
+    }
+
+    /// The number of the line at fault, if a line is.
+    pub fn line(&self) -> Option<u32>
+        ensures { result ≡ fault_line self.now }
+    {
+        match self {
+            RecordFault::BadMark(line)
+            | RecordFault::BadDigit(line)
+            | RecordFault::BadLength(line)
+            | RecordFault::BadSum(line)
+            | RecordFault::BadType(line)
+            | RecordFault::OutOfRange(line, _)
+            | RecordFault::LineTooLong(line)
+            | RecordFault::BadCount(line) => Some(*line),
+            RecordFault::Failed | RecordFault::Memory => None,
+        }
+    }
+}
+
+/// What is wrong with one line.
+#[derive(Clone, Copy, Debug, Drop, PartialEq, Eq)]
+pub enum LineFault {
+    Mark,
+    Digit,
+    Length,
+    Sum,
+    Unknown,
+    /// The first address outside the memory.
+    Range(u32),
+    TooLong,
+    Count,
+}
+
+impl LineFault {
+    /// The same, in the line of this number.
+    pub(crate) fn in_line(self, line: u32) -> RecordFault
+        ensures value { result ≡ in_line line self }
+        ensures line { IsLineFault result }
+    {
+        match self {
+            LineFault::Mark => RecordFault::BadMark(line),
+            LineFault::Digit => RecordFault::BadDigit(line),
+            LineFault::Length => RecordFault::BadLength(line),
+            LineFault::Sum => RecordFault::BadSum(line),
+            LineFault::Unknown => RecordFault::BadType(line),
+            LineFault::Range(addr) => RecordFault::OutOfRange(line, addr),
+            LineFault::TooLong => RecordFault::LineTooLong(line),
+            LineFault::Count => RecordFault::BadCount(line),
+        }
+    }
+}

@@ -1,0 +1,145 @@
+//! The lines of a text that comes in pieces.
+
+ghost use Rattle.std.specs.Prelude.{◌≡◌, ◌+◌, ◌<◌, ◌≤◌, ◌^◌, ◌++◌, ℕ, List, false, Some, Ok, Err, [], length, MatchResult, OnOk, IfErr};
+ghost use Rattle.avr_records.specs.Closed.{closed_fault};
+ghost use Rattle.avr_records.specs.Progress.{size_of};
+ghost use Rattle.avr_records.specs.Reader.{Reads};
+ghost use Rattle.avr_records.specs.Reading.{read};
+ghost use Rattle.avr_records.specs.Steps.{seen, step, kept_says, grown, line_step, least_length, ending_of, Begins, InRange, IsLineFault};
+
+use crate::fault::{LineFault, RecordFault};
+use crate::kind::{Ending, Kind};
+use crate::lines::split_line;
+use crate::part_line::PartLine;
+use crate::progress::Progress;
+use avr_image::{Image, ImageFault};
+use std::alloc::Global;
+
+/// What the lines leave that have ended, and what is kept of the one that has not.
+#[derive(Drop)]
+pub struct LineReader {
+    pub(crate) kind: Kind,
+    pub(crate) progress: Progress,
+    pub(crate) part: PartLine,
+}
+
+impl LineReader {
+    /// Before any line, for a memory of this size.
+    pub(crate) fn new(alloc: Global, kind: Kind, size: u32) -> Result<LineReader, ImageFault>
+        ensures { MatchResult result (λ reader. (reader.kind ≡ kind) × Begins kind size (seen reader.progress) reader.part) (λ fault. fault ≡ ImageFault.Memory) }
+    {
+        match Progress::new(alloc, size) {
+            Ok(progress) => Ok(LineReader {
+                kind,
+                progress,
+                part: PartLine::new(),
+            }),
+            Err(fault) => Err(fault),
+        }
+    }
+
+    /// Takes in the line that is kept, and begins the next.
+    fn take_part(&mut self) -> Result<(), RecordFault>
+        requires range { InRange self.old.kind (seen self.old.progress) }
+        requires few { self.old.progress.lines + 1 < 2 ^ 32 }
+        ensures step { MatchResult result (λ _. step (seen self.old.progress) (kept_says self.old.kind self.old.part) ≡ Ok (seen self.new.progress)) (λ fault. step (seen self.old.progress) (kept_says self.old.kind self.old.part) ≡ Err fault) }
+        ensures part { OnOk result (self.new.part ≡ Some []) }
+        ensures kind { self.new.kind ≡ self.old.kind }
+        ensures size { length self.new.progress.image ≡ length self.old.progress.image }
+        ensures range { OnOk result (InRange self.old.kind (seen self.new.progress)) }
+        ensures lines { OnOk result (self.new.progress.lines ≡ self.old.progress.lines + 1) }
+        ensures line { IfErr result IsLineFault }
+    {
+        let taken = match self.part.line() {
+            Some(line) => self.progress.take_line(self.kind, line),
+            None => Err(self.progress.next_fault(LineFault::TooLong)),
+        };
+        self.part.clear();
+        taken
+    }
+
+    /// Takes the last bytes of a line, once its end came. A line of which nothing is kept is judged where it lies.
+    fn end_line(&mut self, rest: &[u8]) -> Result<(), RecordFault>
+        requires range { InRange self.old.kind (seen self.old.progress) }
+        requires few { self.old.progress.lines + 1 < 2 ^ 32 }
+        ensures step { MatchResult result (λ _. line_step self.old.kind (seen self.old.progress) self.old.part rest.now ≡ Ok (seen self.new.progress)) (λ fault. line_step self.old.kind (seen self.old.progress) self.old.part rest.now ≡ Err fault) }
+        ensures part { OnOk result (self.old.progress.ended ≡ false → self.new.part ≡ Some []) }
+        ensures kind { self.new.kind ≡ self.old.kind }
+        ensures size { length self.new.progress.image ≡ length self.old.progress.image }
+        ensures range { OnOk result (InRange self.old.kind (seen self.new.progress)) }
+        ensures lines { OnOk result (self.new.progress.lines ≤ self.old.progress.lines + 1) }
+        ensures count { OnOk result (self.new.progress.lines + least_length self.new.part ≤ self.old.progress.lines + least_length self.old.part + 1) }
+        ensures line { IfErr result IsLineFault }
+    {
+        if self.progress.ended {
+            return Ok(());
+        }
+        if self.part.is_empty() {
+            return self.progress.take_line(self.kind, rest);
+        }
+        self.part.extend(rest);
+        self.take_part()
+    }
+
+    /// Keeps bytes of a line that has not ended, if they count.
+    fn keep(&mut self, piece: &[u8])
+        ensures kept { self.old.progress.ended ≡ false → self.new.part ≡ grown self.old.part piece.now }
+        ensures progress { seen self.new.progress ≡ seen self.old.progress }
+        ensures kind { self.new.kind ≡ self.old.kind }
+        ensures count { least_length self.new.part ≤ least_length self.old.part + length piece.now }
+    {
+        if !self.progress.ended {
+            self.part.extend(piece);
+        }
+    }
+
+    /// Takes the next piece of the text, with the lines that end in it.
+    pub(crate) fn feed(&mut self, piece: &[u8]) -> Result<(), RecordFault>
+        requires range { InRange self.old.kind (seen self.old.progress) }
+        requires few { self.old.progress.lines + length piece.now < 2 ^ 32 }
+        ensures reads { OnOk result ((text : List ℕ) → Reads self.old.kind (seen self.old.progress) self.old.part text → Reads self.old.kind (seen self.new.progress) self.new.part (text ++ piece.now)) }
+        ensures fault { IfErr result (λ fault. (text : List ℕ) → Reads self.old.kind (seen self.old.progress) self.old.part text → closed_fault self.old.kind (text ++ piece.now) (size_of (seen self.old.progress)) ≡ Some fault) }
+        ensures kind { self.new.kind ≡ self.old.kind }
+        ensures size { length self.new.progress.image ≡ length self.old.progress.image }
+        ensures range { OnOk result (InRange self.old.kind (seen self.new.progress)) }
+        ensures count { OnOk result (self.new.progress.lines + least_length self.new.part ≤ self.old.progress.lines + least_length self.old.part + length piece.now) }
+        ensures line { IfErr result IsLineFault }
+    {
+        let mut rest = piece;
+        while let Some((line, more)) = split_line(rest) {
+            self.end_line(line)?;
+            rest = more;
+        }
+        self.keep(rest);
+        Ok(())
+    }
+
+    /// Takes the last line.
+    fn end_text(&mut self) -> Result<(), RecordFault>
+        requires range { InRange self.old.kind (seen self.old.progress) }
+        requires few { self.old.progress.lines + least_length self.old.part < 2 ^ 32 }
+        ensures whole { MatchResult result (λ _. (text : List ℕ) → Reads self.old.kind (seen self.old.progress) self.old.part text → read self.old.kind text (size_of (seen self.old.progress)) ≡ Ok (self.new.progress.image, ending_of (seen self.new.progress))) (λ fault. (text : List ℕ) → Reads self.old.kind (seen self.old.progress) self.old.part text → read self.old.kind text (size_of (seen self.old.progress)) ≡ Err fault) }
+        ensures line { IfErr result IsLineFault }
+    {
+        if self.part.is_empty() {
+            return Ok(());
+        }
+        self.end_line(&[])
+    }
+
+    /// Takes the last line, and gives what the whole text says.
+    pub(crate) fn finish(mut self) -> Result<(Image, Ending), RecordFault>
+        requires range { InRange self.kind (seen self.progress) }
+        requires few { self.progress.lines + least_length self.part < 2 ^ 32 }
+        ensures whole { (text : List ℕ) → Reads self.kind (seen self.progress) self.part text → result ≡ read self.kind text (size_of (seen self.progress)) }
+        ensures line { IfErr result IsLineFault }
+    {
+        match self.end_text() {
+            Ok(()) => {
+                let ending = self.progress.ending();
+                Ok((self.progress.image, ending))
+            }
+            Err(fault) => Err(fault),
+        }
+    }
+}

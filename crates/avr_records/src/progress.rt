@@ -1,0 +1,157 @@
+//! What the lines of a record file leave that have ended.
+
+ghost use Rattle.std.specs.Prelude.{◌≡◌, ◌+◌, ◌<◌, ◌≤◌, ◌^◌, Some, None, Ok, Err, length, MatchResult, OnOk, IfErr};
+ghost use Rattle.avr_records.specs.Judging.{record_of, Fits};
+ghost use Rattle.avr_records.specs.Laying.{Near};
+ghost use Rattle.avr_records.specs.Record as said;
+ghost use Rattle.avr_records.specs.Progress.{fresh};
+ghost use Rattle.avr_records.specs.Reading.{in_line, says};
+ghost use Rattle.avr_records.specs.Steps.{seen, fault_at, with_record, fault_behind, with_line, step, HasBase, InRange, IsLineFault, ending_of};
+
+use crate::digits::ROOM;
+use crate::fault::{LineFault, RecordFault};
+use crate::kind::{Base, Ending, Kind};
+use crate::lay::lay;
+use crate::line::{Line, line_says};
+use avr_image::{Image, ImageFault};
+use std::alloc::Global;
+
+/// What the lines leave that have ended.
+#[derive(Drop)]
+pub struct Progress {
+    pub(crate) image: Image,
+    /// Where the addresses of data records count from.
+    pub(crate) base: Base,
+    pub(crate) data_records: u32,
+    /// The number of lines.
+    pub(crate) lines: u32,
+    /// Whether one of them was an end record, behind which nothing counts.
+    pub(crate) ended: bool,
+}
+
+impl Progress {
+    /// What no line leaves, for a memory of this size.
+    pub(crate) fn new(alloc: Global, size: u32) -> Result<Progress, ImageFault>
+        ensures { MatchResult result (λ p. seen p ≡ fresh size) (λ fault. fault ≡ ImageFault.Memory) }
+    {
+        match Image::new(alloc, size) {
+            Ok(image) => Ok(Progress {
+                image,
+                base: Base::Linear(0),
+                data_records: 0,
+                lines: 0,
+                ended: false,
+            }),
+            Err(fault) => Err(fault),
+        }
+    }
+
+    /// Lays the bytes of a data record.
+    fn lay_record(&mut self, offset: u32, bytes: &[u8]) -> Result<(), LineFault>
+        requires short { length bytes.now ≤ 255 }
+        requires near { Near self.old.base offset }
+        requires few { self.old.data_records + 1 < 2 ^ 32 }
+        ensures step { MatchResult result (λ _. (fault_at (seen self.old) (said.Data offset bytes.now) ≡ None) × (seen self.new ≡ with_record (seen self.old) (said.Data offset bytes.now))) (λ fault. fault_at (seen self.old) (said.Data offset bytes.now) ≡ Some fault) }
+        ensures base { self.new.base ≡ self.old.base }
+        ensures lines { self.new.lines ≡ self.old.lines }
+        ensures few { self.new.data_records ≤ self.old.data_records + 1 }
+        ensures size { length self.new.image ≡ length self.old.image }
+    {
+        match lay(&mut self.image, self.base, offset, bytes) {
+            Ok(()) => {
+                self.data_records += 1;
+                Ok(())
+            }
+            Err(addr) => Err(LineFault::Range(addr)),
+        }
+    }
+
+    /// Takes in what a line says.
+    #[tactic(auto, using(crate::proofs::Places::near))]
+    pub(crate) fn take(&mut self, kind: Kind, line: Line<'_>) -> Result<(), LineFault>
+        requires fits { Fits kind line }
+        requires base { HasBase kind self.old.base }
+        requires few { self.old.data_records + 1 < 2 ^ 32 }
+        ensures step { MatchResult result (λ _. (fault_at (seen self.old) (record_of line.entry) ≡ None) × (seen self.new ≡ with_record (seen self.old) (record_of line.entry))) (λ fault. fault_at (seen self.old) (record_of line.entry) ≡ Some fault) }
+        ensures size { length self.new.image ≡ length self.old.image }
+        ensures base { OnOk result (HasBase kind self.new.base) }
+        ensures lines { self.new.lines ≡ self.old.lines }
+        ensures few { self.new.data_records ≤ self.old.data_records + 1 }
+    {
+        match line {
+            Line::Nothing => Ok(()),
+            Line::Data(offset, bytes) => self.lay_record(offset, bytes),
+            Line::Rebase(base) => {
+                self.base = base;
+                Ok(())
+            }
+            Line::Counted(n) => {
+                if n == self.data_records {
+                    Ok(())
+                } else {
+                    Err(LineFault::Count)
+                }
+            }
+            Line::End => {
+                self.ended = true;
+                Ok(())
+            }
+        }
+    }
+
+    /// Judges a line and takes in what it says.
+    fn judge(&mut self, kind: Kind, line: &[u8]) -> Result<(), LineFault>
+        requires base { HasBase kind self.old.base }
+        requires few { self.old.data_records + 1 < 2 ^ 32 }
+        ensures step { MatchResult result (λ _. (fault_behind (seen self.old) (says kind line.now) ≡ None) × (seen self.new ≡ with_line (seen self.old) (says kind line.now))) (λ fault. fault_behind (seen self.old) (says kind line.now) ≡ Some fault) }
+        ensures size { length self.new.image ≡ length self.old.image }
+        ensures base { OnOk result (HasBase kind self.new.base) }
+        ensures lines { self.new.lines ≡ self.old.lines }
+        ensures few { self.new.data_records ≤ self.old.data_records + 1 }
+    {
+        let mut room = [0; ROOM];
+        match line_says(kind, line, &mut room) {
+            Ok(line) => self.take(kind, line),
+            Err(fault) => Err(fault),
+        }
+    }
+
+    /// The fault of the line that comes next.
+    pub(crate) fn next_fault(&self, fault: LineFault) -> RecordFault
+        requires { self.now.lines + 1 < 2 ^ 32 }
+        ensures value { result ≡ in_line (self.now.lines + 1) fault }
+        ensures line { IsLineFault result }
+    {
+        fault.in_line(self.lines + 1)
+    }
+
+    /// Takes in the next line.
+    pub(crate) fn take_line(&mut self, kind: Kind, line: &[u8]) -> Result<(), RecordFault>
+        requires range { InRange kind (seen self.old) }
+        requires few { self.old.lines + 1 < 2 ^ 32 }
+        ensures step { MatchResult result (λ _. step (seen self.old) (says kind line.now) ≡ Ok (seen self.new)) (λ fault. step (seen self.old) (says kind line.now) ≡ Err fault) }
+        ensures size { length self.new.image ≡ length self.old.image }
+        ensures range { OnOk result (InRange kind (seen self.new)) }
+        ensures lines { OnOk result (self.new.lines ≡ self.old.lines + 1) }
+        ensures line { IfErr result IsLineFault }
+    {
+        match self.judge(kind, line) {
+            Ok(()) => {
+                self.lines += 1;
+                Ok(())
+            }
+            Err(fault) => Err(self.next_fault(fault)),
+        }
+    }
+
+    /// Whether an end record came.
+    pub(crate) fn ending(&self) -> Ending
+        ensures { result ≡ ending_of (seen self.now) }
+    {
+        if self.ended {
+            Ending::Ended
+        } else {
+            Ending::NoEnd
+        }
+    }
+}

@@ -1,0 +1,102 @@
+//! The reader of record files.
+
+ghost use Rattle.std.specs.Prelude.{◌≡◌, ◌≢◌, ◌+◌, ◌<◌, ◌^◌, ◌++◌, ℕ, List, [], true, Ok, Err, length, MatchResult, OnOk, OnErr};
+ghost use Rattle.avr_records.specs.Closed.{closed_fault, unless_fault};
+ghost use Rattle.avr_records.specs.Reader.{State, Stands, IsNew, memory_size};
+ghost use Rattle.avr_records.specs.Reading.{read};
+
+use crate::fault::RecordFault;
+use crate::kind::{Ending, Kind};
+use crate::line_reader::LineReader;
+use avr_image::Image;
+use std::alloc::Global;
+use std::marker::Model;
+
+/// Reads a record file of one kind into an image, from pieces of any length.
+///
+/// A reader keeps no text: one line of at most 600 bytes, and the image. The contracts speak of the texts that it may have
+/// been fed (`Stands`): whatever the pieces, the answers are those of the whole text.
+#[derive(Drop)]
+pub struct RecordReader {
+    lines: LineReader,
+    fed: u32,
+    failed: bool,
+}
+
+impl Model for RecordReader {
+    ghost use Rattle.std.specs.Prelude.{◌≡◌, ◌+◌, ◌≤◌, false};
+    ghost use Rattle.avr_records.specs.Reader.{State};
+
+    ghost Value = { State };
+
+    ghost use Rattle.avr_records.specs.Steps.{seen, least_length, InRange};
+
+    ghost view = { λ r. record { kind = r.lines.kind; progress = seen r.lines.progress; part = r.lines.part; fed = r.fed; failed = r.failed } };
+
+    ghost invariant = { λ r. r.failed ≡ false → InRange r.lines.kind (seen r.lines.progress) × (r.lines.progress.lines + least_length r.lines.part ≤ r.fed) };
+}
+
+impl RecordReader {
+    /// A reader for a memory of this many bytes, below which all addresses have to lie. It makes all the room that the
+    /// reader needs, so no other call answers `Memory`.
+    pub fn new(alloc: Global, kind: Kind, size: u32) -> Result<RecordReader, RecordFault>
+        ensures { MatchResult result (IsNew kind size) (λ fault. fault ≡ RecordFault.Memory) }
+    {
+        match LineReader::new(alloc, kind, size) {
+            Ok(lines) => Ok(RecordReader {
+                lines,
+                fed: 0,
+                failed: false,
+            }),
+            Err(_) => Err(RecordFault::Memory),
+        }
+    }
+
+    /// How many bytes were fed. A call of `feed` that answers a fault doesn't count.
+    pub fn fed(&self) -> u32
+        ensures { result ≡ self.now.fed }
+    {
+        self.fed
+    }
+
+    /// Takes the next piece of the file. The fault of a line is answered by the call that brings its line end; where the
+    /// piece ends several lines, that of the first faulty one. After a fault every call answers `Failed`.
+    pub fn feed(&mut self, piece: &[u8]) -> Result<(), RecordFault>
+        requires { self.old.fed + length piece.now < 2 ^ 32 }
+        ensures answer { (text : List ℕ) → Stands self.old text → result ≡ unless_fault (closed_fault self.old.kind (text ++ piece.now) (memory_size self.old)) }
+        ensures stands { OnOk result ((text : List ℕ) → Stands self.old text → Stands self.new (text ++ piece.now)) }
+        ensures fed { OnOk result (self.new.fed ≡ self.old.fed + length piece.now) }
+        ensures fault { OnErr result ((self.new.failed ≡ true) × (self.new.fed ≡ self.old.fed)) }
+        ensures kind { self.new.kind ≡ self.old.kind }
+        ensures size { memory_size self.new ≡ memory_size self.old }
+        ensures failed { self.old.failed ≡ true → result ≡ Err RecordFault.Failed }
+        ensures memory { result ≢ Err RecordFault.Memory }
+    {
+        if self.failed {
+            return Err(RecordFault::Failed);
+        }
+        match self.lines.feed(piece) {
+            Ok(()) => {
+                self.fed += piece.len() as u32;
+                Ok(())
+            }
+            Err(fault) => {
+                self.failed = true;
+                Err(fault)
+            }
+        }
+    }
+
+    /// What the whole file says: the image, and whether the end record came; or its first fault.
+    pub fn finish(self) -> Result<(Image, Ending), RecordFault>
+        ensures answer { (text : List ℕ) → Stands self text → result ≡ read self.kind text (memory_size self) }
+        ensures failed { self.failed ≡ true → result ≡ Err RecordFault.Failed }
+        ensures memory { result ≢ Err RecordFault.Memory }
+    {
+        let RecordReader { lines, failed, .. } = self;
+        if failed {
+            return Err(RecordFault::Failed);
+        }
+        lines.finish()
+    }
+}

@@ -1,0 +1,52 @@
+//! A line that is written: the fields of a record as digits, behind its marks.
+#![tactic(auto)]
+
+ghost use Rattle.std.specs.Prelude.{◌≡◌, ◌+◌, ◌*◌, ◌<◌, ◌≤◌, [], ◌∷◌, ◌++◌, length, map};
+ghost use Rattle.std.specs.Char.{to_ascii_uppercase};
+ghost use Rattle.hex.specs.Hex.{encode_upper};
+
+use arrayvec::ArrayVec;
+
+/// The bytes of a record: at most a count, four address bytes, 32 bytes of data and a checksum.
+pub(crate) type Fields = ArrayVec<u8, 38>;
+
+/// Puts bytes behind those that stand there; there is room for them.
+pub(crate) fn append<const N: usize>(out: &mut ArrayVec<u8, N>, bytes: &[u8])
+    requires { length out.old.items + length bytes.now ≤ N }
+    ensures { out.new.items ≡ out.old.items ++ bytes.now }
+{
+    let _ = out.try_extend_from_slice(bytes);
+}
+
+/// Makes letters upper case, since `hex` writes lower-case digits where it takes no memory.
+fn raise(digits: &mut [u8])
+    ensures { digits.new ≡ map to_ascii_uppercase digits.old }
+{
+    for digit in digits.iter_mut() {
+        digit.make_ascii_uppercase();
+    }
+}
+
+/// Writes the upper-case digits of some bytes.
+#[tactic(auto, using(crate::proofs::Pieces::raised_encode))]
+fn put_digits(bytes: &[u8], digits: &mut [u8])
+    requires { length digits.old ≡ 2 * length bytes.now }
+    ensures { digits.new ≡ encode_upper bytes.now }
+{
+    let _ = hex::encode_to_slice(bytes, digits);
+    raise(digits);
+}
+
+/// Makes `out` the line of some marks and the upper-case digits of some bytes.
+pub(crate) fn put_line(marks: &[u8], bytes: &[u8], out: &mut ArrayVec<u8, 80>)
+    requires { length marks.now + 2 * length bytes.now < 80 }
+    ensures { out.new.items ≡ marks.now ++ encode_upper bytes.now ++ 10 ∷ [] }
+{
+    let mut room = [0; 80];
+    let digits = &mut room[..2 * bytes.len()];
+    put_digits(bytes, digits);
+    out.clear();
+    append(out, marks);
+    append(out, digits);
+    out.push(b'\n');
+}
