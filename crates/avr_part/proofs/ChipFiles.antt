@@ -1,0 +1,73 @@
+-- A chip file read again.
+use Rattle.std.proofs.Common.{◌≡◌, ◌∙◌, ap, arith, ℕ, ◌+◌, List, [], ◌∷◌, ◌++◌, length, take, drop, get_or, Bool, true, cond, Ok, length-append, append_assoc, refl, sym}
+use Rattle.std.proofs.lemmas.List.{get_or-drop, length-drop, take-append-drop, take_at, drop_at, get_or-append-add}
+use Rattle.std.proofs.lemmas.Bool.{eq-eqb}
+use Rattle.std.specs.Prelude.{◌==◌}
+use Rattle.avr_part.specs.Part.{Part}
+use Rattle.avr_part.specs.State.{State, with_empty_buffers}
+use Rattle.avr_part.specs.Sound.{IsSound}
+use Rattle.avr_part.specs.ChipFile.{chip_file, chip_file_size, chip_in, state_in}
+
+-- three lists in a row, taken apart
+flash_part : (flash eeprom fuses : List ℕ) (n : ℕ) → length flash ≡ n → take n (flash ++ eeprom ++ fuses) ≡ flash
+flash_part flash eeprom fuses n e = ap (take n) (append_assoc flash eeprom fuses) ∙ take_at flash (eeprom ++ fuses) n e
+
+eeprom_part : (flash eeprom fuses : List ℕ) (n m : ℕ) → length flash ≡ n → length eeprom ≡ m → take m (drop n (flash ++ eeprom ++ fuses)) ≡ eeprom
+eeprom_part flash eeprom fuses n m e f =
+    ap (λ (xs : List ℕ). take m (drop n xs)) (append_assoc flash eeprom fuses)
+    ∙ (ap (take m) (drop_at flash (eeprom ++ fuses) n e) ∙ take_at eeprom fuses m f)
+
+fuse_part : (flash eeprom fuses : List ℕ) (at k : ℕ) → at ≡ length flash + length eeprom + k → get_or (flash ++ eeprom ++ fuses) at 0 ≡ get_or fuses k 0
+fuse_part flash eeprom fuses at k e =
+    ap (λ (i : ℕ). get_or (flash ++ eeprom ++ fuses) i 0) (let at_is : at ≡ length (flash ++ eeprom) + k = rw length-append e in at_is)
+    ∙ get_or-append-add (flash ++ eeprom) fuses k 0
+
+file_length : (s : State) → IsSound s → length (chip_file s) ≡ chip_file_size s.part
+file_length s sound =
+    let flash = sound.flash_size in
+    let eeprom = sound.eeprom_size in
+    omega (arith, length-append (s.flash ++ s.eeprom) (s.lfuse ∷ s.hfuse ∷ s.efuse ∷ s.lock ∷ []), length-append s.flash s.eeprom)
+
+chosen : {A : Type 0} (test : Bool) (x y : A) → test ≡ true → cond test x y ≡ x
+chosen test x y e = ap (λ (b : Bool). cond b x y) e
+
+-- the chip of its own file has the same memories, and empty buffers
+pub read_again : (s : State) → IsSound s → chip_in s.part (chip_file s) ≡ Ok (with_empty_buffers s)
+read_again s sound =
+    let fuses = s.lfuse ∷ s.hfuse ∷ s.efuse ∷ s.lock ∷ [] in
+    let flash_size = sound.flash_size in
+    let eeprom_size = sound.eeprom_size in
+    let at = s.part.flash_size + s.part.eeprom_size in
+    let flash = flash_part s.flash s.eeprom fuses s.part.flash_size flash_size in
+    let eeprom = eeprom_part s.flash s.eeprom fuses s.part.flash_size s.part.eeprom_size flash_size eeprom_size in
+    let lfuse = fuse_part s.flash s.eeprom fuses at 0 (omega arith) in
+    let hfuse = fuse_part s.flash s.eeprom fuses (at + 1) 1 (omega arith) in
+    let efuse = fuse_part s.flash s.eeprom fuses (at + 2) 2 (omega arith) in
+    let lock = fuse_part s.flash s.eeprom fuses (at + 3) 3 (omega arith) in
+    chosen (length (chip_file s) == chip_file_size s.part) _ _ (eq-eqb _ _ (file_length s sound))
+    ∙ rw (flash, eeprom, lfuse, hfuse, efuse, lock, sound.flash_buffer_size, sound.eeprom_buffer_size)
+
+four_bytes : (xs : List ℕ) → length xs ≡ 4 → xs ≡ get_or xs 0 0 ∷ get_or xs 1 0 ∷ get_or xs 2 0 ∷ get_or xs 3 0 ∷ []
+four_bytes [] e = absurd (omega (arith, e))
+four_bytes (a ∷ []) e = absurd (omega (arith, e))
+four_bytes (a ∷ b ∷ []) e = absurd (omega (arith, e))
+four_bytes (a ∷ b ∷ c ∷ []) e = absurd (omega (arith, e))
+four_bytes (a ∷ b ∷ c ∷ d ∷ []) e = refl
+four_bytes (a ∷ b ∷ c ∷ d ∷ x ∷ xs) e = absurd (omega (arith, e))
+
+-- the file of the chip of a file is the file
+pub written_again : (p : Part) (bytes : List ℕ) → length bytes ≡ chip_file_size p → chip_file (state_in p bytes) ≡ bytes
+written_again p bytes e =
+    let n = p.flash_size in
+    let m = p.eeprom_size in
+    let rest = drop n bytes in
+    let fuses = drop m rest in
+    let at : (k : ℕ) → get_or bytes (n + m + k) 0 ≡ get_or fuses k 0 =
+    λ k. sym (get_or-drop m rest k 0 ∙ (get_or-drop n bytes (m + k) 0 ∙ ap (λ (i : ℕ). get_or bytes i 0) (omega arith))) in
+    let first : get_or bytes (n + m) 0 ≡ get_or fuses 0 0 = ap (λ (i : ℕ). get_or bytes i 0) (omega arith) ∙ at 0 in
+    let count : length fuses ≡ 4 = omega (arith, length-drop m rest, length-drop n bytes) in
+    let listed : fuses ≡ get_or bytes (n + m) 0 ∷ get_or bytes (n + m + 1) 0 ∷ get_or bytes (n + m + 2) 0 ∷ get_or bytes (n + m + 3) 0 ∷ [] =
+    four_bytes fuses count ∙ rw (first, at 1, at 2, at 3) in
+    ap (λ (xs : List ℕ). take n bytes ++ take m rest ++ xs) (sym listed)
+    ∙ (append_assoc (take n bytes) (take m rest) fuses
+    ∙ (ap (λ (xs : List ℕ). take n bytes ++ xs) (take-append-drop m rest) ∙ take-append-drop n bytes))

@@ -1,0 +1,7 @@
+pub mod Changes
+pub mod Finding
+pub mod Judging
+pub mod Powers
+pub mod Twice
+pub mod ChipFiles
+pub mod Rows

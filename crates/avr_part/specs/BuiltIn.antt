@@ -1,0 +1,55 @@
+-- The built-in parts, and how a part is found.
+use Rattle.std.specs.Prelude.{ℕ, List, [], ◌∷◌, ◌++◌, Bool, codes, Option, Some, None, Result, ok_or, find}
+use Rattle.std.specs.Global.{Vec}
+use Rattle.std.specs.Str.{bytes_eq}
+use Rattle.avr_part.specs.Part.{Part}
+use Rattle.avr_part.specs.declared.fault.PartFault.{PartFault}
+use Rattle.avr_part.specs.declared.fault.PartFault.TheVariants.{NoSuchPart}
+
+abbrev pub m328p : Part
+m328p = record {
+  id = codes "m328p";
+  signature = 0x1E ∷ 0x95 ∷ 0x0F ∷ [];
+  flash_size = 32768;
+  flash_page = 128;
+  eeprom_size = 1024;
+  eeprom_page = 4;
+  eesave_bit = 3;
+}
+
+abbrev pub t85 : Part
+t85 = record {
+  id = codes "t85";
+  signature = 0x1E ∷ 0x93 ∷ 0x0B ∷ [];
+  flash_size = 8192;
+  flash_page = 64;
+  eeprom_size = 512;
+  eeprom_page = 4;
+  eesave_bit = 3;
+}
+
+abbrev pub m2560 : Part
+m2560 = record {
+  id = codes "m2560";
+  signature = 0x1E ∷ 0x98 ∷ 0x01 ∷ [];
+  flash_size = 262144;
+  flash_page = 256;
+  eeprom_size = 4096;
+  eeprom_page = 8;
+  eesave_bit = 3;
+}
+
+abbrev pub built_in_parts : List Part
+built_in_parts = m328p ∷ t85 ∷ m2560 ∷ []
+
+abbrev pub has_id : List ℕ → Part → Bool
+has_id id p = bytes_eq p.id id
+
+-- the first part of this id, those of a file before the built-in ones
+abbrev pub found : List ℕ → List Part → Result Part PartFault
+found id parts = ok_or (find (has_id id) (parts ++ built_in_parts)) NoSuchPart
+
+-- the parts of a file, if there is one
+abbrev pub listed : Option (Vec Part) → List Part
+listed None = []
+listed (Some v) = v.items

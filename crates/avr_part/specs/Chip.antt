@@ -1,0 +1,21 @@
+-- The fields of a chip, as its state.
+use Rattle.avr_part.specs.State.{State}
+use Rattle.avr_part.specs.Sound.{IsSound}
+use Rattle.avr_part.specs.declared.chip.Chip.TheInside.{Inside}
+
+abbrev pub state_of : Inside → State
+state_of c = record {
+  part = c.part;
+  flash = c.flash;
+  eeprom = c.eeprom;
+  lfuse = c.lfuse;
+  hfuse = c.hfuse;
+  efuse = c.efuse;
+  lock = c.lock;
+  flash_buffer = c.flash_buffer;
+  eeprom_buffer = c.eeprom_buffer;
+  extended = c.extended;
+}
+
+abbrev pub IsSoundInside : Inside → Type 0
+IsSoundInside c = IsSound (state_of c)

@@ -1,0 +1,29 @@
+-- The chip file: flash, EEPROM, low, high and extended fuse and lock, byte after byte.
+use Rattle.std.specs.Prelude.{◌+◌, ◌==◌, ℕ, List, [], ◌∷◌, ◌++◌, length, take, drop, slice_index, Result, Ok, Err, if◌then◌else◌}
+use Rattle.avr_part.specs.Part.{Part}
+use Rattle.avr_part.specs.State.{State, fresh_state}
+use Rattle.avr_part.specs.declared.fault.PartFault.{PartFault}
+use Rattle.avr_part.specs.declared.fault.PartFault.TheVariants.{BadChipFile}
+
+abbrev pub chip_file : State → List ℕ
+chip_file s = s.flash ++ s.eeprom ++ s.lfuse ∷ s.hfuse ∷ s.efuse ∷ s.lock ∷ []
+
+abbrev pub chip_file_size : Part → ℕ
+chip_file_size p = p.flash_size + p.eeprom_size + 4
+
+-- the fresh chip with the file's memories
+abbrev pub state_in : Part → List ℕ → State
+state_in p bytes =
+    let fuses = p.flash_size + p.eeprom_size in
+    record (fresh_state p) {
+      flash = take p.flash_size bytes;
+      eeprom = take p.eeprom_size (drop p.flash_size bytes);
+      lfuse = slice_index bytes fuses;
+      hfuse = slice_index bytes (fuses + 1);
+      efuse = slice_index bytes (fuses + 2);
+      lock = slice_index bytes (fuses + 3);
+    }
+
+abbrev pub chip_in : Part → List ℕ → Result State PartFault
+chip_in p bytes =
+    if length bytes == chip_file_size p then Ok (state_in p bytes) else Err (BadChipFile (length bytes))

@@ -1,0 +1,25 @@
+-- Why there is no part or no chip.
+use Rattle.std.specs.Prelude.{ℕ, List, codes}
+use Rattle.avr_part.specs.declared.fault.Field.{Field}
+use Rattle.avr_part.specs.declared.fault.Field.TheVariants as field
+use Rattle.avr_part.specs.declared.fault.PartFault.{PartFault}
+use Rattle.avr_part.specs.declared.fault.PartFault.TheVariants.{NotToml, Missing, BadValue, BadSizes, NoSuchPart, BadChipFile, Memory}
+
+abbrev pub field_name : Field → List ℕ
+field_name field.Parts = codes "parts"
+field_name field.Id = codes "id"
+field_name field.Signature = codes "signature"
+field_name field.FlashSize = codes "flash_size"
+field_name field.FlashPage = codes "flash_page"
+field_name field.EepromSize = codes "eeprom_size"
+field_name field.EepromPage = codes "eeprom_page"
+field_name field.EesaveBit = codes "eesave_bit"
+
+abbrev pub fault_number : PartFault → ℕ
+fault_number NotToml = 1
+fault_number (Missing field) = 2
+fault_number (BadValue field) = 3
+fault_number BadSizes = 4
+fault_number NoSuchPart = 5
+fault_number (BadChipFile length) = 6
+fault_number Memory = 7

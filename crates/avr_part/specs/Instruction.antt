@@ -1,0 +1,48 @@
+-- The serial programming instructions, by the table of the part's manual.
+use Rattle.std.specs.Prelude.{ℕ, ◌==◌, ◌&&◌, ◌+◌, ◌*◌, List, if◌then◌else◌, slice_index}
+use Rattle.avr_part.specs.declared.instruction.Half.TheVariants as half
+use Rattle.avr_part.specs.declared.instruction.Fuse.TheVariants as fuse
+use Rattle.avr_part.specs.declared.instruction.Instruction.{Instruction}
+use Rattle.avr_part.specs.declared.instruction.Instruction.TheVariants.{Enable, Erase, LoadFlash, WriteFlashPage, ReadFlash, ReadEeprom, WriteEeprom, LoadEeprom, WriteEepromPage, WriteFuse, WriteLock, ReadFuse, ReadLock, ReadSignature, ReadCalibration, Poll, Extend, Nothing}
+
+-- AC and a second byte
+abbrev pub write_of : ℕ → ℕ → Instruction
+write_of b d =
+    if b == 0x53 then Enable
+    else if b == 0x80 then Erase
+    else if b == 0xA0 then WriteFuse fuse.Low d
+    else if b == 0xA8 then WriteFuse fuse.High d
+    else if b == 0xA4 then WriteFuse fuse.Extended d
+    else if b == 0xE0 then WriteLock d
+    else Nothing
+
+-- the instructions that read a fuse or the lock, by their first two bytes
+abbrev pub read_of : ℕ → ℕ → Instruction
+read_of a b =
+    if a == 0x50 && b == 0x00 then ReadFuse fuse.Low
+    else if a == 0x58 && b == 0x08 then ReadFuse fuse.High
+    else if a == 0x50 && b == 0x08 then ReadFuse fuse.Extended
+    else if a == 0x58 && b == 0x00 then ReadLock
+    else Nothing
+
+abbrev pub instruction_by : ℕ → ℕ → ℕ → ℕ → Instruction
+instruction_by a b c d =
+    if a == 0xAC then write_of b d
+    else if a == 0x40 then LoadFlash half.Low c d
+    else if a == 0x48 then LoadFlash half.High c d
+    else if a == 0x4C then WriteFlashPage (b * 256 + c)
+    else if a == 0x20 then ReadFlash half.Low (b * 256 + c)
+    else if a == 0x28 then ReadFlash half.High (b * 256 + c)
+    else if a == 0xA0 then ReadEeprom (b * 256 + c)
+    else if a == 0xC0 then WriteEeprom (b * 256 + c) d
+    else if a == 0xC1 then LoadEeprom c d
+    else if a == 0xC2 then WriteEepromPage (b * 256 + c)
+    else if a == 0x30 then ReadSignature c
+    else if a == 0x38 then ReadCalibration
+    else if a == 0xF0 then Poll
+    else if a == 0x4D then Extend c
+    else read_of a b
+
+-- the instruction of four bytes
+abbrev pub instruction_of : List ℕ → Instruction
+instruction_of x = instruction_by (slice_index x 0) (slice_index x 1) (slice_index x 2) (slice_index x 3)

@@ -1,0 +1,19 @@
+-- What the laws of the chip speak of.
+use Rattle.std.specs.Prelude.{◌≡◌}
+use Rattle.avr_part.specs.State.{State}
+
+-- the flash buffer is loaded again as it was
+abbrev pub flash_loaded_as : State → State → State
+flash_loaded_as before s = record s { flash_buffer = before.flash_buffer }
+
+-- the EEPROM buffer is loaded again as it was
+abbrev pub eeprom_loaded_as : State → State → State
+eeprom_loaded_as before s = record s { eeprom_buffer = before.eeprom_buffer }
+
+-- flash, EEPROM and fuses are as they were
+pub record KeepsMemories (before s : State) : Type 0 where
+  pub flash : s.flash ≡ before.flash
+  pub eeprom : s.eeprom ≡ before.eeprom
+  pub lfuse : s.lfuse ≡ before.lfuse
+  pub hfuse : s.hfuse ≡ before.hfuse
+  pub efuse : s.efuse ≡ before.efuse

@@ -1,0 +1,12 @@
+pub mod Mem
+pub mod Part
+pub mod BuiltIn
+pub mod Fault
+pub mod PartFile
+pub mod Instruction
+pub mod Memory
+pub mod State
+pub mod Sound
+pub mod Chip
+pub mod ChipFile
+pub mod Laws

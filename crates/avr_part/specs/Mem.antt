@@ -1,0 +1,19 @@
+-- The memories of a part.
+use Rattle.std.specs.Prelude.{ℕ, List, Bool, true, false, codes}
+use Rattle.avr_part.specs.declared.mem.Mem.{Mem}
+use Rattle.avr_part.specs.declared.mem.Mem.TheVariants.{Flash, Eeprom, Lfuse, Hfuse, Efuse, Lock, Signature, Calibration}
+
+abbrev pub name_of : Mem → List ℕ
+name_of Flash = codes "flash"
+name_of Eeprom = codes "eeprom"
+name_of Lfuse = codes "lfuse"
+name_of Hfuse = codes "hfuse"
+name_of Efuse = codes "efuse"
+name_of Lock = codes "lock"
+name_of Signature = codes "signature"
+name_of Calibration = codes "calibration"
+
+abbrev pub is_writable : Mem → Bool
+is_writable Signature = false
+is_writable Calibration = false
+is_writable m = true

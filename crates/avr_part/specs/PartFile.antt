@@ -1,0 +1,144 @@
+-- The parts of a part file, as its TOML tree is judged.
+use Rattle.std.specs.Prelude.{◌≡◌, ◌⊎◌, ℕ, ℤ, pos, negsuc, List, [], ◌∷◌, ◌&&◌, ◌==◌, ◌%◌, Option, Some, None, Result, Ok, Err, codes, if◌then◌else◌}
+use Rattle.std.specs.Int.{is_power_of_two}
+use Rattle.std.specs.Str.{is_utf8}
+use Rattle.std.specs.Global.{Vec}
+use Rattle.std.specs.BTreeMap.{BTreeMap}
+use Rattle.std.specs.Prelude.{String}
+use Rattle.std.specs.declared.alloc.Global.{Global}
+use Rattle.hex.specs.Hex.{decode_sized}
+use Rattle.toml.specs.Data.{Data, Members, no_members, member, get_member, as_table, as_str, as_integer}
+use Rattle.toml.specs.Parse.{parse_document}
+use Rattle.toml.specs.View.{table_view}
+use Rattle.toml.specs.declared.value.Value.{Value}
+use Rattle.avr_part.specs.Part.{Part, id_of, is_between}
+use Rattle.avr_part.specs.declared.fault.Field.{Field}
+use Rattle.avr_part.specs.declared.fault.Field.TheVariants as field
+use Rattle.avr_part.specs.declared.fault.PartFault.{PartFault}
+use Rattle.avr_part.specs.declared.fault.PartFault.TheVariants.{NotToml, Missing, BadValue, BadSizes, Memory}
+
+abbrev pub Bytes : Type 0
+Bytes = List ℕ
+
+infixl 10 ◌>>=◌
+abbrev pub ◌>>=◌ : {A B : Type 0} → Result A PartFault → (A → Result B PartFault) → Result B PartFault
+Ok x >>= f = f x
+Err e >>= f = Err e
+
+abbrev pub number_in : Field → ℕ → ℕ → ℤ → Result ℕ PartFault
+number_in f least most (pos n) = if is_between least most n then Ok n else Err (BadValue f)
+number_in f least most (negsuc n) = Err (BadValue f)
+
+abbrev pub number_value : Field → ℕ → ℕ → Option ℤ → Result ℕ PartFault
+number_value f least most None = Err (BadValue f)
+number_value f least most (Some z) = number_in f least most z
+
+-- a field that is a number from `least` to `most`
+abbrev pub number_field : Field → ℕ → ℕ → Option Data → Result ℕ PartFault
+number_field f least most None = Err (Missing f)
+number_field f least most (Some d) = number_value f least most (as_integer d)
+
+abbrev pub power_of : Field → ℕ → Result ℕ PartFault
+power_of f n = if is_power_of_two n then Ok n else Err (BadValue f)
+
+-- a field that is a page: a power of two from `least` to 256
+abbrev pub page_field : Field → ℕ → Option Data → Result ℕ PartFault
+page_field f least d = number_field f least 256 d >>= power_of f
+
+abbrev pub hex_value : {E : Type 0} → Result Bytes E → Result Bytes PartFault
+hex_value (Ok bytes) = Ok bytes
+hex_value (Err e) = Err (BadValue field.Signature)
+
+abbrev pub signature_value : Option Bytes → Result Bytes PartFault
+signature_value None = Err (BadValue field.Signature)
+signature_value (Some text) = hex_value (decode_sized text 3)
+
+-- the signature's three bytes
+abbrev pub signature_field : Option Data → Result Bytes PartFault
+signature_field None = Err (Missing field.Signature)
+signature_field (Some d) = signature_value (as_str d)
+
+-- the sizes are whole pages
+abbrev pub fitted_part : Part → Result Part PartFault
+fitted_part p =
+    if p.flash_size % p.flash_page == 0 && p.eeprom_size % p.eeprom_page == 0 then Ok p else Err BadSizes
+
+-- the fields of a part, in their order
+abbrev pub judged_fields : Bytes → Members → Result Part PartFault
+judged_fields id ms = do
+  signature ← signature_field (get_member (codes "signature") ms)
+  flash_size ← number_field field.FlashSize 2 262144 (get_member (codes "flash_size") ms)
+  flash_page ← page_field field.FlashPage 2 (get_member (codes "flash_page") ms)
+  eeprom_size ← number_field field.EepromSize 1 4096 (get_member (codes "eeprom_size") ms)
+  eeprom_page ← page_field field.EepromPage 1 (get_member (codes "eeprom_page") ms)
+  eesave_bit ← number_field field.EesaveBit 0 7 (get_member (codes "eesave_bit") ms)
+  fitted_part (record {
+    id = id;
+    signature = signature;
+    flash_size = flash_size;
+    flash_page = flash_page;
+    eeprom_size = eeprom_size;
+    eeprom_page = eeprom_page;
+    eesave_bit = eesave_bit;
+  })
+
+abbrev pub judged_with : Option Bytes → Members → Result Part PartFault
+judged_with None ms = Err (BadValue field.Id)
+judged_with (Some id) ms = judged_fields id ms
+
+abbrev pub judged_table : Bytes → Option Members → Result Part PartFault
+judged_table key None = Err (BadValue field.Parts)
+judged_table key (Some ms) = judged_with (id_of key) ms
+
+-- a member of the table of parts: a table, named by the part's id
+abbrev pub judged : Bytes → Data → Result Part PartFault
+judged key d = judged_table key (as_table d)
+
+-- the members of the table of parts, in the byte order of their keys
+abbrev pub judged_all : Members → Result (List Part) PartFault
+judged_all no_members = Ok []
+judged_all (member key d rest) = do
+  part ← judged key d
+  parts ← judged_all rest
+  Ok (part ∷ parts)
+
+abbrev pub judged_parts : Option Members → Result (List Part) PartFault
+judged_parts None = Err (BadValue field.Parts)
+judged_parts (Some ms) = judged_all ms
+
+abbrev pub judged_value : Option Data → Result (List Part) PartFault
+judged_value None = Err (Missing field.Parts)
+judged_value (Some d) = judged_parts (as_table d)
+
+abbrev pub judged_document : Members → Result (List Part) PartFault
+judged_document ms = judged_value (get_member (codes "parts") ms)
+
+abbrev pub judged_text : Option Members → Result (List Part) PartFault
+judged_text None = Err NotToml
+judged_text (Some ms) = judged_document ms
+
+abbrev pub text_of : Bytes → Option Bytes
+text_of bytes = if is_utf8 bytes then Some bytes else None
+
+abbrev pub judged_bytes : Option Bytes → Result (List Part) PartFault
+judged_bytes None = Err NotToml
+judged_bytes (Some text) = judged_text (parse_document text)
+
+-- the parts that a text defines
+abbrev pub parts_of : Bytes → Result (List Part) PartFault
+parts_of bytes = judged_bytes (text_of bytes)
+
+-- the result is the one wanted, or memory was refused
+abbrev pub GivesOrMemory : {T : Type 0} → Result T PartFault → Result T PartFault → Type 0
+GivesOrMemory want got = (got ≡ want) ⊎ (got ≡ Err Memory)
+
+abbrev pub listed_items : Result (Vec Part) PartFault → Result (List Part) PartFault
+listed_items (Ok v) = Ok v.items
+listed_items (Err e) = Err e
+
+-- what was read is the document, or memory was refused
+abbrev pub ReadsDocument : Option Members → Result (BTreeMap (String Global) Value) PartFault → Type 0
+ReadsDocument want (Ok t) = want ≡ Some (table_view t)
+ReadsDocument want (Err NotToml) = want ≡ None
+ReadsDocument want (Err Memory) = Unit {0}
+ReadsDocument want (Err fault) = ⊥

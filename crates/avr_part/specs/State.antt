@@ -1,0 +1,164 @@
+-- The chip, as its memories and buffers, and what each instruction does to them.
+use Rattle.std.specs.Prelude.{ℕ, Bool, ◌+◌, ◌*◌, ◌/◌, ◌%◌, ◌==◌, List, [], ◌∷◌, Option, Some, None, replicate, slice_index, slice_set, bit_and, if◌then◌else◌}
+use Rattle.std.specs.Int.{bit_at}
+use Rattle.avr_part.specs.Memory.{changed, anded, overlaid, blank, nothing_loaded, page_start}
+use Rattle.avr_part.specs.Instruction.{instruction_of}
+use Rattle.avr_part.specs.Part.{Part}
+use Rattle.avr_part.specs.declared.mem.Mem.{Mem}
+use Rattle.avr_part.specs.declared.mem.Mem.TheVariants.{Flash, Eeprom, Lfuse, Hfuse, Efuse, Lock, Signature, Calibration}
+use Rattle.avr_part.specs.declared.instruction.Half.{Half}
+use Rattle.avr_part.specs.declared.instruction.Half.TheVariants as half
+use Rattle.avr_part.specs.declared.instruction.Fuse.{Fuse}
+use Rattle.avr_part.specs.declared.instruction.Fuse.TheVariants as fuse
+use Rattle.avr_part.specs.declared.instruction.Instruction.{Instruction}
+use Rattle.avr_part.specs.declared.instruction.Instruction.TheVariants.{Enable, Erase, LoadFlash, WriteFlashPage, ReadFlash, ReadEeprom, WriteEeprom, LoadEeprom, WriteEepromPage, WriteFuse, WriteLock, ReadFuse, ReadLock, ReadSignature, ReadCalibration, Poll, Extend}
+
+pub record State : Type 0 where
+  pub part : Part
+  pub flash : List ℕ
+  pub eeprom : List ℕ
+  pub lfuse : ℕ
+  pub hfuse : ℕ
+  pub efuse : ℕ
+  pub lock : ℕ
+  pub flash_buffer : List ℕ
+  pub eeprom_buffer : List (Option ℕ)
+  pub extended : ℕ
+
+-- a chip whose memories are all FF, and whose buffers are empty
+abbrev pub fresh_state : Part → State
+fresh_state p = record {
+  part = p;
+  flash = replicate p.flash_size 255;
+  eeprom = replicate p.eeprom_size 255;
+  lfuse = 255;
+  hfuse = 255;
+  efuse = 255;
+  lock = 255;
+  flash_buffer = replicate p.flash_page 255;
+  eeprom_buffer = replicate p.eeprom_page None;
+  extended = 0;
+}
+
+-- an empty flash buffer is FF, and nothing is loaded in an empty EEPROM buffer
+abbrev pub with_empty_buffers : State → State
+with_empty_buffers s = record s {
+  flash_buffer = blank s.flash_buffer;
+  eeprom_buffer = nothing_loaded s.eeprom_buffer;
+  extended = 0;
+}
+
+-- the EESAVE bit is 0
+abbrev pub keeps_eeprom : State → Bool
+keeps_eeprom s = bit_at s.hfuse s.part.eesave_bit == 0
+
+abbrev pub with_erased : State → State
+with_erased s = record s {
+  flash = blank s.flash;
+  lock = 255;
+  eeprom = if keeps_eeprom s then s.eeprom else blank s.eeprom;
+}
+
+-- lock bit 0 is 0: nothing but a chip erase changes flash, EEPROM and fuses
+abbrev pub is_locked : State → Bool
+is_locked s = bit_at s.lock 0 == 0
+
+abbrev pub half_offset : Half → ℕ
+half_offset half.Low = 0
+half_offset half.High = 1
+
+abbrev pub with_load : Half → ℕ → ℕ → State → State
+with_load h word byte s = record s {
+  flash_buffer = slice_set s.flash_buffer (word % (s.part.flash_page / 2) * 2 + half_offset h) byte;
+}
+
+-- the address of the low byte of a word
+abbrev pub word_address : State → ℕ → ℕ
+word_address s word = (s.extended * 65536 + word) % (s.part.flash_size / 2) * 2
+
+abbrev pub eeprom_address : State → ℕ → ℕ
+eeprom_address s address = address % s.part.eeprom_size
+
+abbrev pub with_flash_page : ℕ → State → State
+with_flash_page word s = record s {
+  flash = if is_locked s then s.flash else changed (anded (page_start s.part.flash_page (word_address s word)) s.flash_buffer) s.flash;
+  flash_buffer = blank s.flash_buffer;
+}
+
+abbrev pub with_eeprom_byte : ℕ → ℕ → State → State
+with_eeprom_byte address byte s = record s { eeprom = if is_locked s then s.eeprom else slice_set s.eeprom (eeprom_address s address) byte }
+
+abbrev pub with_eeprom_load : ℕ → ℕ → State → State
+with_eeprom_load place byte s = record s {
+  eeprom_buffer = slice_set s.eeprom_buffer (place % s.part.eeprom_page) (Some byte);
+}
+
+abbrev pub with_eeprom_page : ℕ → State → State
+with_eeprom_page address s = record s {
+  eeprom = if is_locked s then s.eeprom else changed (overlaid (page_start s.part.eeprom_page (eeprom_address s address)) s.eeprom_buffer) s.eeprom;
+  eeprom_buffer = nothing_loaded s.eeprom_buffer;
+}
+
+abbrev pub with_fuse : Fuse → ℕ → State → State
+with_fuse fuse.Low byte s = record s { lfuse = if is_locked s then s.lfuse else byte }
+with_fuse fuse.High byte s = record s { hfuse = if is_locked s then s.hfuse else byte }
+with_fuse fuse.Extended byte s = record s { efuse = if is_locked s then s.efuse else byte }
+
+abbrev pub with_lock : ℕ → State → State
+with_lock byte s = record s { lock = bit_and s.lock byte }
+
+abbrev pub flash_byte : Half → ℕ → State → ℕ
+flash_byte h word s = slice_index s.flash (word_address s word + half_offset h)
+
+abbrev pub eeprom_byte : ℕ → State → ℕ
+eeprom_byte address s = slice_index s.eeprom (eeprom_address s address)
+
+abbrev pub fuse_of : Fuse → State → ℕ
+fuse_of fuse.Low s = s.lfuse
+fuse_of fuse.High s = s.hfuse
+fuse_of fuse.Extended s = s.efuse
+
+abbrev pub signature_byte : ℕ → State → ℕ
+signature_byte place s = if place % 4 == 3 then 255 else slice_index s.part.signature (place % 4)
+
+-- the byte that an instruction reads; one that reads none gives its third byte back
+abbrev pub answer_of : Instruction → ℕ → State → ℕ
+answer_of (ReadFlash h word) third s = flash_byte h word s
+answer_of (ReadEeprom address) third s = eeprom_byte address s
+answer_of (ReadFuse f) third s = fuse_of f s
+answer_of ReadLock third s = s.lock
+answer_of (ReadSignature place) third s = signature_byte place s
+answer_of ReadCalibration third s = 255
+answer_of Poll third s = 0
+answer_of i third s = third
+
+-- what an instruction changes
+abbrev pub after : Instruction → State → State
+after Enable s = with_empty_buffers s
+after Erase s = with_erased s
+after (LoadFlash h word byte) s = with_load h word byte s
+after (WriteFlashPage word) s = with_flash_page word s
+after (WriteEeprom address byte) s = with_eeprom_byte address byte s
+after (LoadEeprom place byte) s = with_eeprom_load place byte s
+after (WriteEepromPage address) s = with_eeprom_page address s
+after (WriteFuse f byte) s = with_fuse f byte s
+after (WriteLock byte) s = with_lock byte s
+after (Extend byte) s = record s { extended = byte }
+after i s = s
+
+-- four bytes in, and four bytes out
+abbrev pub spi_of : List ℕ → State → List ℕ × State
+spi_of x s =
+    let i = instruction_of x in
+    (0 ∷ slice_index x 0 ∷ slice_index x 1 ∷ answer_of i (slice_index x 2) s ∷ [], after i s)
+
+-- the bytes of a memory
+abbrev pub memory_of : Mem → State → List ℕ
+memory_of Flash s = s.flash
+memory_of Eeprom s = s.eeprom
+memory_of Lfuse s = s.lfuse ∷ []
+memory_of Hfuse s = s.hfuse ∷ []
+memory_of Efuse s = s.efuse ∷ []
+memory_of Lock s = s.lock ∷ []
+memory_of Signature s = s.part.signature
+memory_of Calibration s = 255 ∷ []

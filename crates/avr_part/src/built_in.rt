@@ -1,0 +1,73 @@
+//! The built-in parts.
+ghost use Rattle.std.specs.Prelude.{◌≡◌, ◌≤◌, length, find};
+ghost use Rattle.avr_part.specs.BuiltIn.{m328p, t85, m2560, built_in_parts, has_id};
+
+use crate::part::Part;
+use arrayvec::ArrayString;
+
+/// The text of an id.
+fn id_from(id: &str) -> ArrayString<31>
+    requires { length id.now ≤ 31 }
+    ensures { result.bytes ≡ id.now }
+{
+    let mut text = ArrayString::new();
+    text.push_str(id);
+    text
+}
+
+/// ATmega328P.
+fn m328p() -> Part
+    ensures { result ≡ m328p }
+{
+    Part {
+        id: id_from("m328p"),
+        signature: [0x1E, 0x95, 0x0F],
+        flash_size: 32_768,
+        flash_page: 128,
+        eeprom_size: 1024,
+        eeprom_page: 4,
+        eesave_bit: 3,
+    }
+}
+
+/// ATtiny85.
+fn t85() -> Part
+    ensures { result ≡ t85 }
+{
+    Part {
+        id: id_from("t85"),
+        signature: [0x1E, 0x93, 0x0B],
+        flash_size: 8192,
+        flash_page: 64,
+        eeprom_size: 512,
+        eeprom_page: 4,
+        eesave_bit: 3,
+    }
+}
+
+/// ATmega2560.
+fn m2560() -> Part
+    ensures { result ≡ m2560 }
+{
+    Part {
+        id: id_from("m2560"),
+        signature: [0x1E, 0x98, 0x01],
+        flash_size: 262_144,
+        flash_page: 256,
+        eeprom_size: 4096,
+        eeprom_page: 8,
+        eesave_bit: 3,
+    }
+}
+
+/// The built-in part of this id.
+pub fn built_in(id: &str) -> Option<Part>
+    ensures { result ≡ find (has_id id.now) built_in_parts }
+{
+    match id {
+        "m328p" => Some(m328p()),
+        "t85" => Some(t85()),
+        "m2560" => Some(m2560()),
+        _ => None,
+    }
+}

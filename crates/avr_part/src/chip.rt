@@ -1,0 +1,356 @@
+//! The chip as a machine of serial programming instructions.
+ghost use Rattle.std.specs.Prelude.{◌≡◌, ◌+◌, ◌*◌, ◌%◌, ◌<◌, ◌≤◌, [], ◌∷◌, slice_get, Ok};
+ghost use Rattle.avr_part.specs.Memory.{page_start};
+ghost use Rattle.std.specs.Prelude.{IfOk};
+
+use crate::fault::PartFault;
+use crate::instruction::{Fuse, Half, Instruction};
+use crate::loads::Loads;
+use crate::mem::Mem;
+use crate::memory::Memory;
+use crate::part::Part;
+use std::alloc::{AllocError, Global};
+use std::marker::Model;
+
+/// A chip of some part: its memories, its page buffers and its extended address. Contracts see it as the record of these.
+#[derive(Debug, Drop)]
+pub struct Chip {
+    pub(crate) part: Part,
+    pub(crate) flash: Memory,
+    pub(crate) eeprom: Memory,
+    pub(crate) lfuse: u8,
+    pub(crate) hfuse: u8,
+    pub(crate) efuse: u8,
+    pub(crate) lock: u8,
+    pub(crate) flash_buffer: Memory,
+    pub(crate) eeprom_buffer: Loads,
+    pub(crate) extended: u8,
+}
+
+impl Model for Chip {
+    ghost use Rattle.avr_part.specs.State.{State};
+
+    ghost Value = { State };
+
+    ghost use Rattle.avr_part.specs.Chip.{state_of, IsSoundInside};
+
+    ghost view = { state_of };
+
+    ghost invariant = { IsSoundInside };
+}
+
+/// The number of a word, with the extended address in front.
+fn extended_word(extended: u8, word: u16) -> usize
+    ensures { result ≡ extended * 65536 + word }
+{
+    usize::from(extended) * 65536 + usize::from(word)
+}
+
+/// The first address of the page in which an address lies.
+fn page_start(at: usize, page: usize, size: usize) -> usize
+    requires inside { at < size }
+    requires some { 0 < page }
+    requires whole { size % page ≡ 0 }
+    ensures value { result ≡ page_start page at }
+    ensures fits { result + page ≤ size }
+{
+    at / page * page
+}
+
+/// The one byte of a memory of one byte.
+fn only(byte: u8, at: usize) -> Option<u8>
+    ensures { result ≡ slice_get (byte ∷ []) at }
+{
+    if at == 0 { Some(byte) } else { None }
+}
+
+impl Chip {
+    ghost use Rattle.avr_part.specs.State.{fresh_state, with_empty_buffers, with_erased, with_load, with_flash_page, with_eeprom_byte, with_eeprom_load, with_eeprom_page, with_fuse, with_lock, word_address, eeprom_address, flash_byte, eeprom_byte, signature_byte, fuse_of, answer_of, after, spi_of, keeps_eeprom, is_locked, memory_of};
+    ghost use Rattle.avr_part.specs.Instruction.{instruction_of};
+    ghost use Rattle.avr_part.specs.Sound.{IsSound};
+    ghost use Rattle.avr_part.specs.PartFile.{GivesOrMemory};
+
+    /// A chip of this part whose memories are all FF.
+    ///
+    /// The one fault is [`PartFault::Memory`].
+    pub fn fresh(alloc: Global, part: Part) -> Result<Chip, PartFault>
+        ensures { GivesOrMemory (Ok (fresh_state part)) result }
+    {
+        Chip::make(alloc, part).map_err(|_| PartFault::Memory)
+    }
+
+    fn make(alloc: Global, part: Part) -> Result<Chip, AllocError>
+        ensures { IfOk result (λ c. c ≡ fresh_state part) }
+    {
+        let flash = Memory::new(alloc, part.size_of(Mem::Flash) as usize)?;
+        let eeprom = Memory::new(alloc, part.size_of(Mem::Eeprom) as usize)?;
+        let flash_buffer = Memory::new(alloc, part.page_of(Mem::Flash) as usize)?;
+        let eeprom_buffer = Loads::new(alloc, part.page_of(Mem::Eeprom) as usize)?;
+        Ok(Chip {
+            part,
+            flash,
+            eeprom,
+            lfuse: 255,
+            hfuse: 255,
+            efuse: 255,
+            lock: 255,
+            flash_buffer,
+            eeprom_buffer,
+            extended: 0,
+        })
+    }
+
+    /// The part that the chip is.
+    pub fn part(&self) -> &Part
+        ensures value { result.now ≡ self.now.part }
+        ensures sound { IsSound self.now }
+    {
+        &self.part
+    }
+
+    fn flash_size(&self) -> usize
+        ensures { result ≡ self.now.part.flash_size }
+    {
+        self.part.size_of(Mem::Flash) as usize
+    }
+
+    fn flash_page(&self) -> usize
+        ensures { result ≡ self.now.part.flash_page }
+    {
+        self.part.page_of(Mem::Flash) as usize
+    }
+
+    fn eeprom_size(&self) -> usize
+        ensures value { result ≡ self.now.part.eeprom_size }
+        ensures some { 0 < result }
+    {
+        self.part.size_of(Mem::Eeprom) as usize
+    }
+
+    fn eeprom_page(&self) -> usize
+        ensures { result ≡ self.now.part.eeprom_page }
+    {
+        self.part.page_of(Mem::Eeprom) as usize
+    }
+
+    /// Both buffers are emptied, and the extended address is 0.
+    fn enable(&mut self)
+        ensures { self.new ≡ with_empty_buffers self.old }
+    {
+        self.flash_buffer.erase();
+        self.eeprom_buffer.clear();
+        self.extended = 0;
+    }
+
+    /// Whether an erase keeps the EEPROM.
+    fn keeps_eeprom(&self) -> bool
+        ensures { result ≡ keeps_eeprom self.now }
+    {
+        (self.hfuse >> self.part.eesave_bit()) % 2 == 0
+    }
+
+    fn erase(&mut self)
+        ensures { self.new ≡ with_erased self.old }
+    {
+        let keeps = self.keeps_eeprom();
+        self.flash.erase();
+        self.lock = 255;
+        if !keeps {
+            self.eeprom.erase();
+        }
+    }
+
+    fn load(&mut self, half: Half, word: u8, byte: u8)
+        ensures { self.new ≡ with_load half word byte self.old }
+    {
+        let words = self.flash_page() / 2;
+        let place = usize::from(word) % words * 2;
+        match half {
+            Half::Low => self.flash_buffer.set(place, byte),
+            Half::High => self.flash_buffer.set(place + 1, byte),
+        }
+    }
+
+    /// The address of the low byte of a word.
+    fn word_address(&self, word: u16) -> usize
+        ensures value { result ≡ word_address self.now word }
+        ensures inside { result + 1 < self.now.part.flash_size }
+    {
+        let words = self.flash_size() / 2;
+        extended_word(self.extended, word) % words * 2
+    }
+
+    fn eeprom_address(&self, address: u16) -> usize
+        ensures value { result ≡ eeprom_address self.now address }
+        ensures inside { result < self.now.part.eeprom_size }
+    {
+        usize::from(address) % self.eeprom_size()
+    }
+
+    /// Whether lock bit 0 is programmed, so that nothing but a chip erase changes flash, EEPROM and fuses.
+    fn is_locked(&self) -> bool
+        ensures { result ≡ is_locked self.now }
+    {
+        self.lock % 2 == 0
+    }
+
+    fn write_flash_page(&mut self, word: u16)
+        ensures { self.new ≡ with_flash_page word self.old }
+    {
+        if !self.is_locked() {
+            let at = self.word_address(word);
+            let start = page_start(at, self.flash_page(), self.flash_size());
+            self.flash.and_page(start, self.flash_buffer.as_slice());
+        }
+        self.flash_buffer.erase();
+    }
+
+    fn read_flash(&self, half: Half, word: u16) -> u8
+        ensures { result ≡ flash_byte half word self.now }
+    {
+        let at = self.word_address(word);
+        match half {
+            Half::Low => self.flash.get(at),
+            Half::High => self.flash.get(at + 1),
+        }
+    }
+
+    fn read_eeprom(&self, address: u16) -> u8
+        ensures { result ≡ eeprom_byte address self.now }
+    {
+        self.eeprom.get(self.eeprom_address(address))
+    }
+
+    fn write_eeprom(&mut self, address: u16, byte: u8)
+        ensures { self.new ≡ with_eeprom_byte address byte self.old }
+    {
+        if !self.is_locked() {
+            let at = self.eeprom_address(address);
+            self.eeprom.set(at, byte);
+        }
+    }
+
+    fn load_eeprom(&mut self, place: u8, byte: u8)
+        ensures { self.new ≡ with_eeprom_load place byte self.old }
+    {
+        let place = usize::from(place) % self.eeprom_page();
+        self.eeprom_buffer.load(place, byte);
+    }
+
+    fn write_eeprom_page(&mut self, address: u16)
+        ensures { self.new ≡ with_eeprom_page address self.old }
+    {
+        if !self.is_locked() {
+            let at = self.eeprom_address(address);
+            let start = page_start(at, self.eeprom_page(), self.eeprom_size());
+            self.eeprom.overlay_page(start, &self.eeprom_buffer);
+        }
+        self.eeprom_buffer.clear();
+    }
+
+    fn write_fuse(&mut self, fuse: Fuse, byte: u8)
+        ensures { self.new ≡ with_fuse fuse byte self.old }
+    {
+        if self.is_locked() {
+            return;
+        }
+        match fuse {
+            Fuse::Low => self.lfuse = byte,
+            Fuse::High => self.hfuse = byte,
+            Fuse::Extended => self.efuse = byte,
+        }
+    }
+
+    fn write_lock(&mut self, byte: u8)
+        ensures { self.new ≡ with_lock byte self.old }
+    {
+        self.lock &= byte;
+    }
+
+    fn read_fuse(&self, fuse: Fuse) -> u8
+        ensures { result ≡ fuse_of fuse self.now }
+    {
+        match fuse {
+            Fuse::Low => self.lfuse,
+            Fuse::High => self.hfuse,
+            Fuse::Extended => self.efuse,
+        }
+    }
+
+    fn read_signature(&self, place: u8) -> u8
+        ensures { result ≡ signature_byte place self.now }
+    {
+        let signature = self.part.signature();
+        match place % 4 {
+            0 => signature[0],
+            1 => signature[1],
+            2 => signature[2],
+            _ => 255,
+        }
+    }
+
+    /// The byte that an instruction reads; one that reads none gives its third byte back.
+    fn answer(&self, instruction: Instruction, third: u8) -> u8
+        ensures { result ≡ answer_of instruction third self.now }
+    {
+        match instruction {
+            Instruction::ReadFlash { half, word } => self.read_flash(half, word),
+            Instruction::ReadEeprom { address } => self.read_eeprom(address),
+            Instruction::ReadFuse { fuse } => self.read_fuse(fuse),
+            Instruction::ReadLock => self.lock,
+            Instruction::ReadSignature { place } => self.read_signature(place),
+            Instruction::ReadCalibration => 255,
+            Instruction::Poll => 0,
+            _ => third,
+        }
+    }
+
+    /// What an instruction changes.
+    fn obey(&mut self, instruction: Instruction)
+        ensures { self.new ≡ after instruction self.old }
+    {
+        match instruction {
+            Instruction::Enable => self.enable(),
+            Instruction::Erase => self.erase(),
+            Instruction::LoadFlash { half, word, byte } => self.load(half, word, byte),
+            Instruction::WriteFlashPage { word } => self.write_flash_page(word),
+            Instruction::WriteEeprom { address, byte } => self.write_eeprom(address, byte),
+            Instruction::LoadEeprom { place, byte } => self.load_eeprom(place, byte),
+            Instruction::WriteEepromPage { address } => self.write_eeprom_page(address),
+            Instruction::WriteFuse { fuse, byte } => self.write_fuse(fuse, byte),
+            Instruction::WriteLock { byte } => self.write_lock(byte),
+            Instruction::Extend { byte } => self.extended = byte,
+            _ => {}
+        }
+    }
+
+    /// Four bytes in, and four bytes out: 00, the first two bytes in, and the byte that the instruction reads, or the third
+    /// byte in where it reads none. Bytes that are no instruction change nothing.
+    ///
+    /// Takes no memory. A chip erase takes the time of the memories, a page write that of a page, all else constant time.
+    pub fn spi(&mut self, bytes: [u8; 4]) -> [u8; 4]
+        ensures { (result, self.new) ≡ spi_of bytes self.old }
+    {
+        let instruction = Instruction::of(bytes);
+        let answer = self.answer(instruction, bytes[2]);
+        self.obey(instruction);
+        [0, bytes[0], bytes[1], answer]
+    }
+
+    /// The byte of a memory at an address, or `None` behind its end.
+    pub fn byte(&self, mem: Mem, addr: u32) -> Option<u8>
+        ensures { result ≡ slice_get (memory_of mem self.now) addr }
+    {
+        let at = addr as usize;
+        match mem {
+            Mem::Flash => self.flash.as_slice().get(at).copied(),
+            Mem::Eeprom => self.eeprom.as_slice().get(at).copied(),
+            Mem::Lfuse => only(self.lfuse, at),
+            Mem::Hfuse => only(self.hfuse, at),
+            Mem::Efuse => only(self.efuse, at),
+            Mem::Lock => only(self.lock, at),
+            Mem::Signature => self.part.signature().get(at).copied(),
+            Mem::Calibration => only(255, at),
+        }
+    }
+}

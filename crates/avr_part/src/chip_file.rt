@@ -1,0 +1,80 @@
+//! The chip file: flash, EEPROM, low, high and extended fuse and lock, byte after byte.
+ghost use Rattle.std.specs.Prelude.{◌≡◌, ◌+◌, IfOk, IfErr, length, Ok};
+ghost use Rattle.avr_part.specs.ChipFile.{chip_file, chip_file_size, chip_in, state_in};
+ghost use Rattle.avr_part.specs.PartFile.{GivesOrMemory};
+
+use crate::chip::Chip;
+use crate::fault::PartFault;
+use crate::loads::Loads;
+use crate::mem::Mem;
+use crate::memory::Memory;
+use crate::part::Part;
+use std::alloc::{AllocError, Global};
+
+/// The length of a chip file of this part.
+fn file_size(part: &Part) -> usize
+    ensures { result ≡ chip_file_size part.now }
+{
+    part.size_of(Mem::Flash) as usize + part.size_of(Mem::Eeprom) as usize + 4
+}
+
+/// The chip of a file that has the part's length.
+fn read_chip(alloc: Global, part: Part, bytes: &[u8]) -> Result<Chip, AllocError>
+    requires { length bytes.now ≡ chip_file_size part }
+    ensures { IfOk result (λ c. c ≡ state_in part bytes.now) }
+{
+    let flash_size = part.size_of(Mem::Flash) as usize;
+    let eeprom_size = part.size_of(Mem::Eeprom) as usize;
+    let fuses = flash_size + eeprom_size;
+    let (flash, rest) = bytes.split_at(flash_size);
+    let flash = Memory::from_slice(alloc, flash)?;
+    let eeprom = Memory::from_slice(alloc, &rest[..eeprom_size])?;
+    let flash_buffer = Memory::new(alloc, part.page_of(Mem::Flash) as usize)?;
+    let eeprom_buffer = Loads::new(alloc, part.page_of(Mem::Eeprom) as usize)?;
+    Ok(Chip {
+        part,
+        flash,
+        eeprom,
+        lfuse: bytes[fuses],
+        hfuse: bytes[fuses + 1],
+        efuse: bytes[fuses + 2],
+        lock: bytes[fuses + 3],
+        flash_buffer,
+        eeprom_buffer,
+        extended: 0,
+    })
+}
+
+/// The bytes of a chip file.
+fn write_chip(alloc: Global, chip: &Chip) -> Result<Vec<u8>, AllocError>
+    ensures { IfOk result (λ v. v.items ≡ chip_file chip.now) }
+{
+    let mut bytes = Vec::with_capacity(alloc, file_size(&chip.part))?;
+    bytes.extend_from_slice(chip.flash.as_slice())?;
+    bytes.extend_from_slice(chip.eeprom.as_slice())?;
+    bytes.extend_from_slice(&[chip.lfuse, chip.hfuse, chip.efuse, chip.lock])?;
+    Ok(bytes)
+}
+
+impl Chip {
+    /// The chip of this part whose memories are those of a chip file, with empty buffers.
+    ///
+    /// A file is flash, EEPROM, low, high and extended fuse and lock, without a gap. The faults are
+    /// [`PartFault::BadChipFile`] where its length is another than the part's, and [`PartFault::Memory`].
+    pub fn from_bytes(alloc: Global, part: Part, bytes: &[u8]) -> Result<Chip, PartFault>
+        ensures { GivesOrMemory (chip_in part bytes.now) result }
+    {
+        if bytes.len() != file_size(&part) {
+            return Err(PartFault::BadChipFile(bytes.len()));
+        }
+        read_chip(alloc, part, bytes).map_err(|_| PartFault::Memory)
+    }
+
+    /// The bytes of the chip's file. The one fault is [`PartFault::Memory`].
+    pub fn to_bytes(&self, alloc: Global) -> Result<Vec<u8>, PartFault>
+        ensures bytes { IfOk result (λ v. v.items ≡ chip_file self.now) }
+        ensures memory { IfErr result (λ e. e ≡ PartFault.Memory) }
+    {
+        write_chip(alloc, self).map_err(|_| PartFault::Memory)
+    }
+}

@@ -1,0 +1,90 @@
+//! Why there is no part or no chip.
+ghost use Rattle.std.specs.Prelude.{◌≡◌, Some};
+ghost use Rattle.avr_part.specs.Fault.{field_name, fault_number};
+
+use std::fmt;
+use thiserror::Error;
+
+/// What a fault of a part file is about.
+#[derive(Clone, Copy, Debug, PartialEq, Eq)]
+pub enum Field {
+    /// The table of parts, or a member of it that is no table.
+    Parts,
+    /// The key of a part's table.
+    Id,
+    Signature,
+    FlashSize,
+    FlashPage,
+    EepromSize,
+    EepromPage,
+    EesaveBit,
+}
+
+impl Field {
+    /// The key, as it stands in a part file.
+    pub fn name(self) -> &'static str
+        ensures { result.now ≡ field_name self }
+    {
+        match self {
+            Field::Parts => "parts",
+            Field::Id => "id",
+            Field::Signature => "signature",
+            Field::FlashSize => "flash_size",
+            Field::FlashPage => "flash_page",
+            Field::EepromSize => "eeprom_size",
+            Field::EepromPage => "eeprom_page",
+            Field::EesaveBit => "eesave_bit",
+        }
+    }
+}
+
+impl fmt::Display for Field {
+    ghost output = { λ field. Some (field_name field) };
+
+    fn fmt<W: fmt::Write>(&self, f: &mut fmt::Formatter<W>) -> fmt::Result {
+        f.write_str(self.name())
+    }
+}
+
+/// Why there is no part or no chip.
+#[derive(Clone, Copy, Debug, PartialEq, Eq, Error)]
+pub enum PartFault {
+    /// The part file is no TOML, or not UTF-8.
+    #[error("the part file is not TOML")]
+    NotToml,
+    /// The part file lacks a field.
+    #[error("{0} is missing")]
+    Missing(Field),
+    /// A field has a value that no part has.
+    #[error("{0} has a bad value")]
+    BadValue(Field),
+    /// A memory is not whole pages.
+    #[error("a size is no multiple of its page")]
+    BadSizes,
+    /// Neither the part file nor the built-in list has a part of this id.
+    #[error("there is no such part")]
+    NoSuchPart,
+    /// A chip file has this many bytes, and another number is wanted for the part.
+    #[error("a chip file of {0} bytes does not fit the part")]
+    BadChipFile(usize),
+    /// Memory was refused.
+    #[error("out of memory")]
+    Memory,
+}
+
+impl PartFault {
+    /// The fault's number, from 1 on.
+    pub fn number(&self) -> u8
+        ensures { result ≡ fault_number self.now }
+    {
+        match self {
+            PartFault::NotToml => 1,
+            PartFault::Missing(_) => 2,
+            PartFault::BadValue(_) => 3,
+            PartFault::BadSizes => 4,
+            PartFault::NoSuchPart => 5,
+            PartFault::BadChipFile(_) => 6,
+            PartFault::Memory => 7,
+        }
+    }
+}

@@ -1,0 +1,42 @@
+//! AVR parts: what is known of them, the part file, and the chip behind its serial programming pins.
+//!
+//! Sizes and instructions are those of the parts' data sheets (ATmega328P: "Memory Programming", table "Serial Programming
+//! Instruction Set"); docs/PART.md has them all. The one idea: four bytes are decoded once, to an instruction, and that acts on
+//! memories that are lists of bytes.
+//!
+//! ```
+//! let mut chip = Chip::fresh(rt.alloc(), Parts::none().find("m328p")?)?;
+//! assert_eq!(rt; chip.spi([0x30, 0, 1, 0]), [0, 0x30, 0, 0x95]); // signature byte 1
+//! ```
+#![tactic(auto)]
+
+// what a part is, and how one is found
+mod mem;
+mod part;
+// the built-in ones
+mod built_in;
+mod parts;
+// the part file
+mod fault;
+mod judge;
+mod part_file;
+// the chip: what four bytes ask of it,
+mod instruction;
+// the memories and buffers on which that acts,
+mod loads;
+mod memory;
+// and the whole, with its file
+mod chip;
+mod chip_file;
+pub mod laws;
+
+pub use chip::Chip;
+pub use fault::{Field, PartFault};
+pub use instruction::{Fuse, Half, Instruction};
+pub use mem::Mem;
+pub use part::Part;
+pub use part_file::parse_parts;
+pub use parts::Parts;
+
+#[cfg(test)]
+mod tests;

@@ -1,0 +1,114 @@
+//! A part.
+ghost use Rattle.std.specs.Prelude.{◌≡◌, ◌<◌, ◌≤◌, ℕ, List, length, option_map};
+
+use crate::mem::Mem;
+use arrayvec::ArrayString;
+use std::marker::Model;
+
+/// What is known of a part. Sizes and pages are in bytes.
+///
+/// Every part has sizes that fit one another: pages are powers of two up to 256, a page of flash holds whole words, and a
+/// memory is whole pages; flash has up to 262,144 bytes and EEPROM up to 4,096.
+#[derive(Debug, Drop)]
+pub struct Part {
+    pub(crate) id: ArrayString<31>,
+    pub(crate) signature: [u8; 3],
+    pub(crate) flash_size: u32,
+    pub(crate) flash_page: u32,
+    pub(crate) eeprom_size: u32,
+    pub(crate) eeprom_page: u32,
+    pub(crate) eesave_bit: u32,
+}
+
+impl Model for Part {
+    ghost use Rattle.avr_part.specs.Part.{Part as PartData, IsPart};
+
+    ghost Value = { PartData };
+
+    ghost view = { λ p. record {
+      id = p.id.bytes;
+      signature = p.signature;
+      flash_size = p.flash_size;
+      flash_page = p.flash_page;
+      eeprom_size = p.eeprom_size;
+      eeprom_page = p.eeprom_page;
+      eesave_bit = p.eesave_bit;
+    } };
+
+    ghost invariant = { λ p. IsPart (record {
+      id = p.id.bytes;
+      signature = p.signature;
+      flash_size = p.flash_size;
+      flash_page = p.flash_page;
+      eeprom_size = p.eeprom_size;
+      eeprom_page = p.eeprom_page;
+      eesave_bit = p.eesave_bit;
+    }) };
+}
+
+impl Part {
+    ghost use Rattle.avr_part.specs.Part.{size_of, page_of, IsPart};
+
+    /// The id: 1 to 31 ASCII letters, digits, `_` and `-`.
+    pub fn id(&self) -> &str
+        ensures { result.now ≡ self.now.id }
+    {
+        self.id.as_str()
+    }
+
+    /// The signature, byte 0 first.
+    pub fn signature(&self) -> [u8; 3]
+        ensures { result ≡ self.now.signature }
+    {
+        self.signature
+    }
+
+    /// The number of bytes of a memory.
+    pub fn size_of(&self, mem: Mem) -> u32
+        ensures value { result ≡ size_of mem self.now }
+        ensures is_part { IsPart self.now }
+    {
+        match mem {
+            Mem::Flash => self.flash_size,
+            Mem::Eeprom => self.eeprom_size,
+            Mem::Signature => 3,
+            _ => 1,
+        }
+    }
+
+    /// The number of bytes that are written at once: a page of flash or EEPROM, and one byte of another memory.
+    pub fn page_of(&self, mem: Mem) -> u32
+        ensures value { result ≡ page_of mem self.now }
+        ensures is_part { IsPart self.now }
+    {
+        match mem {
+            Mem::Flash => self.flash_page,
+            Mem::Eeprom => self.eeprom_page,
+            _ => 1,
+        }
+    }
+
+    /// The number of the EESAVE bit in the high fuse, 0 to 7. Where that bit is 0 a chip erase keeps the EEPROM.
+    pub fn eesave_bit(&self) -> u32
+        ensures value { result ≡ self.now.eesave_bit }
+        ensures small { result < 8 }
+    {
+        self.eesave_bit
+    }
+
+    /// The same part again, which takes no memory.
+    pub fn copied(&self) -> Part
+        ensures value { result ≡ self.now }
+        ensures is_part { IsPart result }
+    {
+        Part {
+            id: self.id,
+            signature: self.signature,
+            flash_size: self.flash_size,
+            flash_page: self.flash_page,
+            eeprom_size: self.eeprom_size,
+            eeprom_page: self.eeprom_page,
+            eesave_bit: self.eesave_bit,
+        }
+    }
+}

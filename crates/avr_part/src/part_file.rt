@@ -1,0 +1,82 @@
+//! The part file.
+ghost use Rattle.std.specs.Prelude.{◌≡◌, option_map};
+ghost use Rattle.toml.specs.View.{table_view};
+ghost use Rattle.toml.specs.Parse.{parse_document};
+ghost use Rattle.avr_part.specs.PartFile.{GivesOrMemory, listed_items, judged_all, judged_document, parts_of, text_of, ReadsDocument};
+
+use crate::fault::{Field, PartFault};
+use crate::judge::{at_key, judge_part};
+use crate::part::Part;
+use crate::parts::Parts;
+use std::alloc::Global;
+use std::str;
+use toml::Table;
+
+/// The members of the table of parts, in order.
+fn judge_all(alloc: Global, table: &Table) -> Result<Vec<Part>, PartFault>
+    ensures { GivesOrMemory (judged_all (table_view table.now)) (listed_items result) }
+{
+    let mut parts = Vec::new(alloc);
+    for (key, value) in table {
+        let part = judge_part(key.as_str(), value)?;
+        if parts.push(part).is_err() {
+            return Err(PartFault::Memory);
+        }
+    }
+    Ok(parts)
+}
+
+/// The parts of a document.
+fn judge_document(alloc: Global, document: &Table) -> Result<Vec<Part>, PartFault>
+    ensures { GivesOrMemory (judged_document (table_view document.now)) (listed_items result) }
+{
+    match at_key(document, "parts") {
+        Some(value) => match value.as_table() {
+            Some(table) => judge_all(alloc, table),
+            None => Err(PartFault::BadValue(Field::Parts)),
+        },
+        None => Err(PartFault::Missing(Field::Parts)),
+    }
+}
+
+fn read_document(alloc: Global, text: &str) -> Result<Table, PartFault>
+    ensures { ReadsDocument (parse_document text.now) result }
+{
+    match toml::table_from_str(alloc, text) {
+        Ok(document) => Ok(document),
+        Err(error) if error.is_memory() => Err(PartFault::Memory),
+        Err(_) => Err(PartFault::NotToml),
+    }
+}
+
+/// The text of bytes that are UTF-8.
+fn text_of(bytes: &[u8]) -> Option<&str>
+    ensures { option_map (λ s. s.now) result ≡ text_of bytes.now }
+{
+    match str::from_utf8(bytes) {
+        Ok(text) => Some(text),
+        Err(_) => None,
+    }
+}
+
+/// The parts that a part file defines: a TOML text with a table `parts`, each of whose members is a table named by the
+/// part's id.
+///
+/// Parts are judged in the byte order of their ids, and a part's fields in the order of [`Field`]; other keys are not
+/// looked at. The first fault is the answer:
+/// - [`PartFault::NotToml`]: the text is not UTF-8, or `toml` refuses it;
+/// - [`PartFault::Missing`]: a field, or the table `parts`, is not there;
+/// - [`PartFault::BadValue`]: a field's value is of another kind or out of its range, an id is not 1 to 31 letters, digits,
+///   `_` and `-`, or `parts` or a member of it is no table;
+/// - [`PartFault::BadSizes`]: a size is no multiple of its page;
+/// - [`PartFault::Memory`]: memory was refused.
+pub fn parse_parts(alloc: Global, text: &[u8]) -> Result<Parts, PartFault>
+    ensures { GivesOrMemory (parts_of text.now) result }
+{
+    let Some(text) = text_of(text) else {
+        return Err(PartFault::NotToml);
+    };
+    let document = read_document(alloc, text)?;
+    let parts = judge_document(alloc, &document)?;
+    Ok(Parts::of_file(parts))
+}
