@@ -1,0 +1,118 @@
+-- What commands and their answers are made of (AVR068, "Commands").
+use Rattle.std.specs.Prelude.{ℕ, List, [], ◌∷◌, ◌++◌, ◌+◌, length, ◌==◌, ◌&&◌, not, slice_index, take, if◌then◌else◌, ◌≡◌, Result, Ok, Err}
+use Rattle.byteorder.specs.Endian.{big_bytes}
+use Rattle.stk_frame.specs.declared.command.Command.{Command}
+use Rattle.stk_frame.specs.declared.command.Command.TheVariants.{SignOn, SetParameter, GetParameter, LoadAddress, EnterProgmode, LeaveProgmode, ChipErase, ProgramFlash, ReadFlash, ProgramEeprom, ReadEeprom, ProgramFuse, ReadFuse, ProgramLock, ReadLock, ReadSignature, ReadOsccal, SpiMulti}
+use Rattle.stk_frame.specs.declared.command.EnterProgmode.{EnterProgmode as EnterFields}
+use Rattle.stk_frame.specs.declared.command.ProgramBlock.{ProgramBlock}
+use Rattle.stk_frame.specs.declared.command.ReadBlock.{ReadBlock}
+use Rattle.stk_frame.specs.declared.command.ReadByte.{ReadByte}
+use Rattle.stk_frame.specs.declared.answer.Shape.{Shape}
+use Rattle.stk_frame.specs.declared.answer.Shape.TheVariants.{Name, Bytes, Closed}
+use Rattle.stk_frame.specs.declared.answer.FrameFault.{FrameFault}
+use Rattle.stk_frame.specs.declared.answer.FrameFault.TheVariants.{WrongLength, WrongCommand, CheckSum, Status}
+
+-- the command's byte
+abbrev pub code : Command → ℕ
+code SignOn = 0x01
+code (SetParameter number value) = 0x02
+code (GetParameter number) = 0x03
+code (LoadAddress address) = 0x06
+code (EnterProgmode f) = 0x10
+code (LeaveProgmode pre_delay post_delay) = 0x11
+code (ChipErase erase_delay poll_method instruction) = 0x12
+code (ProgramFlash f) = 0x13
+code (ReadFlash f) = 0x14
+code (ProgramEeprom f) = 0x15
+code (ReadEeprom f) = 0x16
+code (ProgramFuse instruction) = 0x17
+code (ReadFuse f) = 0x18
+code (ProgramLock instruction) = 0x19
+code (ReadLock f) = 0x1A
+code (ReadSignature f) = 0x1B
+code (ReadOsccal f) = 0x1C
+code (SpiMulti send_count receive_count receive_start bytes) = 0x1D
+
+-- the bytes of its fields, in their order; a number of several bytes has its highest byte first
+abbrev pub enter_progmode_fields : EnterFields → List ℕ
+enter_progmode_fields f = f.timeout ∷ f.stab_delay ∷ f.command_delay ∷ f.synch_loops ∷ f.byte_delay ∷ f.poll_value ∷ f.poll_index ∷ f.instruction
+
+abbrev pub program_block_fields : ProgramBlock → List ℕ
+program_block_fields f = big_bytes 2 f.count ++ f.mode ∷ f.delay ∷ f.cmd1 ∷ f.cmd2 ∷ f.cmd3 ∷ f.poll1 ∷ f.poll2 ∷ f.bytes
+
+abbrev pub read_block_fields : ReadBlock → List ℕ
+read_block_fields f = big_bytes 2 f.count ++ f.cmd1 ∷ []
+
+abbrev pub read_byte_fields : ReadByte → List ℕ
+read_byte_fields f = f.return_address ∷ f.instruction
+
+abbrev pub fields : Command → List ℕ
+fields SignOn = []
+fields (SetParameter number value) = number ∷ value ∷ []
+fields (GetParameter number) = number ∷ []
+fields (LoadAddress address) = big_bytes 4 address
+fields (EnterProgmode f) = enter_progmode_fields f
+fields (LeaveProgmode pre_delay post_delay) = pre_delay ∷ post_delay ∷ []
+fields (ChipErase erase_delay poll_method instruction) = erase_delay ∷ poll_method ∷ instruction
+fields (ProgramFlash f) = program_block_fields f
+fields (ReadFlash f) = read_block_fields f
+fields (ProgramEeprom f) = program_block_fields f
+fields (ReadEeprom f) = read_block_fields f
+fields (ProgramFuse instruction) = instruction
+fields (ReadFuse f) = read_byte_fields f
+fields (ProgramLock instruction) = instruction
+fields (ReadLock f) = read_byte_fields f
+fields (ReadSignature f) = read_byte_fields f
+fields (ReadOsccal f) = read_byte_fields f
+fields (SpiMulti send_count receive_count receive_start bytes) = send_count ∷ receive_count ∷ receive_start ∷ bytes
+
+-- the bytes of its body
+abbrev pub body : Command → List ℕ
+body command = code command ∷ fields command
+
+-- what follows the first status of an answer: a length and a name, so many bytes, or so many bytes and a last status
+abbrev pub shape : Command → Shape
+shape SignOn = Name
+shape (SetParameter number value) = Bytes 0
+shape (GetParameter number) = Bytes 1
+shape (LoadAddress address) = Bytes 0
+shape (EnterProgmode f) = Bytes 0
+shape (LeaveProgmode pre_delay post_delay) = Bytes 0
+shape (ChipErase erase_delay poll_method instruction) = Bytes 0
+shape (ProgramFlash f) = Bytes 0
+shape (ReadFlash f) = Closed f.count
+shape (ProgramEeprom f) = Bytes 0
+shape (ReadEeprom f) = Closed f.count
+shape (ProgramFuse instruction) = Closed 0
+shape (ReadFuse f) = Closed 1
+shape (ProgramLock instruction) = Closed 0
+shape (ReadLock f) = Closed 1
+shape (ReadSignature f) = Closed 1
+shape (ReadOsccal f) = Closed 1
+shape (SpiMulti send_count receive_count receive_start bytes) = Closed receive_count
+
+-- the data of an answer, from what follows its first status
+abbrev pub data_of : Shape → List ℕ → Result (List ℕ) FrameFault
+data_of Name [] = Err WrongLength
+data_of Name (size ∷ name) = if length name == size then Ok name else Err WrongLength
+data_of (Bytes n) more = if length more == n then Ok more else Err WrongLength
+data_of (Closed n) more =
+    if length more == n + 1
+    then (if slice_index more n == 0 then Ok (take n more) else Err (Status (slice_index more n)))
+    else Err WrongLength
+
+-- an answer's body, judged
+abbrev pub judge : Command → List ℕ → Result (List ℕ) FrameFault
+judge command [] = Err WrongCommand
+judge command (first ∷ []) = if first == code command then Err WrongLength else Err WrongCommand
+judge command (first ∷ status ∷ more) =
+    if first == 176 && status == 193 && length more == 0 then Err CheckSum
+    else if not (first == code command) then Err WrongCommand
+    else if not (status == 0) then Err (Status status)
+    else data_of (shape command) more
+
+-- data of this shape have its size
+abbrev pub SizedBy : Shape → List ℕ → Type 0
+SizedBy Name bytes = Unit {0}
+SizedBy (Bytes n) bytes = length bytes ≡ n
+SizedBy (Closed n) bytes = length bytes ≡ n

@@ -1,0 +1,128 @@
+-- Which command a body is.
+use Rattle.std.specs.Prelude.{ℕ, List, [], ◌∷◌, ◌^◌, ◌<◌, ◌≡◌, length, ◌==◌, if◌then◌else◌, Option, Some, None, option_map}
+use Rattle.byteorder.specs.Endian.{big_number}
+use Rattle.stk_frame.specs.declared.command.Command.{Command}
+use Rattle.stk_frame.specs.declared.command.Command.TheVariants.{SignOn, SetParameter, GetParameter, LoadAddress, EnterProgmode, LeaveProgmode, ChipErase, ProgramFlash, ReadFlash, ProgramEeprom, ReadEeprom, ProgramFuse, ReadFuse, ProgramLock, ReadLock, ReadSignature, ReadOsccal, SpiMulti}
+use Rattle.stk_frame.specs.declared.command.EnterProgmode.{EnterProgmode as EnterFields}
+use Rattle.stk_frame.specs.declared.command.ProgramBlock.{ProgramBlock}
+use Rattle.stk_frame.specs.declared.command.ReadBlock.{ReadBlock}
+use Rattle.stk_frame.specs.declared.command.ReadByte.{ReadByte}
+
+-- The fields of each command, from their bytes; None where these are too few or too many.
+abbrev pub sign_on : List ℕ → Option Command
+sign_on [] = Some SignOn
+sign_on _ = None
+
+abbrev pub set_parameter : List ℕ → Option Command
+set_parameter (number ∷ value ∷ []) = Some (SetParameter number value)
+set_parameter _ = None
+
+abbrev pub get_parameter : List ℕ → Option Command
+get_parameter (number ∷ []) = Some (GetParameter number)
+get_parameter _ = None
+
+abbrev pub load_address : List ℕ → Option Command
+load_address (a ∷ b ∷ c ∷ d ∷ []) = Some (LoadAddress (big_number 4 (a ∷ b ∷ c ∷ d ∷ [])))
+load_address _ = None
+
+abbrev pub enter_progmode : List ℕ → Option EnterFields
+enter_progmode (timeout ∷ stab_delay ∷ command_delay ∷ synch_loops ∷ byte_delay ∷ poll_value ∷ poll_index ∷ a ∷ b ∷ c ∷ d ∷ []) =
+    Some (record {
+      timeout = timeout;
+      stab_delay = stab_delay;
+      command_delay = command_delay;
+      synch_loops = synch_loops;
+      byte_delay = byte_delay;
+      poll_value = poll_value;
+      poll_index = poll_index;
+      instruction = a ∷ b ∷ c ∷ d ∷ [];
+    })
+enter_progmode _ = None
+
+abbrev pub leave_progmode : List ℕ → Option Command
+leave_progmode (pre_delay ∷ post_delay ∷ []) = Some (LeaveProgmode pre_delay post_delay)
+leave_progmode _ = None
+
+abbrev pub chip_erase : List ℕ → Option Command
+chip_erase (erase_delay ∷ poll_method ∷ a ∷ b ∷ c ∷ d ∷ []) = Some (ChipErase erase_delay poll_method (a ∷ b ∷ c ∷ d ∷ []))
+chip_erase _ = None
+
+abbrev pub program_block : List ℕ → Option ProgramBlock
+program_block (high ∷ low ∷ mode ∷ delay ∷ cmd1 ∷ cmd2 ∷ cmd3 ∷ poll1 ∷ poll2 ∷ bytes) =
+    Some (record {
+      count = big_number 2 (high ∷ low ∷ []);
+      mode = mode;
+      delay = delay;
+      cmd1 = cmd1;
+      cmd2 = cmd2;
+      cmd3 = cmd3;
+      poll1 = poll1;
+      poll2 = poll2;
+      bytes = bytes;
+    })
+program_block _ = None
+
+abbrev pub read_block : List ℕ → Option ReadBlock
+read_block (high ∷ low ∷ cmd1 ∷ []) = Some (record { count = big_number 2 (high ∷ low ∷ []); cmd1 = cmd1 })
+read_block _ = None
+
+abbrev pub instruction : List ℕ → Option (List ℕ)
+instruction (a ∷ b ∷ c ∷ d ∷ []) = Some (a ∷ b ∷ c ∷ d ∷ [])
+instruction _ = None
+
+abbrev pub read_byte : List ℕ → Option ReadByte
+read_byte (return_address ∷ a ∷ b ∷ c ∷ d ∷ []) = Some (record { return_address = return_address; instruction = a ∷ b ∷ c ∷ d ∷ [] })
+read_byte _ = None
+
+abbrev pub spi_multi : List ℕ → Option Command
+spi_multi (send_count ∷ receive_count ∷ receive_start ∷ bytes) = Some (SpiMulti send_count receive_count receive_start bytes)
+spi_multi _ = None
+
+-- the command of this byte that has these fields
+abbrev pub with_fields : ℕ → List ℕ → Option Command
+with_fields code bytes =
+    if code == 0x01 then sign_on bytes
+    else if code == 0x02 then set_parameter bytes
+    else if code == 0x03 then get_parameter bytes
+    else if code == 0x06 then load_address bytes
+    else if code == 0x10 then option_map EnterProgmode (enter_progmode bytes)
+    else if code == 0x11 then leave_progmode bytes
+    else if code == 0x12 then chip_erase bytes
+    else if code == 0x13 then option_map ProgramFlash (program_block bytes)
+    else if code == 0x14 then option_map ReadFlash (read_block bytes)
+    else if code == 0x15 then option_map ProgramEeprom (program_block bytes)
+    else if code == 0x16 then option_map ReadEeprom (read_block bytes)
+    else if code == 0x17 then option_map ProgramFuse (instruction bytes)
+    else if code == 0x18 then option_map ReadFuse (read_byte bytes)
+    else if code == 0x19 then option_map ProgramLock (instruction bytes)
+    else if code == 0x1A then option_map ReadLock (read_byte bytes)
+    else if code == 0x1B then option_map ReadSignature (read_byte bytes)
+    else if code == 0x1C then option_map ReadOsccal (read_byte bytes)
+    else if code == 0x1D then spi_multi bytes
+    else None
+
+-- the command whose body these bytes are
+abbrev pub command_of : List ℕ → Option Command
+command_of [] = None
+command_of (code ∷ bytes) = with_fields code bytes
+
+-- The numbers of a command fit their bytes, and an instruction has four.
+abbrev pub Fits : Command → Type 0
+Fits SignOn = Unit {0}
+Fits (SetParameter number value) = Unit {0}
+Fits (GetParameter number) = Unit {0}
+Fits (LoadAddress address) = address < 2 ^ 32
+Fits (EnterProgmode f) = length f.instruction ≡ 4
+Fits (LeaveProgmode pre_delay post_delay) = Unit {0}
+Fits (ChipErase erase_delay poll_method bytes) = length bytes ≡ 4
+Fits (ProgramFlash f) = f.count < 2 ^ 16
+Fits (ReadFlash f) = f.count < 2 ^ 16
+Fits (ProgramEeprom f) = f.count < 2 ^ 16
+Fits (ReadEeprom f) = f.count < 2 ^ 16
+Fits (ProgramFuse bytes) = length bytes ≡ 4
+Fits (ReadFuse f) = length f.instruction ≡ 4
+Fits (ProgramLock bytes) = length bytes ≡ 4
+Fits (ReadLock f) = length f.instruction ≡ 4
+Fits (ReadSignature f) = length f.instruction ≡ 4
+Fits (ReadOsccal f) = length f.instruction ≡ 4
+Fits (SpiMulti send_count receive_count receive_start bytes) = Unit {0}

@@ -1,0 +1,151 @@
+//! Answers, as they are judged.
+#![tactic(auto)]
+
+ghost use Rattle.std.specs.Prelude.{◌≡◌, ◌<◌, ◌≤◌, length, MatchResult, IfOk, Ok, Err};
+ghost use Rattle.stk_frame.specs.Commands.{judge, shape, data_of, SizedBy};
+ghost use Rattle.stk_frame.specs.Faults.{number_of};
+
+use crate::command::Command;
+use thiserror::Error;
+
+/// Why an answer is none that the command can have, or not the one that was hoped for.
+#[derive(Clone, Copy, Debug, PartialEq, Eq, Error)]
+pub enum FrameFault {
+    /// The answer to this command has another length, or the answer is the command's byte alone.
+    #[error("an answer of another length")]
+    WrongLength,
+    /// Its first byte is another than the command's.
+    #[error("an answer to another command")]
+    WrongCommand,
+    /// The programmer got a spoiled frame: the answer `B0 C1`.
+    #[error("a frame that came spoiled")]
+    CheckSum,
+    /// The first status or the last one is this byte, and not 00.
+    #[error("status {0:02X}")]
+    Status(u8),
+}
+
+impl FrameFault {
+    /// The fault's number.
+    pub fn number(&self) -> u8
+        ensures { result ≡ number_of self.now }
+    {
+        match self {
+            FrameFault::WrongLength => 1,
+            FrameFault::WrongCommand => 2,
+            FrameFault::CheckSum => 3,
+            FrameFault::Status(_) => 4,
+        }
+    }
+}
+
+/// A good answer.
+#[derive(Clone, Copy, Debug)]
+pub struct Answer<'a> {
+    /// What stands between the first status and the last one, or behind the only one; of SIGN_ON's answer the name.
+    pub data: &'a [u8],
+}
+
+/// What follows the first status of an answer.
+#[derive(Clone, Copy, Debug, PartialEq, Eq)]
+pub enum Shape {
+    /// A length, and a name of that many bytes.
+    Name,
+    /// So many bytes.
+    Bytes(u16),
+    /// So many bytes, and a last status.
+    Closed(u16),
+}
+
+impl Command<'_> {
+    /// What follows the first status of an answer to this command.
+    pub fn shape(&self) -> Shape
+        ensures { result ≡ shape self.now }
+    {
+        match self {
+            Command::SignOn => Shape::Name,
+            Command::GetParameter { .. } => Shape::Bytes(1),
+            Command::ReadFlash(block) | Command::ReadEeprom(block) => Shape::Closed(block.count),
+            Command::ProgramFuse { .. } | Command::ProgramLock { .. } => Shape::Closed(0),
+            Command::ReadFuse(_)
+            | Command::ReadLock(_)
+            | Command::ReadSignature(_)
+            | Command::ReadOsccal(_) => Shape::Closed(1),
+            Command::SpiMulti { receive_count, .. } => Shape::Closed(u16::from(*receive_count)),
+            _ => Shape::Bytes(0),
+        }
+    }
+}
+
+impl Shape {
+    /// The data among what follows the first status: WrongLength where that has another length, and
+    /// Status where the last status isn't 00.
+    pub fn data_in<'a>(&self, more: &'a [u8]) -> Result<&'a [u8], FrameFault>
+        ensures judged { MatchResult result (λ found. data_of self.now more.now ≡ Ok found.now) (λ fault. data_of self.now more.now ≡ Err fault) }
+        ensures fits { IfOk result (λ found. length found.now ≤ length more.now) }
+        ensures sized { IfOk result (λ found. SizedBy self.now found.now) }
+    {
+        match self {
+            Shape::Name => match more {
+                [size, name @ ..] if name.len() == *size as usize => Ok(name),
+                _ => Err(FrameFault::WrongLength),
+            },
+            Shape::Bytes(size) => if more.len() == *size as usize {
+                Ok(more)
+            } else {
+                Err(FrameFault::WrongLength)
+            },
+            Shape::Closed(size) => closed_data(*size as usize, more),
+        }
+    }
+}
+
+/// So many bytes that a last status of 00 follows.
+fn closed_data(size: usize, more: &[u8]) -> Result<&[u8], FrameFault>
+    requires { size < 65536 }
+    ensures judged { MatchResult result (λ found. data_of (Shape.Closed size) more.now ≡ Ok found.now) (λ fault. data_of (Shape.Closed size) more.now ≡ Err fault) }
+    ensures fits { IfOk result (λ found. length found.now ≤ length more.now) }
+    ensures sized { IfOk result (λ found. length found.now ≡ size) }
+{
+    if more.len() != size + 1 {
+        return Err(FrameFault::WrongLength);
+    }
+    if more[size] != 0 {
+        return Err(FrameFault::Status(more[size]));
+    }
+    Ok(&more[..size])
+}
+
+impl<'a> Answer<'a> {
+    /// Judges the body of an answer to this command, in this order: exactly `B0 C1` is CheckSum;
+    /// another first byte than the command's, or none, is WrongCommand; one byte alone is WrongLength;
+    /// a second byte other than 00 is Status; a length other than the command's is WrongLength; a last
+    /// status other than 00, where the command has one, is Status.
+    pub fn read(command: &Command<'_>, body: &'a [u8]) -> Result<Answer<'a>, FrameFault>
+        ensures judged { MatchResult result (λ answer. judge command.now body.now ≡ Ok answer.data.now) (λ fault. judge command.now body.now ≡ Err fault) }
+        ensures fits { IfOk result (λ answer. length answer.data.now ≤ length body.now) }
+        ensures sized { IfOk result (λ answer. SizedBy (shape command.now) answer.data.now) }
+    {
+        match body {
+            [] => Err(FrameFault::WrongCommand),
+            [first] => if *first == command.code() {
+                Err(FrameFault::WrongLength)
+            } else {
+                Err(FrameFault::WrongCommand)
+            },
+            [first, status, more @ ..] => {
+                if *first == 0xB0 && *status == 0xC1 && more.is_empty() {
+                    return Err(FrameFault::CheckSum);
+                }
+                if *first != command.code() {
+                    return Err(FrameFault::WrongCommand);
+                }
+                if *status != 0 {
+                    return Err(FrameFault::Status(*status));
+                }
+                let data = command.shape().data_in(more)?;
+                Ok(Answer { data })
+            }
+        }
+    }
+}

@@ -1,0 +1,146 @@
+//! Commands of the programmer.
+#![tactic(auto)]
+
+ghost use Rattle.std.specs.Prelude.{◌≡◌};
+ghost use Rattle.stk_frame.specs.Commands.{code};
+
+use crate::data::Data;
+
+/// The fields of ENTER_PROGMODE_ISP. Times are in milliseconds.
+#[derive(Clone, Copy, Debug, PartialEq, Eq)]
+pub struct EnterProgmode {
+    pub timeout: u8,
+    pub stab_delay: u8,
+    pub command_delay: u8,
+    /// How often the instruction is tried.
+    pub synch_loops: u8,
+    pub byte_delay: u8,
+    /// What the part answers when it is in step; `53` for an AVR.
+    pub poll_value: u8,
+    /// Which of the four bytes out is compared with `poll_value`, from 1; 0 asks for no test.
+    pub poll_index: u8,
+    /// The serial programming instruction that is sent.
+    pub instruction: [u8; 4],
+}
+
+/// The fields of a command that programs a block of flash or EEPROM.
+#[derive(Debug, Drop)]
+pub struct ProgramBlock<'a> {
+    /// How many bytes the block has, as the sender says; it is a field by itself, whatever bytes follow.
+    pub count: u16,
+    /// Bit 0: page mode. Bit 6: polling of RDY/BSY for a page. Bit 7: the page is written.
+    pub mode: u8,
+    /// In milliseconds.
+    pub delay: u8,
+    /// The first byte of the instruction that loads or writes a byte.
+    pub cmd1: u8,
+    /// The first byte of the instruction that writes the page.
+    pub cmd2: u8,
+    /// The first byte of the instruction that reads a byte.
+    pub cmd3: u8,
+    /// Values that are polled where the mode asks for it.
+    pub poll1: u8,
+    pub poll2: u8,
+    /// What is programmed.
+    pub bytes: Data<'a>,
+}
+
+/// The fields of a command that reads a block of flash or EEPROM.
+#[derive(Clone, Copy, Debug, PartialEq, Eq)]
+pub struct ReadBlock {
+    /// How many bytes are read.
+    pub count: u16,
+    /// The first byte of the instruction that reads a byte.
+    pub cmd1: u8,
+}
+
+/// The fields of a command that reads one byte by an instruction.
+#[derive(Clone, Copy, Debug, PartialEq, Eq)]
+pub struct ReadByte {
+    /// Which of the four bytes out is the answer, from 1.
+    pub return_address: u8,
+    pub instruction: [u8; 4],
+}
+
+/// A command of the programmer, in the order of the commands' bytes.
+///
+/// An `instruction` is one of the part's own serial programming instructions, of four bytes.
+#[derive(Debug, Drop)]
+pub enum Command<'a> {
+    /// Asks for the programmer's name.
+    SignOn,
+    SetParameter {
+        number: u8,
+        value: u8,
+    },
+    GetParameter {
+        number: u8,
+    },
+    /// The address from which the next block is read or programmed: in words for flash, in bytes for
+    /// EEPROM. Bit 31 asks for the part's extended address.
+    LoadAddress {
+        address: u32,
+    },
+    EnterProgmode(EnterProgmode),
+    /// The delays are in milliseconds.
+    LeaveProgmode {
+        pre_delay: u8,
+        post_delay: u8,
+    },
+    /// The delay is in milliseconds; the method 0 waits so long, 1 polls RDY/BSY.
+    ChipErase {
+        erase_delay: u8,
+        poll_method: u8,
+        instruction: [u8; 4],
+    },
+    ProgramFlash(ProgramBlock<'a>),
+    ReadFlash(ReadBlock),
+    ProgramEeprom(ProgramBlock<'a>),
+    ReadEeprom(ReadBlock),
+    ProgramFuse {
+        instruction: [u8; 4],
+    },
+    ReadFuse(ReadByte),
+    ProgramLock {
+        instruction: [u8; 4],
+    },
+    ReadLock(ReadByte),
+    ReadSignature(ReadByte),
+    ReadOsccal(ReadByte),
+    /// Sends the bytes as they are, and answers `receive_count` of the bytes out, from the place
+    /// `receive_start` on, counted from 0.
+    SpiMulti {
+        send_count: u8,
+        receive_count: u8,
+        receive_start: u8,
+        bytes: Data<'a>,
+    },
+}
+
+impl Command<'_> {
+    /// The command's byte.
+    pub fn code(&self) -> u8
+        ensures { result ≡ code self.now }
+    {
+        match self {
+            Command::SignOn => 0x01,
+            Command::SetParameter { .. } => 0x02,
+            Command::GetParameter { .. } => 0x03,
+            Command::LoadAddress { .. } => 0x06,
+            Command::EnterProgmode(_) => 0x10,
+            Command::LeaveProgmode { .. } => 0x11,
+            Command::ChipErase { .. } => 0x12,
+            Command::ProgramFlash(_) => 0x13,
+            Command::ReadFlash(_) => 0x14,
+            Command::ProgramEeprom(_) => 0x15,
+            Command::ReadEeprom(_) => 0x16,
+            Command::ProgramFuse { .. } => 0x17,
+            Command::ReadFuse(_) => 0x18,
+            Command::ProgramLock { .. } => 0x19,
+            Command::ReadLock(_) => 0x1A,
+            Command::ReadSignature(_) => 0x1B,
+            Command::ReadOsccal(_) => 0x1C,
+            Command::SpiMulti { .. } => 0x1D,
+        }
+    }
+}

@@ -1,0 +1,149 @@
+//! The bodies of commands.
+#![tactic(auto)]
+
+ghost use Rattle.std.specs.Prelude.{◌≡◌, ◌+◌, ◌<◌, ◌≤◌, ◌++◌, length};
+ghost use Rattle.byteorder.specs.Endian.{big_bytes};
+ghost use Rattle.stk_frame.specs.Commands.{body, enter_progmode_fields, program_block_fields, read_block_fields, read_byte_fields};
+
+use crate::command::{Command, EnterProgmode, ProgramBlock, ReadBlock, ReadByte};
+use arrayvec::ArrayVec;
+use byteorder::{BigEndian, ByteOrder};
+
+/// Puts bytes behind those of `out`.
+fn put(out: &mut ArrayVec<u8, 275>, bytes: &[u8])
+    requires { length out.old.items + length bytes.now ≤ 275 }
+    ensures { out.new.items ≡ out.old.items ++ bytes.now }
+{
+    let _ = out.try_extend_from_slice(bytes);
+}
+
+/// Puts a number in two bytes, its high byte first.
+fn put_u16(out: &mut ArrayVec<u8, 275>, number: u16)
+    requires { length out.old.items + 2 ≤ 275 }
+    ensures { out.new.items ≡ out.old.items ++ big_bytes 2 number }
+{
+    let mut bytes = [0; 2];
+    BigEndian::write_u16(&mut bytes, number);
+    put(out, &bytes);
+}
+
+/// Puts a number in four bytes, its highest byte first.
+fn put_u32(out: &mut ArrayVec<u8, 275>, number: u32)
+    requires { length out.old.items + 4 ≤ 275 }
+    ensures { out.new.items ≡ out.old.items ++ big_bytes 4 number }
+{
+    let mut bytes = [0; 4];
+    BigEndian::write_u32(&mut bytes, number);
+    put(out, &bytes);
+}
+
+/// Puts the fields of a command that programs a block.
+fn put_program_block(out: &mut ArrayVec<u8, 275>, block: &ProgramBlock<'_>)
+    requires { length out.old.items + length (program_block_fields block.now) ≤ 275 }
+    ensures { out.new.items ≡ out.old.items ++ program_block_fields block.now }
+{
+    put_u16(out, block.count);
+    put(
+        out,
+        &[
+            block.mode,
+            block.delay,
+            block.cmd1,
+            block.cmd2,
+            block.cmd3,
+            block.poll1,
+            block.poll2,
+        ],
+    );
+    put(out, block.bytes.bytes());
+}
+
+/// Puts the fields of ENTER_PROGMODE_ISP.
+fn put_enter_progmode(out: &mut ArrayVec<u8, 275>, enter: &EnterProgmode)
+    requires { length out.old.items + 11 ≤ 275 }
+    ensures { out.new.items ≡ out.old.items ++ enter_progmode_fields enter.now }
+{
+    put(
+        out,
+        &[
+            enter.timeout,
+            enter.stab_delay,
+            enter.command_delay,
+            enter.synch_loops,
+            enter.byte_delay,
+        ],
+    );
+    put(out, &[enter.poll_value, enter.poll_index]);
+    put(out, &enter.instruction);
+}
+
+/// Puts the fields of a command that reads a block.
+fn put_read_block(out: &mut ArrayVec<u8, 275>, block: &ReadBlock)
+    requires { length out.old.items + 3 ≤ 275 }
+    ensures { out.new.items ≡ out.old.items ++ read_block_fields block.now }
+{
+    put_u16(out, block.count);
+    put(out, &[block.cmd1]);
+}
+
+/// Puts the fields of a command that reads one byte.
+fn put_read_byte(out: &mut ArrayVec<u8, 275>, read: &ReadByte)
+    requires { length out.old.items + 5 ≤ 275 }
+    ensures { out.new.items ≡ out.old.items ++ read_byte_fields read.now }
+{
+    put(out, &[read.return_address]);
+    put(out, &read.instruction);
+}
+
+impl Command<'_> {
+    /// Makes `out` the command's body: its byte, and its fields in their order. Counts and addresses
+    /// have their highest byte first.
+    pub fn body(&self, out: &mut ArrayVec<u8, 275>)
+        requires { length (body self.now) ≤ 275 }
+        ensures body { out.new.items ≡ body self.now }
+        ensures some { 0 < length out.new.items }
+    {
+        out.clear();
+        out.push(self.code());
+        match self {
+            Command::SignOn => {}
+            Command::SetParameter { number, value } => put(out, &[*number, *value]),
+            Command::GetParameter { number } => put(out, &[*number]),
+            Command::LoadAddress { address } => put_u32(out, *address),
+            Command::EnterProgmode(enter) => put_enter_progmode(out, enter),
+            Command::LeaveProgmode {
+                pre_delay,
+                post_delay,
+            } => put(out, &[*pre_delay, *post_delay]),
+            Command::ChipErase {
+                erase_delay,
+                poll_method,
+                instruction,
+            } => {
+                put(out, &[*erase_delay, *poll_method]);
+                put(out, instruction);
+            }
+            Command::ProgramFlash(block) | Command::ProgramEeprom(block) => put_program_block(
+                out, block,
+            ),
+            Command::ReadFlash(block) | Command::ReadEeprom(block) => put_read_block(out, block),
+            Command::ProgramFuse { instruction } | Command::ProgramLock { instruction } => put(
+                out,
+                instruction,
+            ),
+            Command::ReadFuse(read)
+            | Command::ReadLock(read)
+            | Command::ReadSignature(read)
+            | Command::ReadOsccal(read) => put_read_byte(out, read),
+            Command::SpiMulti {
+                send_count,
+                receive_count,
+                receive_start,
+                bytes,
+            } => {
+                put(out, &[*send_count, *receive_count, *receive_start]);
+                put(out, bytes.bytes());
+            }
+        }
+    }
+}

@@ -1,0 +1,198 @@
+//! The commands that a host sends, with its constants.
+#![tactic(auto)]
+
+ghost use Rattle.std.specs.Prelude.{◌≡◌, ◌≤◌, ◌∷◌, [], ◌++◌, length};
+ghost use Rattle.byteorder.specs.Endian.{big_bytes};
+ghost use Rattle.stk_frame.specs.Commands.{body};
+ghost use Rattle.stk_frame.specs.HostCommands.{enter, leave, erase, programming, program_page, read_flash, program_eeprom, read_eeprom, write_address, read_instruction, program_fuse, read_fuse, program_lock, read_lock, read_signature, read_calibration};
+
+use crate::command::{Command, EnterProgmode, ProgramBlock, ReadBlock, ReadByte};
+use crate::data::Data;
+
+/// Which fuse byte is meant.
+#[derive(Clone, Copy, Debug, PartialEq, Eq)]
+pub enum Fuse {
+    Low,
+    High,
+    Extended,
+}
+
+/// The second byte of the instruction that writes a fuse.
+fn write_address(fuse: Fuse) -> u8
+    ensures { result ≡ write_address fuse }
+{
+    match fuse {
+        Fuse::Low => 0xA0,
+        Fuse::High => 0xA8,
+        Fuse::Extended => 0xA4,
+    }
+}
+
+/// The instruction that reads a fuse.
+fn read_instruction(fuse: Fuse) -> [u8; 4]
+    ensures { result ≡ read_instruction fuse }
+{
+    match fuse {
+        Fuse::Low => [0x50, 0x00, 0x00, 0x00],
+        Fuse::High => [0x58, 0x08, 0x00, 0x00],
+        Fuse::Extended => [0x50, 0x08, 0x00, 0x00],
+    }
+}
+
+/// A block in page mode that ends by polling RDY/BSY and is written, with these first bytes of instructions.
+fn programming<'a>(cmd1: u8, cmd2: u8, cmd3: u8, bytes: &'a [u8]) -> ProgramBlock<'a>
+    requires { length bytes.now ≤ 265 }
+    ensures { result ≡ programming cmd1 cmd2 cmd3 bytes.now }
+{
+    ProgramBlock {
+        count: bytes.len() as u16,
+        mode: 0xC1,
+        delay: 0x0A,
+        cmd1,
+        cmd2,
+        cmd3,
+        poll1: 0xFF,
+        poll2: 0xFF,
+        bytes: Data::new(bytes),
+    }
+}
+
+impl<'a> Command<'a> {
+    /// Turns programming mode on, and tests that the part is in step.
+    pub fn enter() -> Command<'a>
+        ensures value { result ≡ enter }
+        ensures bytes { body result ≡ 0x10 ∷ 0xC8 ∷ 0x64 ∷ 0x19 ∷ 0x20 ∷ 0x00 ∷ 0x53 ∷ 0x03 ∷ 0xAC ∷ 0x53 ∷ 0x00 ∷ 0x00 ∷ [] }
+    {
+        Command::EnterProgmode(EnterProgmode {
+            timeout: 0xC8,
+            stab_delay: 0x64,
+            command_delay: 0x19,
+            synch_loops: 0x20,
+            byte_delay: 0x00,
+            poll_value: 0x53,
+            poll_index: 0x03,
+            instruction: [0xAC, 0x53, 0x00, 0x00],
+        })
+    }
+
+    /// Turns programming mode off.
+    pub fn leave() -> Command<'a>
+        ensures value { result ≡ leave }
+        ensures bytes { body result ≡ 0x11 ∷ 0x01 ∷ 0x01 ∷ [] }
+    {
+        Command::LeaveProgmode {
+            pre_delay: 0x01,
+            post_delay: 0x01,
+        }
+    }
+
+    /// Erases the chip.
+    pub fn erase() -> Command<'a>
+        ensures value { result ≡ erase }
+        ensures bytes { body result ≡ 0x12 ∷ 0x09 ∷ 0x00 ∷ 0xAC ∷ 0x80 ∷ 0x00 ∷ 0x00 ∷ [] }
+    {
+        Command::ChipErase {
+            erase_delay: 0x09,
+            poll_method: 0x00,
+            instruction: [0xAC, 0x80, 0x00, 0x00],
+        }
+    }
+
+    /// Programs a page of flash with these bytes, at the address that was loaded.
+    pub fn program_page(bytes: &'a [u8]) -> Command<'a>
+        requires { length bytes.now ≤ 265 }
+        ensures value { result ≡ program_page bytes.now }
+        ensures bytes { body result ≡ 0x13 ∷ (big_bytes 2 (length bytes.now) ++ 0xC1 ∷ 0x0A ∷ 0x40 ∷ 0x4C ∷ 0x20 ∷ 0xFF ∷ 0xFF ∷ bytes.now) }
+    {
+        Command::ProgramFlash(programming(0x40, 0x4C, 0x20, bytes))
+    }
+
+    /// Reads so many bytes of flash from the address that was loaded on.
+    pub fn read_flash(count: u16) -> Command<'a>
+        ensures value { result ≡ read_flash count }
+        ensures bytes { body result ≡ 0x14 ∷ (big_bytes 2 count ++ 0x20 ∷ []) }
+    {
+        Command::ReadFlash(ReadBlock { count, cmd1: 0x20 })
+    }
+
+    /// Programs a run of EEPROM bytes, at the address that was loaded.
+    pub fn program_eeprom(bytes: &'a [u8]) -> Command<'a>
+        requires { length bytes.now ≤ 265 }
+        ensures value { result ≡ program_eeprom bytes.now }
+        ensures bytes { body result ≡ 0x15 ∷ (big_bytes 2 (length bytes.now) ++ 0xC1 ∷ 0x0A ∷ 0xC1 ∷ 0xC2 ∷ 0xA0 ∷ 0xFF ∷ 0xFF ∷ bytes.now) }
+    {
+        Command::ProgramEeprom(programming(0xC1, 0xC2, 0xA0, bytes))
+    }
+
+    /// Reads so many bytes of EEPROM from the address that was loaded on.
+    pub fn read_eeprom(count: u16) -> Command<'a>
+        ensures value { result ≡ read_eeprom count }
+        ensures bytes { body result ≡ 0x16 ∷ (big_bytes 2 count ++ 0xA0 ∷ []) }
+    {
+        Command::ReadEeprom(ReadBlock { count, cmd1: 0xA0 })
+    }
+
+    /// Writes a fuse byte.
+    pub fn program_fuse(fuse: Fuse, value: u8) -> Command<'a>
+        ensures value { result ≡ program_fuse fuse value }
+        ensures bytes { body result ≡ 0x17 ∷ 0xAC ∷ write_address fuse ∷ 0x00 ∷ value ∷ [] }
+    {
+        Command::ProgramFuse {
+            instruction: [0xAC, write_address(fuse), 0x00, value],
+        }
+    }
+
+    /// Reads a fuse byte.
+    pub fn read_fuse(fuse: Fuse) -> Command<'a>
+        ensures value { result ≡ read_fuse fuse }
+        ensures bytes { body result ≡ 0x18 ∷ 0x04 ∷ read_instruction fuse }
+    {
+        Command::ReadFuse(ReadByte {
+            return_address: 4,
+            instruction: read_instruction(fuse),
+        })
+    }
+
+    /// Writes the lock byte.
+    pub fn program_lock(value: u8) -> Command<'a>
+        ensures value { result ≡ program_lock value }
+        ensures bytes { body result ≡ 0x19 ∷ 0xAC ∷ 0xE0 ∷ 0x00 ∷ value ∷ [] }
+    {
+        Command::ProgramLock {
+            instruction: [0xAC, 0xE0, 0x00, value],
+        }
+    }
+
+    /// Reads the lock byte.
+    pub fn read_lock() -> Command<'a>
+        ensures value { result ≡ read_lock }
+        ensures bytes { body result ≡ 0x1A ∷ 0x04 ∷ 0x58 ∷ 0x00 ∷ 0x00 ∷ 0x00 ∷ [] }
+    {
+        Command::ReadLock(ReadByte {
+            return_address: 4,
+            instruction: [0x58, 0x00, 0x00, 0x00],
+        })
+    }
+
+    /// Reads the signature's byte of this place, from 0 to 2.
+    pub fn read_signature(place: u8) -> Command<'a>
+        ensures value { result ≡ read_signature place }
+        ensures bytes { body result ≡ 0x1B ∷ 0x04 ∷ 0x30 ∷ 0x00 ∷ place ∷ 0x00 ∷ [] }
+    {
+        Command::ReadSignature(ReadByte {
+            return_address: 4,
+            instruction: [0x30, 0x00, place, 0x00],
+        })
+    }
+
+    /// Reads the calibration byte.
+    pub fn read_calibration() -> Command<'a>
+        ensures value { result ≡ read_calibration }
+        ensures bytes { body result ≡ 0x1C ∷ 0x04 ∷ 0x38 ∷ 0x00 ∷ 0x00 ∷ 0x00 ∷ [] }
+    {
+        Command::ReadOsccal(ReadByte {
+            return_address: 4,
+            instruction: [0x38, 0x00, 0x00, 0x00],
+        })
+    }
+}

@@ -1,0 +1,42 @@
+//! Frames, commands and answers of the STK500 protocol, version 2, by the rules of Atmel's
+//! application note AVR068 ("Message format" and "Commands").
+//!
+//! The flow: a `command` has a body (`encode`), which goes into a `frame`; bytes are cut into frames
+//! by a `reader`, and a body is read as a command (`decode`) or judged as an `answer` to one.
+//! The one idea: bytes are cut in one way, whatever pieces they come in.
+//!
+//! `put_frame(1, &[0x01], &mut out)` makes `out` the frame `1B 01 00 01 0E 01 14`; a `FrameReader`
+//! that is fed these bytes tells of a frame with `seq()` 1 and `body()` `[0x01]`.
+#![tactic(auto)]
+
+mod answer;
+mod command;
+mod data;
+mod decode;
+mod encode;
+mod frame;
+mod host_command;
+mod reader;
+#[cfg(test)]
+mod tests;
+
+ghost use Rattle.std.specs.Prelude.{◌≡◌, ◌<◌, ◌≤◌, List, ℕ, true, length, slice_index};
+ghost use Rattle.stk_frame.specs.Frame.{frame};
+ghost use Rattle.stk_frame.specs.Cut.{Cuts, IsPiece, cut, rest, is_good, seq_of, body_of};
+
+pub use answer::{Answer, FrameFault, Shape};
+pub use command::{Command, EnterProgmode, ProgramBlock, ReadBlock, ReadByte};
+pub use data::Data;
+pub use frame::put_frame;
+pub use host_command::Fuse;
+pub use reader::{Event, FrameReader};
+
+/// A law, and no code: whatever cuts bytes into pieces is the cutting, a frame is one good piece,
+/// and a good piece is the frame of its number and body.
+#[tactic(auto, using(crate::proofs::Laws::frame_is_piece, crate::proofs::Laws::frame_is_good))]
+pub fn cutting_is_the_only_one()
+    ensures one { (bytes : List ℕ) → Cuts bytes (cut bytes) (rest bytes) }
+    ensures only { (bytes : List ℕ) (pieces : List (List ℕ)) (left : List ℕ) → Cuts bytes pieces left → (cut bytes ≡ pieces) × (rest bytes ≡ left) }
+    ensures good { (piece : List ℕ) → IsPiece piece → is_good piece ≡ true → ((i : ℕ) → slice_index piece i < 256) → piece ≡ frame (seq_of piece) (body_of piece) }
+    ensures frames { (seq : ℕ) (body : List ℕ) → 0 < length body → length body ≤ 275 → IsPiece (frame seq body) × (is_good (frame seq body) ≡ true) }
+{}

@@ -1,0 +1,208 @@
+//! A reader of frames from bytes in pieces.
+#![tactic(auto)]
+
+ghost use Rattle.std.specs.Prelude.{List, ℕ, ◌≡◌, [], ◌++◌, ◌<◌, ◌≤◌, length, take, true, false, MatchOption};
+ghost use Rattle.stk_frame.specs.Cut.{piece_size, is_header, body_size, seq_of, body_of};
+ghost use Rattle.stk_frame.specs.Reader.{Fed, HoldsFrame, IsHeld, Serves, found, Tells};
+
+use crate::frame::xor_of;
+use arrayvec::ArrayVec;
+use byteorder::{BigEndian, ByteOrder};
+use memchr::memchr;
+use std::marker::Model;
+
+/// What came of a piece that was fed.
+#[derive(Clone, Copy, Debug, PartialEq, Eq)]
+pub enum Event {
+    /// All of it was used, and no frame has ended.
+    More,
+    /// A good frame ended with the last byte used.
+    Frame,
+    /// A frame whose XOR is wrong ended with the last byte used.
+    Spoiled,
+}
+
+/// Cuts bytes into frames, whatever pieces they come in.
+///
+/// Bytes in front of a start byte `1B` are skipped. The five bytes from it on are a header; one with
+/// a size of 0 or above 275, or with another token than `0E`, is skipped whole. Else the header, the
+/// body and the XOR byte are a frame.
+///
+/// Only the part of a frame that has come is held, or the whole frame that has just ended. A reader
+/// is seen as these bytes.
+#[derive(Drop)]
+pub struct FrameReader {
+    held: ArrayVec<u8, 281>,
+}
+
+impl Model for FrameReader {
+    ghost use Rattle.std.specs.Prelude.{List, ℕ};
+    ghost use Rattle.stk_frame.specs.Reader.{IsHeld};
+
+    ghost Value = { List ℕ };
+
+    ghost view = { λ reader. reader.held.items };
+
+    ghost invariant = { λ reader. IsHeld reader.held.items };
+}
+
+/// How many bytes a body has whose header has these bytes, if a frame can have it.
+fn size_in(high: u8, low: u8, token: u8) -> Option<usize>
+    ensures { MatchOption result (is_header high low token ≡ false) (λ size. (is_header high low token ≡ true) × (size ≡ body_size high low) × (size ≤ 275)) }
+{
+    let size = BigEndian::read_u16(&[high, low]) as usize;
+    if 1 <= size && size <= 275 && token == 0x0E {
+        Some(size)
+    } else {
+        None
+    }
+}
+
+/// How many bytes the piece has that these bytes begin, as far as they tell.
+fn size_of_piece(bytes: &[u8]) -> usize
+    ensures size { result ≡ piece_size bytes.now }
+    ensures bound { result ≤ 281 }
+{
+    match bytes {
+        [0x1B, _, high, low, token, ..] => match size_in(*high, *low, *token) {
+            Some(size) => size + 6,
+            None => 5,
+        },
+        [0x1B, ..] => 5,
+        _ => 1,
+    }
+}
+
+/// Drops a whole frame, which is done with.
+fn drop_whole(held: &mut ArrayVec<u8, 281>)
+    requires { IsHeld held.old.items }
+    ensures part { length held.new.items < piece_size held.new.items }
+    ensures same { Serves held.new.items held.old.items }
+{
+    if size_of_piece(held.as_slice()) == held.len() {
+        held.clear();
+    }
+}
+
+/// How many bytes stand in front of the first start byte.
+fn noise_in_front(bytes: &[u8]) -> usize
+    ensures within { result ≤ length bytes.now }
+    ensures fed { Fed [] (take result bytes.now) [] [] }
+{
+    memchr(0x1B, bytes).unwrap_or(bytes.len())
+}
+
+/// Takes bytes that the piece still lacks, as far as what is held tells how many these are: up to the
+/// start byte, the header's end or the frame's end. Tells how many.
+fn take_missing(held: &mut ArrayVec<u8, 281>, bytes: &[u8]) -> usize
+    requires part { length held.old.items < piece_size held.old.items }
+    requires some { 0 < length bytes.now }
+    ensures within { result ≤ length bytes.now }
+    ensures progress { 0 < result }
+    ensures items { held.new.items ≡ held.old.items ++ take result bytes.now }
+    ensures at_most { length held.new.items ≤ piece_size held.old.items }
+{
+    let missing = size_of_piece(held.as_slice()) - held.len();
+    let taken = missing.min(bytes.len());
+    let _ = held.try_extend_from_slice(&bytes[..taken]);
+    taken
+}
+
+/// Tells what has ended with the last byte, and drops a piece that is no frame.
+fn end_piece(held: &mut ArrayVec<u8, 281>) -> Event
+    requires { IsHeld held.old.items }
+    ensures held { IsHeld held.new.items }
+    ensures fed { (part bytes : List ℕ) → length part < piece_size part → held.old.items ≡ part ++ bytes → Fed part bytes held.new.items (found result held.new.items) }
+    ensures tells { Tells result held.new.items }
+{
+    if held.len() < size_of_piece(held.as_slice()) {
+        return Event::More;
+    }
+    if held.len() <= 5 {
+        held.clear();
+        return Event::More;
+    }
+    if xor_of(held.as_slice()) == 0 {
+        Event::Frame
+    } else {
+        Event::Spoiled
+    }
+}
+
+impl FrameReader {
+    /// A reader of no bytes.
+    pub fn new() -> Self
+        ensures { result ≡ [] }
+    {
+        FrameReader {
+            held: ArrayVec::new(),
+        }
+    }
+
+    /// Drops a part of a frame.
+    pub fn reset(&mut self)
+        ensures { self.new ≡ [] }
+    {
+        self.held.clear();
+    }
+
+    /// The sequence number of the frame that has just ended.
+    pub fn seq(&self) -> u8
+        requires { HoldsFrame self.now }
+        ensures { result ≡ seq_of self.now }
+    {
+        self.held[1]
+    }
+
+    /// The body of the frame that has just ended.
+    pub fn body(&self) -> &[u8]
+        ensures body { result.now ≡ body_of self.now }
+        ensures fits { length result.now ≤ 275 }
+    {
+        let bytes = self.held.as_slice();
+        if bytes.len() < 6 {
+            return &[];
+        }
+        &bytes[5..bytes.len() - 1]
+    }
+
+    /// Takes bytes up to the end of one piece at most: noise in front of a start byte, or what the
+    /// header or the frame still lacks.
+    fn take_span(&mut self, bytes: &[u8]) -> (usize, Event)
+        requires { 0 < length bytes.now }
+        ensures within { result.0 ≤ length bytes.now }
+        ensures progress { 0 < result.0 }
+        ensures fed { Fed self.old (take result.0 bytes.now) self.new (found result.1 self.new) }
+        ensures tells { Tells result.1 self.new }
+    {
+        drop_whole(&mut self.held);
+        if self.held.is_empty() {
+            let noise = noise_in_front(bytes);
+            if noise > 0 {
+                return (noise, Event::More);
+            }
+        }
+        let taken = take_missing(&mut self.held, bytes);
+        (taken, end_piece(&mut self.held))
+    }
+
+    /// Takes bytes up to the end of the first frame that ends in the piece, or all of them.
+    pub fn feed(&mut self, piece: &[u8]) -> (usize, Event)
+        ensures within { result.0 ≤ length piece.now }
+        ensures all { result.1 ≡ Event.More → result.0 ≡ length piece.now }
+        ensures progress { 0 < length piece.now → 0 < result.0 }
+        ensures fed { Fed self.old (take result.0 piece.now) self.new (found result.1 self.new) }
+        ensures tells { Tells result.1 self.new }
+    {
+        let mut used = 0;
+        while used < piece.len() {
+            let (taken, event) = self.take_span(&piece[used..]);
+            used += taken;
+            match event {
+                Event::More => {}
+                event => return (used, event),
+            }
+        }
+        (used, Event::More)
+    }
+}
