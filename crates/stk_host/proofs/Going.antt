@@ -1,0 +1,169 @@
+-- The steps of an operation, one after another.
+use Rattle.std.proofs.Common.{◌≡◌, ℕ, ◌≤◌, arith, List, [], ◌∷◌, ◌++◌, length, refl, subst, sym, ◌-◌, Bool, true, false, None, Some, ◌∙◌, inl, inr, Option, Ok, Err, Result}
+use Rattle.std.specs.Prelude.{OnOk, if◌then◌else◌}
+use Rattle.avr_part.specs.declared.mem.Mem.{Mem}
+use Rattle.avr_part.specs.Mem.{is_writable}
+use Rattle.avr_part.specs.Part.{Part}
+use Rattle.stk_frame.specs.declared.command.Command.{Command}
+use Rattle.stk_frame.specs.declared.answer.Shape.{Shape}
+use Rattle.stk_frame.specs.declared.answer.Shape.TheVariants.{Name, Bytes, Closed}
+use Rattle.stk_frame.specs.Commands.{SizedBy}
+use Rattle.stk_host.specs.declared.fault.Broken.TheVariants as broken
+use Rattle.stk_host.specs.declared.fault.Stop.{Stop}
+use Rattle.stk_host.specs.declared.fault.Stop.TheVariants.{Fault, Link}
+use Rattle.stk_host.specs.declared.fault.StepFault.TheVariants as of_step
+use Rattle.stk_host.specs.declared.fault.HostFault.{HostFault}
+use Rattle.stk_host.specs.declared.fault.HostFault.TheVariants.{ReadOnly}
+use Rattle.stk_host.specs.Talk.{Talk, HasFailed}
+use Rattle.stk_host.specs.Dialog.{Dialog, Done}
+use Rattle.stk_host.specs.Play.{PlaysOver}
+use Rattle.stk_host.specs.Reach.{Reaches}
+use Rattle.stk_host.specs.Steps.{Outcome, step, play}
+use Rattle.stk_host.specs.Places.{each_from}
+use Rattle.stk_host.specs.WriteSteps.{write_steps}
+use Rattle.stk_host.specs.Operations.{judged_by, operation, writing, Difference, difference_from, differs, compared}
+use Rattle.stk_host.specs.Calls.{StopsSteps, EndsSteps, EndsCall, EndsOrLacks, GoesOn, CountsLink, IsCounted, data_count, told, closed, given, kept, verified}
+use Rattle.stk_host.proofs.Reaching.{reaches_here, reaches_on, played_from, broken_bind, then_reaches}
+use Rattle.stk_host.proofs.Ends.{stops_on, play_on, play_stops, play_done}
+
+-- data of this size
+pub counted_data : (of : Shape) (bytes : List ℕ) → IsCounted of → SizedBy of bytes → length bytes ≡ data_count of
+counted_data Name bytes counted sized = absurd counted
+counted_data (Bytes n) bytes counted sized = sized
+counted_data (Closed n) bytes counted sized = sized
+
+pub none_of : (bytes : List ℕ) → length bytes ≡ 0 → bytes ≡ []
+none_of [] e = refl
+none_of (b ∷ bytes) e = absurd (omega (arith, e))
+
+-- a step that was played goes on with those that follow
+pub goes_with : (commands : List Command) (before bytes : List ℕ) {m n : ℕ} {u v : List ℕ} {o p : Option Talk}
+    → PlaysOver (step commands) m u o p (Ok bytes) n v → GoesOn commands before (before ++ bytes) m u o p (Ok tt) n v
+goes_with commands before bytes f = λ steps. play_on commands steps before bytes f
+
+pub stops_with : (commands : List Command) (before after : List ℕ) (m n : ℕ) (u v : List ℕ) (o p : Option Talk) (stop : Stop)
+    → StopsSteps (step commands) m u o p stop n v → GoesOn commands before after m u o p (Err stop) n v
+stops_with commands before after m n u v o p stop e = λ steps. play_stops commands steps before m n u v o p stop e
+
+-- a step that brings no data
+pub goes_quietly : (commands : List Command) (of : Shape) (bytes : List ℕ) (result : Result (Unit {0}) Stop) (m n : ℕ) (u v : List ℕ) (o p : Option Talk)
+    → IsCounted of → data_count of ≡ 0 → OnOk result (SizedBy of bytes) → EndsSteps (step commands) m u o p (λ done. bytes) result n v → GoesOn commands [] [] m u o p result n v
+goes_quietly commands of bytes (Ok done) m n u v o p counted zero sized e =
+    subst (λ bs. GoesOn commands [] bs m u o p (Ok tt) n v) (none_of bytes (counted_data of bytes counted sized ∙ zero)) (goes_with commands [] bytes e)
+goes_quietly commands of bytes (Err stop) m n u v o p counted zero sized e = stops_with commands [] [] m n u v o p stop e
+
+-- a step that nothing follows
+pub alone : (commands : List Command) (before after : List ℕ) (result : Result (Unit {0}) Stop) (m n : ℕ) (u v : List ℕ) (o p : Option Talk)
+    → GoesOn commands before after m u o p result n v → EndsSteps (play (commands ∷ []) before) m u o p (λ done. after) result n v
+alone commands before after (Ok done) m n u v o p e = play_done after (e [])
+alone commands before after (Err stop) m n u v o p e = e []
+
+pub alone_first : (commands : List Command) (before after : List ℕ) (result : Result (Unit {0}) Stop) (m n : ℕ) (u v : List ℕ) (o p : Option Talk)
+    → before ≡ [] → GoesOn commands before after m u o p result n v → EndsSteps (play (commands ∷ []) []) m u o p (λ done. after) result n v
+alone_first commands before after result m n u v o p is e =
+    subst (λ (b : List ℕ). EndsSteps (play (commands ∷ []) b) m u o p (λ done. after) result n v) is (alone commands before after result m n u v o p e)
+
+-- no step at all
+pub none_played : (m : ℕ) (u : List ℕ) (o : Option Talk) → PlaysOver (play [] []) m u o o (Ok []) m u
+none_played m u o = play_done [] (reaches_here (play [] []) m u o)
+
+-- a step among the steps that are left of a dialog
+pub reaches_next : {a : Dialog ⊥ Outcome} {k m n : ℕ} {s u v : List ℕ} {r o p : Option Talk} (steps rest : List (List Command)) (commands : List Command) (before after : List ℕ)
+    → Reaches a k s r (play steps before) m u o → steps ≡ commands ∷ rest → GoesOn commands before after m u o p (Ok tt) n v → Reaches a k s r (play rest after) n v p
+reaches_next {a = a} {k = k} {m = m} {s = s} {u = u} {r = r} {o = o} steps rest commands before after f is e =
+    reaches_on (subst (λ ss. Reaches a k s r (play ss before) m u o) is f) (e rest)
+
+pub stops_next : {a : Dialog ⊥ Outcome} {k m : ℕ} {s u : List ℕ} {r o : Option Talk} (n : ℕ) (v : List ℕ) (p : Option Talk) (steps rest : List (List Command)) (commands : List Command) (before after : List ℕ) (stop : Stop)
+    → Reaches a k s r (play steps before) m u o → steps ≡ commands ∷ rest → GoesOn commands before after m u o p (Err stop) n v → StopsSteps a k s r p stop n v
+stops_next {a = a} {k = k} {m = m} {s = s} {u = u} {r = r} {o = o} n v p steps rest commands before after stop f is e =
+    stops_on n v p stop (subst (λ ss. Reaches a k s r (play ss before) m u o) is f) (e rest)
+
+-- the steps are at their end
+pub plays_all : {a : Dialog ⊥ Outcome} {k m : ℕ} {s u : List ℕ} {r o : Option Talk} (steps : List (List Command)) (before : List ℕ)
+    → Reaches a k s r (play steps before) m u o → steps ≡ [] → PlaysOver a k s r o (Ok before) m u
+plays_all {a = a} {k = k} {m = m} {s = s} {u = u} {r = r} {o = o} steps before f is =
+    play_done before (subst (λ ss. Reaches a k s r (play ss before) m u o) is f)
+
+-- the count of failures, over calls one after another
+pub failed_on : (a b c : ℕ) → a ≤ b → HasFailed b c → HasFailed a c
+failed_on a b c le (inl lt) = inl (omega (arith, le, lt))
+failed_on a b c le (inr is) = inr is
+
+pub counts_on : {A : Type 0} (a b c : ℕ) (result : Result A Stop) → a ≤ b → CountsLink b c result → CountsLink a c result
+counts_on a b c (Ok done) le (more, by) = (omega (arith, le, more), tt)
+counts_on a b c (Err (Fault fault)) le (more, by) = (omega (arith, le, more), tt)
+counts_on a b c (Err (Link broken)) le (more, by) = (omega (arith, le, more), failed_on a b c le by)
+
+-- what an operation comes to, from what its steps come to
+
+-- a stop, as the host tells it
+told_ends : {A : Type 0} (steps : List (List Command)) (judge : List ℕ → Result A HostFault) (stop : Stop) (m n : ℕ) (u v : List ℕ) (o p : Option Talk)
+    → StopsSteps (play steps []) m u o p stop n v → EndsCall (operation steps judge) m u o p (Err (told stop)) n v
+unfolding operation
+told_ends steps judge (Fault of_step.NoAnswer) m n u v o p e = played_from (then_reaches (λ outcome. Done (judged_by judge outcome)) e)
+told_ends steps judge (Fault of_step.LinkEnded) m n u v o p e = played_from (then_reaches (λ outcome. Done (judged_by judge outcome)) e)
+told_ends steps judge (Fault of_step.Babble) m n u v o p e = played_from (then_reaches (λ outcome. Done (judged_by judge outcome)) e)
+told_ends steps judge (Fault (of_step.Refused command status)) m n u v o p e = played_from (then_reaches (λ outcome. Done (judged_by judge outcome)) e)
+told_ends steps judge (Fault (of_step.BadAnswer command)) m n u v o p e = played_from (then_reaches (λ outcome. Done (judged_by judge outcome)) e)
+told_ends steps judge (Link broken.Send) m n u v o p e = broken_bind (λ outcome. Done (judged_by judge outcome)) e
+told_ends steps judge (Link broken.Recv) m n u v o p e = broken_bind (λ outcome. Done (judged_by judge outcome)) e
+
+judged_from : {A : Type 0} (steps : List (List Command)) (judge : List ℕ → Result A HostFault) (bytes : List ℕ) {m n : ℕ} {u v : List ℕ} {o p : Option Talk}
+    → PlaysOver (play steps []) m u o p (Ok bytes) n v → PlaysOver (operation steps judge) m u o p (judge bytes) n v
+unfolding operation
+judged_from steps judge bytes e = played_from (then_reaches (λ outcome. Done (judged_by judge outcome)) e)
+
+-- an operation that reads nothing
+pub done_ends : (steps : List (List Command)) (result : Result (Unit {0}) Stop) (m n : ℕ) (u v : List ℕ) (o p : Option Talk)
+    → EndsSteps (play steps []) m u o p (λ done. []) result n v → EndsCall (operation steps (λ bytes. Ok tt)) m u o p (closed result) n v
+done_ends steps (Ok done) m n u v o p e = judged_from steps (λ bytes. Ok tt) [] e
+done_ends steps (Err stop) m n u v o p e = told_ends steps (λ bytes. Ok tt) stop m n u v o p e
+
+-- a write
+pub writing_ends : (part : Part) (mem : Mem) (image : List (Option ℕ)) (result : Result (Unit {0}) Stop) (m n : ℕ) (u v : List ℕ) (o p : Option Talk) → is_writable mem ≡ true
+    → EndsSteps (play (write_steps part mem image) []) m u o p (λ done. []) result n v → EndsCall (writing part mem image) m u o p (closed result) n v
+writing_ends part mem image result m n u v o p can e =
+    subst (λ (can : Bool). EndsCall (if can then operation (write_steps part mem image) (λ bytes. Ok tt) else Done (Err (ReadOnly mem))) m u o p (closed result) n v) (sym can)
+    (done_ends (write_steps part mem image) result m n u v o p e)
+
+pub writes_nothing : (part : Part) (mem : Mem) (image : List (Option ℕ)) (m : ℕ) (u : List ℕ) (o : Option Talk) → is_writable mem ≡ false → EndsCall (writing part mem image) m u o o (Err (ReadOnly mem)) m u
+writes_nothing part mem image m u o cannot =
+    subst (λ (can : Bool). PlaysOver (if can then operation (write_steps part mem image) (λ bytes. Ok tt) else Done (Err (ReadOnly mem))) m u o o (Err (ReadOnly mem)) m u) (sym cannot)
+    (played_from (reaches_here (Done (Err (ReadOnly mem))) m u o))
+
+-- a stop is no want of memory
+not_lacking : {A : Type 0} (dialog : Dialog ⊥ (Result A HostFault)) (stop : Stop) (m n : ℕ) (u v : List ℕ) (o p : Option Talk)
+    → EndsCall dialog m u o p (Err (told stop)) n v → EndsOrLacks dialog m u o p (Err (told stop)) n v
+not_lacking dialog (Fault of_step.NoAnswer) m n u v o p e = e
+not_lacking dialog (Fault of_step.LinkEnded) m n u v o p e = e
+not_lacking dialog (Fault of_step.Babble) m n u v o p e = e
+not_lacking dialog (Fault (of_step.Refused command status)) m n u v o p e = e
+not_lacking dialog (Fault (of_step.BadAnswer command)) m n u v o p e = e
+not_lacking dialog (Link broken.Send) m n u v o p e = e
+not_lacking dialog (Link broken.Recv) m n u v o p e = e
+
+-- a read
+pub reading_ends : (steps : List (List Command)) (bytes : List ℕ) (result : Result (Unit {0}) Stop) (m n : ℕ) (u v : List ℕ) (o p : Option Talk)
+    → EndsSteps (play steps []) m u o p (λ done. bytes) result n v → EndsOrLacks (operation steps Ok) m u o p (given (kept (closed result) bytes) (closed result)) n v
+reading_ends steps bytes (Ok done) m n u v o p e = judged_from steps Ok bytes e
+reading_ends steps bytes (Err stop) m n u v o p e = not_lacking (operation steps Ok) stop m n u v o p (told_ends steps Ok stop m n u v o p e)
+
+-- a comparison
+differs_ends : (dialog : Dialog ⊥ (Result (Unit {0}) HostFault)) (mem : Mem) (found : Option Difference) {m n : ℕ} {u v : List ℕ} {o p : Option Talk}
+    → PlaysOver dialog m u o p (differs mem found) n v → EndsOrLacks dialog m u o p (differs mem found) n v
+differs_ends dialog mem None e = e
+differs_ends dialog mem (Some d) e = e
+
+pub verifying_ends : (steps : List (List Command)) (mem : Mem) (image : List (Option ℕ)) (bytes : List ℕ) (result : Result (Unit {0}) Stop) (m n : ℕ) (u v : List ℕ) (o p : Option Talk)
+    → EndsSteps (play steps []) m u o p (λ done. bytes) result n v → EndsOrLacks (operation steps (compared mem image)) m u o p (verified mem image bytes result) n v
+verifying_ends steps mem image bytes (Ok done) m n u v o p e =
+    differs_ends (operation steps (compared mem image)) mem (difference_from 0 image bytes) (judged_from steps (compared mem image) bytes e)
+verifying_ends steps mem image bytes (Err stop) m n u v o p e =
+    not_lacking (operation steps (compared mem image)) stop m n u v o p (told_ends steps (compared mem image) stop m n u v o p e)
+
+-- a loop over places begins
+pub begins_at : (steps_at : ℕ → List (List Command)) (count : ℕ) (before : List ℕ) (m : ℕ) (u : List ℕ) (o : Option Talk)
+    → Reaches (play (each_from steps_at 0 count) before) m u o (play (each_from steps_at 0 (count - 0)) before) m u o
+begins_at steps_at count before m u o =
+    let all : count ≡ count - 0 = omega arith in
+    subst (λ (n : ℕ). Reaches (play (each_from steps_at 0 count) before) m u o (play (each_from steps_at 0 n) before) m u o) all (reaches_here (play (each_from steps_at 0 count) before) m u o)

@@ -1,0 +1,287 @@
+-- How a talk goes on in a dialog: laws over talks alone.
+use Rattle.std.proofs.Common.{◌≡◌, ℕ, List, [], ◌∷◌, ◌++◌, refl, sym, ap, ◌∙◌, subst, append_assoc, Option, Some, None}
+use Rattle.std.proofs.lemmas.List.{append-nil}
+use Rattle.stk_frame.specs.Frame.{frame}
+use Rattle.stk_host.specs.Tape.{Tape, Reading, on_tape, answer}
+use Rattle.stk_host.specs.Talk.{Talk, Sent, Got, sent, heard}
+use Rattle.stk_host.specs.Dialog.{Dialog, Done, Say, Ask, ◌>>=◌, Event, Frame, Said, Played, played, behind, by_answer, next, bytes_sent}
+use Rattle.stk_host.specs.Play.{IsDue, TurnsFrom, InTurn, Plays, Breaks, IsFront, IsBegun, IsPrefixOf}
+use Rattle.stk_host.specs.Reach.{Leads, IsQuiet, WaitsFrom}
+use Rattle.stk_host.proofs.Talks.{sent_append, heard_append, heard_both, heard_quiet, sent_waiting}
+
+-- plays
+
+abbrev pub continued : {E A B : Type 0} → Option (A × ℕ × Tape) → (A → ℕ → Tape → Played E B) → Played E B
+continued None go_on = record { events = []; outcome = None }
+continued (Some (a, seq, tape)) go_on = go_on a seq tape
+
+-- a play, and then the play from its result
+abbrev pub followed : {E A B : Type 0} → Played E A → (A → ℕ → Tape → Played E B) → Played E B
+followed p go_on = behind p.events (continued p.outcome go_on)
+
+pub played_bind : {E A B : Type 0} (dialog : Dialog E A) (go_on : A → Dialog E B) (seq : ℕ) (tape : Tape)
+    → played (dialog >>= go_on) seq tape ≡ followed (played dialog seq tape) (λ a. played (go_on a))
+played_bind (Done a) go_on seq tape = refl
+played_bind (Say e dialog) go_on seq tape = ap (behind (Said e ∷ [])) (played_bind dialog go_on seq tape)
+played_bind (Ask body answered) go_on seq tape =
+    ap (behind (Frame (frame seq body) ∷ []))
+    (elim (answer seq tape) as (λ o. by_answer (λ r. played (answered r >>= go_on) (next seq)) o ≡ followed (by_answer (λ r. played (answered r) (next seq)) o) (λ a. played (go_on a))) [
+      | None ↦ refl
+      | Some got ↦ played_bind (answered got.0) go_on (next seq) got.1
+    ])
+
+pub bytes_append : {E : Type 0} (x y : List (Event E)) → bytes_sent (x ++ y) ≡ bytes_sent x ++ bytes_sent y
+bytes_append [] y = refl
+bytes_append (Frame bytes ∷ x) y = ap (λ bs. bytes ++ bs) (bytes_append x y) ∙ sym (append_assoc bytes (bytes_sent x) (bytes_sent y))
+bytes_append (Said e ∷ x) y = bytes_append x y
+
+behind_behind : {E R : Type 0} (x y : List (Event E)) (p : Played E R) → behind x (behind y p) ≡ behind (x ++ y) p
+behind_behind x y p = ap (λ es. record { events = es; outcome = p.outcome }) (sym (append_assoc x y p.events))
+
+followed_behind : {E A B : Type 0} (events : List (Event E)) (p : Played E A) (go_on : A → ℕ → Tape → Played E B) → followed (behind events p) go_on ≡ behind events (followed p go_on)
+followed_behind events p go_on = sym (behind_behind events p.events (continued p.outcome go_on))
+
+-- turns
+
+turns_quiet : {E R : Type 0} (dialog : Dialog E R) (seq : ℕ) (tape : Tape) (bytes : List ℕ) (talk : Talk) → IsQuiet talk → TurnsFrom dialog seq tape bytes talk
+turns_quiet dialog seq tape bytes [] quiet = tt
+turns_quiet dialog seq tape bytes (Sent more ∷ talk) quiet = turns_quiet dialog seq tape (bytes ++ more) talk quiet
+turns_quiet dialog seq tape bytes (Got items ∷ talk) quiet = absurd quiet
+
+-- one talk after another
+pub turns_append : {E R : Type 0} (dialog : Dialog E R) (seq : ℕ) (tape : Tape) (bytes : List ℕ) (x y : Talk)
+    → TurnsFrom dialog seq tape bytes x → TurnsFrom dialog seq (tape ++ heard x) (bytes ++ sent x) y → TurnsFrom dialog seq tape bytes (x ++ y)
+turns_append dialog seq tape bytes [] y f g =
+    subst (λ t. TurnsFrom dialog seq t bytes y) (append-nil tape) (subst (λ s. TurnsFrom dialog seq (tape ++ []) s y) (append-nil bytes) g)
+turns_append dialog seq tape bytes (Sent more ∷ x) y f g =
+    turns_append dialog seq tape (bytes ++ more) x y f (subst (λ s. TurnsFrom dialog seq (tape ++ heard x) s y) (sym (append_assoc bytes more (sent x))) g)
+turns_append dialog seq tape bytes (Got items ∷ x) y f g =
+    (f.0, turns_append dialog seq (tape ++ items) bytes x y f.1 (subst (λ t. TurnsFrom dialog seq t (bytes ++ sent x) y) (sym (append_assoc tape items (heard x))) g))
+
+-- where the one is due whenever the other is
+turns_lift : {E F A B : Type 0} (dialog : Dialog E A) (inner : Dialog F B) (m n : ℕ) (tape inner_tape : Tape) (before : List ℕ)
+    → ((x : Tape) (bytes : List ℕ) → IsDue inner n (inner_tape ++ x) bytes → IsDue dialog m (tape ++ x) (before ++ bytes))
+    → (x : Tape) (bytes : List ℕ) (talk : Talk) → TurnsFrom inner n (inner_tape ++ x) bytes talk → TurnsFrom dialog m (tape ++ x) (before ++ bytes) talk
+turns_lift dialog inner m n tape inner_tape before due x bytes [] f = tt
+turns_lift dialog inner m n tape inner_tape before due x bytes (Sent more ∷ talk) f =
+    subst (λ s. TurnsFrom dialog m (tape ++ x) s talk) (sym (append_assoc before bytes more)) (turns_lift dialog inner m n tape inner_tape before due x (bytes ++ more) talk f)
+turns_lift dialog inner m n tape inner_tape before due x bytes (Got items ∷ talk) f = (
+  due x bytes f.0,
+  subst (λ t. TurnsFrom dialog m t (before ++ bytes) talk) (sym (append_assoc tape x items))
+      (turns_lift dialog inner m n tape inner_tape before due (x ++ items) bytes talk
+      (subst (λ t. TurnsFrom inner n t bytes talk) (append_assoc inner_tape x items) f.1)),
+)
+
+-- the same from the start
+pub turns_behind : {E F A B : Type 0} (dialog : Dialog E A) (inner : Dialog F B) (m n : ℕ) (tape inner_tape : Tape) (before : List ℕ)
+    → ((x : Tape) (bytes : List ℕ) → IsDue inner n (inner_tape ++ x) bytes → IsDue dialog m (tape ++ x) (before ++ bytes))
+    → (talk : Talk) → TurnsFrom inner n inner_tape [] talk → TurnsFrom dialog m tape before talk
+turns_behind dialog inner m n tape inner_tape before due talk f =
+    subst (λ t. TurnsFrom dialog m t before talk) (append-nil tape)
+    (subst (λ s. TurnsFrom dialog m (tape ++ []) s talk) (append-nil before)
+    (turns_lift dialog inner m n tape inner_tape before due [] [] talk
+    (subst (λ t. TurnsFrom inner n t [] talk) (sym (append-nil inner_tape)) f)))
+
+-- what is due behind a talk
+due_behind : {E R : Type 0} {a b : Dialog E R} {m n : ℕ} {u v : List ℕ} {talk : Talk} {events : List (Event E)} (f : Leads a m u talk events b n v) (x : Tape) (bytes : List ℕ)
+    → IsDue b n (on_tape v ++ x) bytes → IsDue a m ((on_tape u ++ heard talk) ++ x) (sent talk ++ bytes)
+due_behind {a = a} {b = b} {m = m} {n = n} {u = u} {v = v} {talk = talk} {events = events} f x bytes due =
+    let e : played a m ((on_tape u ++ heard talk) ++ x) ≡ behind events (played b n (on_tape v ++ x)) =
+    ap (played a m) (append_assoc (on_tape u) (heard talk) x) ∙ f.goes_on x in
+    record {
+      waits = ap (λ p. p.outcome) e ∙ due.waits;
+      all_sent =
+          ap (λ p. bytes_sent p.events) e
+          ∙ (bytes_append events (played b n (on_tape v ++ x)).events
+          ∙ (ap (λ bs. bs ++ bytes_sent (played b n (on_tape v ++ x)).events) f.all_sent ∙ ap (λ bs. sent talk ++ bs) due.all_sent));
+    }
+
+due_bind : {E A B : Type 0} (dialog : Dialog E A) (go_on : A → Dialog E B) (seq : ℕ) (x : Tape) (bytes : List ℕ) → IsDue dialog seq x bytes → IsDue (dialog >>= go_on) seq x bytes
+due_bind dialog go_on seq x bytes due =
+    let e : played (dialog >>= go_on) seq x ≡ record { events = (played dialog seq x).events ++ []; outcome = None } =
+    played_bind dialog go_on seq x ∙ ap (λ o. behind (played dialog seq x).events (continued o (λ a. played (go_on a)))) due.waits in
+    record {
+      waits = ap (λ p. p.outcome) e;
+      all_sent = ap (λ p. bytes_sent p.events) e ∙ (ap bytes_sent (append-nil (played dialog seq x).events) ∙ due.all_sent);
+    }
+
+turns_bind : {E A B : Type 0} (dialog : Dialog E A) (go_on : A → Dialog E B) (seq : ℕ) (u : List ℕ) (talk : Talk) → InTurn dialog seq u talk → InTurn (dialog >>= go_on) seq u talk
+turns_bind dialog go_on seq u talk f =
+    turns_behind (dialog >>= go_on) dialog seq seq (on_tape u) (on_tape u) [] (λ x bytes. due_bind dialog go_on seq (on_tape u ++ x) bytes) talk f
+
+-- while the answer is awaited it is in turn to listen
+due_asking : {E R : Type 0} (body : List ℕ) (answered : Reading → Dialog E R) (seq : ℕ) (tape : Tape) → answer seq tape ≡ None → IsDue (Ask body answered) seq tape (frame seq body)
+due_asking body answered seq tape none = record {
+  waits = ap (λ o. (by_answer (λ r. played (answered r) (next seq)) o).outcome) none;
+  all_sent = ap (λ o. frame seq body ++ bytes_sent (by_answer (λ r. played (answered r) (next seq)) o).events) none ∙ append-nil (frame seq body);
+}
+
+turns_waiting : {E R : Type 0} (body : List ℕ) (answered : Reading → Dialog E R) (seq : ℕ) (tape : Tape) (talk : Talk) → WaitsFrom seq tape talk → TurnsFrom (Ask body answered) seq tape (frame seq body) talk
+turns_waiting body answered seq tape [] waits = tt
+turns_waiting body answered seq tape (Sent bytes ∷ talk) waits = absurd waits
+turns_waiting body answered seq tape (Got items ∷ talk) waits = (due_asking body answered seq tape waits.0, turns_waiting body answered seq (tape ++ items) talk waits.1)
+
+-- a frame was sent whole, and its answer awaited
+turns_asking : {E R : Type 0} (body : List ℕ) (answered : Reading → Dialog E R) (seq : ℕ) (u : List ℕ) (x y : Talk)
+    → IsQuiet x → sent x ≡ frame seq body → WaitsFrom seq (on_tape u) y → InTurn (Ask body answered) seq u (x ++ y)
+turns_asking body answered seq u x y quiet is waits =
+    turns_append (Ask body answered) seq (on_tape u) [] x y (turns_quiet (Ask body answered) seq (on_tape u) [] x quiet)
+    (subst (λ t. TurnsFrom (Ask body answered) seq t (sent x) y) (sym (append-nil (on_tape u)) ∙ ap (λ t. on_tape u ++ t) (sym (heard_quiet x quiet)))
+    (subst (λ bs. TurnsFrom (Ask body answered) seq (on_tape u) bs y) (sym is) (turns_waiting body answered seq (on_tape u) y waits)))
+
+-- leading
+
+pub leads_here : {E R : Type 0} (dialog : Dialog E R) (seq : ℕ) (u : List ℕ) → Leads dialog seq u [] [] dialog seq u
+leads_here dialog seq u = record { goes_on = λ more. refl; all_sent = refl; in_turn = tt }
+
+pub leads_on : {E R : Type 0} {a b c : Dialog E R} {l m n : ℕ} {u v w : List ℕ} {x y : Talk} {xs ys : List (Event E)}
+    → Leads a l u x xs b m v → Leads b m v y ys c n w → Leads a l u (x ++ y) (xs ++ ys) c n w
+leads_on {a = a} {b = b} {c = c} {l = l} {m = m} {n = n} {u = u} {v = v} {w = w} {x = x} {y = y} {xs = xs} {ys = ys} f g = record {
+  goes_on = λ more.
+      ap (played a l) (heard_both (on_tape u) x y more)
+      ∙ (f.goes_on (heard y ++ more)
+      ∙ (ap (behind xs) (g.goes_on more)
+      ∙ behind_behind xs ys (played c n (on_tape w ++ more))));
+  all_sent = bytes_append xs ys ∙ (ap (λ bs. bs ++ bytes_sent ys) f.all_sent ∙ (ap (λ bs. sent x ++ bs) g.all_sent ∙ sym (sent_append x y)));
+  in_turn = turns_append a l (on_tape u) [] x y f.in_turn
+      (turns_behind a b l m (on_tape u ++ heard x) (on_tape v) (sent x) (due_behind f) y g.in_turn);
+}
+
+pub leads_bind : {E A B : Type 0} {a b : Dialog E A} {m n : ℕ} {u v : List ℕ} {talk : Talk} {events : List (Event E)} (go_on : A → Dialog E B)
+    → Leads a m u talk events b n v → Leads (a >>= go_on) m u talk events (b >>= go_on) n v
+leads_bind {a = a} {b = b} {m = m} {n = n} {u = u} {v = v} {talk = talk} {events = events} go_on f = record {
+  goes_on = λ more.
+      played_bind a go_on m (on_tape u ++ (heard talk ++ more))
+      ∙ (ap (λ q. followed q (λ r. played (go_on r))) (f.goes_on more)
+      ∙ (followed_behind events (played b n (on_tape v ++ more)) (λ r. played (go_on r))
+      ∙ ap (behind events) (sym (played_bind b go_on n (on_tape v ++ more)))));
+  all_sent = f.all_sent;
+  in_turn = turns_bind a go_on m u talk f.in_turn;
+}
+
+-- something is said beside the line
+pub leads_say : {E R : Type 0} (e : E) (dialog : Dialog E R) (seq : ℕ) (u : List ℕ) → Leads (Say e dialog) seq u [] (Said e ∷ []) dialog seq u
+leads_say e dialog seq u = record { goes_on = λ more. refl; all_sent = refl; in_turn = tt }
+
+-- a command is sent and its answer read
+pub leads_ask : {E R : Type 0} (body : List ℕ) (answered : Reading → Dialog E R) (seq : ℕ) (u v : List ℕ) (x y : Talk) (reading : Reading)
+    → IsQuiet x → sent x ≡ frame seq body → WaitsFrom seq (on_tape u) y
+    → ((more : Tape) → answer seq (on_tape u ++ (heard y ++ more)) ≡ Some (reading, on_tape v ++ more))
+    → Leads (Ask body answered) seq u (x ++ y) (Frame (frame seq body) ∷ []) (answered reading) (next seq) v
+leads_ask body answered seq u v x y reading quiet is waits answers = record {
+  goes_on = λ more.
+      ap (played (Ask body answered) seq) (heard_both (on_tape u) x y more ∙ ap (λ t. on_tape u ++ (t ++ (heard y ++ more))) (heard_quiet x quiet))
+      ∙ ap (λ o. behind (Frame (frame seq body) ∷ []) (by_answer (λ r. played (answered r) (next seq)) o)) (answers more);
+  all_sent = append-nil (frame seq body) ∙ (sym is ∙ (sym (append-nil (sent x)) ∙ (ap (λ bs. sent x ++ bs) (sym (sent_waiting seq (on_tape u) y waits)) ∙ sym (sent_append x y))));
+  in_turn = turns_asking body answered seq u x y quiet is waits;
+}
+
+-- a result was reached
+pub plays_from : {E R : Type 0} {a : Dialog E R} {m n : ℕ} {u v : List ℕ} {talk : Talk} {events : List (Event E)} {result : R}
+    → Leads a m u talk events (Done result) n v → Plays a m u talk events result n v
+plays_from {n = n} {v = v} {events = events} {result = result} f = record {
+  plays = λ more. f.goes_on more ∙ ap (λ es. record { events = es; outcome = Some (result, n, on_tape v ++ more) }) (append-nil events);
+  all_sent = f.all_sent;
+  in_turn = f.in_turn;
+}
+
+pub leads_from : {E R : Type 0} {a : Dialog E R} {m n : ℕ} {u v : List ℕ} {talk : Talk} {events : List (Event E)} {result : R}
+    → Plays a m u talk events result n v → Leads a m u talk events (Done result) n v
+leads_from {n = n} {v = v} {events = events} {result = result} f = record {
+  goes_on = λ more. f.plays more ∙ ap (λ es. record { events = es; outcome = Some (result, n, on_tape v ++ more) }) (sym (append-nil events));
+  all_sent = f.all_sent;
+  in_turn = f.in_turn;
+}
+
+-- breaking off
+
+begun_more : {E : Type 0} (SaidPart : E → E → Type 0) (begun later more : List (Event E)) → IsBegun SaidPart begun later → IsBegun SaidPart begun (later ++ more)
+begun_more SaidPart [] later more part = tt
+begun_more SaidPart (e ∷ []) [] more part = absurd part
+begun_more SaidPart (e ∷ []) (x ∷ later) more part = part
+begun_more SaidPart (e ∷ f ∷ begun) later more part = absurd part
+
+-- a front of the events is one where more follow
+pub front_more : {E : Type 0} (SaidPart : E → E → Type 0) {shown events : List (Event E)} (more : List (Event E)) → IsFront SaidPart shown events → IsFront SaidPart shown (events ++ more)
+front_more SaidPart more f = record {
+  whole = f.whole;
+  begun = f.begun;
+  later = f.later ++ more;
+  shown_is = f.shown_is;
+  events_are = ap (λ es. es ++ more) f.events_are ∙ append_assoc f.whole f.later more;
+  part = begun_more SaidPart f.begun f.later more f.part;
+}
+
+-- and one behind others that happened whole
+pub front_behind : {E : Type 0} (SaidPart : E → E → Type 0) {shown events : List (Event E)} (before : List (Event E)) → IsFront SaidPart shown events → IsFront SaidPart (before ++ shown) (before ++ events)
+front_behind SaidPart before f = record {
+  whole = before ++ f.whole;
+  begun = f.begun;
+  later = f.later;
+  shown_is = ap (λ es. before ++ es) f.shown_is ∙ sym (append_assoc before f.whole f.begun);
+  events_are = ap (λ es. before ++ es) f.events_are ∙ sym (append_assoc before f.whole f.later);
+  part = f.part;
+}
+
+pub breaks_on : {E R : Type 0} (SaidPart : E → E → Type 0) {a b : Dialog E R} {m n : ℕ} {u v : List ℕ} {x y : Talk} {events shown : List (Event E)}
+    → Leads a m u x events b n v → Breaks SaidPart b n v y shown → Breaks SaidPart a m u (x ++ y) (events ++ shown)
+breaks_on SaidPart {a = a} {b = b} {m = m} {n = n} {u = u} {v = v} {x = x} {y = y} {events = events} {shown = shown} f g = record {
+  front =
+      subst (λ p. IsFront SaidPart (events ++ shown) p.events)
+      (sym (ap (λ t. played a m (on_tape u ++ t)) (heard_append x y) ∙ f.goes_on (heard y)))
+      (front_behind SaidPart events g.front);
+  all_sent = bytes_append events shown ∙ (ap (λ bs. bs ++ bytes_sent shown) f.all_sent ∙ (ap (λ bs. sent x ++ bs) g.all_sent ∙ sym (sent_append x y)));
+  in_turn = turns_append a m (on_tape u) [] x y f.in_turn
+      (turns_behind a b m n (on_tape u ++ heard x) (on_tape v) (sent x) (due_behind f) y g.in_turn);
+}
+
+pub breaks_bind : {E A B : Type 0} (SaidPart : E → E → Type 0) {a : Dialog E A} {m : ℕ} {u : List ℕ} {talk : Talk} {shown : List (Event E)} (go_on : A → Dialog E B)
+    → Breaks SaidPart a m u talk shown → Breaks SaidPart (a >>= go_on) m u talk shown
+breaks_bind SaidPart {a = a} {m = m} {u = u} {talk = talk} {shown = shown} go_on f = record {
+  front =
+      let p = played a m (on_tape u ++ heard talk) in
+      subst (λ q. IsFront SaidPart shown q.events) (sym (played_bind a go_on m (on_tape u ++ heard talk)))
+      (front_more SaidPart (continued p.outcome (λ r. played (go_on r))).events f.front);
+  all_sent = f.all_sent;
+  in_turn = turns_bind a go_on m u talk f.in_turn;
+}
+
+-- nothing of the dialog has happened
+pub breaks_here : {E R : Type 0} (SaidPart : E → E → Type 0) (dialog : Dialog E R) (seq : ℕ) (u : List ℕ) → Breaks SaidPart dialog seq u [] []
+breaks_here SaidPart dialog seq u = record {
+  front = record { whole = []; begun = []; later = (played dialog seq (on_tape u ++ [])).events; shown_is = refl; events_are = refl; part = tt };
+  all_sent = refl;
+  in_turn = tt;
+}
+
+-- a part of a frame was sent
+pub breaks_asking : {E R : Type 0} (SaidPart : E → E → Type 0) (body : List ℕ) (answered : Reading → Dialog E R) (seq : ℕ) (u part : List ℕ) (x : Talk)
+    → IsQuiet x → sent x ≡ part → IsPrefixOf part (frame seq body) → Breaks SaidPart (Ask body answered) seq u x (Frame part ∷ [])
+breaks_asking SaidPart body answered seq u part x quiet is front = record {
+  front = record {
+    whole = [];
+    begun = Frame part ∷ [];
+    later = (played (Ask body answered) seq (on_tape u ++ heard x)).events;
+    shown_is = refl;
+    events_are = refl;
+    part = front;
+  };
+  all_sent = append-nil part ∙ sym is;
+  in_turn = turns_quiet (Ask body answered) seq (on_tape u) [] x quiet;
+}
+
+-- a frame was sent, and listening broke off
+pub breaks_listening : {E R : Type 0} (SaidPart : E → E → Type 0) (body : List ℕ) (answered : Reading → Dialog E R) (seq : ℕ) (u : List ℕ) (x y : Talk)
+    → IsQuiet x → sent x ≡ frame seq body → WaitsFrom seq (on_tape u) y → Breaks SaidPart (Ask body answered) seq u (x ++ y) (Frame (frame seq body) ∷ [])
+breaks_listening SaidPart body answered seq u x y quiet is waits = record {
+  front = record {
+    whole = Frame (frame seq body) ∷ [];
+    begun = [];
+    later = (by_answer (λ r. played (answered r) (next seq)) (answer seq (on_tape u ++ heard (x ++ y)))).events;
+    shown_is = refl;
+    events_are = refl;
+    part = tt;
+  };
+  all_sent = append-nil (frame seq body) ∙ (sym is ∙ (sym (append-nil (sent x)) ∙ (ap (λ bs. sent x ++ bs) (sym (sent_waiting seq (on_tape u) y waits)) ∙ sym (sent_append x y))));
+  in_turn = turns_asking body answered seq u x y quiet is waits;
+}

@@ -1,0 +1,17 @@
+pub mod Tapes
+pub mod Talks
+pub mod Leading
+pub mod Sending
+pub mod Listens
+pub mod Reaching
+pub mod Steps
+pub mod Ends
+pub mod Going
+pub mod Pages
+pub mod Differences
+pub mod Lifting
+pub mod Logs
+pub mod Pieces
+pub mod Streams
+pub mod Rows
+pub mod OperationRows

@@ -1,0 +1,83 @@
+-- A dialog that says nothing beside the line, as a part of one that does: laws for the crates above.
+use Rattle.std.proofs.Common.{◌≡◌, ℕ, List, [], ◌∷◌, ◌++◌, refl, ap, ◌∙◌, Some, None}
+use Rattle.stk_frame.specs.Frame.{frame}
+use Rattle.stk_host.specs.Tape.{Tape, on_tape, answer}
+use Rattle.stk_host.specs.Talk.{Talk, heard}
+use Rattle.stk_host.specs.Dialog.{Dialog, Done, Say, Ask, lifted, Event, Frame, Said, Played, played, behind, by_answer, next, bytes_sent, sayings}
+use Rattle.stk_host.specs.Play.{IsDue, InTurn, Plays, Breaks, IsBegun, NoPart}
+use Rattle.stk_host.proofs.Leading.{turns_behind}
+
+-- events among which nothing is said
+abbrev pub raised : {E : Type 0} → List (Event ⊥) → List (Event E)
+raised [] = []
+raised (Frame bytes ∷ events) = Frame bytes ∷ raised events
+raised (Said e ∷ events) = absurd e
+
+abbrev pub raised_play : {E R : Type 0} → Played ⊥ R → Played E R
+raised_play p = record { events = raised p.events; outcome = p.outcome }
+
+pub played_lifted : {E R : Type 0} (dialog : Dialog ⊥ R) (seq : ℕ) (tape : Tape) → played {E = E} (lifted dialog) seq tape ≡ raised_play (played dialog seq tape)
+played_lifted (Done r) seq tape = refl
+played_lifted (Say e dialog) seq tape = absurd e
+played_lifted {E = E} (Ask body answered) seq tape =
+    ap (behind (Frame (frame seq body) ∷ []))
+    (elim (answer seq tape) as (λ o. by_answer (λ r. played {E = E} (lifted (answered r)) (next seq)) o ≡ raised_play (by_answer (λ r. played (answered r) (next seq)) o)) [
+      | None ↦ refl
+      | Some got ↦ played_lifted (answered got.0) (next seq) got.1
+    ])
+
+pub bytes_raised : (E : Type 0) (events : List (Event ⊥)) → bytes_sent (raised {E = E} events) ≡ bytes_sent events
+bytes_raised E [] = refl
+bytes_raised E (Frame bytes ∷ events) = ap (λ bs. bytes ++ bs) (bytes_raised E events)
+bytes_raised E (Said e ∷ events) = absurd e
+
+pub sayings_raised : {E : Type 0} (events : List (Event ⊥)) → sayings (raised {E = E} events) ≡ []
+sayings_raised [] = refl
+sayings_raised (Frame bytes ∷ events) = sayings_raised events
+sayings_raised (Said e ∷ events) = absurd e
+
+raised_append : {E : Type 0} (x y : List (Event ⊥)) → raised {E = E} (x ++ y) ≡ raised x ++ raised y
+raised_append [] y = refl
+raised_append (Frame bytes ∷ x) y = ap (λ es. Frame bytes ∷ es) (raised_append x y)
+raised_append (Said e ∷ x) y = absurd e
+
+due_lifted : {E R : Type 0} (dialog : Dialog ⊥ R) (seq : ℕ) (tape : Tape) (bytes : List ℕ) → IsDue dialog seq tape bytes → IsDue {E = E} (lifted dialog) seq tape bytes
+due_lifted {E = E} dialog seq tape bytes due = record {
+  waits = ap (λ p. p.outcome) (played_lifted {E = E} dialog seq tape) ∙ due.waits;
+  all_sent = ap (λ p. bytes_sent p.events) (played_lifted {E = E} dialog seq tape) ∙ (bytes_raised E (played dialog seq tape).events ∙ due.all_sent);
+}
+
+turns_lifted : {R : Type 0} (E : Type 0) (dialog : Dialog ⊥ R) (seq : ℕ) (u : List ℕ) (talk : Talk) → InTurn dialog seq u talk → InTurn {E = E} (lifted dialog) seq u talk
+turns_lifted E dialog seq u talk f =
+    turns_behind {E = E} (lifted dialog) dialog seq seq (on_tape u) (on_tape u) [] (λ x bytes. due_lifted {E = E} dialog seq (on_tape u ++ x) bytes) talk f
+
+pub plays_lifted : {E R : Type 0} {dialog : Dialog ⊥ R} {m n : ℕ} {u v : List ℕ} {talk : Talk} {events : List (Event ⊥)} {result : R}
+    → Plays dialog m u talk events result n v → Plays {E = E} (lifted dialog) m u talk (raised events) result n v
+plays_lifted {E = E} {dialog = dialog} {m = m} {u = u} {talk = talk} {events = events} f = record {
+  plays = λ more. played_lifted {E = E} dialog m (on_tape u ++ (heard talk ++ more)) ∙ ap raised_play (f.plays more);
+  all_sent = bytes_raised E events ∙ f.all_sent;
+  in_turn = turns_lifted E dialog m u talk f.in_turn;
+}
+
+begun_raised : {E : Type 0} (SaidPart : E → E → Type 0) (begun later : List (Event ⊥)) → IsBegun NoPart begun later → IsBegun SaidPart (raised begun) (raised later)
+begun_raised SaidPart [] later part = tt
+begun_raised SaidPart (Said e ∷ begun) later part = absurd e
+begun_raised SaidPart (Frame x ∷ []) [] part = absurd part
+begun_raised SaidPart (Frame x ∷ []) (Frame y ∷ later) part = part
+begun_raised SaidPart (Frame x ∷ []) (Said e ∷ later) part = absurd e
+begun_raised SaidPart (Frame x ∷ e ∷ begun) later part = absurd part
+
+pub breaks_lifted : {E R : Type 0} (SaidPart : E → E → Type 0) {dialog : Dialog ⊥ R} {m : ℕ} {u : List ℕ} {talk : Talk} {shown : List (Event ⊥)}
+    → Breaks NoPart dialog m u talk shown → Breaks SaidPart (lifted dialog) m u talk (raised shown)
+breaks_lifted {E = E} SaidPart {dialog = dialog} {m = m} {u = u} {talk = talk} {shown = shown} f = record {
+  front = record {
+    whole = raised f.front.whole;
+    begun = raised f.front.begun;
+    later = raised f.front.later;
+    shown_is = ap raised f.front.shown_is ∙ raised_append f.front.whole f.front.begun;
+    events_are = ap (λ p. p.events) (played_lifted {E = E} dialog m (on_tape u ++ heard talk)) ∙ (ap raised f.front.events_are ∙ raised_append f.front.whole f.front.later);
+    part = begun_raised SaidPart f.front.begun f.front.later f.front.part;
+  };
+  all_sent = bytes_raised E shown ∙ f.all_sent;
+  in_turn = turns_lifted E dialog m u talk f.in_turn;
+}

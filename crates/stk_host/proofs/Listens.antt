@@ -1,0 +1,166 @@
+-- Listening for an answer, as the code takes it turn by turn.
+use Rattle.std.proofs.Common.{◌≡◌, ℕ, ◌+◌, ◌<◌, ◌≤◌, List, [], ◌∷◌, ◌++◌, length, refl, sym, ap, ◌∙◌, subst, append_assoc, arith, length-append, Option, Some, None, true}
+use Rattle.std.proofs.lemmas.List.{append-nil}
+use Rattle.stk_frame.specs.declared.reader.Event.{Event}
+use Rattle.stk_frame.specs.declared.reader.Event.TheVariants as event
+use Rattle.stk_frame.specs.Cut.{rest, body_of}
+use Rattle.stk_frame.specs.Reader.{Fed, HoldsFrame, found}
+use Rattle.stk_frame.proofs.Feeding.{rest_whole}
+use Rattle.stk_host.specs.declared.link.Heard.{Heard}
+use Rattle.stk_host.specs.declared.link.Heard.TheVariants as heard
+use Rattle.stk_host.specs.declared.link.Item.{Item}
+use Rattle.stk_host.specs.declared.link.Item.TheVariants.{Silence, End}
+use Rattle.stk_host.specs.Tape.{Tape, Reading, on_tape, answer, first_answer, is_answer, limit, Answered, Silent, Ended, Babbled}
+use Rattle.stk_host.specs.Talk.{Talk, Got, heard as heard_in, Grows}
+use Rattle.stk_host.specs.Reach.{WaitsFrom, Listening, Hears, HearsNone}
+use Rattle.stk_host.specs.Calls.{HearsPiece}
+use Rattle.stk_host.proofs.Tapes.{on_tape_append, answer_silent, answer_ended, answer_waits, answer_babbled, answer_found, still_none, now_found}
+use Rattle.stk_host.proofs.Talks.{heard_append, heard_both, grows_none, grows_on, waits_append}
+
+pub begins : (seq : ℕ) (u : List ℕ) (o : Option Talk) → Listening seq u o [] 0 u o
+begins seq u o = record {
+  text = [];
+  stands = refl;
+  counted = refl;
+  no_answer = refl;
+  during = [];
+  grows = grows_none o;
+  waits = tt;
+  all_heard = append-nil (on_tape u);
+}
+
+-- where nothing is unread, the answer isn't there yet, and one more piece may be heard
+waits_more : {seq : ℕ} {u : List ℕ} {o : Option Talk} {held : List ℕ} {count : ℕ} {p : Option Talk} (l : Listening seq u o held count [] p) (items : Tape)
+    → count < limit → WaitsFrom seq (on_tape u) (l.during ++ Got items ∷ [])
+waits_more {seq = seq} {u = u} l items few =
+    let none : answer seq (on_tape u ++ heard_in l.during) ≡ None =
+    ap (answer seq) (l.all_heard ∙ ap on_tape (append-nil l.text)) ∙ answer_waits seq l.text l.no_answer (omega (arith, l.counted)) in
+    waits_append seq (on_tape u) l.during (Got items ∷ []) l.waits (none, tt)
+
+hears_bytes : {seq : ℕ} {u : List ℕ} {o : Option Talk} {held : List ℕ} {count : ℕ} {p q : Option Talk} (bytes : List ℕ)
+    → Listening seq u o held count [] p → count < limit → Grows p (Got (on_tape bytes) ∷ []) q → Listening seq u o held count bytes q
+hears_bytes {u = u} {o = o} {p = p} {q = q} bytes l few g = record {
+  text = l.text;
+  stands = l.stands;
+  counted = l.counted;
+  no_answer = l.no_answer;
+  during = l.during ++ Got (on_tape bytes) ∷ [];
+  grows = grows_on o p q l.during (Got (on_tape bytes) ∷ []) l.grows g;
+  waits = waits_more l (on_tape bytes) few;
+  all_heard =
+      ap (λ t. on_tape u ++ t) (heard_append l.during (Got (on_tape bytes) ∷ []) ∙ ap (λ t. heard_in l.during ++ t) (append-nil (on_tape bytes)))
+      ∙ (sym (append_assoc (on_tape u) (heard_in l.during) (on_tape bytes))
+      ∙ (ap (λ t. t ++ on_tape bytes) (l.all_heard ∙ ap on_tape (append-nil l.text))
+      ∙ sym (on_tape_append l.text bytes)));
+}
+
+-- a silence or an end
+stops : {seq : ℕ} {u : List ℕ} {o : Option Talk} {held : List ℕ} {count : ℕ} {p q : Option Talk} (item : Item) (reading : Reading)
+    → (l : Listening seq u o held count [] p) → count < limit → Grows p (Got (item ∷ []) ∷ []) q
+    → ((more : Tape) → answer seq (on_tape l.text ++ item ∷ more) ≡ Some (reading, more)) → Hears seq u o q reading []
+stops {seq = seq} {u = u} {o = o} {p = p} {q = q} item reading l few g answers = record {
+  during = l.during ++ Got (item ∷ []) ∷ [];
+  grows = grows_on o p q l.during (Got (item ∷ []) ∷ []) l.grows g;
+  waits = waits_more l (item ∷ []) few;
+  answers = λ more.
+      ap (answer seq)
+      (heard_both (on_tape u) l.during (Got (item ∷ []) ∷ []) more
+      ∙ (sym (append_assoc (on_tape u) (heard_in l.during) (item ∷ more))
+      ∙ ap (λ t. t ++ item ∷ more) (l.all_heard ∙ ap on_tape (append-nil l.text))))
+      ∙ answers more;
+}
+
+no_items : (xs : List ℕ) → length xs ≡ 0 → xs ≡ []
+no_items [] e = refl
+no_items (x ∷ xs) e = absurd (omega arith)
+
+none_left : {seq : ℕ} {u : List ℕ} {o : Option Talk} {held : List ℕ} {count : ℕ} {left : List ℕ} {p : Option Talk} → Listening seq u o held count left p → length left ≡ 0 → Listening seq u o held count [] p
+none_left {seq = seq} {u = u} {o = o} {held = held} {count = count} {left = left} {p = p} l none = subst (λ bs. Listening seq u o held count bs p) (no_items left none) l
+
+-- what a piece heard comes to
+
+pub heard_bytes : {seq : ℕ} {u : List ℕ} {o : Option Talk} {held : List ℕ} {count : ℕ} {left : List ℕ} {p : Option Talk} (q : Option Talk) (what : Heard) (n : ℕ) (new : List ℕ)
+    → Listening seq u o held count left p → length left ≡ 0 → count < limit → what ≡ heard.Bytes n → HearsPiece what new p q → Listening seq u o held count new q
+heard_bytes q what n new l none few is piece = let h = rw is at piece in hears_bytes new (none_left l none) few h.1
+
+pub heard_silence : {seq : ℕ} {u : List ℕ} {o : Option Talk} {held : List ℕ} {count : ℕ} {left : List ℕ} {p : Option Talk} (q : Option Talk) (what : Heard) (new : List ℕ)
+    → Listening seq u o held count left p → length left ≡ 0 → count < limit → what ≡ heard.Silence → HearsPiece what new p q → Hears seq u o q Silent new
+heard_silence {seq = seq} {u = u} {o = o} q what new l none few is piece =
+    let h = rw is at piece in
+    let m = none_left l none in
+    subst (λ bs. Hears seq u o q Silent bs) (sym h.0) (stops Silence Silent m few h.1 (λ more. answer_silent seq m.text more m.no_answer (omega (arith, m.counted))))
+
+pub heard_end : {seq : ℕ} {u : List ℕ} {o : Option Talk} {held : List ℕ} {count : ℕ} {left : List ℕ} {p : Option Talk} (q : Option Talk) (what : Heard) (new : List ℕ)
+    → Listening seq u o held count left p → length left ≡ 0 → count < limit → what ≡ heard.End → HearsPiece what new p q → Hears seq u o q Ended new
+heard_end {seq = seq} {u = u} {o = o} q what new l none few is piece =
+    let h = rw is at piece in
+    let m = none_left l none in
+    subst (λ bs. Hears seq u o q Ended bs) (sym h.0) (stops End Ended m few h.1 (λ more. answer_ended seq m.text more m.no_answer (omega (arith, m.counted))))
+
+-- the unread bytes that a turn of reading took
+abbrev pub ReadOn : List ℕ → List ℕ → ℕ → List ℕ → List ℕ → Event → Type 0
+ReadOn left new_left n held new what = (used : List ℕ) × (length used ≡ n) × (left ≡ used ++ new_left) × Fed held used new (found what new)
+
+-- bytes that bring no answer
+reads : {seq : ℕ} {u : List ℕ} {o : Option Talk} {held : List ℕ} {count : ℕ} {p : Option Talk} (used left new : List ℕ) (found : List (List ℕ))
+    → Listening seq u o held count (used ++ left) p → Fed held used new found → first_answer seq found ≡ None → Listening seq u o new (count + length used) left p
+reads {seq = seq} used left new found l fed other = record {
+  text = l.text ++ used;
+  stands = fed.stands l.text l.stands;
+  counted = length-append l.text used ∙ ap (λ n. n + length used) l.counted;
+  no_answer = still_none seq l.text used fed.skipped found l.no_answer fed.no_frames (fed.pieces l.text l.stands) other;
+  during = l.during;
+  grows = l.grows;
+  waits = l.waits;
+  all_heard = l.all_heard ∙ ap on_tape (sym (append_assoc l.text used left));
+}
+
+pub reads_on : {seq : ℕ} {u : List ℕ} {o : Option Talk} {held : List ℕ} {count : ℕ} {left : List ℕ} {p : Option Talk} (n : ℕ) (new_left new : List ℕ) (what : Event)
+    → Listening seq u o held count left p → ReadOn left new_left n held new what → first_answer seq (found what new) ≡ None → Listening seq u o new (count + n) new_left p
+reads_on {seq = seq} {u = u} {o = o} {held = held} {count = count} {p = p} n new_left new what l read other =
+    subst (λ m. Listening seq u o new (count + m) new_left p) read.1
+    (reads read.0 new_left new (found what new) (subst (λ bs. Listening seq u o held count bs p) read.2 l) read.3 other)
+
+-- a listening whose reading is known
+gives : {seq : ℕ} {u : List ℕ} {o : Option Talk} {held : List ℕ} {count : ℕ} {left : List ℕ} {p : Option Talk} (x rest_left : List ℕ) (reading : Reading)
+    → (l : Listening seq u o held count left p) → on_tape u ++ heard_in l.during ≡ on_tape (x ++ rest_left)
+    → ((more : Tape) → answer seq (on_tape x ++ more) ≡ Some (reading, more)) → Hears seq u o p reading rest_left
+gives {seq = seq} {u = u} x rest_left reading l all answers = record {
+  during = l.during;
+  grows = l.grows;
+  waits = l.waits;
+  answers = λ more.
+      ap (answer seq)
+      (sym (append_assoc (on_tape u) (heard_in l.during) more)
+      ∙ (ap (λ t. t ++ more) (all ∙ on_tape_append x rest_left)
+      ∙ append_assoc (on_tape x) (on_tape rest_left) more))
+      ∙ answers (on_tape rest_left ++ more);
+}
+
+finds_in : {seq : ℕ} {u : List ℕ} {o : Option Talk} {held : List ℕ} {count : ℕ} {p : Option Talk} (used left new : List ℕ)
+    → Listening seq u o held count (used ++ left) p → Fed held used new (new ∷ []) → HoldsFrame new → is_answer seq new ≡ true → count + length used ≤ limit
+    → Hears seq u o p (Answered (body_of new)) left
+finds_in {seq = seq} {u = u} used left new l fed frame good few =
+    let whole : rest (l.text ++ used) ≡ [] = fed.stands l.text l.stands ∙ rest_whole new frame.whole in
+    let size : length (l.text ++ used) ≤ limit = rw length-append (omega (arith, l.counted)) in
+    gives (l.text ++ used) left (Answered (body_of new)) l
+    (l.all_heard ∙ ap on_tape (sym (append_assoc l.text used left)))
+    (λ more. answer_found seq (l.text ++ used) more (body_of new) (now_found seq l.text used fed.skipped new l.no_answer fed.no_frames (fed.pieces l.text l.stands) good whole) size)
+
+pub finds : {seq : ℕ} {u : List ℕ} {o : Option Talk} {held : List ℕ} {count : ℕ} {left : List ℕ} {p : Option Talk} (n : ℕ) (new_left new : List ℕ) (what : Event)
+    → Listening seq u o held count left p → ReadOn left new_left n held new what → (what ≡ event.Frame) × HoldsFrame new × (is_answer seq new ≡ true) → count + n ≤ limit
+    → Hears seq u o p (Answered (body_of new)) new_left
+finds {seq = seq} {u = u} {o = o} {held = held} {count = count} {p = p} n new_left new what l read is few =
+    finds_in read.0 new_left new (subst (λ bs. Listening seq u o held count bs p) read.2 l)
+    (subst (λ e. Fed held read.0 new (found e new)) is.0 read.3) is.1 is.2 (omega (arith, read.1))
+
+pub babbles : {seq : ℕ} {u : List ℕ} {o : Option Talk} {held : List ℕ} {count : ℕ} {left : List ℕ} {p : Option Talk} → Listening seq u o held count left p → count ≡ limit → Hears seq u o p Babbled left
+babbles {seq = seq} {left = left} l full =
+    gives l.text left Babbled l l.all_heard (λ more. answer_babbled seq l.text more l.no_answer (l.counted ∙ full))
+
+pub hears_none : {seq : ℕ} {u : List ℕ} {o : Option Talk} {held : List ℕ} {count : ℕ} {left : List ℕ} {p : Option Talk} (q : Option Talk) → Listening seq u o held count left p → Grows p [] q → HearsNone seq u o q
+hears_none {o = o} {p = p} q l g = record {
+  during = l.during;
+  grows = subst (λ d. Grows o d q) (append-nil l.during) (grows_on o p q l.during [] l.grows g);
+  waits = l.waits;
+}

@@ -1,0 +1,55 @@
+use Rattle.std.proofs.Common.{All, ◌≡◌, ◌<◌, ◌∙◌, ℕ, sym, subst, List, length, ap, arith, drop, [], ◌∷◌, ◌++◌, suc, drop-cons, add-one, get_or}
+use Rattle.std.proofs.lemmas.Result.{err_from_is_err_and}
+use Rattle.std.proofs.lemmas.List.{drop_all}
+use Rattle.std.proofs.lemmas.List.Elements.{All-get_or}
+use Rattle.stk_frame.specs.declared.command.Command.{Command}
+use Rattle.stk_host.specs.Calls.{IsQuiet}
+use Rattle.stk_host.proofs.Reaching.{reaches_here}
+use Rattle.stk_host.proofs.Steps.{turn_data, turn_again, turn_stop, turn_breaks, turn_last}
+use Rattle.stk_host.proofs.conversation.Conversation.attempt.Goals as goal
+
+-- the commands from the one at a place on
+next_command : (first : List Command) (last item : Command) (i : ℕ) → i < length first → item ≡ get_or first i item → drop i first ++ last ∷ [] ≡ item ∷ (drop (suc i) first ++ last ∷ [])
+next_command first last item i lt is = ap (λ cs. cs ++ last ∷ []) (drop-cons first i item lt) ∙ ap (λ x. x ∷ (drop (suc i) first ++ last ∷ [])) (sym is)
+
+-- and what holds of all of them holds of it
+its_own : (first : List Command) (item : Command) (i : ℕ) → i < length first → item ≡ get_or first i item → All IsQuiet first → IsQuiet item
+its_own first item i lt is all = subst IsQuiet (sym is) (All-get_or IsQuiet first i item lt all)
+
+pub loop-command-init : goal.loop-command-init
+loop-command-init g c = record {
+  reaches = reaches_here _ _ _ _;
+  counted = omega arith;
+}
+
+pub exchange-requires : goal.exchange-requires
+exchange-requires g c = (its_own c.args.first.now _ c.loop-command.command-index c.loop-command-test.true c.command-item.is c.requires.quiet).fits
+
+pub returns-in_err-exchange-clause-err : goal.returns-in_err-exchange-clause-err
+returns-in_err-exchange-clause-err g c =
+    let p = err_from_is_err_and c.from_residual.result c.from_residual.ensures.1 in
+    rw p.1 (turn_breaks _ _ _ c.loop-command.invariant.reaches (next_command c.args.first.now c.args.last.now _ c.loop-command.command-index c.loop-command-test.true c.command-item.is) c.in_err-exchange.ensures.err)
+
+pub returns-in-Again-clause-ok : goal.returns-in-Again-clause-ok
+returns-in-Again-clause-ok g c =
+    turn_again _ _ _ _ _ _ c.loop-command.invariant.reaches (next_command c.args.first.now c.args.last.now _ c.loop-command.command-index c.loop-command-test.true c.command-item.is) c.in_ok-exchange.ensures.ok c.in-Again.is
+
+pub returns-in-Stop-clause-ok : goal.returns-in-Stop-clause-ok
+returns-in-Stop-clause-ok g c =
+    turn_stop _ _ _ _ _ _ c.loop-command.invariant.reaches (next_command c.args.first.now c.args.last.now _ c.loop-command.command-index c.loop-command-test.true c.command-item.is) c.in_ok-exchange.ensures.ok c.in-Stop.is
+
+pub loop-command-preserved : goal.loop-command-preserved
+loop-command-preserved g c = record {
+  reaches = rw add-one (turn_data _ _ _ _ _ c.loop-command.invariant.reaches (next_command c.args.first.now c.args.last.now _ c.loop-command.command-index c.loop-command-test.true c.command-item.is) c.in_ok-exchange.ensures.ok c.in-Data.is
+      (c.in_ok-exchange.ensures.quiet (its_own c.args.first.now _ c.loop-command.command-index c.loop-command-test.true c.command-item.is c.requires.quiet) c.in-Data.is));
+  counted = omega (arith, c.exchange.ensures.counted);
+}
+
+pub returns-in_err-reply-clause-err : goal.returns-in_err-reply-clause-err
+returns-in_err-reply-clause-err g c =
+    let p = err_from_is_err_and c.from_residual-in_err-reply.result c.from_residual-in_err-reply.ensures.1 in
+    rw p.1 (turn_breaks _ _ _ c.loop-command.invariant.reaches (ap (λ cs. cs ++ c.args.last.now ∷ []) (drop_all c.loop-command.command-index c.args.first.now (omega arith))) c.in_err-reply.ensures.err)
+
+pub returns-clause-ok : goal.returns-clause-ok
+returns-clause-ok g c =
+    turn_last _ _ _ _ c.loop-command.invariant.reaches (ap (λ cs. cs ++ c.args.last.now ∷ []) (drop_all c.loop-command.command-index c.args.first.now (omega arith))) c.in_ok-reply.ensures.ok

@@ -1,0 +1,18 @@
+use Rattle.std.proofs.Common.{◌∙◌, ap, sym, arith, length, ◌∷◌, ◌++◌, []}
+use Rattle.std.proofs.Math.Seq.{take-length}
+use Rattle.std.proofs.lemmas.List.{append-nil}
+use Rattle.stk_host.specs.Tape.{on_tape}
+use Rattle.stk_host.specs.Talk as talk
+use Rattle.stk_host.specs.declared.log.Mark.TheVariants as mark
+use Rattle.stk_host.proofs.Logs.{log_adds, counts_more}
+use Rattle.stk_host.proofs.log.Log.hear_bytes.Goals as goal
+
+pub invariant_of-self-2 : goal.invariant_of-self-2
+invariant_of-self-2 c =
+    let h = counts_more c.self.inside.marks.items _ c.self.inside.out.items _ c.self.inside.back.items _ [] c.args.bytes.now (mark.Got (length c.args.bytes.now)) c.self.invariant.out_is c.self.invariant.back_is (omega arith) (omega arith) (c.push_reserved.ensures.items ∙ ap (λ ms. ms ++ (mark.Got (length c.args.bytes.now)) ∷ []) c.reserve.ensures.items) (sym (append-nil c.self.inside.out.items)) (c.in_ok-extend_from_slice.ensures.items) in
+    record { out_is = h.0; back_is = h.1 }
+
+pub returns-clause-ok : goal.returns-clause-ok
+returns-clause-ok c =
+    log_adds c.self.inside.marks.items _ c.self.inside.out.items _ c.self.inside.back.items _ [] c.args.bytes.now (mark.Got (length c.args.bytes.now)) c.args.self.now c.self.invariant.out_is c.self.invariant.back_is c.self.view_is (c.push_reserved.ensures.items ∙ ap (λ ms. ms ++ (mark.Got (length c.args.bytes.now)) ∷ []) c.reserve.ensures.items) (sym (append-nil c.self.inside.out.items)) (c.in_ok-extend_from_slice.ensures.items)
+    ∙ ap (λ bs. c.args.self.now ++ talk.Got (on_tape bs) ∷ []) (take-length c.args.bytes.now)

@@ -1,0 +1,35 @@
+use Rattle.std.proofs.Common.{ap, arith, length, []}
+use Rattle.std.proofs.lemmas.Result.{err_from_is_err_and}
+use Rattle.stk_host.specs.ReadSteps.{signature_steps}
+use Rattle.stk_host.proofs.Reaching.{reaches_here}
+use Rattle.stk_host.proofs.Going.{reaches_next, stops_next, plays_all}
+use Rattle.stk_host.proofs.Pages.{next_signature, no_more}
+use Rattle.stk_host.proofs.reading.read_signature.Goals as goal
+
+pub loop-place-init : goal.loop-place-init
+loop-place-init g c = record {
+  reaches = rw c.requires.empty (reaches_here _ _ _ _);
+  size = ap length c.requires.empty;
+  room = c.requires.room;
+  counted = omega arith;
+  bound = λ bound. bound;
+}
+
+pub returns-in_err-read_step-clause-played : goal.returns-in_err-read_step-clause-played
+returns-in_err-read_step-clause-played g c =
+    let p = err_from_is_err_and c.from_residual.result c.from_residual.ensures.1 in
+    rw (p.1, p.2) (stops_next _ _ _ _ _ _ _ [] _ c.loop-place.invariant.reaches (next_signature _ _ c.loop-place-test.true c.read_signature.ensures.value) c.in_err-read_step.ensures.played)
+
+pub loop-place-preserved : goal.loop-place-preserved
+loop-place-preserved g c =
+    let one = rw c.read_signature.ensures.value at c.in_ok-read_step.ensures.size in
+    record {
+      reaches = reaches_next _ _ _ _ _ c.loop-place.invariant.reaches (next_signature _ _ c.loop-place-test.true c.read_signature.ensures.value) c.in_ok-read_step.ensures.played;
+      size = omega (arith, one, c.loop-place.invariant.size);
+      room = omega (arith, c.read_step.ensures.room, c.loop-place.invariant.room);
+      counted = omega (arith, c.in_ok-read_step.ensures.counted.0, c.loop-place.invariant.counted);
+      bound = λ bound. c.read_step.ensures.bound;
+    }
+
+pub returns-clause-played : goal.returns-clause-played
+returns-clause-played g c = plays_all _ _ c.loop-place.invariant.reaches (no_more signature_steps _ _ c.loop-place-test.false)

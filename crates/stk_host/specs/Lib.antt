@@ -1,0 +1,14 @@
+pub mod Tape
+pub mod Talk
+pub mod Dialog
+pub mod Play
+pub mod Steps
+pub mod Places
+pub mod WriteSteps
+pub mod ReadSteps
+pub mod Operations
+pub mod Reach
+pub mod Calls
+pub mod State
+pub mod Log
+pub mod Links

@@ -1,0 +1,59 @@
+-- What the links of this crate hold, and what one call takes of it.
+use Rattle.std.specs.Prelude.{ℕ, List, [], ◌∷◌, ◌+◌, ◌-◌, ◌^◌, take, min, Option, Some, None}
+use Rattle.std.specs.Io.KnownBytes.{Keeps, Appends, Consumes, IsAtEnd}
+use Rattle.stk_host.specs.declared.link.Heard.{Heard}
+use Rattle.stk_host.specs.declared.link.Heard.TheVariants as heard
+use Rattle.stk_host.specs.declared.link.Item.{Item}
+use Rattle.stk_host.specs.declared.link.Item.TheVariants.{Byte, Silence, End}
+use Rattle.stk_host.specs.Tape.{Tape, on_tape, bytes_in}
+use Rattle.stk_host.specs.Talk.{Talk}
+use Rattle.stk_host.specs.Play.{IsPrefixOf}
+
+-- a link over a tape: the items that are left, the most bytes of a piece, what passed, and how often it has failed
+pub record TapeState : Type 0 where
+  pub left : Tape
+  pub cut : ℕ
+  pub talk : Talk
+  pub failures : ℕ
+
+-- the next piece of a tape, of at most so many bytes; behind the last item comes an end
+abbrev pub next_piece : ℕ → Tape → Tape
+next_piece most [] = End ∷ []
+next_piece most (End ∷ tape) = End ∷ []
+next_piece most (Silence ∷ tape) = Silence ∷ []
+next_piece most (Byte byte ∷ tape) = on_tape (take most (byte ∷ bytes_in tape))
+
+-- the byte that an item is
+abbrev pub byte_of : Option Item → Option ℕ
+byte_of (Some (Byte byte)) = Some byte
+byte_of (Some Silence) = None
+byte_of (Some End) = None
+byte_of None = None
+
+-- a link over a reader and a writer, and how often it has failed
+pub record StreamState (R W : Type 0) : Type 0 where
+  pub reader : R
+  pub writer : W
+  pub failures : ℕ
+
+-- what was heard of a reader whose bytes are known: they are its next ones, and an end comes only behind the last
+abbrev pub HearsKnown : Heard → List ℕ → Option (List ℕ) → Option (List ℕ) → Type 0
+HearsKnown (heard.Bytes count) buffer old new = Consumes old new (take count buffer)
+HearsKnown heard.Silence buffer old new = Keeps old new
+HearsKnown heard.End buffer old new = Keeps old new × IsAtEnd new
+
+-- a writer whose bytes are known took a front of these
+abbrev pub AppendsFront : Option (List ℕ) → Option (List ℕ) → List ℕ → Type 0
+AppendsFront old new bytes = (front : List ℕ) × IsPrefixOf front bytes × Appends old new front
+
+-- a link that fails once: the one below it, how many calls come before that and with it (0: it doesn't), the most bytes of
+-- a piece, and how often it has failed itself
+pub record FailingState (L : Type 0) : Type 0 where
+  pub inner : L
+  pub due : ℕ
+  pub cut : ℕ
+  pub failed : ℕ
+
+-- the failures of a link and of the one below it, as many as are counted
+abbrev pub total_failures : ℕ → ℕ → ℕ
+total_failures inner own = min (inner + own) (2 ^ 64 - 1)

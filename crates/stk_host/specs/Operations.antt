@@ -1,0 +1,105 @@
+-- The operations of a host, as dialogs.
+use Rattle.std.specs.Prelude.{ℕ, Bool, ◌+◌, ◌==◌, List, [], ◌∷◌, Option, Some, None, Result, Ok, Err, ⊤, if◌then◌else◌}
+use Rattle.std.specs.Str.{bytes_eq}
+use Rattle.avr_part.specs.declared.mem.Mem.{Mem}
+use Rattle.avr_part.specs.Mem.{is_writable}
+use Rattle.avr_part.specs.Part.{Part}
+use Rattle.stk_frame.specs.declared.command.Command.{Command}
+use Rattle.stk_frame.specs.declared.command.Command.TheVariants.{SignOn}
+use Rattle.stk_frame.specs.HostCommands.{enter, leave, erase, read_signature}
+use Rattle.stk_host.specs.declared.fault.StepFault.{StepFault}
+use Rattle.stk_host.specs.declared.fault.StepFault.TheVariants as of_step
+use Rattle.stk_host.specs.declared.fault.HostFault.{HostFault}
+use Rattle.stk_host.specs.declared.fault.HostFault.TheVariants.{NoAnswer, LinkEnded, Babble, Refused, BadAnswer, WrongSignature, Differs, ReadOnly}
+use Rattle.stk_host.specs.Dialog.{Dialog, Done, ◌>>=◌}
+use Rattle.stk_host.specs.Steps.{Outcome, if_done, step, play}
+use Rattle.stk_host.specs.WriteSteps.{write_steps}
+use Rattle.stk_host.specs.ReadSteps.{read_steps}
+
+-- a step's fault, as the host tells it
+abbrev pub host_fault : StepFault → HostFault
+host_fault of_step.NoAnswer = NoAnswer
+host_fault of_step.LinkEnded = LinkEnded
+host_fault of_step.Babble = Babble
+host_fault (of_step.Refused command status) = Refused command status
+host_fault (of_step.BadAnswer command) = BadAnswer command
+
+-- to read the signature, a byte a step
+abbrev pub signature_steps : List (List Command)
+signature_steps = (read_signature 0 ∷ []) ∷ (read_signature 1 ∷ []) ∷ (read_signature 2 ∷ []) ∷ []
+
+-- to sign on, enter programming mode and read the signature
+unfoldable pub beginning : Dialog ⊥ Outcome
+beginning =
+    step (SignOn ∷ []) >>= if_done (λ name. step (enter ∷ []) >>= if_done (λ nothing. play signature_steps []))
+
+-- the signature found is the part's, or is taken all the same
+abbrev pub signature_judged : List ℕ → Bool → Outcome → Result (List ℕ) HostFault
+signature_judged wanted force (Ok found) =
+    if force then Ok found else if bytes_eq found wanted then Ok found else Err (WrongSignature found)
+signature_judged wanted force (Err fault) = Err (host_fault fault)
+
+-- to open a session with a part of this signature
+unfoldable pub opening : List ℕ → Bool → Dialog ⊥ (Result (List ℕ) HostFault)
+opening wanted force = beginning >>= λ outcome. Done (signature_judged wanted force outcome)
+
+-- a step without data
+abbrev pub ended : Outcome → Result ⊤ HostFault
+ended (Ok bytes) = Ok tt
+ended (Err fault) = Err (host_fault fault)
+
+-- to leave programming mode
+unfoldable pub closing : Dialog ⊥ (Result ⊤ HostFault)
+closing = step (leave ∷ []) >>= λ outcome. Done (ended outcome)
+
+-- what the steps of an operation come to: what its data are judged to be, or the fault of a step
+abbrev pub judged_by : {A : Type 0} → (List ℕ → Result A HostFault) → Outcome → Result A HostFault
+judged_by judge (Ok bytes) = judge bytes
+judged_by judge (Err fault) = Err (host_fault fault)
+
+-- to play the steps of an operation
+unfoldable pub operation : {A : Type 0} → List (List Command) → (List ℕ → Result A HostFault) → Dialog ⊥ (Result A HostFault)
+operation steps judge = play steps [] >>= λ outcome. Done (judged_by judge outcome)
+
+-- nothing is read
+abbrev pub done : List ℕ → Result ⊤ HostFault
+done bytes = Ok tt
+
+-- to erase the chip
+abbrev pub erasing : Dialog ⊥ (Result ⊤ HostFault)
+erasing = operation ((erase ∷ []) ∷ []) done
+
+-- to write an image to a memory, if it can be written
+abbrev pub writing : Part → Mem → List (Option ℕ) → Dialog ⊥ (Result ⊤ HostFault)
+writing part mem image = if is_writable mem then operation (write_steps part mem image) done else Done (Err (ReadOnly mem))
+
+-- to read a whole memory
+abbrev pub reading : Part → Mem → Dialog ⊥ (Result (List ℕ) HostFault)
+reading part mem = operation (read_steps part mem) Ok
+
+-- where the image and a memory differ: the address, what the image has there and what the memory has
+pub record Difference : Type 0 where
+  pub addr : ℕ
+  pub want : ℕ
+  pub found : ℕ
+
+-- The lowest address, from this one on, at which the image holds a byte and the memory another. The lists are what the
+-- image and the memory have from there on.
+abbrev pub difference_from : ℕ → List (Option ℕ) → List ℕ → Option Difference
+difference_from addr [] bytes = None
+difference_from addr (byte ∷ image) [] = None
+difference_from addr (None ∷ image) (found ∷ bytes) = difference_from (addr + 1) image bytes
+difference_from addr (Some want ∷ image) (found ∷ bytes) =
+    if found == want then difference_from (addr + 1) image bytes else Some (record { addr = addr; want = want; found = found })
+
+abbrev pub differs : Mem → Option Difference → Result ⊤ HostFault
+differs mem None = Ok tt
+differs mem (Some d) = Err (Differs mem d.addr d.want d.found)
+
+-- what the bytes of a memory are found to be
+abbrev pub compared : Mem → List (Option ℕ) → List ℕ → Result ⊤ HostFault
+compared mem image bytes = differs mem (difference_from 0 image bytes)
+
+-- to compare a memory with an image
+abbrev pub verifying : Part → Mem → List (Option ℕ) → Dialog ⊥ (Result ⊤ HostFault)
+verifying part mem image = operation (read_steps part mem) (compared mem image)

@@ -1,0 +1,76 @@
+-- A talk over a link as the play of a dialog: whole, or broken off.
+use Rattle.std.specs.Prelude.{ℕ, List, [], ◌∷◌, ◌++◌, ◌≡◌, Option, Some, None}
+use Rattle.stk_host.specs.Tape.{Tape, on_tape}
+use Rattle.stk_host.specs.Talk.{Talk, Sent, Got, sent, heard, Grows}
+use Rattle.stk_host.specs.Dialog.{Dialog, Event, Frame, Said, played, bytes_sent}
+
+-- The dialog waits, and its frames are exactly these bytes: so it is due to listen.
+pub record IsDue {E R : Type 0} (dialog : Dialog E R) (seq : ℕ) (tape : Tape) (bytes : List ℕ) : Type 0 where
+  pub waits : (played dialog seq tape).outcome ≡ None
+  pub all_sent : bytes_sent (played dialog seq tape).events ≡ bytes
+
+-- At each piece heard the dialog, played over all that was heard before, was due to listen.
+abbrev pub TurnsFrom : {E R : Type 0} → Dialog E R → ℕ → Tape → List ℕ → Talk → Type 0
+TurnsFrom dialog seq tape bytes [] = Unit {0}
+TurnsFrom dialog seq tape bytes (Sent more ∷ talk) = TurnsFrom dialog seq tape (bytes ++ more) talk
+TurnsFrom dialog seq tape bytes (Got items ∷ talk) = IsDue dialog seq tape bytes × TurnsFrom dialog seq (tape ++ items) bytes talk
+
+-- a talk in turn, by one that had these bytes unread before it
+abbrev pub InTurn : {E R : Type 0} → Dialog E R → ℕ → List ℕ → Talk → Type 0
+InTurn dialog seq unread talk = TurnsFrom dialog seq (on_tape unread) [] talk
+
+-- The talk is the whole play of the dialog over what was unread before it and what it heard: these events happened and no
+-- others, and it came to this result with these bytes left unread, whatever may follow on the tape.
+pub record Plays {E R : Type 0} (dialog : Dialog E R) (seq : ℕ) (unread : List ℕ) (talk : Talk) (events : List (Event E)) (result : R) (next : ℕ) (left : List ℕ) : Type 0 where
+  pub plays : (more : Tape) → played dialog seq (on_tape unread ++ (heard talk ++ more)) ≡ record { events = events; outcome = Some (result, next, on_tape left ++ more) }
+  pub all_sent : bytes_sent events ≡ sent talk
+  pub in_turn : InTurn dialog seq unread talk
+
+-- these bytes are a front of those
+abbrev pub IsPrefixOf : List ℕ → List ℕ → Type 0
+IsPrefixOf front bytes = (back : List ℕ) × (front ++ back ≡ bytes)
+
+-- an event is a part of another: a front of its frame, or a part of what is said
+abbrev pub IsPart : {E : Type 0} → (E → E → Type 0) → Event E → Event E → Type 0
+IsPart SaidPart (Frame part) (Frame whole) = IsPrefixOf part whole
+IsPart SaidPart (Said part) (Said whole) = SaidPart part whole
+IsPart SaidPart _ _ = ⊥
+
+-- nothing, or a part of the first of the events
+abbrev pub IsBegun : {E : Type 0} → (E → E → Type 0) → List (Event E) → List (Event E) → Type 0
+IsBegun SaidPart [] events = Unit {0}
+IsBegun SaidPart (part ∷ []) (event ∷ events) = IsPart SaidPart part event
+IsBegun SaidPart _ _ = ⊥
+
+-- some of the events in their order, and perhaps a part of the next one
+pub record IsFront {E : Type 0} (SaidPart : E → E → Type 0) (shown events : List (Event E)) : Type 0 where
+  pub whole : List (Event E)
+  pub begun : List (Event E)
+  pub later : List (Event E)
+  pub shown_is : shown ≡ whole ++ begun
+  pub events_are : events ≡ whole ++ later
+  pub part : IsBegun SaidPart begun later
+
+-- The talk broke off in the play of the dialog: what happened is a front of its events over what was heard.
+pub record Breaks {E R : Type 0} (SaidPart : E → E → Type 0) (dialog : Dialog E R) (seq : ℕ) (unread : List ℕ) (talk : Talk) (shown : List (Event E)) : Type 0 where
+  pub front : IsFront SaidPart shown (played dialog seq (on_tape unread ++ heard talk)).events
+  pub all_sent : bytes_sent shown ≡ sent talk
+  pub in_turn : InTurn dialog seq unread talk
+
+-- where nothing is said beside the line
+abbrev pub NoPart : ⊥ → ⊥ → Type 0
+NoPart part whole = ⊥
+
+-- a call that played a dialog whole, over a link that showed these talks before and after it
+pub record PlaysOver {R : Type 0} (dialog : Dialog ⊥ R) (seq : ℕ) (unread : List ℕ) (old new : Option Talk) (result : R) (next : ℕ) (left : List ℕ) : Type 0 where
+  pub during : Talk
+  pub events : List (Event ⊥)
+  pub grows : Grows old during new
+  pub plays : Plays dialog seq unread during events result next left
+
+-- a call that broke off
+pub record BreaksOver {R : Type 0} (dialog : Dialog ⊥ R) (seq : ℕ) (unread : List ℕ) (old new : Option Talk) : Type 0 where
+  pub during : Talk
+  pub shown : List (Event ⊥)
+  pub grows : Grows old during new
+  pub breaks : Breaks NoPart dialog seq unread during shown

@@ -1,0 +1,75 @@
+-- Steps of commands, with their attempts.
+use Rattle.std.specs.Prelude.{ℕ, zero, suc, List, [], ◌∷◌, ◌++◌, Result, Ok, Err}
+use Rattle.stk_frame.specs.declared.command.Command.{Command}
+use Rattle.stk_frame.specs.declared.answer.FrameFault.{FrameFault}
+use Rattle.stk_frame.specs.declared.answer.FrameFault.TheVariants.{WrongLength, WrongCommand, CheckSum, Status}
+use Rattle.stk_frame.specs.Commands.{code, body, judge}
+use Rattle.stk_host.specs.declared.fault.StepFault.{StepFault}
+use Rattle.stk_host.specs.declared.fault.StepFault.TheVariants.{NoAnswer, LinkEnded, Babble, Refused, BadAnswer}
+use Rattle.stk_host.specs.Tape.{Reading, Answered, Silent, Ended, Babbled}
+use Rattle.stk_host.specs.Dialog.{Dialog, Done, Ask, ◌>>=◌}
+
+-- What the answer to a command comes to: its data; a fault after which the commands may be sent again; or one that ends the step.
+pub data Reply : Type 0 where
+  Data : List ℕ → Reply
+  Again : StepFault → Reply
+  Stop : StepFault → Reply
+
+abbrev pub judged : Command → Result (List ℕ) FrameFault → Reply
+judged command (Ok bytes) = Data bytes
+judged command (Err CheckSum) = Again (Refused (code command) 193)
+judged command (Err (Status status)) = Stop (Refused (code command) status)
+judged command (Err WrongCommand) = Stop (BadAnswer (code command))
+judged command (Err WrongLength) = Stop (BadAnswer (code command))
+
+abbrev pub replied : Command → Reading → Reply
+replied command (Answered bytes) = judged command (judge command bytes)
+replied command Silent = Again NoAnswer
+replied command Babbled = Again Babble
+replied command Ended = Stop LinkEnded
+
+-- one command, and what its answer comes to
+unfoldable pub exchange : Command → Dialog ⊥ Reply
+exchange command = Ask (body command) (λ reading. Done (replied command reading))
+
+-- goes on with the data, or has come to its end
+abbrev pub with_data : (List ℕ → Dialog ⊥ Reply) → Reply → Dialog ⊥ Reply
+with_data go_on (Data bytes) = go_on bytes
+with_data go_on (Again fault) = Done (Again fault)
+with_data go_on (Stop fault) = Done (Stop fault)
+
+-- An attempt: the commands in order, up to the first whose answer brings no data. It comes to all data joined, behind
+-- those before it, or to what that answer comes to.
+unfoldable pub attempt : List Command → List ℕ → Dialog ⊥ Reply
+attempt [] data_before = Done (Data data_before)
+attempt (command ∷ commands) data_before =
+    exchange command >>= with_data (λ bytes. attempt commands (data_before ++ bytes))
+
+-- what a step comes to: its data, or its fault
+abbrev pub Outcome : Type 0
+Outcome = Result (List ℕ) StepFault
+
+-- ends the step, or tries again
+abbrev pub settled : (StepFault → Dialog ⊥ Outcome) → Reply → Dialog ⊥ Outcome
+settled again (Data bytes) = Done (Ok bytes)
+settled again (Again fault) = again fault
+settled again (Stop fault) = Done (Err fault)
+
+-- so many attempts, after one that ended with a fault
+unfoldable pub tries : ℕ → List Command → StepFault → Dialog ⊥ Outcome
+tries zero commands fault = Done (Err fault)
+tries (suc more) commands fault = attempt commands [] >>= settled (tries more commands)
+
+-- a step has at most four attempts
+abbrev pub step : List Command → Dialog ⊥ Outcome
+step commands = tries 4 commands NoAnswer
+
+-- goes on with the data, or has come to its end
+abbrev pub if_done : (List ℕ → Dialog ⊥ Outcome) → Outcome → Dialog ⊥ Outcome
+if_done go_on (Ok bytes) = go_on bytes
+if_done go_on (Err fault) = Done (Err fault)
+
+-- the steps in order up to the first fault: all data joined, or the fault
+unfoldable pub play : List (List Command) → List ℕ → Dialog ⊥ Outcome
+play [] data_before = Done (Ok data_before)
+play (commands ∷ steps) data_before = step commands >>= if_done (λ bytes. play steps (data_before ++ bytes))

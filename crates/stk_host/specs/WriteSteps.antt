@@ -1,0 +1,59 @@
+-- The steps that write an image to a memory.
+use Rattle.std.specs.Prelude.{ℕ, Bool, ◌+◌, ◌-◌, ◌*◌, ◌/◌, ◌%◌, List, [], ◌∷◌, take, drop, ◌==◌, ◌&&◌, ◌||◌, not, Option, Some, None, is_some, if◌then◌else◌}
+use Rattle.std.specs.List.{list_any}
+use Rattle.avr_image.specs.Image.{byte_at, filled, run_end}
+use Rattle.avr_part.specs.declared.mem.Mem.{Mem}
+use Rattle.avr_part.specs.declared.mem.Mem.TheVariants.{Flash, Eeprom, Lfuse, Hfuse, Efuse, Lock, Signature, Calibration}
+use Rattle.avr_part.specs.Part.{Part}
+use Rattle.stk_frame.specs.declared.command.Command.{Command}
+use Rattle.stk_frame.specs.declared.host_command.Fuse.TheVariants.{Low, High, Extended}
+use Rattle.stk_frame.specs.HostCommands.{program_page, program_eeprom, program_fuse, program_lock}
+use Rattle.stk_host.specs.Places.{each_from, load_flash, load_eeprom}
+
+-- the image holds a byte in the page that begins here
+abbrev pub is_used : ℕ → List (Option ℕ) → ℕ → Bool
+is_used page image start = list_any is_some (take page (drop start image))
+
+-- to program the whole page of flash that begins here, FF in gaps
+abbrev pub page_step : Part → List (Option ℕ) → ℕ → List Command
+page_step part image start = load_flash part start ∷ program_page (filled image start part.flash_page) ∷ []
+
+-- the step of the page with this number, if the image holds a byte in it
+abbrev pub page_steps : Part → List (Option ℕ) → ℕ → List (List Command)
+page_steps part image number =
+    if is_used part.flash_page image (number * part.flash_page)
+    then page_step part image (number * part.flash_page) ∷ []
+    else []
+
+-- The end of the page that an address lies in.
+abbrev pub page_end : ℕ → ℕ → ℕ
+page_end page addr = addr - addr % page + page
+
+-- a run of bytes begins at an address that holds one, if a page begins there or the address before holds none
+abbrev pub begins_run : ℕ → List (Option ℕ) → ℕ → Bool
+begins_run page image addr = is_some (byte_at image addr) && (addr % page == 0 || not (is_some (byte_at image (addr - 1))))
+
+-- to program the longest run of bytes inside one page that begins here
+abbrev pub run_step : Part → List (Option ℕ) → ℕ → List Command
+run_step part image addr =
+    load_eeprom addr ∷ program_eeprom (filled image addr (run_end image addr (page_end part.eeprom_page addr) - addr)) ∷ []
+
+-- the step of the run that begins at this address, if one does
+abbrev pub run_steps : Part → List (Option ℕ) → ℕ → List (List Command)
+run_steps part image addr = if begins_run part.eeprom_page image addr then run_step part image addr ∷ [] else []
+
+-- the step of a memory of one byte, if the image holds it
+abbrev pub byte_steps : (ℕ → Command) → Option ℕ → List (List Command)
+byte_steps program None = []
+byte_steps program (Some byte) = (program byte ∷ []) ∷ []
+
+-- pages of flash and runs of EEPROM come in rising order
+abbrev pub write_steps : Part → Mem → List (Option ℕ) → List (List Command)
+write_steps part Flash image = each_from (page_steps part image) 0 (part.flash_size / part.flash_page)
+write_steps part Eeprom image = each_from (run_steps part image) 0 part.eeprom_size
+write_steps part Lfuse image = byte_steps (program_fuse Low) (byte_at image 0)
+write_steps part Hfuse image = byte_steps (program_fuse High) (byte_at image 0)
+write_steps part Efuse image = byte_steps (program_fuse Extended) (byte_at image 0)
+write_steps part Lock image = byte_steps program_lock (byte_at image 0)
+write_steps part Signature image = []
+write_steps part Calibration image = []

@@ -1,0 +1,198 @@
+//! Commands and their answers, attempts and steps.
+#![tactic(auto)]
+
+ghost use Rattle.std.specs.Prelude.{◌≡◌, ◌<◌, ◌≤◌, ◌++◌, ◌∷◌, [], length, IfOk, IsOkAnd, OnOk, OnErr, All};
+ghost use Rattle.stk_frame.specs.Frame.{frame};
+ghost use Rattle.stk_frame.specs.Commands.{body, judge, shape, SizedBy};
+ghost use Rattle.stk_host.specs.Talk.{HasFailed};
+ghost use Rattle.stk_host.specs.Play.{PlaysOver, BreaksOver};
+ghost use Rattle.stk_host.specs.Reach.{Says};
+ghost use Rattle.stk_host.specs.Steps.{exchange, attempt, step, judged, replied};
+ghost use Rattle.stk_host.specs.State.{data_in, data_held};
+ghost use Rattle.stk_host.specs.Calls.{SaysFront, HoldsAnswer, reading_of, reply_of, EndsSteps, CountsLink, Fits, IsQuiet};
+
+use crate::fault::{Broken, StepFault, Stop};
+use crate::link::{Link, LinkFault};
+use crate::listen::{Reading, listen};
+use crate::send::send_all;
+use crate::unread::Unread;
+use arrayvec::ArrayVec;
+use std::marker::Model;
+use stk_frame::{Answer, Command, FrameFault, FrameReader, put_frame};
+
+/// How many attempts a step has.
+const ATTEMPTS: u8 = 4;
+
+/// What the answer to a command comes to.
+#[derive(Clone, Copy, Debug, Drop, PartialEq, Eq)]
+pub(crate) enum Reply {
+    Data,
+    /// The commands may be sent again.
+    Again(StepFault),
+    /// The step is at its end.
+    Stop(StepFault),
+}
+
+/// The host's side of a conversation with a programmer.
+#[derive(Drop)]
+pub(crate) struct Conversation {
+    reader: FrameReader,
+    unread: Unread,
+    next: u8,
+}
+
+impl Model for Conversation {
+    ghost use Rattle.stk_host.specs.State.{State};
+
+    ghost Value = { State };
+
+    ghost view = { λ conversation. record { next = conversation.next; unread = conversation.unread; held = conversation.reader } };
+
+    ghost use Rattle.std.specs.Prelude.{◌≤◌, length};
+
+    ghost invariant = { λ conversation. length conversation.unread ≤ 281 };
+}
+
+fn send_command<L: Link>(link: &mut L, seq: u8, command: &Command<'_>) -> Result<(), LinkFault>
+    requires { Fits command.now }
+    ensures ok { OnOk result (Says (frame seq (body command.now)) (L.talk link.old) (L.talk link.new)) }
+    ensures err { OnErr result (SaysFront (frame seq (body command.now)) (L.talk link.old) (L.talk link.new)) }
+    ensures counted { L.failures link.old ≤ L.failures link.new }
+    ensures failed { OnErr result (HasFailed (L.failures link.old) (L.failures link.new)) }
+{
+    let mut body = ArrayVec::new();
+    command.body(&mut body);
+    let mut frame = ArrayVec::new();
+    put_frame(seq, body.as_slice(), &mut frame);
+    send_all(link, frame.as_slice())
+}
+
+fn judge_body(command: &Command<'_>, body: &[u8]) -> Reply
+    ensures reply { reply_of result (data_in (judge command.now body.now)) ≡ judged command.now (judge command.now body.now) }
+    ensures sized { result ≡ Reply.Data → SizedBy (shape command.now) (data_in (judge command.now body.now)) }
+{
+    match Answer::read(command, body) {
+        Ok(_) => Reply::Data,
+        Err(FrameFault::CheckSum) => Reply::Again(StepFault::Refused(command.code(), 0xC1)),
+        Err(FrameFault::Status(status)) => Reply::Stop(StepFault::Refused(command.code(), status)),
+        Err(FrameFault::WrongCommand | FrameFault::WrongLength) => {
+            Reply::Stop(StepFault::BadAnswer(command.code()))
+        }
+    }
+}
+
+/// What this end of listening comes to.
+fn reply_to(reader: &FrameReader, reading: Reading, command: &Command<'_>) -> Reply
+    ensures reply { reply_of result (data_held command.now reader.now) ≡ replied command.now (reading_of reading reader.now) }
+    ensures sized { result ≡ Reply.Data → SizedBy (shape command.now) (data_held command.now reader.now) }
+{
+    match reading {
+        Reading::Answered => judge_body(command, reader.body()),
+        Reading::Silent => Reply::Again(StepFault::NoAnswer),
+        Reading::Ended => Reply::Stop(StepFault::LinkEnded),
+        Reading::Babbled => Reply::Again(StepFault::Babble),
+    }
+}
+
+impl Conversation {
+    /// A conversation in which nothing was said.
+    pub(crate) fn new() -> Self
+        ensures next { result.next ≡ 1 }
+        ensures unread { result.unread ≡ [] }
+    {
+        Conversation {
+            reader: FrameReader::new(),
+            unread: Unread::new(),
+            next: 1,
+        }
+    }
+
+    /// The data of the last answer, which was to this command.
+    pub(crate) fn data_read(&self, command: &Command<'_>) -> &[u8]
+        ensures { result.now ≡ data_held command.now self.now.held }
+    {
+        match Answer::read(command, self.reader.body()) {
+            Ok(answer) => answer.data,
+            Err(_) => &[],
+        }
+    }
+
+    /// Sends a command and reads its answer.
+    fn exchange<L: Link>(&mut self, link: &mut L, command: &Command<'_>) -> Result<Reply, Broken>
+        requires { Fits command.now }
+        ensures ok { IfOk result (λ reply. PlaysOver (exchange command.now) self.old.next self.old.unread (L.talk link.old) (L.talk link.new)
+            (reply_of reply (data_held command.now self.new.held)) self.new.next self.new.unread) }
+        ensures sized { IsOkAnd result (λ reply. reply ≡ Reply.Data) → SizedBy (shape command.now) (data_held command.now self.new.held) }
+        ensures quiet { IsQuiet command.now → IsOkAnd result (λ reply. reply ≡ Reply.Data) → data_held command.now self.new.held ≡ [] }
+        ensures err { OnErr result (BreaksOver (exchange command.now) self.old.next self.old.unread (L.talk link.old) (L.talk link.new)) }
+        ensures counted { L.failures link.old ≤ L.failures link.new }
+        ensures failed { OnErr result (HasFailed (L.failures link.old) (L.failures link.new)) }
+        ensures bound { length self.new.unread ≤ 281 }
+    {
+        let seq = self.next;
+        let Ok(()) = send_command(link, seq, command) else {
+            return Err(Broken::Send);
+        };
+        let Ok(reading) = listen(&mut self.reader, &mut self.unread, link, seq) else {
+            return Err(Broken::Recv);
+        };
+        self.next = seq.wrapping_add(1);
+        Ok(reply_to(&self.reader, reading, command))
+    }
+
+    /// Sends the commands one after another, up to the first that brings no data.
+    fn attempt<L: Link>(
+        &mut self,
+        link: &mut L,
+        first: &[Command<'_>],
+        last: &Command<'_>,
+    ) -> Result<Reply, Broken>
+        requires quiet { All IsQuiet first.now }
+        requires fits { Fits last.now }
+        ensures ok { IfOk result (λ reply. PlaysOver (attempt (first.now ++ last.now ∷ []) []) self.old.next self.old.unread (L.talk link.old) (L.talk link.new)
+            (reply_of reply (data_held last.now self.new.held)) self.new.next self.new.unread) }
+        ensures err { OnErr result (BreaksOver (attempt (first.now ++ last.now ∷ []) []) self.old.next self.old.unread (L.talk link.old) (L.talk link.new)) }
+        ensures sized { IsOkAnd result (λ reply. reply ≡ Reply.Data) → SizedBy (shape last.now) (data_held last.now self.new.held) }
+        ensures counted { L.failures link.old ≤ L.failures link.new }
+        ensures failed { OnErr result (HasFailed (L.failures link.old) (L.failures link.new)) }
+        ensures bound { length self.new.unread ≤ 281 }
+    {
+        for command in first {
+            match self.exchange(link, command)? {
+                Reply::Data => {}
+                Reply::Again(fault) => return Ok(Reply::Again(fault)),
+                Reply::Stop(fault) => return Ok(Reply::Stop(fault)),
+            }
+        }
+        let reply = self.exchange(link, last)?;
+        Ok(reply)
+    }
+
+    /// Plays a step: at most four attempts at the commands. Only the last one's answer brings data, which
+    /// `data_read` lends then.
+    pub(crate) fn step<L: Link>(
+        &mut self,
+        link: &mut L,
+        first: &[Command<'_>],
+        last: &Command<'_>,
+    ) -> Result<(), Stop>
+        requires quiet { All IsQuiet first.now }
+        requires fits { Fits last.now }
+        ensures played { EndsSteps (step (first.now ++ last.now ∷ [])) self.old.next self.old.unread (L.talk link.old) (L.talk link.new)
+            (λ done. data_held last.now self.new.held) result self.new.next self.new.unread }
+        ensures sized { OnOk result (SizedBy (shape last.now) (data_held last.now self.new.held)) }
+        ensures counted { CountsLink (L.failures link.old) (L.failures link.new) result }
+        ensures bound { length self.new.unread ≤ 281 }
+    {
+        let mut fault = StepFault::NoAnswer;
+        for tried in 0..ATTEMPTS {
+            match self.attempt(link, first, last) {
+                Ok(Reply::Data) => return Ok(()),
+                Ok(Reply::Stop(stop)) => return Err(Stop::Fault(stop)),
+                Ok(Reply::Again(again)) => fault = again,
+                Err(broken) => return Err(Stop::Link(broken)),
+            }
+        }
+        Err(Stop::Fault(fault))
+    }
+}

@@ -1,0 +1,23 @@
+//! The step that erases the chip.
+#![tactic(auto)]
+
+ghost use Rattle.std.specs.Prelude.{◌≡◌, ◌≤◌, ◌∷◌, [], length};
+ghost use Rattle.stk_frame.specs.HostCommands.{erase};
+ghost use Rattle.stk_host.specs.Steps.{play};
+ghost use Rattle.stk_host.specs.Calls.{EndsSteps, CountsLink};
+
+use crate::conversation::Conversation;
+use crate::fault::Stop;
+use crate::link::Link;
+use crate::stepping::play_step;
+use stk_frame::Command;
+
+/// Erases the chip.
+pub(crate) fn erase_chip<L: Link>(conversation: &mut Conversation, link: &mut L) -> Result<(), Stop>
+    ensures played { EndsSteps (play ((erase ∷ []) ∷ []) []) conversation.old.next conversation.old.unread (L.talk link.old) (L.talk link.new)
+        (λ done. []) result conversation.new.next conversation.new.unread }
+    ensures counted { CountsLink (L.failures link.old) (L.failures link.new) result }
+    ensures bound { length conversation.new.unread ≤ 281 }
+{
+    play_step(conversation, link, &[], &Command::erase())
+}

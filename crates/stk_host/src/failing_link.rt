@@ -1,0 +1,125 @@
+//! A link that fails once, at a call that is chosen: for tests of what stands on links.
+#![tactic(auto)]
+
+ghost use Rattle.std.specs.Prelude.{◌≡◌, ◌==◌, ◌≢◌, ◌<◌, ◌≤◌, ◌+◌, ◌-◌, ◌^◌, ◌∷◌, [], ℕ, length, take, min, Err, IfOk, OnErr};
+ghost use Rattle.stk_host.specs.declared.link.LinkFault.TheVariants.{Failed};
+ghost use Rattle.stk_host.specs.Links.{total_failures};
+ghost use Rattle.stk_host.specs.Talk.{Sent, Got, Grows, HasFailed, FitsBuffer, items_of};
+
+use crate::link::{Heard, Link, LinkFault};
+use std::marker::Model;
+
+/// A link over another, which fails at one call and cuts what passes into short pieces.
+///
+/// Calls of `send` and `recv` are counted together from 1. The chosen one answers [`LinkFault::Failed`], is counted as a
+/// failure and changes nothing else; all others go to the inner link, `send` with at most `cut` bytes and `recv` with a
+/// buffer of at most `cut` bytes.
+#[derive(Drop)]
+pub struct FailingLink<L> {
+    inner: L,
+    due: u64,
+    cut: usize,
+    failed: u64,
+}
+
+impl<L> Model for FailingLink<L> {
+    ghost use Rattle.stk_host.specs.Links.{FailingState};
+    ghost use Rattle.std.specs.Prelude.{◌<◌};
+
+    ghost Value = { FailingState L };
+
+    ghost view = { λ link. record { inner = link.inner; due = link.due; cut = link.cut; failed = link.failed } };
+
+    ghost invariant = { λ link. 0 < link.cut };
+}
+
+impl<L> FailingLink<L> {
+    /// A link over `inner` whose call number `n`, from 1, fails (0: none), in pieces of at most `cut` bytes.
+    pub fn new(inner: L, n: u64, cut: usize) -> Self
+        requires { 0 < cut }
+        ensures { result ≡ record { inner = inner; due = n; cut = cut; failed = 0 } }
+    {
+        FailingLink {
+            inner,
+            due: n,
+            cut,
+            failed: 0,
+        }
+    }
+
+    /// The inner link.
+    pub fn inner(&self) -> &L
+        ensures { result.now ≡ self.now.inner }
+    {
+        &self.inner
+    }
+
+    /// Counts a call, and says whether it is the one that fails.
+    fn is_due(&mut self) -> bool
+        ensures value { result ≡ (self.old.due == 1) }
+        ensures due { self.new.due ≡ self.old.due - 1 }
+        ensures inner { self.new.inner ≡ self.old.inner }
+        ensures cut { self.new.cut ≡ self.old.cut }
+        ensures some { 0 < self.new.cut }
+        ensures failed { self.old.due ≡ 1 → HasFailed self.old.failed self.new.failed }
+        ensures sound { self.old.due ≢ 1 → self.new.failed ≡ self.old.failed }
+        ensures counted { self.old.failed ≤ self.new.failed }
+    {
+        let is_due = self.due == 1;
+        self.due = self.due.saturating_sub(1);
+        if is_due {
+            self.failed = self.failed.saturating_add(1);
+        }
+        is_due
+    }
+}
+
+impl<L: Link + Drop> Link for FailingLink<L> {
+    ghost talk = { λ link. L.talk link.inner };
+
+    ghost failures = { λ link. total_failures (L.failures link.inner) link.failed };
+
+    fn send(&mut self, bytes: &[u8]) -> Result<usize, LinkFault>
+        ensures within { IfOk result (λ n. n ≤ length bytes.now) }
+        ensures ok { IfOk result (λ n. Grows (L.talk self.old.inner) (Sent (take n bytes.now) ∷ []) (L.talk self.new.inner)) }
+        ensures err { OnErr result (Grows (L.talk self.old.inner) [] (L.talk self.new.inner)) }
+        ensures counted { total_failures (L.failures self.old.inner) self.old.failed ≤ total_failures (L.failures self.new.inner) self.new.failed }
+        ensures failed { OnErr result (HasFailed (total_failures (L.failures self.old.inner) self.old.failed) (total_failures (L.failures self.new.inner) self.new.failed)) }
+        ensures stuck { IfOk result (λ n. n ≡ 0 → 0 < length bytes.now → HasFailed (total_failures (L.failures self.old.inner) self.old.failed) (total_failures (L.failures self.new.inner) self.new.failed)) }
+        ensures due { self.new.due ≡ self.old.due - 1 }
+        ensures cut { self.new.cut ≡ self.old.cut }
+        // The call that is due fails, and the inner link isn't called.
+        ensures chosen { self.old.due ≡ 1 → (result ≡ Err Failed) × (self.new.inner ≡ self.old.inner) }
+        // Every other call fails only with the inner link.
+        ensures others { self.old.due ≢ 1 → (self.new.failed ≡ self.old.failed) × OnErr result (HasFailed (L.failures self.old.inner) (L.failures self.new.inner)) }
+        ensures short { IfOk result (λ n. n ≤ self.old.cut) }
+    {
+        if self.is_due() {
+            return Err(LinkFault::Failed);
+        }
+        let most = self.cut.min(bytes.len());
+        self.inner.send(&bytes[..most])
+    }
+
+    fn recv(&mut self, buffer: &mut [u8]) -> Result<Heard, LinkFault>
+        requires { 0 < length buffer.old }
+        ensures within { IfOk result (λ heard. FitsBuffer heard (length buffer.new)) }
+        ensures ok { IfOk result (λ heard. Grows (L.talk self.old.inner) (Got (items_of heard buffer.new) ∷ []) (L.talk self.new.inner)) }
+        ensures err { OnErr result (Grows (L.talk self.old.inner) [] (L.talk self.new.inner)) }
+        ensures counted { total_failures (L.failures self.old.inner) self.old.failed ≤ total_failures (L.failures self.new.inner) self.new.failed }
+        ensures failed { OnErr result (HasFailed (total_failures (L.failures self.old.inner) self.old.failed) (total_failures (L.failures self.new.inner) self.new.failed)) }
+        ensures due { self.new.due ≡ self.old.due - 1 }
+        ensures cut { self.new.cut ≡ self.old.cut }
+        // The call that is due fails, and the inner link isn't called.
+        ensures chosen { self.old.due ≡ 1 → (result ≡ Err Failed) × (self.new.inner ≡ self.old.inner) }
+        // Every other call fails only with the inner link.
+        ensures others { self.old.due ≢ 1 → (self.new.failed ≡ self.old.failed) × OnErr result (HasFailed (L.failures self.old.inner) (L.failures self.new.inner)) }
+        ensures short { IfOk result (λ heard. FitsBuffer heard self.old.cut) }
+    {
+        if self.is_due() {
+            return Err(LinkFault::Failed);
+        }
+        let most = self.cut.min(buffer.len());
+        self.inner.recv(&mut buffer[..most])
+    }
+}

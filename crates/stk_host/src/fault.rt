@@ -1,0 +1,97 @@
+//! Why a host could not do what was asked.
+#![tactic(auto)]
+
+ghost use Rattle.std.specs.Prelude.{◌≡◌};
+ghost use Rattle.stk_host.specs.Calls.{fault_number};
+
+use avr_part::Mem;
+use thiserror::Error;
+
+/// Why a step came to no data.
+#[derive(Clone, Copy, Debug, Drop, PartialEq, Eq)]
+pub enum StepFault {
+    /// No answer came to the last attempt.
+    NoAnswer,
+    /// The line is at its end.
+    LinkEnded,
+    /// 4,096 bytes came to the last attempt, and no answer was among them.
+    Babble,
+    /// The command with this byte was answered with this status.
+    Refused(u8, u8),
+    /// The command with this byte was answered by what is no answer to it.
+    BadAnswer(u8),
+}
+
+/// What the link could not do.
+#[derive(Clone, Copy, Debug, Drop, PartialEq, Eq)]
+pub(crate) enum Broken {
+    Send,
+    Recv,
+}
+
+/// Why a step stopped: for what was heard, or since the link failed.
+#[derive(Clone, Copy, Debug, Drop, PartialEq, Eq)]
+pub(crate) enum Stop {
+    Fault(StepFault),
+    Link(Broken),
+}
+
+/// Why a host could not do what was asked.
+#[derive(Clone, Copy, Debug, Drop, PartialEq, Eq, Error)]
+pub enum HostFault {
+    /// No answer came to the last of four attempts.
+    #[error("no answer")]
+    NoAnswer,
+    /// The line is at its end: nothing more can be asked.
+    #[error("the link ended")]
+    LinkEnded,
+    /// The link takes nothing more.
+    #[error("the link cannot be written")]
+    SendFailed,
+    /// 4,096 bytes came to the last of four attempts, and no answer was among them.
+    #[error("no answer in 4096 bytes")]
+    Babble,
+    /// The programmer answered the command with this byte with this status (AVR068, "Status constants").
+    #[error("command {0:02X} refused with status {1:02X}")]
+    Refused(u8, u8),
+    /// The command with this byte was answered by what is no answer to it.
+    #[error("command {0:02X}: bad answer")]
+    BadAnswer(u8),
+    /// The part has this signature, and not that of the part asked for.
+    #[error("another signature was found")]
+    WrongSignature([u8; 3]),
+    /// The memory has at this address another byte than the image: the memory, the address in bytes, the image's byte, the
+    /// memory's byte. No lower address differs.
+    #[error("address {1:08X}: {2:02X} expected, {3:02X} found")]
+    Differs(Mem, u32, u8, u8),
+    /// The memory can't be written: the signature or the calibration.
+    #[error("the memory is read-only")]
+    ReadOnly(Mem),
+    /// Memory was refused.
+    #[error("out of memory")]
+    Memory,
+    /// The link gives nothing more.
+    #[error("the link cannot be read")]
+    RecvFailed,
+}
+
+impl HostFault {
+    /// The fault's number, which no later version changes.
+    pub fn number(&self) -> u8
+        ensures { result ≡ fault_number self.now }
+    {
+        match self {
+            HostFault::NoAnswer => 1,
+            HostFault::LinkEnded => 2,
+            HostFault::SendFailed => 3,
+            HostFault::Babble => 4,
+            HostFault::Refused(_, _) => 5,
+            HostFault::BadAnswer(_) => 6,
+            HostFault::WrongSignature(_) => 7,
+            HostFault::Differs(_, _, _, _) => 8,
+            HostFault::ReadOnly(_) => 9,
+            HostFault::Memory => 10,
+            HostFault::RecvFailed => 11,
+        }
+    }
+}

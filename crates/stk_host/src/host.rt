@@ -1,0 +1,337 @@
+//! The host: operations over a link, and the fault after which it says nothing more.
+#![tactic(auto)]
+
+ghost use Rattle.std.specs.Prelude.{◌≡◌, ◌≤◌, [], length, Some, None, Err, OnOk, OnErr};
+ghost use Rattle.avr_part.specs.Part.{size_of};
+ghost use Rattle.stk_host.specs.declared.fault.HostFault.{HostFault};
+ghost use Rattle.stk_host.specs.Talk.{HasFailed};
+ghost use Rattle.stk_host.specs.Operations.{opening, closing, erasing, writing, reading, verifying};
+ghost use Rattle.stk_host.specs.State.{left_by};
+ghost use Rattle.stk_host.specs.Calls.{EndsCall, EndsOrLacks, IsBroken, told, opened, closed, given, kept, verified};
+
+use crate::comparing::compare;
+use crate::conversation::Conversation;
+use crate::erasing::erase_chip;
+use crate::fault::{Broken, HostFault, StepFault, Stop};
+use crate::link::Link;
+use crate::opening::{begin, end};
+use crate::reading::read_memory;
+use crate::writing::write_memory;
+use avr_image::Image;
+use avr_part::{Mem, Part};
+use std::alloc::Global;
+use std::marker::Model;
+
+/// The host's side of the STK500v2 protocol: it asks a programmer, over any link, to work on a part.
+///
+/// A host keeps one conversation from its first call to its last: the sequence numbers run on, and bytes that were heard
+/// and not read are read by the next call. After [`HostFault::LinkEnded`], [`HostFault::SendFailed`] or
+/// [`HostFault::RecvFailed`] every call answers that fault again, and nothing is sent or heard; after every other fault
+/// the host goes on.
+#[derive(Drop)]
+pub struct Host {
+    part: Part,
+    conversation: Conversation,
+    broken: Option<HostFault>,
+}
+
+impl Model for Host {
+    ghost use Rattle.stk_host.specs.State.{HostState};
+
+    ghost Value = { HostState };
+
+    ghost view = { λ host. record {
+      part = host.part;
+      signature = host.part.signature;
+      next = host.conversation.next;
+      unread = host.conversation.unread;
+      broken = host.broken;
+    } };
+
+    ghost use Rattle.std.specs.Prelude.{◌≤◌, length};
+
+    ghost invariant = { λ host. length host.conversation.unread ≤ 281 };
+}
+
+fn fault_of(stop: Stop) -> HostFault
+    ensures { result ≡ told stop }
+{
+    match stop {
+        Stop::Fault(StepFault::NoAnswer) => HostFault::NoAnswer,
+        Stop::Fault(StepFault::LinkEnded) => HostFault::LinkEnded,
+        Stop::Fault(StepFault::Babble) => HostFault::Babble,
+        Stop::Fault(StepFault::Refused(command, status)) => HostFault::Refused(command, status),
+        Stop::Fault(StepFault::BadAnswer(command)) => HostFault::BadAnswer(command),
+        Stop::Link(Broken::Send) => HostFault::SendFailed,
+        Stop::Link(Broken::Recv) => HostFault::RecvFailed,
+    }
+}
+
+/// The signature that was found, if it is the one wanted or `force` takes any.
+fn judge_signature(
+    wanted: [u8; 3],
+    force: bool,
+    begun: Result<[u8; 3], Stop>,
+) -> Result<[u8; 3], HostFault>
+    ensures { result ≡ opened wanted force begun }
+{
+    match begun {
+        Ok(found) => if force || found == wanted {
+            Ok(found)
+        } else {
+            Err(HostFault::WrongSignature(found))
+        },
+        Err(stop) => Err(fault_of(stop)),
+    }
+}
+
+fn judge_end(ended: Result<(), Stop>) -> Result<(), HostFault>
+    ensures { result ≡ closed ended }
+{
+    match ended {
+        Ok(()) => Ok(()),
+        Err(stop) => Err(fault_of(stop)),
+    }
+}
+
+/// Keeps what was read, or nothing after a fault.
+fn keep(outcome: &Result<(), HostFault>, out: &mut Vec<u8>)
+    ensures { out.new.items ≡ kept outcome.now out.old.items }
+{
+    if outcome.is_err() {
+        out.clear();
+    }
+}
+
+/// What was read, compared with the image.
+fn judge_comparison(
+    taken: Result<(), Stop>,
+    mem: Mem,
+    image: &Image,
+    found: &[u8],
+) -> Result<(), HostFault>
+    requires { OnOk taken (length image.now ≤ length found.now) }
+    ensures { result ≡ verified mem image.now found.now taken }
+{
+    match taken {
+        Ok(()) => compare(mem, image, found),
+        Err(stop) => Err(fault_of(stop)),
+    }
+}
+
+/// The fault that a call leaves for all later ones.
+fn lasting<T>(outcome: &Result<T, HostFault>) -> Option<HostFault>
+    ensures { result ≡ left_by outcome.now }
+{
+    match outcome {
+        Err(HostFault::LinkEnded) => Some(HostFault::LinkEnded),
+        Err(HostFault::SendFailed) => Some(HostFault::SendFailed),
+        Err(HostFault::RecvFailed) => Some(HostFault::RecvFailed),
+        _ => None,
+    }
+}
+
+impl Host {
+    /// A host that has said nothing, for work on this part.
+    pub fn new(part: &Part) -> Self
+        ensures part { result.part ≡ part.now }
+        ensures signature { result.signature ≡ part.now.signature }
+        ensures next { result.next ≡ 1 }
+        ensures unread { result.unread ≡ [] }
+        ensures sound { result.broken ≡ None }
+    {
+        Host {
+            part: part.copied(),
+            conversation: Conversation::new(),
+            broken: None,
+        }
+    }
+
+    /// Opens a session: signs on, enters programming mode, and reads the part's signature, which it answers, byte 0 first.
+    ///
+    /// Where the signature is another than the part's the fault is [`HostFault::WrongSignature`], unless `force` takes any.
+    pub fn open<L: Link>(&mut self, link: &mut L, force: bool) -> Result<[u8; 3], HostFault>
+        // After the link's end or a fault of it the same fault is answered, and nothing is sent or heard.
+        ensures stays { (fault : HostFault) → self.old.broken ≡ Some fault → (result ≡ Err fault) × (self.new ≡ self.old) × (L.talk link.new ≡ L.talk link.old) }
+        // Else the call is the play of the steps that open a session, or after a fault of the link a front of it.
+        ensures played { self.old.broken ≡ None → EndsCall (opening self.old.signature force) self.old.next self.old.unread
+            (L.talk link.old) (L.talk link.new) result self.new.next self.new.unread }
+        ensures lasts { self.old.broken ≡ None → self.new.broken ≡ left_by result }
+        ensures part { self.new.part ≡ self.old.part }
+        ensures signature { self.new.signature ≡ self.old.signature }
+        // A fault of the link is told only where the link has failed.
+        ensures failed { self.old.broken ≡ None → IsBroken result → HasFailed (L.failures link.old) (L.failures link.new) }
+        ensures counted { L.failures link.old ≤ L.failures link.new }
+        // Of what was heard at most one piece is left.
+        ensures bound { self.old.broken ≡ None → length self.new.unread ≤ 281 }
+    {
+        if let Some(fault) = self.broken {
+            return Err(fault);
+        }
+        let begun = begin(&mut self.conversation, link);
+        let outcome = judge_signature(self.part.signature(), force, begun);
+        self.broken = lasting(&outcome);
+        outcome
+    }
+
+    /// Erases the chip: flash and lock, and EEPROM too unless the part's EESAVE fuse keeps it.
+    pub fn erase<L: Link>(&mut self, link: &mut L) -> Result<(), HostFault>
+        // After the link's end or a fault of it the same fault is answered, and nothing is sent or heard.
+        ensures stays { (fault : HostFault) → self.old.broken ≡ Some fault → (result ≡ Err fault) × (self.new ≡ self.old) × (L.talk link.new ≡ L.talk link.old) }
+        // Else the call is the play of the step that erases the chip, or after a fault of the link a front of it.
+        ensures played { self.old.broken ≡ None → EndsCall erasing self.old.next self.old.unread
+            (L.talk link.old) (L.talk link.new) result self.new.next self.new.unread }
+        ensures lasts { self.old.broken ≡ None → self.new.broken ≡ left_by result }
+        ensures part { self.new.part ≡ self.old.part }
+        ensures signature { self.new.signature ≡ self.old.signature }
+        // A fault of the link is told only where the link has failed.
+        ensures failed { self.old.broken ≡ None → IsBroken result → HasFailed (L.failures link.old) (L.failures link.new) }
+        ensures counted { L.failures link.old ≤ L.failures link.new }
+        // Of what was heard at most one piece is left.
+        ensures bound { self.old.broken ≡ None → length self.new.unread ≤ 281 }
+    {
+        if let Some(fault) = self.broken {
+            return Err(fault);
+        }
+        let erased = erase_chip(&mut self.conversation, link);
+        let outcome = judge_end(erased);
+        self.broken = lasting(&outcome);
+        outcome
+    }
+
+    /// Writes an image to a memory: whole pages of flash, FF where the image has gaps, and the image's bytes alone elsewhere.
+    ///
+    /// A memory that can't be written is [`HostFault::ReadOnly`], and nothing is sent. The image is no larger than the
+    /// memory. The call never answers [`HostFault::Memory`].
+    pub fn write<L: Link>(&mut self, link: &mut L, mem: Mem, image: &Image) -> Result<(), HostFault>
+        requires { length image.now ≤ size_of mem self.old.part }
+        // After the link's end or a fault of it the same fault is answered, and nothing is sent or heard.
+        ensures stays { (fault : HostFault) → self.old.broken ≡ Some fault → (result ≡ Err fault) × (self.new ≡ self.old) × (L.talk link.new ≡ L.talk link.old) }
+        // Else the call is the play of the steps that write the image, or after a fault of the link a front of it.
+        ensures played { self.old.broken ≡ None → EndsCall (writing self.old.part mem image.now) self.old.next self.old.unread
+            (L.talk link.old) (L.talk link.new) result self.new.next self.new.unread }
+        ensures lasts { self.old.broken ≡ None → self.new.broken ≡ left_by result }
+        ensures part { self.new.part ≡ self.old.part }
+        ensures signature { self.new.signature ≡ self.old.signature }
+        // A fault of the link is told only where the link has failed.
+        ensures failed { self.old.broken ≡ None → IsBroken result → HasFailed (L.failures link.old) (L.failures link.new) }
+        ensures counted { L.failures link.old ≤ L.failures link.new }
+        // Of what was heard at most one piece is left.
+        ensures bound { self.old.broken ≡ None → length self.new.unread ≤ 281 }
+    {
+        if let Some(fault) = self.broken {
+            return Err(fault);
+        }
+        if !mem.writable() {
+            return Err(HostFault::ReadOnly(mem));
+        }
+        let written = write_memory(&mut self.conversation, link, &self.part, mem, image);
+        let outcome = judge_end(written);
+        self.broken = lasting(&outcome);
+        outcome
+    }
+
+    /// Reads a whole memory. The vector then holds its bytes and nothing else, and nothing at all after a fault.
+    ///
+    /// Its memory is taken before the first frame is sent; where it is refused the fault is [`HostFault::Memory`].
+    pub fn read<L: Link>(
+        &mut self,
+        link: &mut L,
+        mem: Mem,
+        out: &mut Vec<u8>,
+    ) -> Result<(), HostFault>
+        // After the link's end or a fault of it the same fault is answered, and nothing is sent or heard.
+        ensures stays { (fault : HostFault) → self.old.broken ≡ Some fault → (result ≡ Err fault) × (self.new ≡ self.old) × (L.talk link.new ≡ L.talk link.old) }
+        // Else the call is the play of the steps that read the memory, or after a fault of the link a front of it. Where
+        // memory was refused nothing was sent or heard.
+        ensures played { self.old.broken ≡ None → EndsOrLacks (reading self.old.part mem) self.old.next self.old.unread
+            (L.talk link.old) (L.talk link.new) (given out.new.items result) self.new.next self.new.unread }
+        ensures empty { OnErr result (out.new.items ≡ []) }
+        ensures lasts { self.old.broken ≡ None → self.new.broken ≡ left_by result }
+        ensures part { self.new.part ≡ self.old.part }
+        ensures signature { self.new.signature ≡ self.old.signature }
+        // A fault of the link is told only where the link has failed.
+        ensures failed { self.old.broken ≡ None → IsBroken result → HasFailed (L.failures link.old) (L.failures link.new) }
+        ensures counted { L.failures link.old ≤ L.failures link.new }
+        // Of what was heard at most one piece is left.
+        ensures bound { self.old.broken ≡ None → length self.new.unread ≤ 281 }
+    {
+        out.clear();
+        if let Some(fault) = self.broken {
+            return Err(fault);
+        }
+        if out.reserve(self.part.size_of(mem) as usize).is_err() {
+            return Err(HostFault::Memory);
+        }
+        let taken = read_memory(&mut self.conversation, link, &self.part, mem, out);
+        let outcome = judge_end(taken);
+        keep(&outcome, out);
+        self.broken = lasting(&outcome);
+        outcome
+    }
+
+    /// Reads a whole memory and compares it with an image, no larger than the memory, at the addresses that the image holds:
+    /// the lowest at which they differ is told as [`HostFault::Differs`].
+    ///
+    /// Its memory is taken before the first frame is sent; where it is refused the fault is [`HostFault::Memory`].
+    pub fn verify<L: Link>(
+        &mut self,
+        link: &mut L,
+        alloc: Global,
+        mem: Mem,
+        image: &Image,
+    ) -> Result<(), HostFault>
+        requires { length image.now ≤ size_of mem self.old.part }
+        // After the link's end or a fault of it the same fault is answered, and nothing is sent or heard.
+        ensures stays { (fault : HostFault) → self.old.broken ≡ Some fault → (result ≡ Err fault) × (self.new ≡ self.old) × (L.talk link.new ≡ L.talk link.old) }
+        // Else the call is the play of the steps that read the memory and the comparison, or after a fault of the link a front
+        // of it. Where memory was refused nothing was sent or heard.
+        ensures played { self.old.broken ≡ None → EndsOrLacks (verifying self.old.part mem image.now) self.old.next self.old.unread
+            (L.talk link.old) (L.talk link.new) result self.new.next self.new.unread }
+        ensures lasts { self.old.broken ≡ None → self.new.broken ≡ left_by result }
+        ensures part { self.new.part ≡ self.old.part }
+        ensures signature { self.new.signature ≡ self.old.signature }
+        // A fault of the link is told only where the link has failed.
+        ensures failed { self.old.broken ≡ None → IsBroken result → HasFailed (L.failures link.old) (L.failures link.new) }
+        ensures counted { L.failures link.old ≤ L.failures link.new }
+        // Of what was heard at most one piece is left.
+        ensures bound { self.old.broken ≡ None → length self.new.unread ≤ 281 }
+    {
+        if let Some(fault) = self.broken {
+            return Err(fault);
+        }
+        let mut found = Vec::new(alloc);
+        if found.reserve(self.part.size_of(mem) as usize).is_err() {
+            return Err(HostFault::Memory);
+        }
+        let taken = read_memory(&mut self.conversation, link, &self.part, mem, &mut found);
+        let outcome = judge_comparison(taken, mem, image, found.as_slice());
+        self.broken = lasting(&outcome);
+        outcome
+    }
+
+    /// Closes the session: leaves programming mode.
+    pub fn close<L: Link>(&mut self, link: &mut L) -> Result<(), HostFault>
+        // After the link's end or a fault of it the same fault is answered, and nothing is sent or heard.
+        ensures stays { (fault : HostFault) → self.old.broken ≡ Some fault → (result ≡ Err fault) × (self.new ≡ self.old) × (L.talk link.new ≡ L.talk link.old) }
+        // Else the call is the play of the step that leaves programming mode, or after a fault of the link a front of it.
+        ensures played { self.old.broken ≡ None → EndsCall closing self.old.next self.old.unread
+            (L.talk link.old) (L.talk link.new) result self.new.next self.new.unread }
+        ensures lasts { self.old.broken ≡ None → self.new.broken ≡ left_by result }
+        ensures part { self.new.part ≡ self.old.part }
+        ensures signature { self.new.signature ≡ self.old.signature }
+        // A fault of the link is told only where the link has failed.
+        ensures failed { self.old.broken ≡ None → IsBroken result → HasFailed (L.failures link.old) (L.failures link.new) }
+        ensures counted { L.failures link.old ≤ L.failures link.new }
+        // Of what was heard at most one piece is left.
+        ensures bound { self.old.broken ≡ None → length self.new.unread ≤ 281 }
+    {
+        if let Some(fault) = self.broken {
+            return Err(fault);
+        }
+        let ended = end(&mut self.conversation, link);
+        let outcome = judge_end(ended);
+        self.broken = lasting(&outcome);
+        outcome
+    }
+}

@@ -1,0 +1,45 @@
+//! The host's side of the STK500 protocol, version 2 (Atmel AVR068), as AVRDUDE speaks it with `-c stk500v2`.
+//!
+//! The one idea: an operation is a dialog of commands and of what their answers come to, and a call of [`Host`] is the play
+//! of its dialog over the tape of all that was heard: these frames and no others, whatever the pieces that it came in.
+//!
+//!     let mut link = StreamLink::new(reader, writer);
+//!     let mut host = Host::new(&part);
+//!     let signature = host.open(&mut link, false)?;
+//!     host.write(&mut link, Mem::Flash, &image)?;
+//!     host.close(&mut link)?;
+#![tactic(auto)]
+
+// the line, and lines over a tape, over streams and for tests
+mod failing_link;
+mod link;
+mod log;
+mod stream_link;
+mod tape_link;
+// a frame goes out, and its answer is listened for
+mod listen;
+mod send;
+mod unread;
+// commands, attempts and steps
+mod conversation;
+mod fault;
+mod places;
+mod stepping;
+// the steps of the operations, and the operations
+mod comparing;
+mod erasing;
+mod host;
+mod opening;
+#[cfg(test)]
+mod operation_tests;
+mod reading;
+#[cfg(test)]
+mod tests;
+mod writing;
+
+pub use failing_link::FailingLink;
+pub use fault::{HostFault, StepFault};
+pub use host::Host;
+pub use link::{Heard, Item, Link, LinkFault};
+pub use stream_link::StreamLink;
+pub use tape_link::TapeLink;

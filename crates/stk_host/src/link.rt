@@ -1,0 +1,82 @@
+//! The line between the host and a programmer.
+#![tactic(auto)]
+
+ghost use Rattle.std.specs.Prelude.{◌≡◌, ◌<◌, ◌≤◌, ℕ, length, take, [], ◌∷◌, ◌++◌, Option, IfOk, OnOk, OnErr};
+ghost use Rattle.stk_host.specs.Talk.{Talk, Sent, Got, Grows, HasFailed, FitsBuffer, items_of};
+
+use thiserror::Error;
+
+/// Why a link could not do what was asked.
+#[derive(Clone, Copy, Debug, Drop, PartialEq, Eq, Error)]
+pub enum LinkFault {
+    /// The device failed, or memory for what a link keeps was refused. The link has counted it.
+    #[error("the link failed")]
+    Failed,
+}
+
+impl LinkFault {
+    /// The fault's number, which no later version changes.
+    pub fn number(&self) -> u8
+        ensures { result ≡ 1 }
+    {
+        match self {
+            LinkFault::Failed => 1,
+        }
+    }
+}
+
+/// What one call of [`Link::recv`] heard.
+#[derive(Clone, Copy, Debug, PartialEq, Eq)]
+pub enum Heard {
+    /// So many bytes, from 1 to the buffer's length, which stand at the buffer's front.
+    Bytes(usize),
+    /// Nothing came for as long as the link waits.
+    Silence,
+    /// Nothing will come any more.
+    End,
+}
+
+/// An item of a tape: a byte, or an event between bytes.
+#[derive(Clone, Copy, Debug, PartialEq, Eq)]
+pub enum Item {
+    /// A byte.
+    Byte(u8),
+    /// Nothing came for as long as the link waits.
+    Silence,
+    /// Nothing will come any more.
+    End,
+}
+
+/// A line to a programmer: a device that takes bytes, and gives bytes, silences and an end.
+///
+/// Contracts see all that passed, as one list of the pieces sent and heard in their order, and how often the link has
+/// failed, at most 2^64 - 1. A fault is answered only where that count rose or stands at this end.
+pub trait Link {
+    /// What was sent and heard, or `None` where the link doesn't keep it.
+    ghost talk: { Self → Option Talk };
+
+    /// How often the link has failed.
+    ghost failures: { Self → ℕ };
+
+    /// Sends the bytes or a front of them, and says how many.
+    ///
+    /// It is 0 for bytes that aren't none only where the link has failed. After a fault nothing was sent.
+    fn send(&mut self, bytes: &[u8]) -> Result<usize, LinkFault>
+        ensures within { IfOk result (λ n. n ≤ length bytes.now) }
+        ensures ok { IfOk result (λ n. Grows (talk self.old) (Sent (take n bytes.now) ∷ []) (talk self.new)) }
+        ensures err { OnErr result (Grows (talk self.old) [] (talk self.new)) }
+        ensures counted { failures self.old ≤ failures self.new }
+        ensures failed { OnErr result (HasFailed (failures self.old) (failures self.new)) }
+        ensures stuck { IfOk result (λ n. n ≡ 0 → 0 < length bytes.now → HasFailed (failures self.old) (failures self.new)) };
+
+    /// Listens: for at least one byte and as many as the buffer holds, a silence or the end.
+    ///
+    /// The buffer isn't empty. After a fault nothing was heard.
+    fn recv(&mut self, buffer: &mut [u8]) -> Result<Heard, LinkFault>
+        requires { 0 < length buffer.old }
+        ensures within { IfOk result (λ heard. FitsBuffer heard (length buffer.new)) }
+        ensures ok { IfOk result (λ heard. Grows (talk self.old) (Got (items_of heard buffer.new) ∷ []) (talk self.new)) }
+        ensures err { OnErr result (Grows (talk self.old) [] (talk self.new)) }
+        ensures counted { failures self.old ≤ failures self.new }
+        ensures failed { OnErr result (HasFailed (failures self.old) (failures self.new)) };
+}

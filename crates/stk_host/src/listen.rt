@@ -1,0 +1,86 @@
+//! Listening for an answer.
+#![tactic(auto)]
+
+ghost use Rattle.std.specs.Prelude.{◌≡◌, ◌<◌, ◌≤◌, ◌++◌, ℕ, List, length, IfOk, OnErr, true, false, None};
+ghost use Rattle.stk_frame.specs.Reader.{Fed, found, Tells, HoldsFrame};
+ghost use Rattle.stk_host.specs.Tape.{is_answer, first_answer};
+ghost use Rattle.stk_host.specs.Talk.{HasFailed};
+ghost use Rattle.stk_host.specs.Reach.{Hears, HearsNone};
+ghost use Rattle.stk_host.specs.Calls.{reading_of, HoldsAnswer};
+
+use crate::link::{Heard, Link, LinkFault};
+use crate::unread::Unread;
+use stk_frame::{Event, FrameReader};
+
+/// How many bytes are read for one answer.
+const LIMIT: usize = 4096;
+
+/// How listening ended.
+#[derive(Clone, Copy, Debug, PartialEq, Eq)]
+pub enum Reading {
+    /// The reader holds the answer.
+    Answered,
+    Silent,
+    Ended,
+    Babbled,
+}
+
+/// Reads unread bytes, at most so many, up to the end of a frame.
+fn read_on(reader: &mut FrameReader, unread: &mut Unread, most: usize) -> (usize, Event)
+    requires some { 0 < length unread.old }
+    requires room { 0 < most }
+    ensures within { result.0 ≤ most }
+    ensures progress { 0 < result.0 }
+    ensures fed { (used : List ℕ) × (length used ≡ result.0) × (unread.old ≡ used ++ unread.new) × Fed reader.old used reader.new (found result.1 reader.new) }
+    ensures tells { Tells result.1 reader.new }
+    ensures fits { length unread.new ≤ 281 }
+{
+    let (used, event) = reader.feed(unread.front(most));
+    unread.consume(used);
+    (used, event)
+}
+
+/// Whether the event tells of the answer to the frame of this sequence.
+fn is_answer(reader: &FrameReader, event: Event, seq: u8) -> bool
+    requires { Tells event reader.now }
+    ensures yes { result ≡ true → (event ≡ Event.Frame) × HoldsFrame reader.now × (is_answer seq reader.now ≡ true) }
+    ensures no { result ≡ false → first_answer seq (found event reader.now) ≡ None }
+{
+    match event {
+        Event::Frame => reader.seq() == seq,
+        Event::More | Event::Spoiled => false,
+    }
+}
+
+/// Listens for the answer to the frame of this sequence, from a fresh start.
+pub(crate) fn listen<L: Link>(
+    reader: &mut FrameReader,
+    unread: &mut Unread,
+    link: &mut L,
+    seq: u8,
+) -> Result<Reading, LinkFault>
+    ensures ok { IfOk result (λ reading. Hears seq unread.old (L.talk link.old) (L.talk link.new) (reading_of reading reader.new) unread.new) }
+    ensures fits { length unread.old ≤ 281 → length unread.new ≤ 281 }
+    ensures holds { IfOk result (λ reading. HoldsAnswer reading reader.new) }
+    ensures err { OnErr result (HearsNone seq unread.old (L.talk link.old) (L.talk link.new)) }
+    ensures counted { L.failures link.old ≤ L.failures link.new }
+    ensures failed { OnErr result (HasFailed (L.failures link.old) (L.failures link.new)) }
+{
+    reader.reset();
+    let mut count = 0;
+    while count < LIMIT {
+        if unread.is_empty() {
+            match unread.hear(link)? {
+                Heard::Bytes(_) => {}
+                Heard::Silence => return Ok(Reading::Silent),
+                Heard::End => return Ok(Reading::Ended),
+            }
+        }
+        let (used, event) = read_on(reader, unread, LIMIT - count);
+        count += used;
+        if is_answer(reader, event, seq) {
+            return Ok(Reading::Answered);
+        }
+    }
+    Ok(Reading::Babbled)
+}

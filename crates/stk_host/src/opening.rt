@@ -1,0 +1,54 @@
+//! The steps that open and close a session.
+#![tactic(auto)]
+
+ghost use Rattle.std.specs.Prelude.{◌≡◌, ◌≤◌, ◌∷◌, [], length};
+ghost use Rattle.stk_frame.specs.HostCommands.{leave, read_signature};
+ghost use Rattle.stk_host.specs.Steps.{step};
+ghost use Rattle.stk_host.specs.Operations.{beginning};
+ghost use Rattle.stk_host.specs.Calls.{EndsSteps, CountsLink};
+
+use crate::conversation::Conversation;
+use crate::fault::Stop;
+use crate::link::Link;
+use stk_frame::Command;
+
+/// Reads one byte of the signature.
+fn signature_byte<L: Link>(
+    conversation: &mut Conversation,
+    link: &mut L,
+    place: u8,
+) -> Result<u8, Stop>
+    ensures played { EndsSteps (step (read_signature place ∷ [])) conversation.old.next conversation.old.unread (L.talk link.old) (L.talk link.new)
+        (λ byte. byte ∷ []) result conversation.new.next conversation.new.unread }
+    ensures counted { CountsLink (L.failures link.old) (L.failures link.new) result }
+    ensures bound { length conversation.new.unread ≤ 281 }
+{
+    let command = Command::read_signature(place);
+    conversation.step(link, &[], &command)?;
+    Ok(conversation.data_read(&command)[0])
+}
+
+/// Signs on, enters programming mode and reads the signature, byte 0 first.
+pub(crate) fn begin<L: Link>(conversation: &mut Conversation, link: &mut L) -> Result<[u8; 3], Stop>
+    ensures played { EndsSteps beginning conversation.old.next conversation.old.unread (L.talk link.old) (L.talk link.new)
+        (λ found. found) result conversation.new.next conversation.new.unread }
+    ensures counted { CountsLink (L.failures link.old) (L.failures link.new) result }
+    ensures bound { length conversation.new.unread ≤ 281 }
+{
+    conversation.step(link, &[], &Command::SignOn)?;
+    conversation.step(link, &[], &Command::enter())?;
+    let first = signature_byte(conversation, link, 0)?;
+    let second = signature_byte(conversation, link, 1)?;
+    let third = signature_byte(conversation, link, 2)?;
+    Ok([first, second, third])
+}
+
+/// Leaves programming mode.
+pub(crate) fn end<L: Link>(conversation: &mut Conversation, link: &mut L) -> Result<(), Stop>
+    ensures played { EndsSteps (step (leave ∷ [])) conversation.old.next conversation.old.unread (L.talk link.old) (L.talk link.new)
+        (λ done. []) result conversation.new.next conversation.new.unread }
+    ensures counted { CountsLink (L.failures link.old) (L.failures link.new) result }
+    ensures bound { length conversation.new.unread ≤ 281 }
+{
+    conversation.step(link, &[], &Command::leave())
+}

@@ -1,0 +1,57 @@
+//! Places of a memory, and the commands that load their addresses.
+#![tactic(auto)]
+
+ghost use Rattle.std.specs.Prelude.{◌≡◌, ◌<◌, ◌≤◌, ◌^◌};
+ghost use Rattle.avr_part.specs.Part.{page_of, IsPart};
+ghost use Rattle.stk_host.specs.Places.{flash_address, load_flash, load_eeprom};
+ghost use Rattle.stk_host.specs.Calls.{IsQuiet};
+
+use avr_part::{Mem, Part};
+use stk_frame::Command;
+
+/// How many bytes of flash words of 16 bits can address.
+const NARROW_FLASH: u32 = 131_072;
+
+/// Asks for the extended address in an address that is loaded.
+const EXTENDED: u32 = 1 << 31;
+
+/// How many bytes of a memory are written at once.
+pub(crate) fn page_size(part: &Part, mem: Mem) -> u32
+    ensures value { result ≡ page_of mem part.now }
+    ensures some { 0 < result }
+    ensures most { result ≤ 256 }
+    ensures is_part { IsPart part.now }
+{
+    part.page_of(mem)
+}
+
+/// The word address of a byte of flash.
+fn flash_address(part: &Part, start: u32) -> u32
+    requires { start < 2 ^ 20 }
+    ensures { result ≡ flash_address part.now start }
+{
+    if part.size_of(Mem::Flash) > NARROW_FLASH {
+        start / 2 + EXTENDED
+    } else {
+        start / 2
+    }
+}
+
+/// Loads the address of a byte of flash.
+pub(crate) fn load_flash<'a>(part: &Part, start: u32) -> Command<'a>
+    requires { start < 2 ^ 20 }
+    ensures value { result ≡ load_flash part.now start }
+    ensures quiet { IsQuiet result }
+{
+    Command::LoadAddress {
+        address: flash_address(part, start),
+    }
+}
+
+/// Loads the address of a byte of EEPROM.
+pub(crate) fn load_eeprom<'a>(start: u32) -> Command<'a>
+    ensures value { result ≡ load_eeprom start }
+    ensures quiet { IsQuiet result }
+{
+    Command::LoadAddress { address: start }
+}

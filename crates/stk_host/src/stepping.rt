@@ -1,0 +1,63 @@
+//! A step among the steps of an operation.
+#![tactic(auto)]
+
+ghost use Rattle.std.specs.Prelude.{◌≡◌, ◌+◌, ◌≤◌, ◌++◌, ◌∷◌, [], length, All, OnOk, vec_capacity};
+ghost use Rattle.stk_frame.specs.Commands.{shape};
+ghost use Rattle.stk_host.specs.Calls.{GoesOn, CountsLink, Fits, IsQuiet, IsCounted, data_count};
+
+use crate::conversation::Conversation;
+use crate::fault::Stop;
+use crate::link::Link;
+use stk_frame::Command;
+
+/// Puts bytes behind those of a vector that has room for them.
+fn append(out: &mut Vec<u8>, bytes: &[u8])
+    requires { length out.old.items + length bytes.now ≤ vec_capacity out.old }
+    ensures items { out.new.items ≡ out.old.items ++ bytes.now }
+    ensures room { vec_capacity out.old ≤ vec_capacity out.new }
+{
+    let _there_is_room = out.extend_from_slice(bytes);
+}
+
+/// Plays a step that brings no data.
+pub(crate) fn play_step<L: Link>(
+    conversation: &mut Conversation,
+    link: &mut L,
+    first: &[Command<'_>],
+    last: &Command<'_>,
+) -> Result<(), Stop>
+    requires quiet { All IsQuiet first.now }
+    requires fits { Fits last.now }
+    requires counted { IsCounted (shape last.now) }
+    requires no_data { data_count (shape last.now) ≡ 0 }
+    ensures played { GoesOn (first.now ++ last.now ∷ []) [] [] conversation.old.next conversation.old.unread (L.talk link.old) (L.talk link.new)
+        result conversation.new.next conversation.new.unread }
+    ensures counted { CountsLink (L.failures link.old) (L.failures link.new) result }
+    ensures bound { length conversation.new.unread ≤ 281 }
+{
+    conversation.step(link, first, last)
+}
+
+/// Plays a step and puts its data behind those of a vector that has room for them.
+pub(crate) fn read_step<L: Link>(
+    conversation: &mut Conversation,
+    link: &mut L,
+    first: &[Command<'_>],
+    last: &Command<'_>,
+    out: &mut Vec<u8>,
+) -> Result<(), Stop>
+    requires quiet { All IsQuiet first.now }
+    requires fits { Fits last.now }
+    requires counted { IsCounted (shape last.now) }
+    requires room { length out.old.items + data_count (shape last.now) ≤ vec_capacity out.old }
+    ensures played { GoesOn (first.now ++ last.now ∷ []) out.old.items out.new.items conversation.old.next conversation.old.unread (L.talk link.old) (L.talk link.new)
+        result conversation.new.next conversation.new.unread }
+    ensures counted { CountsLink (L.failures link.old) (L.failures link.new) result }
+    ensures bound { length conversation.new.unread ≤ 281 }
+    ensures size { OnOk result (length out.new.items ≡ length out.old.items + data_count (shape last.now)) }
+    ensures room { vec_capacity out.old ≤ vec_capacity out.new }
+{
+    conversation.step(link, first, last)?;
+    append(out, conversation.data_read(last));
+    Ok(())
+}

@@ -1,0 +1,164 @@
+//! A link over a reader and a writer.
+#![tactic(auto)]
+
+ghost use Rattle.std.specs.Prelude.{◌≡◌, ◌≢◌, ◌<◌, ◌≤◌, ◌∷◌, [], ℕ, length, take, None, IfOk, IfErr, OnErr, OnOk};
+ghost use Rattle.std.specs.IoError.{error_kind};
+ghost use Rattle.std.specs.Io.{ReadsAtMost, WritesAtMost};
+ghost use Rattle.std.specs.Io.KnownBytes.{Keeps, Appends, Consumes, IsAtEnd};
+ghost use Rattle.stk_host.specs.Talk.{Sent, Got, Grows, HasFailed, FitsBuffer, items_of};
+ghost use Rattle.stk_host.specs.Links.{HearsKnown, AppendsFront};
+
+use crate::link::{Heard, Link, LinkFault};
+use std::io;
+use std::io::{ErrorKind, Read, Write};
+use std::marker::Model;
+
+/// A link over a reader and a writer, as standard input and output or the two sides of a socket.
+///
+/// It keeps nothing of what passed. A read that timed out or would block is a silence, and a read of no bytes is the end;
+/// a call that was interrupted is made again. Every other fault of a read, a write or a flush, and a write of no bytes, is
+/// a failure. Each piece sent is flushed.
+#[derive(Drop)]
+pub struct StreamLink<R, W> {
+    reader: R,
+    writer: W,
+    failures: u64,
+}
+
+impl<R, W> Model for StreamLink<R, W> {
+    ghost use Rattle.stk_host.specs.Links.{StreamState};
+
+    ghost Value = { StreamState R W };
+
+    ghost view = { λ link. record { reader = link.reader; writer = link.writer; failures = link.failures } };
+}
+
+/// Reads, and again where that was interrupted.
+fn read_bytes<R: Read>(reader: &mut R, buffer: &mut [u8]) -> io::Result<usize>
+    ensures bound { ReadsAtMost result buffer.new }
+    ensures ok { IfOk result (λ n. Consumes (R.remaining reader.old) (R.remaining reader.new) (take n buffer.new)) }
+    ensures end { IfOk result (λ n. n ≡ 0 → 0 < length buffer.old → IsAtEnd (R.remaining reader.new)) }
+    ensures err { OnErr result (Keeps (R.remaining reader.old) (R.remaining reader.new)) }
+    ensures again { IfErr result (λ error. error_kind error ≢ ErrorKind.Interrupted) }
+{
+    for _ in 0..u64::MAX {
+        match reader.read(buffer) {
+            Ok(count) => return Ok(count),
+            Err(error) if error.kind() == ErrorKind::Interrupted => {}
+            Err(error) => return Err(error),
+        }
+    }
+    Err(io::Error::other("interrupted too often"))
+}
+
+/// Writes, and again where that was interrupted.
+fn write_bytes<W: Write>(writer: &mut W, bytes: &[u8]) -> io::Result<usize>
+    ensures bound { WritesAtMost result bytes.now }
+    ensures ok { IfOk result (λ n. Appends (W.contents writer.old) (W.contents writer.new) (take n bytes.now)) }
+    ensures err { OnErr result (Keeps (W.contents writer.old) (W.contents writer.new)) }
+    ensures again { IfErr result (λ error. error_kind error ≢ ErrorKind.Interrupted) }
+{
+    for _ in 0..u64::MAX {
+        match writer.write(bytes) {
+            Ok(count) => return Ok(count),
+            Err(error) if error.kind() == ErrorKind::Interrupted => {}
+            Err(error) => return Err(error),
+        }
+    }
+    Err(io::Error::other("interrupted too often"))
+}
+
+/// Writes a front of the bytes, at least one where there is one, and flushes.
+fn put_bytes<W: Write>(writer: &mut W, bytes: &[u8]) -> Result<usize, LinkFault>
+    ensures within { IfOk result (λ n. n ≤ length bytes.now) }
+    ensures some { IfOk result (λ n. 0 < length bytes.now → 0 < n) }
+    ensures ok { IfOk result (λ n. Appends (W.contents writer.old) (W.contents writer.new) (take n bytes.now)) }
+    ensures err { OnErr result (AppendsFront (W.contents writer.old) (W.contents writer.new) bytes.now) }
+{
+    let Ok(count) = write_bytes(writer, bytes) else {
+        return Err(LinkFault::Failed);
+    };
+    if count == 0 && !bytes.is_empty() {
+        return Err(LinkFault::Failed);
+    }
+    match writer.flush() {
+        Ok(()) => Ok(count),
+        Err(_) => Err(LinkFault::Failed),
+    }
+}
+
+/// Listens to a reader.
+fn hear_bytes<R: Read>(reader: &mut R, buffer: &mut [u8]) -> Result<Heard, LinkFault>
+    requires { 0 < length buffer.old }
+    ensures within { IfOk result (λ heard. FitsBuffer heard (length buffer.new)) }
+    ensures ok { IfOk result (λ heard. HearsKnown heard buffer.new (R.remaining reader.old) (R.remaining reader.new)) }
+    ensures err { OnErr result (Keeps (R.remaining reader.old) (R.remaining reader.new)) }
+{
+    match read_bytes(reader, buffer) {
+        Ok(0) => Ok(Heard::End),
+        Ok(count) => Ok(Heard::Bytes(count)),
+        Err(error) => match error.kind() {
+            ErrorKind::WouldBlock | ErrorKind::TimedOut => Ok(Heard::Silence),
+            _ => Err(LinkFault::Failed),
+        },
+    }
+}
+
+impl<R, W> StreamLink<R, W> {
+    /// A link that hears what the reader gives and sends what the writer takes.
+    pub fn new(reader: R, writer: W) -> Self
+        ensures { result ≡ record { reader = reader; writer = writer; failures = 0 } }
+    {
+        StreamLink {
+            reader,
+            writer,
+            failures: 0,
+        }
+    }
+}
+
+impl<R: Read + Drop, W: Write + Drop> Link for StreamLink<R, W> {
+    ghost talk = { λ _. None };
+
+    ghost failures = { λ link. link.failures };
+
+    fn send(&mut self, bytes: &[u8]) -> Result<usize, LinkFault>
+        ensures within { IfOk result (λ n. n ≤ length bytes.now) }
+        ensures ok { IfOk result (λ n. Grows None (Sent (take n bytes.now) ∷ []) None) }
+        ensures err { OnErr result (Grows None [] None) }
+        ensures counted { self.old.failures ≤ self.new.failures }
+        ensures failed { OnErr result (HasFailed self.old.failures self.new.failures) }
+        ensures stuck { IfOk result (λ n. n ≡ 0 → 0 < length bytes.now → HasFailed self.old.failures self.new.failures) }
+        // The writer took the bytes that are said to be sent, or at a failure a front of them.
+        ensures written { IfOk result (λ n. Appends (W.contents self.old.writer) (W.contents self.new.writer) (take n bytes.now)) }
+        ensures broken { OnErr result (AppendsFront (W.contents self.old.writer) (W.contents self.new.writer) bytes.now) }
+        ensures reader { self.new.reader ≡ self.old.reader }
+        ensures sound { OnOk result (self.new.failures ≡ self.old.failures) }
+    {
+        let outcome = put_bytes(&mut self.writer, bytes);
+        if outcome.is_err() {
+            self.failures = self.failures.saturating_add(1);
+        }
+        outcome
+    }
+
+    fn recv(&mut self, buffer: &mut [u8]) -> Result<Heard, LinkFault>
+        requires { 0 < length buffer.old }
+        ensures within { IfOk result (λ heard. FitsBuffer heard (length buffer.new)) }
+        ensures ok { IfOk result (λ heard. Grows None (Got (items_of heard buffer.new) ∷ []) None) }
+        ensures err { OnErr result (Grows None [] None) }
+        ensures counted { self.old.failures ≤ self.new.failures }
+        ensures failed { OnErr result (HasFailed self.old.failures self.new.failures) }
+        // The bytes heard are the reader's next ones, none is lost, and an end comes only behind the last.
+        ensures read { IfOk result (λ heard. HearsKnown heard buffer.new (R.remaining self.old.reader) (R.remaining self.new.reader)) }
+        ensures kept { OnErr result (Keeps (R.remaining self.old.reader) (R.remaining self.new.reader)) }
+        ensures writer { self.new.writer ≡ self.old.writer }
+        ensures sound { OnOk result (self.new.failures ≡ self.old.failures) }
+    {
+        let outcome = hear_bytes(&mut self.reader, buffer);
+        if outcome.is_err() {
+            self.failures = self.failures.saturating_add(1);
+        }
+        outcome
+    }
+}

@@ -1,0 +1,166 @@
+//! A link over a tape.
+#![tactic(auto)]
+
+ghost use Rattle.std.specs.Prelude.{◌≡◌, ◌<◌, ◌≤◌, ◌++◌, ◌∷◌, [], ℕ, List, length, take, drop, min, slice_get, Some, IfOk, OnErr};
+ghost use Rattle.stk_host.specs.Tape.{bytes_in};
+ghost use Rattle.stk_host.specs.Talk.{Sent, Got, Grows, HasFailed, FitsBuffer, items_of};
+ghost use Rattle.stk_host.specs.Talk as talk;
+ghost use Rattle.stk_host.specs.Links.{next_piece, byte_of};
+
+use crate::link::{Heard, Item, Link, LinkFault};
+use crate::log::Log;
+use std::alloc::Global;
+use std::marker::Model;
+
+/// A link that gives the items of a tape in their order, and keeps what passed.
+///
+/// A call of `send` takes, and one of `recv` gives, at most `cut` bytes. A silence or an end comes alone; behind the last
+/// item every call of `recv` gives an end. The link fails only where memory for what passed was refused.
+#[derive(Drop)]
+pub struct TapeLink {
+    items: Vec<Item>,
+    at: usize,
+    cut: usize,
+    log: Log,
+    failures: u64,
+}
+
+impl Model for TapeLink {
+    ghost use Rattle.stk_host.specs.Links.{TapeState};
+    ghost use Rattle.std.specs.Prelude.{◌<◌, ◌≤◌, drop, length};
+
+    ghost Value = { TapeState };
+
+    ghost view = { λ link. record {
+      left = drop link.at link.items.items;
+      cut = link.cut;
+      talk = link.log;
+      failures = link.failures;
+    } };
+
+    ghost invariant = { λ link. (0 < link.cut) × (link.at ≤ length link.items.items) };
+}
+
+/// The byte at a place of a tape, if a byte stands there.
+fn byte_at(tape: &[Item], place: usize) -> Option<u8>
+    ensures { result ≡ byte_of (slice_get tape.now place) }
+{
+    match tape.get(place) {
+        Some(Item::Byte(byte)) => Some(*byte),
+        Some(Item::Silence | Item::End) | None => None,
+    }
+}
+
+/// Copies the bytes in front of a tape, as many as the buffer holds, and says how many.
+fn copy_bytes(tape: &[Item], buffer: &mut [u8]) -> usize
+    ensures within { result ≤ length buffer.new }
+    ensures bytes { take result buffer.new ≡ take (length buffer.new) (bytes_in tape.now) }
+{
+    let mut count = 0;
+    while count < buffer.len() {
+        let Some(byte) = byte_at(tape, count) else {
+            return count;
+        };
+        buffer[count] = byte;
+        count += 1;
+    }
+    count
+}
+
+/// Gives the next piece of a tape, its bytes at the front of the buffer.
+fn give_piece(tape: &[Item], buffer: &mut [u8]) -> Heard
+    requires { 0 < length buffer.old }
+    ensures within { FitsBuffer result (length buffer.new) }
+    ensures piece { items_of result buffer.new ≡ next_piece (length buffer.new) tape.now }
+{
+    match tape.first() {
+        Some(Item::Byte(_)) => Heard::Bytes(copy_bytes(tape, buffer)),
+        Some(Item::Silence) => Heard::Silence,
+        Some(Item::End) | None => Heard::End,
+    }
+}
+
+/// How many items a piece has.
+fn item_count(heard: Heard) -> usize
+    ensures { (buffer : List ℕ) → FitsBuffer heard (length buffer) → result ≡ length (items_of heard buffer) }
+{
+    match heard {
+        Heard::Bytes(count) => count,
+        Heard::Silence | Heard::End => 1,
+    }
+}
+
+impl TapeLink {
+    /// A link over these items, in pieces of at most `cut` bytes.
+    pub fn new(alloc: Global, items: Vec<Item>, cut: usize) -> Self
+        requires { 0 < cut }
+        ensures { result ≡ record { left = items.items; cut = cut; talk = []; failures = 0 } }
+    {
+        TapeLink {
+            items,
+            at: 0,
+            cut,
+            log: Log::new(alloc),
+            failures: 0,
+        }
+    }
+
+    /// The bytes sent.
+    pub fn sent(&self) -> &[u8]
+        ensures { result.now ≡ talk.sent self.now.talk }
+    {
+        self.log.sent()
+    }
+}
+
+impl Link for TapeLink {
+    ghost talk = { λ link. Some link.talk };
+
+    ghost failures = { λ link. link.failures };
+
+    fn send(&mut self, bytes: &[u8]) -> Result<usize, LinkFault>
+        ensures within { IfOk result (λ n. n ≤ length bytes.now) }
+        ensures ok { IfOk result (λ n. Grows (Some self.old.talk) (Sent (take n bytes.now) ∷ []) (Some self.new.talk)) }
+        ensures err { OnErr result (Grows (Some self.old.talk) [] (Some self.new.talk)) }
+        ensures counted { self.old.failures ≤ self.new.failures }
+        ensures failed { OnErr result (HasFailed self.old.failures self.new.failures) }
+        ensures stuck { IfOk result (λ n. n ≡ 0 → 0 < length bytes.now → HasFailed self.old.failures self.new.failures) }
+        // As many bytes are taken as a piece may have.
+        ensures count { IfOk result (λ n. n ≡ min self.old.cut (length bytes.now)) }
+        ensures left { self.new.left ≡ self.old.left }
+        ensures cut { self.new.cut ≡ self.old.cut }
+    {
+        let count = self.cut.min(bytes.len());
+        let Ok(()) = self.log.say(&bytes[..count]) else {
+            self.failures = self.failures.saturating_add(1);
+            return Err(LinkFault::Failed);
+        };
+        Ok(count)
+    }
+
+    fn recv(&mut self, buffer: &mut [u8]) -> Result<Heard, LinkFault>
+        requires { 0 < length buffer.old }
+        ensures within { IfOk result (λ heard. FitsBuffer heard (length buffer.new)) }
+        ensures ok { IfOk result (λ heard. Grows (Some self.old.talk) (Got (items_of heard buffer.new) ∷ []) (Some self.new.talk)) }
+        ensures err { OnErr result (Grows (Some self.old.talk) [] (Some self.new.talk)) }
+        ensures counted { self.old.failures ≤ self.new.failures }
+        ensures failed { OnErr result (HasFailed self.old.failures self.new.failures) }
+        // The next piece of the tape is heard, and is no longer there.
+        ensures piece { IfOk result (λ heard. items_of heard buffer.new ≡ next_piece (min self.old.cut (length buffer.new)) self.old.left) }
+        ensures left { IfOk result (λ heard. self.new.left ≡ drop (length (items_of heard buffer.new)) self.old.left) }
+        ensures kept { OnErr result (self.new.left ≡ self.old.left) }
+        ensures cut { self.new.cut ≡ self.old.cut }
+    {
+        let most = self.cut.min(buffer.len());
+        let heard = give_piece(&self.items[self.at..], &mut buffer[..most]);
+        let Ok(()) = self.log.hear(heard, buffer) else {
+            self.failures = self.failures.saturating_add(1);
+            return Err(LinkFault::Failed);
+        };
+        self.at = self
+            .items
+            .len()
+            .min(self.at.saturating_add(item_count(heard)));
+        Ok(heard)
+    }
+}

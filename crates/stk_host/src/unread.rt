@@ -1,0 +1,89 @@
+//! The bytes that were heard and not read yet.
+#![tactic(auto)]
+
+ghost use Rattle.std.specs.Prelude.{◌≡◌, ◌<◌, ◌≤◌, ◌↔◌, IsTrue, ℕ, length, take, drop, [], ◌∷◌, ◌++◌, IfOk, IfErr, OnErr};
+ghost use Rattle.stk_host.specs.Talk.{Grows, HasFailed};
+ghost use Rattle.stk_host.specs.Calls.{HearsPiece};
+
+use crate::link::{Heard, Link, LinkFault};
+use std::marker::Model;
+
+/// The rest of a piece that was heard.
+#[derive(Drop)]
+pub struct Unread {
+    piece: [u8; 281],
+    start: usize,
+    end: usize,
+}
+
+impl Model for Unread {
+    ghost use Rattle.std.specs.Prelude.{List, ℕ, ◌≤◌, slice_range};
+
+    ghost Value = { List ℕ };
+
+    ghost view = { λ unread. slice_range unread.piece unread.start unread.end };
+
+    ghost invariant = { λ unread. (unread.start ≤ unread.end) × (unread.end ≤ 281) };
+}
+
+impl Unread {
+    /// Nothing.
+    pub fn new() -> Self
+        ensures { result ≡ [] }
+    {
+        Unread {
+            piece: [0; 281],
+            start: 0,
+            end: 0,
+        }
+    }
+
+    /// Whether everything was read.
+    pub fn is_empty(&self) -> bool
+        ensures { IsTrue result ↔ (length self.now ≡ 0) }
+    {
+        self.start == self.end
+    }
+
+    /// How many they are.
+    pub fn len(&self) -> usize
+        ensures { result ≡ length self.now }
+    {
+        self.end - self.start
+    }
+
+    /// The first bytes, at most so many.
+    pub fn front(&self, most: usize) -> &[u8]
+        ensures { result.now ≡ take most self.now }
+    {
+        let size = most.min(self.end - self.start);
+        &self.piece[self.start..self.start + size]
+    }
+
+    /// So many bytes were read.
+    pub fn consume(&mut self, count: usize)
+        requires { count ≤ length self.old }
+        ensures left { self.new ≡ drop count self.old }
+        ensures fits { length self.new ≤ 281 }
+    {
+        self.start += count;
+    }
+
+    /// Listens for the next piece.
+    pub fn hear<L: Link>(&mut self, link: &mut L) -> Result<Heard, LinkFault>
+        requires { length self.old ≡ 0 }
+        ensures fits { length self.new ≤ 281 }
+        ensures ok { IfOk result (λ heard. HearsPiece heard self.new (L.talk link.old) (L.talk link.new)) }
+        ensures err { OnErr result (Grows (L.talk link.old) [] (L.talk link.new)) }
+        ensures counted { L.failures link.old ≤ L.failures link.new }
+        ensures failed { OnErr result (HasFailed (L.failures link.old) (L.failures link.new)) }
+    {
+        self.start = 0;
+        self.end = 0;
+        let heard = link.recv(&mut self.piece)?;
+        if let Heard::Bytes(count) = heard {
+            self.end = count;
+        }
+        Ok(heard)
+    }
+}
