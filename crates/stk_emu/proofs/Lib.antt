@@ -1,0 +1,10 @@
+pub mod Blocks
+pub mod Answering
+pub mod NoiseCuts
+pub mod Logs
+pub mod Waits
+pub mod Keeping
+pub mod Segments
+pub mod Fused
+pub mod Bodies
+pub mod Rows

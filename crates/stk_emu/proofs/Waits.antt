@@ -1,0 +1,55 @@
+-- Items that wait.
+use Rattle.std.proofs.Common.{◌≡◌, ℕ, zero, suc, ◌+◌, ◌<◌, ◌≤◌, List, [], ◌∷◌, ◌++◌, length, get_or, take, drop, refl, ap, sym, ◌∙◌, arith, Option, Some, None, length-append, append_assoc}
+use Rattle.std.proofs.Math.ListN.{set}
+use Rattle.std.proofs.lemmas.List.{take_more, take_more_set, map_push, map-append, drop-map, drop-append-le, length-map}
+use Rattle.stk_host.specs.declared.link.Item.{Item}
+use Rattle.stk_host.specs.declared.link.Item.TheVariants.{Byte, Silence}
+use Rattle.stk_host.specs.Tape.{Tape, on_tape}
+use Rattle.stk_emu.specs.Waiting.{item_of, tape_in, IsQuiet}
+
+-- one byte more is put behind
+pub put_on : (start segment new : List (Option ℕ)) (bytes : List ℕ) (i : ℕ) → i < length bytes → tape_in segment ≡ tape_in start ++ on_tape (take i bytes)
+    → new ≡ segment ++ Some (get_or bytes i 0) ∷ [] → tape_in new ≡ tape_in start ++ on_tape (take (i + 1) bytes)
+put_on start segment new bytes i h so_far is =
+    ap tape_in is
+    ∙ (map_push item_of segment (Some (get_or bytes i 0))
+    ∙ (ap (λ t. t ++ Byte (get_or bytes i 0) ∷ []) so_far
+    ∙ (append_assoc (tape_in start) (on_tape (take i bytes)) (Byte (get_or bytes i 0) ∷ [])
+    ∙ ap (λ t. tape_in start ++ t) (sym (ap on_tape (take_more bytes i 0 h) ∙ map_push Byte (take i bytes) (get_or bytes i 0))))))
+
+item_at : (items : List (Option ℕ)) (i : ℕ) → get_or (tape_in items) i Silence ≡ item_of (get_or items i None)
+item_at [] i = refl
+item_at (x ∷ items) zero = refl
+item_at (x ∷ items) (suc i) = item_at items i
+
+-- one byte more is taken
+pub taken_next : (items : List (Option ℕ)) (buffer : List ℕ) (count b : ℕ) → count < length buffer → count < length items → get_or items count None ≡ Some b
+    → on_tape (take count buffer) ≡ take count (tape_in items) → on_tape (take (count + 1) (set buffer count b)) ≡ take (count + 1) (tape_in items)
+taken_next items buffer count b h k is taken =
+    let inside : count < length (tape_in items) = rw (length-map items item_of) k in
+    ap on_tape (take_more_set buffer count b h)
+    ∙ (map_push Byte (take count buffer) b
+    ∙ (ap (λ t. t ++ Byte b ∷ []) taken
+    ∙ sym (take_more (tape_in items) count Silence inside ∙ ap (λ x. take count (tape_in items) ++ x ∷ []) (item_at items count ∙ ap item_of is))))
+
+-- no byte comes first
+pub quiet_first : (items : List (Option ℕ)) → get_or items 0 None ≡ None → IsQuiet items
+quiet_first [] e = tt
+quiet_first (Some b ∷ items) e = absurd (cc)
+quiet_first (None ∷ items) e = tt
+
+pub quiet_none : (items : List (Option ℕ)) → length items ≤ 0 → IsQuiet items
+quiet_none [] e = tt
+quiet_none (x ∷ items) e = absurd (omega arith)
+
+-- what is left where so many are heard
+pub left_on : (items old : List (Option ℕ)) (at next count : ℕ) → drop next items ≡ drop count (drop at old) → tape_in (drop next items) ≡ drop count (tape_in (drop at old))
+left_on items old at next count e = ap tape_in e ∙ sym (drop-map item_of count (drop at old))
+
+-- more waits, behind what waited
+pub grown : (waits new brought : List (Option ℕ)) (at : ℕ) (tape : Tape) → at ≤ length waits → new ≡ waits ++ brought → tape_in brought ≡ tape
+    → tape_in (drop at new) ≡ tape_in (drop at waits) ++ tape
+grown waits new brought at tape le is brings =
+    ap (λ w. tape_in (drop at w)) is
+    ∙ (ap tape_in (drop-append-le at waits brought le)
+    ∙ (map-append item_of (drop at waits) brought ∙ ap (λ t. tape_in (drop at waits) ++ t) brings))

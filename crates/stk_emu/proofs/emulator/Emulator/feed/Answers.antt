@@ -1,0 +1,24 @@
+use Rattle.std.proofs.Common.{sym, ◌∙◌}
+use Rattle.stk_frame.specs.Reader.{found}
+use Rattle.stk_emu.proofs.Answering.{found_frames, found_few, is_fed, emulated, none_found}
+use Rattle.stk_emu.proofs.emulator.Emulator.feed.Goals as goal
+
+pub returns-clause-all : goal.returns-clause-all
+returns-clause-all c = λ e. c.feed-used.ensures.all (none_found c.feed-used.result.1 c.feed-used.new.self c.self.inside.programmer (sym c.answer_event.ensures.answers ∙ e))
+
+pub returns-clause-one : goal.returns-clause-one
+returns-clause-one c =
+    rw (← c.self.view_is) (record {
+      found = found c.feed-used.result.1 c.feed-used.new.self;
+      few = found_few c.feed-used.result.1 c.feed-used.new.self;
+      are_frames = found_frames c.feed-used.result.1 c.feed-used.new.self c.feed-used.ensures.tells;
+      fed = c.feed-used.ensures.fed;
+      answered = c.answer_event.ensures.answers;
+      obeyed = c.answer_event.ensures.after;
+    })
+
+pub returns-clause-fed : goal.returns-clause-fed
+returns-clause-fed c = λ p text f. is_fed _ _ _ _ p text (returns-clause-one c) f
+
+pub returns-clause-emulated : goal.returns-clause-emulated
+returns-clause-emulated c = λ p text f. emulated _ _ _ _ p text (returns-clause-one c) f

@@ -1,0 +1,37 @@
+-- What obeys frames, and its answers to them.
+use Rattle.std.specs.Prelude.{ℕ, List, [], ◌∷◌, ◌++◌, if◌then◌else◌}
+use Rattle.stk_frame.specs.Frame.{frame}
+use Rattle.stk_frame.specs.Cut.{is_good, seq_of, body_of}
+use Rattle.stk_emu.specs.Programmer.{Programmer, obey}
+
+-- the body of the answer to a body, and what is there afterwards
+pub record Device (P : Type 0) : Type 0 where
+  pub answer : List ℕ → P → List ℕ
+  pub after : List ℕ → P → P
+
+abbrev pub device : Device Programmer
+device = record { answer = λ bytes p. (obey bytes p).0; after = λ bytes p. (obey bytes p).1 }
+
+-- the body that tells of a wrong XOR
+abbrev pub refusal : List ℕ
+refusal = 0xB0 ∷ 0xC1 ∷ []
+
+-- A good frame is obeyed; a spoiled one is refused, and changes nothing.
+abbrev pub answer_body : {P : Type 0} → Device P → List ℕ → P → List ℕ
+answer_body m piece p = if is_good piece then m.answer (body_of piece) p else refusal
+
+abbrev pub after_frame : {P : Type 0} → Device P → List ℕ → P → P
+after_frame m piece p = if is_good piece then m.after (body_of piece) p else p
+
+-- the frame of the answer, which carries the frame's own number
+abbrev pub answer_frame : {P : Type 0} → Device P → List ℕ → P → List ℕ
+answer_frame m piece p = frame (seq_of piece) (answer_body m piece p)
+
+-- the answers to whole frames, joined, and what is there after them
+abbrev pub answers : {P : Type 0} → Device P → List (List ℕ) → P → List ℕ
+answers m [] p = []
+answers m (piece ∷ pieces) p = answer_frame m piece p ++ answers m pieces (after_frame m piece p)
+
+abbrev pub after_all : {P : Type 0} → Device P → List (List ℕ) → P → P
+after_all m [] p = p
+after_all m (piece ∷ pieces) p = after_all m pieces (after_frame m piece p)

@@ -1,0 +1,10 @@
+pub mod Programmer
+pub mod Device
+pub mod Emulator
+pub mod Lawful
+pub mod Wire
+pub mod Log
+pub mod Waiting
+pub mod Wired
+pub mod WiredInside
+pub mod Along

@@ -1,0 +1,261 @@
+-- The programmer, and what each command makes it do.
+use Rattle.std.specs.Prelude.{ℕ, Bool, true, false, zero, suc, List, [], ◌∷◌, ◌++◌, ◌+◌, ◌-◌, ◌*◌, ◌/◌, ◌%◌, length, ◌==◌, ◌&&◌, ◌||◌, not, nat_le, nat_lt, if◌then◌else◌, slice_index, slice_set, bit_or, take, drop, replicate, Option, Some, None}
+use Rattle.std.specs.Int.{bit_at}
+use Rattle.avr_part.specs.State.{State, spi_of}
+use Rattle.stk_frame.specs.declared.command.Command.{Command}
+use Rattle.stk_frame.specs.declared.command.Command.TheVariants.{SignOn, SetParameter, GetParameter, LoadAddress, EnterProgmode, LeaveProgmode, ChipErase, ProgramFlash, ReadFlash, ProgramEeprom, ReadEeprom, ProgramFuse, ReadFuse, ProgramLock, ReadLock, ReadSignature, ReadOsccal, SpiMulti}
+use Rattle.stk_frame.specs.declared.command.EnterProgmode.{EnterProgmode as EnterFields}
+use Rattle.stk_frame.specs.declared.command.ProgramBlock.{ProgramBlock}
+use Rattle.stk_frame.specs.declared.command.ReadBlock.{ReadBlock}
+use Rattle.stk_frame.specs.declared.command.ReadByte.{ReadByte}
+use Rattle.stk_frame.specs.Decoding.{command_of}
+
+pub record Programmer : Type 0 where
+  -- it is in programming mode
+  pub mode : Bool
+  -- of 31 bits
+  pub address : ℕ
+  -- the extended address is sent, too
+  pub wide : Bool
+  pub parameters : List ℕ
+  pub chip : State
+
+-- a programmer as it begins, with this chip
+abbrev pub fresh_programmer : State → Programmer
+fresh_programmer chip = record {
+  mode = false;
+  address = 0;
+  wide = false;
+  parameters = replicate 256 0;
+  chip = chip;
+}
+
+-- the body of an answer, and the programmer behind the command
+abbrev pub Done : Type 0
+Done = List ℕ × Programmer
+
+-- a command that fails changes nothing
+abbrev pub fail : ℕ → Programmer → Done
+fail code p = (code ∷ 0xC0 ∷ [], p)
+
+-- outside programming mode a command fails
+abbrev pub in_mode : ℕ → Programmer → Done → Done
+in_mode code p done = if p.mode then done else fail code p
+
+-- serial programming instructions, one after another
+abbrev pub sent_to : List (List ℕ) → State → State
+sent_to [] chip = chip
+sent_to (x ∷ xs) chip = sent_to xs ((spi_of x chip).1)
+
+abbrev pub instructed : List (List ℕ) → Programmer → Programmer
+instructed xs p = record p { chip = sent_to xs p.chip }
+
+-- addresses are below this, and a LOAD_ADDRESS from it on asks for the extended address
+abbrev pub bit_31 : ℕ
+bit_31 = 2147483648
+
+abbrev pub moved : ℕ → Programmer → Programmer
+moved count p = record p { address = (p.address + count) % bit_31 }
+
+-- bits 15 to 8, and 7 to 0, of an address
+abbrev pub high : ℕ → ℕ
+high address = address / 256 % 256
+
+abbrev pub low : ℕ → ℕ
+low address = address % 256
+
+-- an instruction at an address
+abbrev pub at_address : ℕ → ℕ → ℕ → List ℕ
+at_address cmd address byte = cmd ∷ high address ∷ low address ∷ byte ∷ []
+
+-- what goes out in front of one for flash, while the extended address is sent
+abbrev pub extension : Bool → ℕ → List (List ℕ)
+extension true address = (0x4D ∷ 0 ∷ (address / 65536 % 256) ∷ 0 ∷ []) ∷ []
+extension false address = []
+
+-- the instruction for the low or the high byte of a word
+abbrev pub for_half : ℕ → ℕ → ℕ
+for_half cmd i = if i % 2 == 0 then cmd else bit_or cmd 8
+
+-- the address of the byte i behind the one at which a command begins: of its word in flash, of itself in EEPROM
+abbrev pub word_at : ℕ → ℕ → ℕ
+word_at address i = (address + i / 2) % bit_31
+
+abbrev pub byte_at : ℕ → ℕ → ℕ
+byte_at address i = (address + i) % bit_31
+
+abbrev pub sign_on : Programmer → Done
+sign_on p = (0x01 ∷ 0 ∷ 8 ∷ 0x53 ∷ 0x54 ∷ 0x4B ∷ 0x35 ∷ 0x30 ∷ 0x30 ∷ 0x5F ∷ 0x32 ∷ [], p)
+
+abbrev pub set_parameter : ℕ → ℕ → Programmer → Done
+set_parameter number value p = (0x02 ∷ 0 ∷ [], record p { parameters = slice_set p.parameters number value })
+
+abbrev pub get_parameter : ℕ → Programmer → Done
+get_parameter number p = (0x03 ∷ 0 ∷ slice_index p.parameters number ∷ [], p)
+
+abbrev pub load_address : ℕ → Programmer → Done
+load_address address p = (0x06 ∷ 0 ∷ [], record p { address = address % bit_31; wide = nat_le bit_31 address })
+
+-- the byte out that is asked for is as the poll wants it
+abbrev pub is_polled : ℕ → ℕ → List ℕ → Bool
+is_polled value index out = index == 0 || slice_index out (index - 1) == value
+
+abbrev pub entered : Bool → Programmer → Done
+entered ok p = (0x10 ∷ (if ok then 0 else 0xC0) ∷ [], record p { mode = ok })
+
+abbrev pub enter_progmode : EnterFields → Programmer → Done
+enter_progmode f p =
+    if nat_lt 4 f.poll_index
+    then entered false p
+    else entered (is_polled f.poll_value f.poll_index (spi_of f.instruction p.chip).0) (instructed (f.instruction ∷ []) p)
+
+abbrev pub leave_progmode : Programmer → Done
+leave_progmode p = (0x11 ∷ 0 ∷ [], record p { mode = false })
+
+abbrev pub chip_erase : List ℕ → Programmer → Done
+chip_erase instruction p = in_mode 0x12 p (0x12 ∷ 0 ∷ [], instructed (instruction ∷ []) p)
+
+-- a fuse or the lock
+abbrev pub program_byte : ℕ → List ℕ → Programmer → Done
+program_byte code instruction p = in_mode code p (code ∷ 0 ∷ 0 ∷ [], instructed (instruction ∷ []) p)
+
+-- a fuse, the lock, a signature byte or the calibration
+abbrev pub read_byte : ℕ → ReadByte → Programmer → Done
+read_byte code f p =
+    in_mode code p (if nat_le 1 f.return_address && nat_le f.return_address 4
+    then (code ∷ 0 ∷ slice_index (spi_of f.instruction p.chip).0 (f.return_address - 1) ∷ 0 ∷ [], instructed (f.instruction ∷ []) p)
+    else fail code p)
+
+abbrev pub flash_loads : Bool → ℕ → ℕ → ℕ → List ℕ → List (List ℕ)
+flash_loads wide cmd address i [] = []
+flash_loads wide cmd address i (b ∷ bytes) =
+    extension wide (word_at address i)
+    ++ (at_address (for_half cmd i) (word_at address i) b ∷ flash_loads wide cmd address (suc i) bytes)
+
+abbrev pub flash_writes : Bool → ℕ → ℕ → Bool → List (List ℕ)
+flash_writes wide cmd address true = extension wide address ++ (at_address cmd address 0 ∷ [])
+flash_writes wide cmd address false = []
+
+-- page mode, and the page is written
+abbrev pub is_paged : ProgramBlock → Bool
+is_paged f = bit_at f.mode 0 == 1
+
+abbrev pub is_written : ProgramBlock → Bool
+is_written f = bit_at f.mode 7 == 1
+
+abbrev pub writes_page : ProgramBlock → Bool
+writes_page f = is_paged f && is_written f
+
+abbrev pub flash_fits : ProgramBlock → Bool
+flash_fits f = not (f.count == 0) && f.count % 2 == 0 && f.count == length f.bytes && is_paged f
+
+abbrev pub program_flash : ProgramBlock → Programmer → Done
+program_flash f p =
+    in_mode 0x13 p (if flash_fits f
+    then (
+      0x13 ∷ 0 ∷ [],
+      moved (f.count / 2) (instructed
+          (flash_loads p.wide f.cmd1 p.address 0 f.bytes ++ flash_writes p.wide f.cmd2 p.address (is_written f)) p),
+    )
+    else fail 0x13 p)
+
+abbrev pub eeprom_loads : ℕ → ℕ → ℕ → List ℕ → List (List ℕ)
+eeprom_loads cmd address i [] = []
+eeprom_loads cmd address i (b ∷ bytes) = at_address cmd (byte_at address i) b ∷ eeprom_loads cmd address (suc i) bytes
+
+abbrev pub eeprom_writes : ℕ → ℕ → Bool → List (List ℕ)
+eeprom_writes cmd address true = at_address cmd address 0 ∷ []
+eeprom_writes cmd address false = []
+
+abbrev pub eeprom_fits : ProgramBlock → Bool
+eeprom_fits f = not (f.count == 0) && f.count == length f.bytes
+
+abbrev pub program_eeprom : ProgramBlock → Programmer → Done
+program_eeprom f p =
+    in_mode 0x15 p (if eeprom_fits f
+    then (
+      0x15 ∷ 0 ∷ [],
+      moved f.count (instructed
+          (eeprom_loads f.cmd1 p.address 0 f.bytes ++ eeprom_writes f.cmd2 p.address (writes_page f)) p),
+    )
+    else fail 0x15 p)
+
+-- bytes read, and the chip behind the instructions that read them
+abbrev pub Looked : Type 0
+Looked = List ℕ × State
+
+abbrev pub behind_byte : ℕ → Looked → Looked
+behind_byte b looked = (b ∷ looked.0, looked.1)
+
+-- the fourth byte out of an instruction, and then what is read from the chip behind it
+abbrev pub look : List ℕ → State → (State → Looked) → Looked
+look x chip more = behind_byte (slice_index (spi_of x chip).0 3) (more (spi_of x chip).1)
+
+abbrev pub flash_looks : Bool → ℕ → ℕ → ℕ → ℕ → State → Looked
+flash_looks wide cmd address i zero chip = ([], chip)
+flash_looks wide cmd address i (suc n) chip =
+    look (at_address (for_half cmd i) (word_at address i) 0) (sent_to (extension wide (word_at address i)) chip)
+    (flash_looks wide cmd address (suc i) n)
+
+abbrev pub eeprom_looks : ℕ → ℕ → ℕ → ℕ → State → Looked
+eeprom_looks cmd address i zero chip = ([], chip)
+eeprom_looks cmd address i (suc n) chip =
+    look (at_address cmd (byte_at address i) 0) chip (eeprom_looks cmd address (suc i) n)
+
+-- a block that was read
+abbrev pub block : ℕ → Looked → Programmer → Done
+block code looked p = (code ∷ 0 ∷ (looked.0 ++ 0 ∷ []), record p { chip = looked.1 })
+
+abbrev pub read_flash : ReadBlock → Programmer → Done
+read_flash f p =
+    in_mode 0x14 p (if not (f.count == 0) && f.count % 2 == 0 && nat_le f.count 272
+    then block 0x14 (flash_looks p.wide f.cmd1 p.address 0 f.count p.chip) (moved (f.count / 2) p)
+    else fail 0x14 p)
+
+abbrev pub read_eeprom : ReadBlock → Programmer → Done
+read_eeprom f p =
+    in_mode 0x16 p (if not (f.count == 0) && nat_le f.count 272
+    then block 0x16 (eeprom_looks f.cmd1 p.address 0 f.count p.chip) (moved f.count p)
+    else fail 0x16 p)
+
+abbrev pub spi_multi : ℕ → ℕ → ℕ → List ℕ → Programmer → Done
+spi_multi send_count receive_count receive_start bytes p =
+    in_mode 0x1D p (if send_count == 4 && length bytes == 4 && nat_le (receive_start + receive_count) 4
+    then (0x1D ∷ 0 ∷ (take receive_count (drop receive_start (spi_of bytes p.chip).0) ++ 0 ∷ []), instructed (bytes ∷ []) p)
+    else fail 0x1D p)
+
+abbrev pub obey_command : Command → Programmer → Done
+obey_command SignOn p = sign_on p
+obey_command (SetParameter number value) p = set_parameter number value p
+obey_command (GetParameter number) p = get_parameter number p
+obey_command (LoadAddress address) p = load_address address p
+obey_command (EnterProgmode f) p = enter_progmode f p
+obey_command (LeaveProgmode pre_delay post_delay) p = leave_progmode p
+obey_command (ChipErase erase_delay poll_method instruction) p = chip_erase instruction p
+obey_command (ProgramFlash f) p = program_flash f p
+obey_command (ReadFlash f) p = read_flash f p
+obey_command (ProgramEeprom f) p = program_eeprom f p
+obey_command (ReadEeprom f) p = read_eeprom f p
+obey_command (ProgramFuse instruction) p = program_byte 0x17 instruction p
+obey_command (ReadFuse f) p = read_byte 0x18 f p
+obey_command (ProgramLock instruction) p = program_byte 0x19 instruction p
+obey_command (ReadLock f) p = read_byte 0x1A f p
+obey_command (ReadSignature f) p = read_byte 0x1B f p
+obey_command (ReadOsccal f) p = read_byte 0x1C f p
+obey_command (SpiMulti send_count receive_count receive_start bytes) p = spi_multi send_count receive_count receive_start bytes p
+
+-- the byte of a command
+abbrev pub is_known : ℕ → Bool
+is_known code = nat_le 0x01 code && nat_le code 0x03 || code == 0x06 || nat_le 0x10 code && nat_le code 0x1D
+
+-- A body that is no command's: the answer tells whether its first byte is.
+abbrev pub not_read : ℕ → Programmer → Done
+not_read code p = (code ∷ (if is_known code then 0xC0 else 0xC9) ∷ [], p)
+
+abbrev pub read_as : Option Command → List ℕ → Programmer → Done
+read_as (Some command) bytes p = obey_command command p
+read_as None bytes p = not_read (slice_index bytes 0) p
+
+-- what the body of a frame makes the programmer answer and become
+abbrev pub obey : List ℕ → Programmer → Done
+obey bytes p = read_as (command_of bytes) bytes p

@@ -1,0 +1,18 @@
+-- What waits to be heard, as it is kept: bytes, and None for a silence.
+use Rattle.std.specs.Prelude.{ℕ, List, [], ◌∷◌, map, Option, Some, None}
+use Rattle.stk_host.specs.declared.link.Item.{Item}
+use Rattle.stk_host.specs.declared.link.Item.TheVariants.{Byte, Silence}
+use Rattle.stk_host.specs.Tape.{Tape}
+
+abbrev pub item_of : Option ℕ → Item
+item_of (Some b) = Byte b
+item_of None = Silence
+
+abbrev pub tape_in : List (Option ℕ) → Tape
+tape_in = map item_of
+
+-- no byte comes first
+abbrev pub IsQuiet : List (Option ℕ) → Type 0
+IsQuiet [] = Unit {0}
+IsQuiet (Some b ∷ items) = ⊥
+IsQuiet (None ∷ items) = Unit {0}

@@ -1,0 +1,44 @@
+-- A wire as a link, and that what passes over it is what the fates say.
+use Rattle.std.specs.Prelude.{ℕ, List, [], ◌∷◌, ◌++◌, ◌≡◌, ◌≢◌, length, take, drop, ◌<◌}
+use Rattle.stk_frame.specs.Cut.{frames}
+use Rattle.stk_frame.specs.Reader.{Stands}
+use Rattle.stk_host.specs.declared.link.Item.TheVariants.{Silence}
+use Rattle.stk_host.specs.Tape.{Tape}
+use Rattle.stk_host.specs.Talk.{Talk, Got, sent, heard}
+use Rattle.stk_emu.specs.declared.fate.Fate.{Fate}
+use Rattle.stk_emu.specs.Programmer.{Programmer}
+use Rattle.stk_emu.specs.Device.{device}
+use Rattle.stk_emu.specs.Wire.{Wire, fresh, tape_of, wire_after}
+
+-- the bytes of a frame that has not ended; the wire; the items that wait to be heard; what passed; and the failures
+pub record State : Type 0 where
+  pub held : List ℕ
+  pub wire : Wire Programmer
+  pub waits : Tape
+  pub talk : Talk
+  pub failures : ℕ
+
+-- what the frames of these bytes bring over a wire that nothing passed yet
+abbrev pub brought : Programmer → List Fate → List ℕ → Tape
+brought p fates bytes = tape_of device (frames bytes) (fresh p fates)
+
+-- Nobody listened where all that was brought had been heard.
+abbrev pub NeverIdle : Programmer → List Fate → Talk → Type 0
+NeverIdle p fates talk =
+    (before after : Talk) (items : Tape) → talk ≡ before ++ Got items ∷ after → brought p fates (sent before) ≢ heard before
+
+-- A wire that began with this programmer and these fates: it stands where the frames sent have brought it, and, unless
+-- somebody listened where nothing waited, what was heard and what waits are what these frames bring.
+pub record Keeps (p : Programmer) (fates : List Fate) (w : State) : Type 0 where
+  pub held : Stands w.held (sent w.talk)
+  pub stands : w.wire ≡ wire_after device (frames (sent w.talk)) (fresh p fates)
+  pub brings : NeverIdle p fates w.talk → brought p fates (sent w.talk) ≡ heard w.talk ++ w.waits
+
+-- items are heard, and wait no more
+abbrev pub after_hearing : Tape → State → State
+after_hearing items w = record w { talk = w.talk ++ Got items ∷ []; waits = drop (length items) w.waits }
+
+-- what is heard next: some of the items that wait first, or a silence where nothing waits
+abbrev pub IsNext : Tape → Tape → Type 0
+IsNext items [] = items ≡ Silence ∷ []
+IsNext items (item ∷ waits) = (0 < length items) × (items ≡ take (length items) (item ∷ waits))

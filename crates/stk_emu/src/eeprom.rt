@@ -1,0 +1,51 @@
+//! Blocks of EEPROM.
+#![tactic(auto)]
+
+ghost use Rattle.std.specs.Prelude.{◌≡◌, ◌<◌, ◌≤◌, ◌+◌, ◌++◌, length};
+ghost use Rattle.stk_emu.specs.Programmer.{bit_31, sent_to, eeprom_loads, eeprom_writes, eeprom_looks};
+
+use crate::spi::{at_address, byte_at};
+use arrayvec::ArrayVec;
+use avr_part::Chip;
+
+/// Loads or writes the bytes of a block, as the instruction says.
+pub(crate) fn load_bytes(chip: &mut Chip, command: u8, address: u32, bytes: &[u8])
+    requires address { address < bit_31 }
+    requires count { length bytes.now < 65536 }
+    ensures { chip.new ≡ sent_to (eeprom_loads command address 0 bytes.now) chip.old }
+{
+    for (i, byte) in bytes.iter().enumerate() {
+        let at = byte_at(address, i as u16);
+        chip.spi(at_address(command, at, *byte));
+    }
+}
+
+/// Writes the page, if that is asked for.
+pub(crate) fn write_page(chip: &mut Chip, command: u8, address: u32, is_asked: bool)
+    ensures { chip.new ≡ sent_to (eeprom_writes command address is_asked) chip.old }
+{
+    if is_asked {
+        chip.spi(at_address(command, address, 0));
+    }
+}
+
+/// Reads so many bytes, and puts them behind those of `out`.
+pub(crate) fn read(
+    chip: &mut Chip,
+    command: u8,
+    address: u32,
+    count: u16,
+    out: &mut ArrayVec<u8, 275>,
+)
+    requires address { address < bit_31 }
+    requires room { length out.old.items + count ≤ 275 }
+    ensures bytes { out.new.items ≡ out.old.items ++ (eeprom_looks command address 0 count chip.old).0 }
+    ensures chip { chip.new ≡ (eeprom_looks command address 0 count chip.old).1 }
+    ensures len { length out.new.items ≡ length out.old.items + count }
+{
+    for place in 0..count {
+        let at = byte_at(address, place);
+        let bytes = chip.spi(at_address(command, at, 0));
+        out.push(bytes[3]);
+    }
+}

@@ -1,0 +1,124 @@
+//! The programmer behind its frames.
+#![tactic(auto)]
+
+ghost use Rattle.std.specs.Prelude.{◌≡◌, ◌<◌, ◌≤◌, ◌++◌, ◌∷◌, [], ℕ, List, length, take};
+ghost use Rattle.stk_frame.specs.Frame.{frame};
+ghost use Rattle.stk_frame.specs.Cut.{is_good, seq_of, body_of};
+ghost use Rattle.stk_frame.specs.Reader.{HoldsFrame, Tells, found};
+ghost use Rattle.stk_emu.specs.Programmer.{Programmer as ProgrammerState, fresh_programmer, obey};
+ghost use Rattle.stk_emu.specs.Device.{device, refusal, answer_frame, after_frame, answers, after_all};
+ghost use Rattle.stk_emu.specs.Emulator.{Answers, IsFed, emulate};
+
+use crate::programmer::{Body, Programmer};
+use arrayvec::ArrayVec;
+use avr_part::Chip;
+use std::marker::Model;
+use stk_frame::{Event, FrameReader, put_frame};
+
+/// The body that tells of a wrong XOR.
+const REFUSAL: [u8; 2] = [0xB0, 0xC1];
+
+/// A frame.
+pub(crate) type Frame = ArrayVec<u8, 281>;
+
+/// The refusal of the frame that the reader holds.
+pub(crate) fn refuse(reader: &FrameReader, out: &mut Frame)
+    requires { HoldsFrame reader.now }
+    ensures { out.new.items ≡ frame (seq_of reader.now) refusal }
+{
+    put_frame(reader.seq(), &REFUSAL, out);
+}
+
+/// Obeys the frame that the reader holds, and makes `out` the answer.
+fn obey_frame(reader: &FrameReader, programmer: &mut Programmer, out: &mut Frame)
+    requires { HoldsFrame reader.now }
+    ensures answer { out.new.items ≡ frame (seq_of reader.now) (obey (body_of reader.now) programmer.old).0 }
+    ensures after { programmer.new ≡ (obey (body_of reader.now) programmer.old).1 }
+{
+    let mut body = Body::new();
+    programmer.obey(reader.body(), &mut body);
+    put_frame(reader.seq(), body.as_slice(), out);
+}
+
+/// Answers the frame that the reader holds: it is obeyed if it is good, and else refused.
+pub(crate) fn answer(reader: &FrameReader, good: bool, programmer: &mut Programmer, out: &mut Frame)
+    requires holds { HoldsFrame reader.now }
+    requires tells { is_good reader.now ≡ good }
+    ensures answer { out.new.items ≡ answer_frame device reader.now programmer.old }
+    ensures after { programmer.new ≡ after_frame device reader.now programmer.old }
+{
+    if good {
+        obey_frame(reader, programmer, out);
+    } else {
+        refuse(reader, out);
+    }
+}
+
+/// Answers the frame of which the event tells; `out` becomes empty where it tells of none.
+fn answer_event(reader: &FrameReader, event: Event, programmer: &mut Programmer, out: &mut Frame)
+    requires { Tells event reader.now }
+    ensures answers { out.new.items ≡ answers device (found event reader.now) programmer.old }
+    ensures after { programmer.new ≡ after_all device (found event reader.now) programmer.old }
+{
+    match event {
+        Event::More => out.clear(),
+        Event::Frame => answer(reader, true, programmer, out),
+        Event::Spoiled => answer(reader, false, programmer, out),
+    }
+}
+
+/// A programmer with its part, which is fed what comes over a line and answers each frame.
+///
+/// A good frame is obeyed, and a frame whose XOR is wrong is answered with the body `B0 C1`. An answer carries the number
+/// of its frame, whatever the numbers before it were. Only the part of a frame that has come is held.
+#[derive(Drop)]
+pub struct Emulator {
+    reader: FrameReader,
+    programmer: Programmer,
+}
+
+impl Model for Emulator {
+    ghost use Rattle.stk_emu.specs.Emulator.{Machine};
+
+    ghost Value = { Machine };
+
+    ghost view = { λ emulator. record { held = emulator.reader; programmer = emulator.programmer } };
+}
+
+impl Emulator {
+    /// A programmer with this chip, out of programming mode, that was fed nothing.
+    pub fn new(chip: Chip) -> Emulator
+        ensures held { result.held ≡ [] }
+        ensures programmer { result.programmer ≡ fresh_programmer chip }
+        ensures begins { IsFed (fresh_programmer chip) [] result }
+    {
+        Emulator {
+            reader: FrameReader::new(),
+            programmer: Programmer::new(chip),
+        }
+    }
+
+    /// The chip, as it is after the frames so far.
+    pub fn chip(&self) -> &Chip
+        ensures { result.now ≡ self.now.programmer.chip }
+    {
+        self.programmer.chip()
+    }
+
+    /// Uses bytes up to the end of the first frame that is answered, whose answer `out` becomes, and says how many. Where no
+    /// frame ends all bytes are used, and `out` is empty.
+    pub fn feed(&mut self, piece: &[u8], out: &mut ArrayVec<u8, 281>) -> usize
+        ensures within { result ≤ length piece.now }
+        ensures all { out.new.items ≡ [] → result ≡ length piece.now }
+        ensures progress { 0 < length piece.now → 0 < result }
+        ensures one { Answers self.old (take result piece.now) self.new out.new.items }
+        // Whatever it began with and was fed: all answers are those to the whole text, however it was cut.
+        ensures fed { (p : ProgrammerState) (text : List ℕ) → IsFed p text self.old → IsFed p (text ++ take result piece.now) self.new }
+        ensures emulated { (p : ProgrammerState) (text : List ℕ) → IsFed p text self.old
+            → emulate p (text ++ take result piece.now) ≡ emulate p text ++ out.new.items }
+    {
+        let (used, event) = self.reader.feed(piece);
+        answer_event(&self.reader, event, &mut self.programmer, out);
+        used
+    }
+}

@@ -1,0 +1,36 @@
+//! An emulated programmer of the STK500 protocol, version 2, with its part, and a wire to it that loses, delays and spoils.
+//!
+//! The programmer obeys the commands of Atmel's application note AVR068 and sends the serial programming instructions of the
+//! part's data sheet to its [`avr_part::Chip`]. The one idea: each whole frame that is sent brings one segment of items, as
+//! its fate says, and nothing else comes.
+//!
+//! An [`Emulator`] that is fed `1B 09 00 01 0E 05 18`, a command that no programmer knows, answers
+//! `1B 09 00 02 0E 05 C9 D2`; a [`Wired`] is a [`stk_host::Link`] over which a `Host` talks to such a programmer.
+#![tactic(auto)]
+
+// the programmer, command by command
+mod eeprom;
+mod flash;
+mod programmer;
+mod spi;
+// frames
+mod emulator;
+// the wire
+mod fate;
+mod line;
+mod log;
+mod noise;
+mod segment;
+#[cfg(test)]
+mod tests;
+mod wired;
+// laws
+mod laws;
+
+pub use emulator::Emulator;
+pub use fate::Fate;
+pub use laws::{
+    a_conversation_goes_along_the_line, a_segment_is_read_whole, every_answer_fits_a_frame,
+};
+pub use noise::noise_is_lawful;
+pub use wired::Wired;

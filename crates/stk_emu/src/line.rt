@@ -1,0 +1,160 @@
+//! The wire, frame by frame.
+#![tactic(auto)]
+
+ghost use Rattle.std.specs.Prelude.{◌≡◌, ◌++◌, []};
+ghost use Rattle.stk_frame.specs.Frame.{frame};
+ghost use Rattle.stk_frame.specs.Cut.{is_good, seq_of};
+ghost use Rattle.stk_frame.specs.Reader.{HoldsFrame, Tells, found};
+ghost use Rattle.stk_host.specs.Tape.{on_tape};
+ghost use Rattle.stk_emu.specs.Programmer.{fresh_programmer};
+ghost use Rattle.stk_emu.specs.Device.{device, refusal, answer_frame, after_frame};
+ghost use Rattle.stk_emu.specs.Waiting.{tape_in};
+ghost use Rattle.stk_emu.specs.Wire.{AreLawful, IsLawfulFate, fresh, segment, passed, tape_of, wire_after, late_of, after_fate, back};
+
+use crate::emulator::{Frame, answer, refuse};
+use crate::fate::Fate;
+use crate::programmer::Programmer;
+use crate::segment::{Segment, put_bytes, put_silence};
+use avr_part::Chip;
+use std::marker::Model;
+use stk_frame::{Event, FrameReader};
+
+/// The programmer at the end of a line, and what is still to happen on it.
+#[derive(Drop)]
+pub(crate) struct Line {
+    programmer: Programmer,
+    fates: Vec<Fate>,
+    next: usize,
+    late: Frame,
+}
+
+impl Model for Line {
+    ghost use Rattle.std.specs.Prelude.{drop};
+    ghost use Rattle.stk_emu.specs.Programmer.{Programmer as State};
+    ghost use Rattle.stk_emu.specs.Wire.{Wire, AreLawful};
+
+    ghost Value = { Wire State };
+
+    ghost view = { λ line. record {
+      programmer = line.programmer;
+      fates = drop line.next line.fates.items;
+      late = line.late.items;
+    } };
+
+    ghost invariant = { λ line. AreLawful line.fates.items };
+}
+
+/// Passes the frame that the reader holds, with this fate: `out` becomes what it brings, behind a late answer.
+fn pass_with(
+    fate: &Fate,
+    programmer: &mut Programmer,
+    late: &mut Frame,
+    reader: &FrameReader,
+    good: bool,
+    out: &mut Segment,
+)
+    requires empty { out.old.items ≡ [] }
+    requires lawful { IsLawfulFate fate.now }
+    requires holds { HoldsFrame reader.now }
+    requires tells { is_good reader.now ≡ good }
+    ensures items { tape_in out.new.items ≡ on_tape late.old.items ++ back fate.now (answer_frame device reader.now programmer.old) (frame (seq_of reader.now) refusal) }
+    ensures programmer { programmer.new ≡ after_fate fate.now (after_frame device reader.now programmer.old) programmer.old }
+    ensures late { late.new.items ≡ late_of fate.now (answer_frame device reader.now programmer.old) }
+{
+    let mut frame = Frame::new();
+    put_bytes(out, late.as_slice());
+    late.clear();
+    match fate {
+        Fate::Good => {
+            answer(reader, good, programmer, &mut frame);
+            put_bytes(out, frame.as_slice());
+        }
+        Fate::LostCommand => put_silence(out),
+        Fate::LostAnswer => {
+            answer(reader, good, programmer, &mut frame);
+            put_silence(out);
+        }
+        Fate::LateAnswer => {
+            answer(reader, good, programmer, late);
+            put_silence(out);
+        }
+        Fate::CommandRefused => {
+            refuse(reader, &mut frame);
+            put_bytes(out, frame.as_slice());
+        }
+        Fate::AnswerSpoiled(noise) => {
+            answer(reader, good, programmer, &mut frame);
+            put_bytes(out, noise.as_slice());
+            put_silence(out);
+        }
+    }
+}
+
+impl Line {
+    /// A programmer with this chip, out of programming mode, and what will happen to each frame; after these fates all are good.
+    pub fn new(chip: Chip, fates: Vec<Fate>) -> Line
+        requires { AreLawful fates.items }
+        ensures { result ≡ fresh (fresh_programmer chip) fates.items }
+    {
+        Line {
+            programmer: Programmer::new(chip),
+            fates,
+            next: 0,
+            late: Frame::new(),
+        }
+    }
+
+    pub fn chip(&self) -> &Chip
+        ensures { result.now ≡ self.now.programmer.chip }
+    {
+        self.programmer.chip()
+    }
+
+    /// Passes the frame that the reader holds: `out` becomes what it brings.
+    fn pass(&mut self, reader: &FrameReader, good: bool, out: &mut Segment)
+        requires empty { out.old.items ≡ [] }
+        requires holds { HoldsFrame reader.now }
+        requires tells { is_good reader.now ≡ good }
+        ensures items { tape_in out.new.items ≡ segment device reader.now self.old }
+        ensures line { self.new ≡ passed device reader.now self.old }
+    {
+        match self.fates.get(self.next) {
+            Some(fate) => {
+                pass_with(
+                    fate,
+                    &mut self.programmer,
+                    &mut self.late,
+                    reader,
+                    good,
+                    out,
+                );
+                self.next += 1;
+            }
+            None => {
+                let fate = Fate::Good;
+                pass_with(
+                    &fate,
+                    &mut self.programmer,
+                    &mut self.late,
+                    reader,
+                    good,
+                    out,
+                );
+            }
+        }
+    }
+
+    /// Passes the frame of which the event tells, if it tells of one.
+    pub fn pass_event(&mut self, reader: &FrameReader, event: Event, out: &mut Segment)
+        requires empty { out.old.items ≡ [] }
+        requires tells { Tells event reader.now }
+        ensures items { tape_in out.new.items ≡ tape_of device (found event reader.now) self.old }
+        ensures line { self.new ≡ wire_after device (found event reader.now) self.old }
+    {
+        match event {
+            Event::More => {}
+            Event::Frame => self.pass(reader, true, out),
+            Event::Spoiled => self.pass(reader, false, out),
+        }
+    }
+}

@@ -1,0 +1,385 @@
+//! The programmer, and what each command makes it do.
+#![tactic(auto)]
+
+ghost use Rattle.std.specs.Prelude.{◌≡◌, ◌<◌, ◌≤◌, ◌∷◌, [], ◌+◌, ◌%◌, ℕ, length, slice_index, if◌then◌else◌, false, true};
+ghost use Rattle.avr_part.specs.State.{spi_of};
+ghost use Rattle.stk_emu.specs.Programmer.{fresh_programmer, sign_on, set_parameter, get_parameter, load_address, entered, enter_progmode, leave_progmode, chip_erase, program_byte, read_byte, program_flash, flash_fits, program_eeprom, eeprom_fits, is_paged, is_written, writes_page, is_polled, read_flash, read_eeprom, spi_multi, obey_command, is_known, not_read, obey, bit_31};
+
+use crate::spi::BIT_31;
+use crate::{eeprom, flash};
+use arrayvec::ArrayVec;
+use avr_part::Chip;
+use std::marker::Model;
+use stk_frame::{Command, EnterProgmode, ProgramBlock, ReadBlock, ReadByte};
+
+/// The command was obeyed.
+const OK: u8 = 0x00;
+/// The command failed, and nothing changed.
+const FAILED: u8 = 0xC0;
+/// There is no such command.
+const UNKNOWN: u8 = 0xC9;
+
+/// The body of an answer.
+pub(crate) type Body = ArrayVec<u8, 275>;
+
+/// A programmer with its part.
+#[derive(Drop)]
+pub(crate) struct Programmer {
+    mode: bool,
+    address: u32,
+    wide: bool,
+    parameters: [u8; 256],
+    chip: Chip,
+}
+
+impl Model for Programmer {
+    ghost use Rattle.std.specs.Prelude.{◌<◌};
+    ghost use Rattle.stk_emu.specs.Programmer.{Programmer as State, bit_31};
+
+    ghost Value = { State };
+
+    ghost view = { λ p. record {
+      mode = p.mode;
+      address = p.address;
+      wide = p.wide;
+      parameters = p.parameters;
+      chip = p.chip;
+    } };
+
+    ghost invariant = { λ p. p.address < bit_31 };
+}
+
+/// Makes the answer these bytes.
+fn answer_with(out: &mut Body, bytes: &[u8])
+    requires { length bytes.now ≤ 275 }
+    ensures { out.new.items ≡ bytes.now }
+{
+    out.clear();
+    let _ = out.try_extend_from_slice(bytes);
+}
+
+/// A command failed.
+fn fail(out: &mut Body, code: u8)
+    ensures { out.new.items ≡ code ∷ 192 ∷ [] }
+{
+    answer_with(out, &[code, FAILED]);
+}
+
+/// Whether this is the byte of a command.
+fn is_known(code: u8) -> bool
+    ensures { result ≡ is_known code }
+{
+    matches!(code, 0x01..=0x03 | 0x06 | 0x10..=0x1D)
+}
+
+/// The byte that names the command.
+fn code_of(body: &[u8]) -> u8
+    ensures { result ≡ slice_index body.now 0 }
+{
+    match body {
+        [code, ..] => *code,
+        [] => 0,
+    }
+}
+
+/// The status of a body that is no command's.
+fn status_of(code: u8) -> u8
+    ensures { result ≡ (if is_known code then 0xC0 else 0xC9) }
+{
+    if is_known(code) { FAILED } else { UNKNOWN }
+}
+
+/// The answer to a body that is no command's.
+fn not_read(body: &[u8], out: &mut Body)
+    ensures { out.new.items ≡ slice_index body.now 0 ∷ (if is_known (slice_index body.now 0) then 0xC0 else 0xC9) ∷ [] }
+{
+    let code = code_of(body);
+    answer_with(out, &[code, status_of(code)]);
+}
+
+/// Whether the byte out that is asked for is as the poll wants it.
+fn is_polled(fields: &EnterProgmode, bytes: [u8; 4]) -> bool
+    requires { fields.now.poll_index ≤ 4 }
+    ensures { result ≡ is_polled fields.now.poll_value fields.now.poll_index bytes }
+{
+    fields.poll_index == 0 || bytes[usize::from(fields.poll_index) - 1] == fields.poll_value
+}
+
+fn is_paged(fields: &ProgramBlock<'_>) -> bool
+    ensures { result ≡ is_paged fields.now }
+{
+    fields.mode % 2 == 1
+}
+
+fn is_written(fields: &ProgramBlock<'_>) -> bool
+    ensures { result ≡ is_written fields.now }
+{
+    fields.mode >> 7 == 1
+}
+
+fn writes_page(fields: &ProgramBlock<'_>) -> bool
+    ensures { result ≡ writes_page fields.now }
+{
+    is_paged(fields) && is_written(fields)
+}
+
+fn flash_fits(fields: &ProgramBlock<'_>) -> bool
+    ensures value { result ≡ flash_fits fields.now }
+    ensures few { result ≡ true → length fields.now.bytes < 65536 }
+{
+    fields.count != 0
+        && fields.count % 2 == 0
+        && usize::from(fields.count) == fields.bytes.bytes().len()
+        && is_paged(fields)
+}
+
+fn eeprom_fits(fields: &ProgramBlock<'_>) -> bool
+    ensures value { result ≡ eeprom_fits fields.now }
+    ensures few { result ≡ true → length fields.now.bytes < 65536 }
+{
+    fields.count != 0 && usize::from(fields.count) == fields.bytes.bytes().len()
+}
+
+impl Programmer {
+    /// A programmer out of programming mode, with this chip.
+    pub fn new(chip: Chip) -> Programmer
+        ensures { result ≡ fresh_programmer chip }
+    {
+        Programmer {
+            mode: false,
+            address: 0,
+            wide: false,
+            parameters: [0; 256],
+            chip,
+        }
+    }
+
+    pub fn chip(&self) -> &Chip
+        ensures { result.now ≡ self.now.chip }
+    {
+        &self.chip
+    }
+
+    fn set_parameter(&mut self, number: u8, value: u8, out: &mut Body)
+        ensures { (out.new.items, self.new) ≡ set_parameter number value self.old }
+    {
+        self.parameters[usize::from(number)] = value;
+        answer_with(out, &[0x02, OK]);
+    }
+
+    fn get_parameter(&self, number: u8, out: &mut Body)
+        ensures { (out.new.items, self.now) ≡ get_parameter number self.now }
+    {
+        answer_with(out, &[0x03, OK, self.parameters[usize::from(number)]]);
+    }
+
+    fn load_address(&mut self, address: u32, out: &mut Body)
+        ensures { (out.new.items, self.new) ≡ load_address address self.old }
+    {
+        self.address = address % BIT_31;
+        self.wide = BIT_31 <= address;
+        answer_with(out, &[0x06, OK]);
+    }
+
+    /// The mode is on or off now.
+    fn entered(&mut self, ok: bool, out: &mut Body)
+        ensures { (out.new.items, self.new) ≡ entered ok self.old }
+    {
+        self.mode = ok;
+        let status = if ok { OK } else { FAILED };
+        answer_with(out, &[0x10, status]);
+    }
+
+    fn enter_progmode(&mut self, fields: &EnterProgmode, out: &mut Body)
+        ensures { (out.new.items, self.new) ≡ enter_progmode fields.now self.old }
+    {
+        if fields.poll_index > 4 {
+            return self.entered(false, out);
+        }
+        let bytes = self.chip.spi(fields.instruction);
+        self.entered(is_polled(fields, bytes), out)
+    }
+
+    fn leave_progmode(&mut self, out: &mut Body)
+        ensures { (out.new.items, self.new) ≡ leave_progmode self.old }
+    {
+        self.mode = false;
+        answer_with(out, &[0x11, OK]);
+    }
+
+    fn chip_erase(&mut self, instruction: [u8; 4], out: &mut Body)
+        ensures { (out.new.items, self.new) ≡ chip_erase instruction self.old }
+    {
+        if !self.mode {
+            return fail(out, 0x12);
+        }
+        self.chip.spi(instruction);
+        answer_with(out, &[0x12, OK]);
+    }
+
+    fn program_byte(&mut self, code: u8, instruction: [u8; 4], out: &mut Body)
+        ensures { (out.new.items, self.new) ≡ program_byte code instruction self.old }
+    {
+        if !self.mode {
+            return fail(out, code);
+        }
+        self.chip.spi(instruction);
+        answer_with(out, &[code, OK, OK]);
+    }
+
+    fn read_byte(&mut self, code: u8, fields: &ReadByte, out: &mut Body)
+        ensures { (out.new.items, self.new) ≡ read_byte code fields.now self.old }
+    {
+        let place = fields.return_address;
+        if !self.mode || place < 1 || place > 4 {
+            return fail(out, code);
+        }
+        let bytes = self.chip.spi(fields.instruction);
+        answer_with(out, &[code, OK, bytes[usize::from(place) - 1], OK]);
+    }
+
+    /// The address moves on.
+    fn move_on(&mut self, count: u16)
+        ensures { self.new ≡ record self.old { address = (self.old.address + count) % bit_31 } }
+    {
+        self.address = (self.address + u32::from(count)) % BIT_31;
+    }
+
+    fn program_flash(&mut self, fields: &ProgramBlock<'_>, out: &mut Body)
+        ensures { (out.new.items, self.new) ≡ program_flash fields.now self.old }
+    {
+        if !self.mode || !flash_fits(fields) {
+            return fail(out, 0x13);
+        }
+        let address = self.address;
+        flash::load_page(
+            &mut self.chip,
+            self.wide,
+            fields.cmd1,
+            address,
+            fields.bytes.bytes(),
+        );
+        flash::write_page(
+            &mut self.chip,
+            self.wide,
+            fields.cmd2,
+            address,
+            is_written(fields),
+        );
+        self.move_on(fields.count / 2);
+        answer_with(out, &[0x13, OK]);
+    }
+
+    fn program_eeprom(&mut self, fields: &ProgramBlock<'_>, out: &mut Body)
+        ensures { (out.new.items, self.new) ≡ program_eeprom fields.now self.old }
+    {
+        if !self.mode || !eeprom_fits(fields) {
+            return fail(out, 0x15);
+        }
+        let address = self.address;
+        eeprom::load_bytes(&mut self.chip, fields.cmd1, address, fields.bytes.bytes());
+        eeprom::write_page(&mut self.chip, fields.cmd2, address, writes_page(fields));
+        self.move_on(fields.count);
+        answer_with(out, &[0x15, OK]);
+    }
+
+    fn read_flash(&mut self, fields: &ReadBlock, out: &mut Body)
+        ensures { (out.new.items, self.new) ≡ read_flash fields.now self.old }
+    {
+        let count = fields.count;
+        if !self.mode || count == 0 || count % 2 != 0 || count > 272 {
+            return fail(out, 0x14);
+        }
+        answer_with(out, &[0x14, OK]);
+        flash::read(
+            &mut self.chip,
+            self.wide,
+            fields.cmd1,
+            self.address,
+            count,
+            out,
+        );
+        out.push(OK);
+        self.move_on(count / 2);
+    }
+
+    fn read_eeprom(&mut self, fields: &ReadBlock, out: &mut Body)
+        ensures { (out.new.items, self.new) ≡ read_eeprom fields.now self.old }
+    {
+        let count = fields.count;
+        if !self.mode || count == 0 || count > 272 {
+            return fail(out, 0x16);
+        }
+        answer_with(out, &[0x16, OK]);
+        eeprom::read(&mut self.chip, fields.cmd1, self.address, count, out);
+        out.push(OK);
+        self.move_on(count);
+    }
+
+    fn spi_multi(&mut self, send: u8, receive: u8, start: u8, bytes: &[u8], out: &mut Body)
+        ensures { (out.new.items, self.new) ≡ spi_multi send receive start bytes.now self.old }
+    {
+        let end = usize::from(start) + usize::from(receive);
+        if !self.mode || send != 4 || end > 4 {
+            return fail(out, 0x1D);
+        }
+        let [a, b, c, d] = bytes else {
+            return fail(out, 0x1D);
+        };
+        let received = self.chip.spi([*a, *b, *c, *d]);
+        answer_with(out, &[0x1D, OK]);
+        let _ = out.try_extend_from_slice(&received[usize::from(start)..end]);
+        out.push(OK);
+    }
+
+    fn obey_command(&mut self, command: &Command<'_>, out: &mut Body)
+        ensures { (out.new.items, self.new) ≡ obey_command command.now self.old }
+    {
+        match command {
+            Command::SignOn => answer_with(
+                out,
+                &[0x01, OK, 8, b'S', b'T', b'K', b'5', b'0', b'0', b'_', b'2'],
+            ),
+            Command::SetParameter { number, value } => self.set_parameter(*number, *value, out),
+            Command::GetParameter { number } => self.get_parameter(*number, out),
+            Command::LoadAddress { address } => self.load_address(*address, out),
+            Command::EnterProgmode(fields) => self.enter_progmode(fields, out),
+            Command::LeaveProgmode { .. } => self.leave_progmode(out),
+            Command::ChipErase { instruction, .. } => self.chip_erase(*instruction, out),
+            Command::ProgramFlash(fields) => self.program_flash(fields, out),
+            Command::ReadFlash(fields) => self.read_flash(fields, out),
+            Command::ProgramEeprom(fields) => self.program_eeprom(fields, out),
+            Command::ReadEeprom(fields) => self.read_eeprom(fields, out),
+            Command::ProgramFuse { instruction } => self.program_byte(0x17, *instruction, out),
+            Command::ReadFuse(fields) => self.read_byte(0x18, fields, out),
+            Command::ProgramLock { instruction } => self.program_byte(0x19, *instruction, out),
+            Command::ReadLock(fields) => self.read_byte(0x1A, fields, out),
+            Command::ReadSignature(fields) => self.read_byte(0x1B, fields, out),
+            Command::ReadOsccal(fields) => self.read_byte(0x1C, fields, out),
+            Command::SpiMulti {
+                send_count,
+                receive_count,
+                receive_start,
+                bytes,
+            } => {
+                self.spi_multi(
+                    *send_count,
+                    *receive_count,
+                    *receive_start,
+                    bytes.bytes(),
+                    out,
+                )
+            }
+        }
+    }
+
+    /// Obeys the body of a frame, and makes `out` the body of the answer.
+    pub fn obey(&mut self, body: &[u8], out: &mut Body)
+        ensures { (out.new.items, self.new) ≡ obey body.now self.old }
+    {
+        match Command::read(body) {
+            Some(command) => self.obey_command(&command, out),
+            None => not_read(body, out),
+        }
+    }
+}

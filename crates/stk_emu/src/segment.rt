@@ -1,0 +1,52 @@
+//! What a frame brings, and what waits to be heard: bytes, and a `None` for each silence.
+#![tactic(auto)]
+
+ghost use Rattle.std.specs.Prelude.{◌≡◌, ◌+◌, ◌<◌, ◌≤◌, ◌++◌, ◌∷◌, [], length, take};
+ghost use Rattle.stk_host.specs.declared.link.Item.TheVariants as item;
+ghost use Rattle.stk_host.specs.Tape.{on_tape};
+ghost use Rattle.stk_emu.specs.Waiting.{tape_in, IsQuiet};
+
+use arrayvec::ArrayVec;
+
+/// Room for all that one frame can bring: a late answer of 281 bytes, noise of 2,048, and a silence.
+pub(crate) const ROOM: usize = 2330;
+
+/// What one frame brings.
+pub(crate) type Segment = ArrayVec<Option<u8>, 2330>;
+
+/// Puts bytes behind the items.
+pub(crate) fn put_bytes(segment: &mut Segment, bytes: &[u8])
+    requires { length segment.old.items + length bytes.now ≤ 2330 }
+    ensures items { tape_in segment.new.items ≡ tape_in segment.old.items ++ on_tape bytes.now }
+    ensures len { length segment.new.items ≡ length segment.old.items + length bytes.now }
+{
+    for byte in bytes {
+        segment.push(Some(*byte));
+    }
+}
+
+/// Puts a silence behind the items.
+pub(crate) fn put_silence(segment: &mut Segment)
+    requires { length segment.old.items + 1 ≤ 2330 }
+    ensures { tape_in segment.new.items ≡ tape_in segment.old.items ++ item.Silence ∷ [] }
+{
+    segment.push(None);
+}
+
+/// Puts the bytes that stand first among the items into the buffer, and says how many.
+pub(crate) fn take_bytes(items: &[Option<u8>], buffer: &mut [u8]) -> usize
+    ensures within { result ≤ length buffer.new }
+    ensures taken { on_tape (take result buffer.new) ≡ take result (tape_in items.now) }
+    ensures inside { result ≤ length items.now }
+    ensures some { 0 < length buffer.old → result ≡ 0 → IsQuiet items.now }
+{
+    let mut count = 0;
+    while count < buffer.len() && count < items.len() {
+        let Some(byte) = items[count] else {
+            return count;
+        };
+        buffer[count] = byte;
+        count += 1;
+    }
+    count
+}

@@ -1,0 +1,54 @@
+//! Serial programming instructions for an address.
+#![tactic(auto)]
+
+ghost use Rattle.std.specs.Prelude.{◌≡◌, ◌<◌, ◌≤◌};
+ghost use Rattle.stk_emu.specs.Programmer.{bit_31, at_address, word_at, byte_at, for_half, extension, sent_to};
+
+use avr_part::Chip;
+
+/// Addresses are below this, and a LOAD_ADDRESS from it on asks for the extended address.
+pub(crate) const BIT_31: u32 = 0x8000_0000;
+
+/// An instruction at an address, with the bits 15 to 0 of it.
+pub(crate) fn at_address(command: u8, address: u32, byte: u8) -> [u8; 4]
+    ensures { result ≡ at_address command address byte }
+{
+    let high = (address / 256 % 256) as u8;
+    let low = (address % 256) as u8;
+    [command, high, low, byte]
+}
+
+/// The instruction for the low or the high byte of a word.
+pub(crate) fn for_half(command: u8, place: u16) -> u8
+    ensures { result ≡ for_half command place }
+{
+    if place % 2 == 0 { command } else { command | 8 }
+}
+
+/// The address of the word in which the byte of this place lies.
+pub(crate) fn word_at(address: u32, place: u16) -> u32
+    requires { address < bit_31 }
+    ensures value { result ≡ word_at address place }
+    ensures small { result < bit_31 }
+{
+    (address + u32::from(place / 2)) % BIT_31
+}
+
+/// The address of the byte of this place.
+pub(crate) fn byte_at(address: u32, place: u16) -> u32
+    requires { address < bit_31 }
+    ensures value { result ≡ byte_at address place }
+    ensures small { result < bit_31 }
+{
+    (address + u32::from(place)) % BIT_31
+}
+
+/// Sends the bits 23 to 16 of an address, where the extended address is sent.
+pub(crate) fn extend(chip: &mut Chip, wide: bool, address: u32)
+    ensures { chip.new ≡ sent_to (extension wide address) chip.old }
+{
+    if wide {
+        let byte = (address / 65536 % 256) as u8;
+        chip.spi([0x4D, 0, byte, 0]);
+    }
+}

@@ -1,0 +1,238 @@
+//! A wire as a link.
+#![tactic(auto)]
+
+ghost use Rattle.std.specs.Prelude.{◌≡◌, ◌+◌, ◌<◌, ◌≤◌, ◌++◌, ◌∷◌, [], ℕ, List, length, take, drop, vec_len, vec_capacity, Some, None, IfOk, OnOk, OnErr};
+ghost use Rattle.stk_host.specs.declared.link.Item.TheVariants as item;
+ghost use Rattle.stk_host.specs.Tape.{Tape, on_tape};
+ghost use Rattle.stk_host.specs.Talk as talk;
+ghost use Rattle.stk_host.specs.Talk.{Grows, HasFailed, FitsBuffer, items_of};
+ghost use Rattle.stk_emu.specs.declared.fate.Fate.{Fate};
+ghost use Rattle.stk_emu.specs.Programmer.{Programmer, fresh_programmer};
+ghost use Rattle.stk_emu.specs.Wire.{AreLawful, fresh};
+ghost use Rattle.stk_emu.specs.Wired.{Keeps, IsNext, after_hearing};
+
+use crate::fate::Fate;
+use crate::line::Line;
+use crate::log::{Log, Mark};
+use crate::segment::{ROOM, Segment, take_bytes};
+use avr_part::Chip;
+use std::alloc::{AllocError, Global};
+use std::marker::Model;
+use stk_frame::FrameReader;
+use stk_host::{Heard, Link, LinkFault};
+
+/// A link to an emulated programmer over a wire that loses, delays and spoils: the nth whole frame that is sent has the
+/// nth fate, and after the list all are [`Fate::Good`].
+///
+/// What a frame brings waits until it is heard; where nothing waits a silence is heard. Memory that is refused is a failure
+/// of the link, which is counted and changes nothing else. It keeps all that passed.
+#[derive(Drop)]
+pub struct Wired {
+    reader: FrameReader,
+    line: Line,
+    waits: Vec<Option<u8>>,
+    at: usize,
+    log: Log,
+    failures: u64,
+}
+
+impl Model for Wired {
+    ghost use Rattle.stk_emu.specs.Wired.{State};
+
+    ghost Value = { State };
+
+    ghost use Rattle.stk_emu.specs.WiredInside.{state_of, IsSound};
+
+    ghost view = { state_of };
+
+    ghost invariant = { IsSound };
+}
+
+/// Makes room for all that a frame can bring, and for a piece of so many bytes that is sent.
+fn make_room(waits: &mut Vec<Option<u8>>, log: &mut Log, count: usize) -> Result<(), AllocError>
+    ensures waits { waits.new.items ≡ waits.old.items }
+    ensures marks { log.new.marks.items ≡ log.old.marks.items }
+    ensures out { log.new.out.items ≡ log.old.out.items }
+    ensures back { log.new.back.items ≡ log.old.back.items }
+    ensures wait_room { OnOk result (vec_len waits.new + 2330 ≤ vec_capacity waits.new) }
+    ensures mark_room { OnOk result (vec_len log.new.marks < vec_capacity log.new.marks) }
+    ensures out_room { OnOk result (vec_len log.new.out + count ≤ vec_capacity log.new.out) }
+{
+    waits.reserve(ROOM)?;
+    log.reserve(count)?;
+    Ok(())
+}
+
+/// Keeps what a frame brought and what was sent, for which there is room.
+fn keep(waits: &mut Vec<Option<u8>>, log: &mut Log, brought: &Segment, sent: &[u8])
+    requires wait_room { vec_len waits.old + 2330 ≤ vec_capacity waits.old }
+    requires mark_room { vec_len log.old.marks < vec_capacity log.old.marks }
+    requires out_room { vec_len log.old.out + length sent.now ≤ vec_capacity log.old.out }
+    ensures waits { waits.new.items ≡ waits.old.items ++ brought.now.items }
+    ensures marks { log.new.marks.items ≡ log.old.marks.items ++ Mark.Sent (length sent.now) ∷ [] }
+    ensures out { log.new.out.items ≡ log.old.out.items ++ sent.now }
+    ensures back { log.new.back.items ≡ log.old.back.items }
+{
+    let _ = waits.extend_from_slice(brought.as_slice());
+    log.say(sent);
+}
+
+/// Takes so many of the items that wait.
+fn consume(waits: &mut Vec<Option<u8>>, at: usize, count: usize) -> usize
+    ensures left { drop result waits.new.items ≡ drop count (drop at waits.old.items) }
+    ensures inside { result ≤ length waits.new.items }
+{
+    let at = at.saturating_add(count);
+    if at < waits.len() {
+        return at;
+    }
+    waits.clear();
+    0
+}
+
+impl Wired {
+    /// A wire to a programmer with this chip, out of programming mode, over which nothing has passed.
+    pub fn new(alloc: Global, chip: Chip, fates: Vec<Fate>) -> Wired
+        requires { AreLawful fates.items }
+        ensures held { result.held ≡ [] }
+        ensures wire { result.wire ≡ fresh (fresh_programmer chip) fates.items }
+        ensures waits { result.waits ≡ [] }
+        ensures talk { result.talk ≡ [] }
+        ensures sound { result.failures ≡ 0 }
+        ensures keeps { Keeps (fresh_programmer chip) fates.items result }
+    {
+        Wired {
+            reader: FrameReader::new(),
+            line: Line::new(chip, fates),
+            waits: Vec::new(alloc),
+            at: 0,
+            log: Log::new(alloc),
+            failures: 0,
+        }
+    }
+
+    /// The chip, as it is after all whole frames that were sent.
+    pub fn chip(&self) -> &Chip
+        ensures { result.now ≡ self.now.wire.programmer.chip }
+    {
+        self.line.chip()
+    }
+
+    /// The bytes sent.
+    pub fn sent(&self) -> &[u8]
+        ensures { result.now ≡ talk.sent self.now.talk }
+    {
+        self.log.out.as_slice()
+    }
+
+    /// Counts a failure.
+    fn fail(&mut self)
+        ensures same { self.new ≡ record self.old { failures = self.new.failures } }
+        ensures counted { HasFailed self.old.failures self.new.failures }
+        ensures kept { self.old.failures ≤ self.new.failures }
+    {
+        self.failures = self.failures.saturating_add(1);
+    }
+
+    /// Passes bytes up to the end of the first frame, and says how many. Where memory is refused nothing changes.
+    fn pass(&mut self, bytes: &[u8]) -> Result<usize, AllocError>
+        ensures within { IfOk result (λ n. n ≤ length bytes.now) }
+        ensures progress { IfOk result (λ n. 0 < length bytes.now → 0 < n) }
+        ensures talk { IfOk result (λ n. self.new.talk ≡ self.old.talk ++ talk.Sent (take n bytes.now) ∷ []) }
+        ensures failures { self.new.failures ≡ self.old.failures }
+        ensures keeps { IfOk result (λ n. (p : Programmer) (fates : List Fate) → Keeps p fates self.old → Keeps p fates self.new) }
+        ensures err { OnErr result (self.new ≡ self.old) }
+    {
+        make_room(&mut self.waits, &mut self.log, bytes.len())?;
+        let (used, event) = self.reader.feed(bytes);
+        let mut brought = Segment::new();
+        self.line.pass_event(&self.reader, event, &mut brought);
+        keep(&mut self.waits, &mut self.log, &brought, &bytes[..used]);
+        Ok(used)
+    }
+
+    /// Hears what waits first, or a silence where nothing does. Where memory is refused nothing changes.
+    fn listen(&mut self, buffer: &mut [u8]) -> Result<Heard, AllocError>
+        requires { 0 < length buffer.old }
+        ensures within { IfOk result (λ heard. FitsBuffer heard (length buffer.new)) }
+        ensures heard { IfOk result (λ heard. self.new ≡ after_hearing (items_of heard buffer.new) self.old) }
+        ensures next { IfOk result (λ heard. IsNext (items_of heard buffer.new) self.old.waits) }
+        ensures err { OnErr result (self.new ≡ self.old) }
+    {
+        let count = take_bytes(&self.waits[self.at..], buffer);
+        if count == 0 {
+            self.hear_silence()?;
+            return Ok(Heard::Silence);
+        }
+        self.hear(&buffer[..count])?;
+        Ok(Heard::Bytes(count))
+    }
+
+    /// Hears these bytes, which wait first.
+    fn hear(&mut self, bytes: &[u8]) -> Result<(), AllocError>
+        ensures ok { OnOk result (self.new ≡ after_hearing (on_tape bytes.now) self.old) }
+        ensures err { OnErr result (self.new ≡ self.old) }
+    {
+        self.log.hear(bytes)?;
+        self.at = consume(&mut self.waits, self.at, bytes.len());
+        Ok(())
+    }
+
+    /// Hears a silence: the one that waits, or none.
+    fn hear_silence(&mut self) -> Result<(), AllocError>
+        ensures ok { OnOk result (self.new ≡ after_hearing (item.Silence ∷ []) self.old) }
+        ensures err { OnErr result (self.new ≡ self.old) }
+    {
+        self.log.hear_silence()?;
+        self.at = consume(&mut self.waits, self.at, 1);
+        Ok(())
+    }
+}
+
+impl Link for Wired {
+    ghost talk = { λ link. Some link.talk };
+
+    ghost failures = { λ link. link.failures };
+
+    fn send(&mut self, bytes: &[u8]) -> Result<usize, LinkFault>
+        ensures within { IfOk result (λ n. n ≤ length bytes.now) }
+        ensures ok { IfOk result (λ n. Grows (Some self.old.talk) (talk.Sent (take n bytes.now) ∷ []) (Some self.new.talk)) }
+        ensures err { OnErr result (Grows (Some self.old.talk) [] (Some self.new.talk)) }
+        ensures counted { self.old.failures ≤ self.new.failures }
+        ensures failed { OnErr result (HasFailed self.old.failures self.new.failures) }
+        ensures stuck { IfOk result (λ n. n ≡ 0 → 0 < length bytes.now → HasFailed self.old.failures self.new.failures) }
+        ensures same { OnErr result (self.new ≡ record self.old { failures = self.new.failures }) }
+        // Sent and heard stay what the fates say.
+        ensures keeps { (p : Programmer) (fates : List Fate) → Keeps p fates self.old → Keeps p fates self.new }
+    {
+        match self.pass(bytes) {
+            Ok(used) => Ok(used),
+            Err(_) => {
+                self.fail();
+                Err(LinkFault::Failed)
+            }
+        }
+    }
+
+    fn recv(&mut self, buffer: &mut [u8]) -> Result<Heard, LinkFault>
+        requires { 0 < length buffer.old }
+        ensures within { IfOk result (λ heard. FitsBuffer heard (length buffer.new)) }
+        ensures ok { IfOk result (λ heard. Grows (Some self.old.talk) (talk.Got (items_of heard buffer.new) ∷ []) (Some self.new.talk)) }
+        ensures err { OnErr result (Grows (Some self.old.talk) [] (Some self.new.talk)) }
+        ensures counted { self.old.failures ≤ self.new.failures }
+        ensures failed { OnErr result (HasFailed self.old.failures self.new.failures) }
+        // What is heard is what waited first; where nothing waited, a silence.
+        ensures heard { IfOk result (λ heard. self.new ≡ after_hearing (items_of heard buffer.new) self.old) }
+        ensures next { IfOk result (λ heard. IsNext (items_of heard buffer.new) self.old.waits) }
+        ensures same { OnErr result (self.new ≡ record self.old { failures = self.new.failures }) }
+        ensures keeps { (p : Programmer) (fates : List Fate) → Keeps p fates self.old → Keeps p fates self.new }
+    {
+        match self.listen(buffer) {
+            Ok(heard) => Ok(heard),
+            Err(_) => {
+                self.fail();
+                Err(LinkFault::Failed)
+            }
+        }
+    }
+}
