@@ -1,0 +1,86 @@
+-- Bytes that are sent one after the other.
+use Rattle.std.proofs.Common.{◌≡◌, ◌∙◌, ap, sym, refl, arith, ℕ, ◌+◌, ◌-◌, List, ◌++◌, Option, Some, None, option_map, append_assoc, append-nil, take, drop, length, Bor, [], ◌∷◌, get_or, ◌<◌, ◌≤◌}
+use Rattle.std.proofs.Math.Seq.{take-add, take-append-add}
+use Rattle.std.proofs.lemmas.Grind.{common_steps}
+use Rattle.std.proofs.lemmas.List.{drop_more, take_more, length-append, take-append-le, take-append-drop}
+use Rattle.avr_desk.specs.Record.{Record, Bytes, written_on}
+use Rattle.avr_desk.specs.Stream.{after_sent, joined, SendsPart}
+use Rattle.avr_desk.specs.declared.stream.Stream.{Stream}
+use Rattle.avr_desk.specs.declared.stream.Stream.TheVariants.{File, Output, Messages}
+use Rattle.avr_desk.specs.declared.record.Open.{Open}
+use Rattle.avr_desk.specs.declared.record.Open.TheVariants.{Closed, ToRead, ToWrite}
+
+written_on-written_on : (o : Open) (a b : Bytes) → written_on b (written_on a o) ≡ written_on (a ++ b) o
+written_on-written_on Closed a b = refl
+written_on-written_on (ToRead x) a b = refl
+written_on-written_on (ToWrite x) a b = ap (λ (m : Bytes). ToWrite (record x { bytes = m })) (append_assoc x.bytes a b)
+
+sent_twice : (s : Stream) (r : Record) (a b : Bytes) → after_sent s b (after_sent s a r) ≡ after_sent s (a ++ b) r
+sent_twice File r a b = ap (λ (o : Open). record r { current = o }) (written_on-written_on r.current a b)
+sent_twice Output r a b = ap (λ (m : Bytes). record r { output = m }) (append_assoc r.output a b)
+sent_twice Messages r a b = ap (λ (m : Bytes). record r { messages = m }) (append_assoc r.messages a b)
+
+pub after_sent-after_sent : (s : Stream) (k : Option Record) (a b : Bytes)
+    → option_map (after_sent s b) (option_map (after_sent s a) k) ≡ option_map (after_sent s (a ++ b)) k
+after_sent-after_sent s None a b = refl
+after_sent-after_sent s (Some r) a b = ap (λ (x : Record). Some x) (sent_twice s r a b)
+
+-- none of the bytes
+written_none : (o : Open) → o ≡ written_on [] o
+written_none Closed = refl
+written_none (ToRead x) = refl
+written_none (ToWrite x) = ap (λ (m : Bytes). ToWrite (record x { bytes = m })) (sym (append-nil x.bytes))
+
+pub sent_none : (s : Stream) (k : Option Record) → k ≡ option_map (after_sent s []) k
+sent_none s None = refl
+sent_none File (Some r) = ap (λ (o : Open). Some (record r { current = o })) (written_none r.current)
+sent_none Output (Some r) = ap (λ (m : Bytes). Some (record r { output = m })) (sym (append-nil r.output))
+sent_none Messages (Some r) = ap (λ (m : Bytes). Some (record r { messages = m })) (sym (append-nil r.messages))
+
+-- `&bytes[m..]`
+pub slice_rest : (bytes : Bytes) (m : ℕ) → take (length bytes - m) (drop m bytes) ≡ drop m bytes
+slice_rest bytes m = grind (arith, common_steps)
+
+-- the first m bytes are sent, and then the next n
+pub sent_on : (s : Stream) (old now new : Option Record) (bytes : Bytes) (m n : ℕ) → now ≡ option_map (after_sent s (take m bytes)) old
+    → new ≡ option_map (after_sent s (take n (take (length bytes - m) (drop m bytes)))) now → new ≡ option_map (after_sent s (take (m + n) bytes)) old
+sent_on s old now new bytes m n first then =
+    then ∙ ap (λ (b : Bytes). option_map (after_sent s (take n b)) now) (slice_rest bytes m)
+    ∙ ap (option_map (after_sent s (take n (drop m bytes)))) first
+    ∙ after_sent-after_sent s old (take m bytes) (take n (drop m bytes))
+    ∙ ap (λ (b : Bytes). option_map (after_sent s b) old) (sym (take-add m n bytes))
+
+-- a front of the bytes is sent, and the next call faults
+pub sent_part : (s : Stream) (old now new : Option Record) (bytes : Bytes) (m : ℕ) → m ≤ length bytes → now ≡ option_map (after_sent s (take m bytes)) old
+    → new ≡ option_map (after_sent s []) now → SendsPart s old new bytes
+sent_part s old now new bytes m within first then = (m, within, then ∙ sym (sent_none s now) ∙ first)
+
+-- some bytes are sent, and then others
+pub sent_next : (s : Stream) (old now new : Option Record) (a b : Bytes) → now ≡ option_map (after_sent s a) old → new ≡ option_map (after_sent s b) now
+    → new ≡ option_map (after_sent s (a ++ b)) old
+sent_next s old now new a b first then = then ∙ ap (option_map (after_sent s b)) first ∙ after_sent-after_sent s old a b
+
+-- and of the others only a part
+pub sent_next_part : (s : Stream) (old now new : Option Record) (a b c : Bytes) → now ≡ option_map (after_sent s a) old → SendsPart s now new b
+    → SendsPart s old new (a ++ (b ++ c))
+sent_next_part s old now new a b c first then =
+    let e = sent_next s old now new a (take then.0 b) first then.2 in
+    let within : then.0 ≤ length b = then.1 in
+    let cut : take (length a + then.0) (a ++ (b ++ c)) ≡ a ++ take then.0 b =
+    take-append-add a (b ++ c) then.0 ∙ ap (λ (x : Bytes). a ++ x) (take-append-le then.0 b c within) in
+    (length a + then.0, omega (arith, length-append a (b ++ c), length-append b c), e ∙ ap (λ (x : Bytes). option_map (after_sent s x) old) (sym cut))
+
+joined-append : (ps qs : List (Bor Bytes)) → joined (ps ++ qs) ≡ joined ps ++ joined qs
+joined-append [] qs = refl
+joined-append (p ∷ ps) qs = ap (λ (b : Bytes). p.now ++ b) (joined-append ps qs) ∙ sym (append_assoc p.now (joined ps) (joined qs))
+
+-- the pieces before the ith, the ith and those behind it
+pub joined_at : (ps : List (Bor Bytes)) (i : ℕ) (d : Bor Bytes) → i < length ps → joined ps ≡ joined (take i ps) ++ ((get_or ps i d).now ++ joined (drop (i + 1) ps))
+joined_at ps i d l =
+    ap joined (sym (take-append-drop i ps)) ∙ joined-append (take i ps) (drop i ps)
+    ∙ ap (λ (qs : List (Bor Bytes)). joined (take i ps) ++ joined qs) (drop_more ps i d l)
+
+pub joined_more : (ps : List (Bor Bytes)) (i : ℕ) (d : Bor Bytes) → i < length ps → joined (take (i + 1) ps) ≡ joined (take i ps) ++ (get_or ps i d).now
+joined_more ps i d l =
+    ap joined (take_more ps i d l) ∙ joined-append (take i ps) (get_or ps i d ∷ [])
+    ∙ ap (λ (b : Bytes). joined (take i ps) ++ b) (append-nil (get_or ps i d).now)

@@ -1,0 +1,13 @@
+use Rattle.std.proofs.Common.{◌≡◌, ◌≤◌, ◌-◌, ◌+◌, length, option_map, false}
+use Rattle.avr_desk.specs.Files.{after_reading}
+use Rattle.avr_desk.proofs.files.read_open.Given as goal
+
+abbrev pub invariant-pieces : goal.invariant-pieces
+invariant-pieces g l = record {
+  read : g.D.Desk.kept l.desk ≡ option_map (after_reading l.bytes false) (g.D.Desk.kept l.initial.desk);
+  counted : g.D.Desk.failures l.initial.desk ≤ g.D.Desk.failures l.desk;
+  bound : length l.bytes ≤ l.limit + 4096;
+}
+
+abbrev pub decreases-pieces : goal.decreases-pieces
+decreases-pieces g l = l.limit + 1 - length l.bytes

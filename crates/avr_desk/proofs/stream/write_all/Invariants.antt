@@ -1,0 +1,13 @@
+use Rattle.std.proofs.Common.{◌≡◌, ◌≤◌, ◌-◌, length, take, option_map}
+use Rattle.avr_desk.specs.Stream.{after_sent}
+use Rattle.avr_desk.proofs.stream.write_all.Given as goal
+
+abbrev pub invariant-loop-at : goal.invariant-loop-at
+invariant-loop-at g l = record {
+  within : l.at ≤ length l.bytes;
+  sent : g.D.Desk.kept l.desk ≡ option_map (after_sent l.fn.stream (take l.at l.bytes)) (g.D.Desk.kept l.initial.desk);
+  counted : g.D.Desk.failures l.initial.desk ≤ g.D.Desk.failures l.desk;
+}
+
+abbrev pub decreases-loop-at : goal.decreases-loop-at
+decreases-loop-at g l = length l.bytes - l.at

@@ -1,0 +1,45 @@
+-- A whole file over a desk: what passes when it is read to its end or past a limit.
+use Rattle.std.specs.Prelude.{◌≡◌, ◌≤◌, ◌<◌, ◌+◌, ℕ, length, Option, option_map, Bool, Result, Ok, Err, false, MatchBool}
+use Rattle.avr_desk.specs.Record.{Record, Bytes, noted, with_open, with_absent}
+use Rattle.avr_desk.specs.Fault.{HasFailed}
+use Rattle.avr_desk.specs.declared.record.Open.TheVariants.{ToRead}
+use Rattle.avr_desk.specs.declared.files.Contents.{Contents}
+use Rattle.avr_desk.specs.declared.files.FileFault.{FileFault}
+use Rattle.avr_desk.specs.declared.files.FileFault.TheVariants.{Absent, NotOpened, NotRead}
+
+-- the open file gave these bytes, and its end was seen or wasn't
+abbrev pub after_reading : Bytes → Bool → Record → Record
+after_reading bytes ended r = record r { current = noted bytes ended r.current }
+
+-- the file was opened, and gave these bytes
+abbrev pub with_read : Bytes → Bytes → Bool → Record → Record
+with_read name bytes ended r = with_open (ToRead (record { name = name; bytes = bytes; ended = ended })) r
+
+-- the file was opened and gave all that was answered; with no such file that is noted; where it
+-- could not be opened nothing passed; where its reading broke off it gave some bytes
+abbrev pub ReadsFile : Bytes → Option Record → Option Record → Result Contents FileFault → Type 0
+ReadsFile name old new (Ok c) = new ≡ option_map (with_read name c.bytes c.ended) old
+ReadsFile name old new (Err Absent) = new ≡ option_map (with_absent name) old
+ReadsFile name old new (Err NotOpened) = new ≡ old
+ReadsFile name old new (Err fault) = (bytes : Bytes) × (new ≡ option_map (with_read name bytes false) old)
+
+-- the same of a file that is open
+abbrev pub ReadsOpen : Option Record → Option Record → Result Contents FileFault → Type 0
+ReadsOpen old new (Ok c) = new ≡ option_map (after_reading c.bytes c.ended) old
+ReadsOpen old new (Err Absent) = ⊥
+ReadsOpen old new (Err NotOpened) = ⊥
+ReadsOpen old new (Err fault) = (bytes : Bytes) × (new ≡ option_map (after_reading bytes false) old)
+
+-- the end was seen within the limit, or more bytes came than it allows, by one piece at most
+abbrev pub IsWhole : ℕ → Contents → Type 0
+IsWhole limit c = MatchBool c.ended (length c.bytes ≤ limit) ((limit < length c.bytes) × (length c.bytes ≤ limit + 4096))
+
+-- what the count of failures says of a fault
+abbrev pub FaultIsCounted : ℕ → ℕ → Result Contents FileFault → Type 0
+FaultIsCounted old new (Err NotOpened) = HasFailed old new
+FaultIsCounted old new (Err NotRead) = HasFailed old new
+FaultIsCounted old new r = Unit {0}
+
+-- the count never falls, and a fault of the desk is counted
+abbrev pub FaultCounts : ℕ → ℕ → Result Contents FileFault → Type 0
+FaultCounts old new r = (old ≤ new) × FaultIsCounted old new r

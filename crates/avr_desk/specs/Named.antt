@@ -1,0 +1,21 @@
+-- Files by their names, and the place where the open one stands.
+use Rattle.std.specs.Prelude.{List, [], ◌∷◌, Option, Some, if◌then◌else◌}
+use Rattle.std.specs.Str.{bytes_eq}
+use Rattle.avr_desk.specs.Record.{Bytes}
+use Rattle.avr_desk.specs.declared.record.Open.{Open}
+use Rattle.avr_desk.specs.declared.record.Open.TheVariants.{ToRead}
+use Rattle.avr_desk.specs.declared.record.Writing.{Writing}
+
+-- the bytes of a file that has this name, else `older`
+abbrev pub or_older : Bytes → Option Bytes → Writing → Option Bytes
+or_older name older f = if bytes_eq f.name name then Some f.bytes else older
+
+-- the bytes of the newest file of this name; `older` where none has it
+abbrev pub newest : Bytes → Option Bytes → List Writing → Option Bytes
+newest name older [] = older
+newest name older (f ∷ fs) = newest name (or_older name older f) fs
+
+-- the bytes that the open file has given
+abbrev pub given : Open → Bytes
+given (ToRead x) = x.bytes
+given o = []

@@ -1,0 +1,103 @@
+-- What a desk was asked, and what it gave.
+use Rattle.std.specs.Prelude.{◌≡◌, ◌==◌, ◌&&◌, ◌||◌, ℕ, Bool, true, false, not, List, [], ◌∷◌, ◌++◌, take, length, Option, Result, Ok, Err, IfSome, OnOk, ⊤}
+use Rattle.avr_desk.specs.declared.fault.DeskFault.{DeskFault}
+use Rattle.avr_desk.specs.declared.fault.DeskFault.TheVariants.{NotFound, Failed}
+use Rattle.avr_desk.specs.declared.record.Writing.{Writing}
+use Rattle.avr_desk.specs.declared.record.Opening.{Opening}
+use Rattle.avr_desk.specs.declared.record.Opening.TheVariants.{Absent, Found}
+use Rattle.avr_desk.specs.declared.record.Open.{Open}
+use Rattle.avr_desk.specs.declared.record.Open.TheVariants.{Closed, ToRead, ToWrite}
+
+abbrev pub Bytes : Type 0
+Bytes = List ℕ
+
+-- what a desk keeps: the openings that are over, the files that are done, the file that is open,
+-- the output and the messages
+pub record Record : Type 0 where
+  pub openings : List Opening
+  pub files : List Writing
+  pub current : Open
+  pub output : Bytes
+  pub messages : Bytes
+
+abbrev pub opening_of : Open → List Opening
+opening_of (ToRead x) = Found x ∷ []
+opening_of _ = []
+
+abbrev pub file_of : Open → List Writing
+file_of (ToWrite x) = x ∷ []
+file_of _ = []
+
+-- every opening, and every file that was created, in their order
+abbrev pub all_openings : Record → List Opening
+all_openings r = r.openings ++ opening_of r.current
+
+abbrev pub all_files : Record → List Writing
+all_files r = r.files ++ file_of r.current
+
+-- the open file is put by, and another one is open
+abbrev pub with_open : Open → Record → Record
+with_open o r = record r { openings = all_openings r; files = all_files r; current = o }
+
+-- the open file is put by, and no file of this name was there
+abbrev pub with_absent : Bytes → Record → Record
+with_absent name r =
+    record r { openings = all_openings r ++ Absent name ∷ []; files = all_files r; current = Closed }
+
+abbrev pub after_open : Bytes → Result ⊤ DeskFault → Record → Record
+after_open name (Ok done) r = with_open (ToRead (record { name = name; bytes = []; ended = false })) r
+after_open name (Err NotFound) r = with_absent name r
+after_open name (Err Failed) r = r
+
+abbrev pub after_create : Bytes → Result ⊤ DeskFault → Record → Record
+after_create name (Ok done) r = with_open (ToWrite (record { name = name; bytes = [] })) r
+after_create name (Err fault) r = r
+
+abbrev pub is_nil : Bytes → Bool
+is_nil bytes = length bytes == 0
+
+-- bytes were read, or the end was seen
+abbrev pub noted : Bytes → Bool → Open → Open
+noted bytes ends (ToRead x) = ToRead (record x { bytes = x.bytes ++ bytes; ended = x.ended || ends })
+noted bytes ends o = o
+
+-- n bytes were read, which lie at the front of the buffer
+abbrev pub read_on : Bytes → ℕ → Open → Open
+read_on buf n o = noted (take n buf) (n == 0 && not (is_nil buf)) o
+
+abbrev pub after_read : Bytes → Result ℕ DeskFault → Record → Record
+after_read buf (Ok n) r = record r { current = read_on buf n r.current }
+after_read buf (Err fault) r = r
+
+abbrev pub written_on : Bytes → Open → Open
+written_on bytes (ToWrite x) = ToWrite (record x { bytes = x.bytes ++ bytes })
+written_on bytes o = o
+
+-- the bytes that a call took
+abbrev pub taken : Bytes → Result ℕ DeskFault → Bytes
+taken bytes (Ok n) = take n bytes
+taken bytes (Err fault) = []
+
+abbrev pub after_write : Bytes → Record → Record
+after_write bytes r = record r { current = written_on bytes r.current }
+
+abbrev pub after_out : Bytes → Record → Record
+after_out bytes r = record r { output = r.output ++ bytes }
+
+abbrev pub after_err : Bytes → Record → Record
+after_err bytes r = record r { messages = r.messages ++ bytes }
+
+abbrev pub is_to_read : Open → Bool
+is_to_read (ToRead x) = true
+is_to_read o = false
+
+abbrev pub is_to_write : Open → Bool
+is_to_write (ToWrite x) = true
+is_to_write o = false
+
+-- a call that is answered has its file
+abbrev pub HasOpen : {T : Type 0} → (Open → Bool) → Option Record → Result T DeskFault → Type 0
+HasOpen test kept r = OnOk r (IfSome kept (λ k. test k.current ≡ true))
+
+abbrev pub nothing_kept : Record
+nothing_kept = record { openings = []; files = []; current = Closed; output = []; messages = [] }

@@ -1,0 +1,148 @@
+//! A desk that fails by plan, for tests of its callers.
+ghost use Rattle.std.specs.Prelude.{◌≡◌, ◌≤◌, ◌-◌, ◌==◌, length, option_map, IfOk, IfErr, MatchBool};
+ghost use Rattle.avr_desk.specs.Fault.{HasFailed};
+
+use crate::desk::Desk;
+use crate::fault::DeskFault;
+use std::marker::Model;
+
+/// A desk whose nth call fails: it answers the fault, raises the count and changes nothing. All
+/// other calls go to the desk within.
+#[derive(Debug, Drop)]
+pub struct FailingDesk<D> {
+    inner: D,
+    due: u64,
+    planned: u64,
+}
+
+impl<D> Model for FailingDesk<D> {
+    ghost use Rattle.avr_desk.specs.Failing.{Failing};
+
+    ghost Value = { Failing D };
+
+    ghost view = { λ d. record { inner = d.inner; due = d.due; planned = d.planned } };
+}
+
+impl<D> FailingDesk<D> {
+    /// Over this desk, with the call that fails counted from 1; 0 for none.
+    pub fn new(inner: D, n: u64) -> FailingDesk<D>
+        ensures { result ≡ record { inner = inner; due = n; planned = 0 } }
+    {
+        FailingDesk {
+            inner,
+            due: n,
+            planned: 0,
+        }
+    }
+
+    /// The desk within.
+    pub fn inner(&self) -> &D
+        ensures { result.now ≡ self.now.inner }
+    {
+        &self.inner
+    }
+
+    /// Counts a call, and says whether it is the one that fails.
+    fn is_due(&mut self) -> bool
+        ensures due { result ≡ (self.old.due == 1) }
+        ensures same { self.new ≡ record self.old { due = self.old.due - 1; planned = self.new.planned } }
+        ensures counts { MatchBool result ((self.old.planned ≤ self.new.planned) × HasFailed self.old.planned self.new.planned) (self.new.planned ≡ self.old.planned) }
+    {
+        let due = self.due == 1;
+        self.due = self.due.saturating_sub(1);
+        if due {
+            self.planned = self.planned.saturating_add(1);
+        }
+        due
+    }
+}
+
+impl<D: Desk> Desk for FailingDesk<D> {
+    ghost use Rattle.avr_desk.specs.Record.{after_open, after_create, after_read, after_write, after_out, after_err, taken, HasOpen, is_to_read, is_to_write};
+    ghost use Rattle.avr_desk.specs.Fault.{Counts, TakesNone};
+    ghost use Rattle.avr_desk.specs.Failing.{FailsWhenDue, all_failures};
+
+    ghost kept = { λ d. D.kept d.inner };
+
+    ghost failures = { λ d. all_failures D.failures d };
+
+    fn open(&mut self, name: &str) -> Result<(), DeskFault>
+        ensures kept { D.kept self.new.inner ≡ option_map (after_open name.now result) (D.kept self.old.inner) }
+        ensures counts { Counts (all_failures D.failures self.old) (all_failures D.failures self.new) result }
+        ensures when_due { FailsWhenDue D.failures self.old self.new result }
+    {
+        if self.is_due() {
+            return Err(DeskFault::Failed);
+        }
+        self.inner.open(name)
+    }
+
+    fn create(&mut self, name: &str) -> Result<(), DeskFault>
+        ensures kept { D.kept self.new.inner ≡ option_map (after_create name.now result) (D.kept self.old.inner) }
+        ensures counts { Counts (all_failures D.failures self.old) (all_failures D.failures self.new) result }
+        ensures fault { IfErr result (λ e. e ≡ DeskFault.Failed) }
+        ensures when_due { FailsWhenDue D.failures self.old self.new result }
+    {
+        if self.is_due() {
+            return Err(DeskFault::Failed);
+        }
+        self.inner.create(name)
+    }
+
+    fn read(&mut self, buf: &mut [u8]) -> Result<usize, DeskFault>
+        ensures bound { IfOk result (λ n. n ≤ length buf.new) }
+        ensures kept { D.kept self.new.inner ≡ option_map (after_read buf.new result) (D.kept self.old.inner) }
+        ensures has_file { HasOpen is_to_read (D.kept self.old.inner) result }
+        ensures counts { Counts (all_failures D.failures self.old) (all_failures D.failures self.new) result }
+        ensures fault { IfErr result (λ e. e ≡ DeskFault.Failed) }
+        ensures when_due { FailsWhenDue D.failures self.old self.new result }
+    {
+        if self.is_due() {
+            return Err(DeskFault::Failed);
+        }
+        self.inner.read(buf)
+    }
+
+    fn write(&mut self, bytes: &[u8]) -> Result<usize, DeskFault>
+        ensures bound { IfOk result (λ n. n ≤ length bytes.now) }
+        ensures kept { D.kept self.new.inner ≡ option_map (after_write (taken bytes.now result)) (D.kept self.old.inner) }
+        ensures has_file { HasOpen is_to_write (D.kept self.old.inner) result }
+        ensures counts { Counts (all_failures D.failures self.old) (all_failures D.failures self.new) result }
+        ensures none { TakesNone bytes.now result → HasFailed (all_failures D.failures self.old) (all_failures D.failures self.new) }
+        ensures fault { IfErr result (λ e. e ≡ DeskFault.Failed) }
+        ensures when_due { FailsWhenDue D.failures self.old self.new result }
+    {
+        if self.is_due() {
+            return Err(DeskFault::Failed);
+        }
+        self.inner.write(bytes)
+    }
+
+    fn out(&mut self, bytes: &[u8]) -> Result<usize, DeskFault>
+        ensures bound { IfOk result (λ n. n ≤ length bytes.now) }
+        ensures kept { D.kept self.new.inner ≡ option_map (after_out (taken bytes.now result)) (D.kept self.old.inner) }
+        ensures counts { Counts (all_failures D.failures self.old) (all_failures D.failures self.new) result }
+        ensures none { TakesNone bytes.now result → HasFailed (all_failures D.failures self.old) (all_failures D.failures self.new) }
+        ensures fault { IfErr result (λ e. e ≡ DeskFault.Failed) }
+        ensures when_due { FailsWhenDue D.failures self.old self.new result }
+    {
+        if self.is_due() {
+            return Err(DeskFault::Failed);
+        }
+        self.inner.out(bytes)
+    }
+
+    fn err(&mut self, bytes: &[u8]) -> Result<usize, DeskFault>
+        ensures bound { IfOk result (λ n. n ≤ length bytes.now) }
+        ensures kept { D.kept self.new.inner ≡ option_map (after_err (taken bytes.now result)) (D.kept self.old.inner) }
+        ensures counts { Counts (all_failures D.failures self.old) (all_failures D.failures self.new) result }
+        ensures none { TakesNone bytes.now result → HasFailed (all_failures D.failures self.old) (all_failures D.failures self.new) }
+        ensures fault { IfErr result (λ e. e ≡ DeskFault.Failed) }
+        ensures when_due { FailsWhenDue D.failures self.old self.new result }
+    {
+        if self.is_due() {
+            return Err(DeskFault::Failed);
+        }
+        self.inner.err(bytes)
+    }
+}

@@ -1,0 +1,80 @@
+//! A whole file over a desk.
+ghost use Rattle.std.specs.Prelude.{IfOk};
+ghost use Rattle.avr_desk.specs.Files.{FaultCounts, IsWhole, ReadsOpen, ReadsFile};
+
+use crate::bytes::Bytes;
+use crate::desk::Desk;
+use crate::fault::DeskFault;
+use std::alloc::Global;
+use thiserror::Error;
+
+/// The most bytes that are asked of a desk at a time.
+const PIECE: usize = 4096;
+
+/// Why a file was not read.
+#[derive(Clone, Copy, Debug, PartialEq, Eq, Error)]
+pub enum FileFault {
+    /// The desk has no such file.
+    #[error("no such file")]
+    Absent,
+    /// The desk failed as it opened the file.
+    #[error("it can't be opened")]
+    NotOpened,
+    /// The desk failed as it read the file.
+    #[error("it can't be read")]
+    NotRead,
+    /// There was no memory for the bytes.
+    #[error("out of memory")]
+    Memory,
+}
+
+/// What was read of a file.
+#[derive(Debug, Drop)]
+pub struct Contents {
+    pub bytes: Bytes,
+    /// The end was seen; else the bytes are more than the limit.
+    pub ended: bool,
+}
+
+/// Reads a file to its end, or until more than `limit` bytes came, in pieces of at most 4,096.
+pub fn read_file<D: Desk>(
+    alloc: Global,
+    desk: &mut D,
+    name: &str,
+    limit: usize,
+) -> Result<Contents, FileFault>
+    ensures kept { ReadsFile name.now (D.kept desk.old) (D.kept desk.new) result }
+    ensures whole { IfOk result (IsWhole limit) }
+    ensures counts { FaultCounts (D.failures desk.old) (D.failures desk.new) result }
+{
+    match desk.open(name) {
+        Ok(()) => read_open(alloc, desk, limit),
+        Err(DeskFault::NotFound) => Err(FileFault::Absent),
+        Err(DeskFault::Failed) => Err(FileFault::NotOpened),
+    }
+}
+
+/// Reads what is open.
+fn read_open<D: Desk>(alloc: Global, desk: &mut D, limit: usize) -> Result<Contents, FileFault>
+    ensures kept { ReadsOpen (D.kept desk.old) (D.kept desk.new) result }
+    ensures whole { IfOk result (IsWhole limit) }
+    ensures counts { FaultCounts (D.failures desk.old) (D.failures desk.new) result }
+{
+    let mut bytes = Bytes::new(alloc);
+    let mut piece = [0u8; PIECE];
+    'pieces: while bytes.len() <= limit {
+        let Ok(count) = desk.read(&mut piece) else {
+            return Err(FileFault::NotRead);
+        };
+        if count == 0 {
+            return Ok(Contents { bytes, ended: true });
+        }
+        if bytes.extend(&piece[..count]).is_err() {
+            return Err(FileFault::Memory);
+        }
+    }
+    Ok(Contents {
+        bytes,
+        ended: false,
+    })
+}

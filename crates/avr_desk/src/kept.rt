@@ -1,0 +1,164 @@
+//! What a desk in memory keeps.
+ghost use Rattle.std.specs.Prelude.{◌≡◌, is_ok, if◌then◌else◌};
+ghost use Rattle.std.specs.Option.{option_copied};
+
+use crate::bytes::Bytes;
+use crate::record::{Open, Opening, Writing, newest};
+use std::alloc::{AllocError, Global};
+use std::marker::Model;
+use std::mem;
+
+/// The openings, the files that were created, the output and the messages.
+#[derive(Debug, Drop)]
+pub struct Kept {
+    openings: Vec<Opening>,
+    files: Vec<Writing>,
+    current: Open,
+    output: Bytes,
+    messages: Bytes,
+}
+
+impl Model for Kept {
+    ghost use Rattle.avr_desk.specs.Record.{Record};
+
+    ghost Value = { Record };
+
+    ghost view = { λ k. record {
+      openings = k.openings.items;
+      files = k.files.items;
+      current = k.current;
+      output = k.output;
+      messages = k.messages;
+    } };
+}
+
+impl Kept {
+    ghost use Rattle.avr_desk.specs.Record.{after_err, after_out, after_write, with_open, with_absent, nothing_kept, all_files, is_to_read, is_to_write};
+    ghost use Rattle.avr_desk.specs.Files.{after_reading};
+    ghost use Rattle.avr_desk.specs.Named.{given, newest};
+
+    pub fn new(alloc: Global) -> Kept
+        ensures { result ≡ nothing_kept }
+    {
+        Kept {
+            openings: Vec::new(alloc),
+            files: Vec::new(alloc),
+            current: Open::Closed,
+            output: Bytes::new(alloc),
+            messages: Bytes::new(alloc),
+        }
+    }
+
+    pub fn output(&self) -> &[u8]
+        ensures { result.now ≡ self.now.output }
+    {
+        self.output.as_slice()
+    }
+
+    pub fn messages(&self) -> &[u8]
+        ensures { result.now ≡ self.now.messages }
+    {
+        self.messages.as_slice()
+    }
+
+    pub fn is_reading(&self) -> bool
+        ensures { result ≡ is_to_read self.now.current }
+    {
+        matches!(self.current, Open::ToRead(_))
+    }
+
+    pub fn is_writing(&self) -> bool
+        ensures { result ≡ is_to_write self.now.current }
+    {
+        matches!(self.current, Open::ToWrite(_))
+    }
+
+    pub fn openings(&self) -> &[Opening]
+        ensures { result.now ≡ self.now.openings }
+    {
+        self.openings.as_slice()
+    }
+
+    /// The bytes that the open file has given.
+    pub fn given(&self) -> &[u8]
+        ensures { result.now ≡ given self.now.current }
+    {
+        match &self.current {
+            Open::ToRead(reading) => reading.bytes.as_slice(),
+            _ => &[],
+        }
+    }
+
+    /// The bytes of the file of this name that was created last; `older` where none was.
+    #[tactic(auto, using(crate::proofs::NamedLemmas::newest_append))]
+    pub fn created<'a>(&'a self, older: Option<&'a [u8]>, name: &[u8]) -> Option<&'a [u8]>
+        ensures { option_copied result ≡ newest name.now (option_copied older.entry) (all_files self.now) }
+    {
+        let found = newest(older, self.files.as_slice(), name);
+        match &self.current {
+            Open::ToWrite(file) => file.or_older(found, name),
+            _ => found,
+        }
+    }
+
+    pub fn print(&mut self, bytes: &[u8]) -> Result<(), AllocError>
+        ensures { self.new ≡ (if is_ok result then after_out bytes.now self.old else self.old) }
+    {
+        self.output.extend(bytes)
+    }
+
+    pub fn report(&mut self, bytes: &[u8]) -> Result<(), AllocError>
+        ensures { self.new ≡ (if is_ok result then after_err bytes.now self.old else self.old) }
+    {
+        self.messages.extend(bytes)
+    }
+
+    /// Puts the open file by, and has another one open.
+    pub fn begin(&mut self, next: Open) -> Result<(), AllocError>
+        ensures { self.new ≡ (if is_ok result then with_open next self.old else self.old) }
+    {
+        self.openings.reserve(1)?;
+        self.files.reserve(1)?;
+        match mem::replace(&mut self.current, next) {
+            Open::Closed => {}
+            Open::ToRead(reading) => self.openings.push(Opening::Found(reading)).unwrap(),
+            Open::ToWrite(writing) => self.files.push(writing).unwrap(),
+        }
+        Ok(())
+    }
+
+    /// Puts the open file by, and notes that there is no file of this name.
+    pub fn note_absent(&mut self, name: Bytes) -> Result<(), AllocError>
+        ensures { self.new ≡ (if is_ok result then with_absent name self.old else self.old) }
+    {
+        self.openings.reserve(2)?;
+        self.files.reserve(1)?;
+        match mem::replace(&mut self.current, Open::Closed) {
+            Open::Closed => {}
+            Open::ToRead(reading) => self.openings.push(Opening::Found(reading)).unwrap(),
+            Open::ToWrite(writing) => self.files.push(writing).unwrap(),
+        }
+        self.openings.push(Opening::Absent(name)).unwrap();
+        Ok(())
+    }
+
+    /// Adds the bytes read, or notes that the end was seen.
+    pub fn read_on(&mut self, bytes: &[u8], ends: bool) -> Result<(), AllocError>
+        ensures { self.new ≡ (if is_ok result then after_reading bytes.now ends self.old else self.old) }
+    {
+        if let Open::ToRead(reading) = &mut self.current {
+            reading.bytes.extend(bytes)?;
+            reading.ended = reading.ended || ends;
+        }
+        Ok(())
+    }
+
+    pub fn write_on(&mut self, bytes: &[u8]) -> Result<(), AllocError>
+        ensures { self.new ≡ (if is_ok result then after_write bytes.now self.old else self.old) }
+    {
+        if let Open::ToWrite(writing) = &mut self.current {
+            writing.bytes.extend(bytes)?;
+        }
+        Ok(())
+    }
+}

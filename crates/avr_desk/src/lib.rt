@@ -1,0 +1,37 @@
+//! What a run reads and writes beside its link: files, standard input and output, messages.
+//!
+//! The one idea: what was asked of a desk and what it gave is one record, so that a contract of a
+//! caller can say what was opened, created, printed and reported, over any desk that shows it.
+//!
+//! `read_file(alloc, &mut desk, "a.hex", 65_536)?` reads a file whole, `print_pieces(&mut desk,
+//! &[b"done", b"\n"])?` reports a line.
+#![tactic(auto)]
+
+// What a desk is, and what it keeps of a run.
+mod bytes;
+mod desk;
+mod fault;
+mod record;
+
+// What callers do over any desk.
+mod files;
+mod stream;
+
+// The desks.
+mod failing;
+mod kept;
+mod mem_desk;
+mod system;
+
+pub use bytes::Bytes;
+pub use desk::Desk;
+pub use failing::FailingDesk;
+pub use fault::DeskFault;
+pub use files::{Contents, FileFault, read_file};
+pub use mem_desk::MemDesk;
+pub use record::{Open, Opening, Reading, Writing};
+pub use stream::{Stream, print_pieces, write_all};
+pub use system::SystemDesk;
+
+#[cfg(test)]
+mod tests;

@@ -1,0 +1,267 @@
+//! A desk in memory.
+ghost use Rattle.std.specs.Prelude.{◌≡◌, ◌≤◌, ◌++◌, ◌∷◌, [], min, take, drop, length, Some, None, IfOk, IfErr, OnOk, is_ok, true, if◌then◌else◌};
+ghost use Rattle.std.specs.Option.{option_copied};
+
+use crate::bytes::Bytes;
+use crate::desk::Desk;
+use crate::fault::DeskFault;
+use crate::kept::Kept;
+use crate::record::{Open, Opening, Reading, Writing, newest};
+use std::alloc::{AllocError, Global};
+use std::marker::Model;
+
+/// A desk that holds files, input, output and messages in memory, and shows all that passed.
+///
+/// A growth that is refused within a call is a failure of the desk, which counts it and changes
+/// nothing else.
+#[derive(Debug, Drop)]
+pub struct MemDesk {
+    alloc: Global,
+    input: Bytes,
+    stored: Vec<Writing>,
+    opened: Bytes,
+    kept: Kept,
+    failures: u64,
+}
+
+impl Model for MemDesk {
+    ghost use Rattle.avr_desk.specs.Memory.{Memory};
+
+    ghost Value = { Memory };
+
+    ghost view = { λ d. record {
+      kept = d.kept;
+      failures = d.failures;
+      input = d.input;
+      stored = d.stored.items;
+      opened = d.opened;
+    } };
+}
+
+/// The bytes from `at` on, at most `room` of them.
+fn next_bytes(bytes: &[u8], at: usize, room: usize) -> &[u8]
+    ensures { result.now ≡ take room (drop at bytes.now) }
+{
+    let Some(rest) = bytes.get(at..) else {
+        return &[];
+    };
+    if rest.len() <= room {
+        rest
+    } else {
+        &rest[..room]
+    }
+}
+
+/// Copies the bytes to the front of the buffer.
+fn copy_front(bytes: &[u8], buf: &mut [u8]) -> usize
+    requires { length bytes.now ≤ length buf.old }
+    ensures count { result ≡ length bytes.now }
+    ensures front { take result buf.new ≡ bytes.now }
+{
+    buf[..bytes.len()].copy_from_slice(bytes);
+    bytes.len()
+}
+
+impl MemDesk {
+    ghost use Rattle.avr_desk.specs.Record.{nothing_kept};
+    ghost use Rattle.avr_desk.specs.Fault.{HasFailed};
+    ghost use Rattle.avr_desk.specs.Memory.{contents, file_named};
+
+    /// A desk with this standard input and no files.
+    pub fn new(alloc: Global, input: Bytes) -> MemDesk
+        ensures { result ≡ record { kept = nothing_kept; failures = 0; input = input; stored = []; opened = [] } }
+    {
+        MemDesk {
+            alloc,
+            input,
+            stored: Vec::new(alloc),
+            opened: Bytes::new(alloc),
+            kept: Kept::new(alloc),
+            failures: 0,
+        }
+    }
+
+    /// Puts a file there, which a later one of its name replaces; so does one that is created.
+    pub fn put(&mut self, name: &str, bytes: &[u8]) -> Result<(), AllocError>
+        ensures { self.new ≡ (if is_ok result then record self.old { stored = self.old.stored ++ record { name = name.now; bytes = bytes.now } ∷ [] } else self.old) }
+    {
+        let name = Bytes::copied(self.alloc, name.as_bytes())?;
+        let bytes = Bytes::copied(self.alloc, bytes)?;
+        self.stored.push(Writing { name, bytes })?;
+        Ok(())
+    }
+
+    /// The bytes of a file: what was written to it since it was created last, else what was put
+    /// there last.
+    #[tactic(auto, using(crate::proofs::NamedLemmas::newest_append))]
+    pub fn file(&self, name: &str) -> Option<&[u8]>
+        ensures { option_copied result ≡ file_named name.now self.now }
+    {
+        let name = name.as_bytes();
+        self.kept
+            .created(newest(None, self.stored.as_slice(), name), name)
+    }
+
+    /// The standard output.
+    pub fn output(&self) -> &[u8]
+        ensures { result.now ≡ self.now.kept.output }
+    {
+        self.kept.output()
+    }
+
+    /// The messages.
+    pub fn messages(&self) -> &[u8]
+        ensures { result.now ≡ self.now.kept.messages }
+    {
+        self.kept.messages()
+    }
+
+    /// The openings that are over, in their order.
+    pub fn openings(&self) -> &[Opening]
+        ensures { result.now ≡ self.now.kept.openings }
+    {
+        self.kept.openings()
+    }
+
+    /// What a name stands for when it is opened.
+    fn contents(&self, name: &str) -> Option<&[u8]>
+        ensures { option_copied result ≡ contents name.now self.now }
+    {
+        if name == "-" {
+            Some(self.input.as_slice())
+        } else {
+            self.file(name)
+        }
+    }
+
+    /// Counts a failure.
+    fn fail(&mut self) -> DeskFault
+        ensures fault { result ≡ DeskFault.Failed }
+        ensures same { self.new ≡ record self.old { failures = self.new.failures } }
+        ensures rises { self.old.failures ≤ self.new.failures }
+        ensures counts { HasFailed self.old.failures self.new.failures }
+    {
+        self.failures = self.failures.saturating_add(1);
+        DeskFault::Failed
+    }
+}
+
+impl Desk for MemDesk {
+    ghost use Rattle.avr_desk.specs.Record.{after_open, after_create, after_read, after_write, after_out, after_err, taken, is_to_read, is_to_write};
+    ghost use Rattle.avr_desk.specs.Fault.{Counts, HasFailed};
+    ghost use Rattle.avr_desk.specs.Memory.{contents, unread};
+
+    ghost kept = { λ d. Some d.kept };
+
+    ghost failures = { λ d. d.failures };
+
+    fn open(&mut self, name: &str) -> Result<(), DeskFault>
+        ensures kept { self.new ≡ record self.old { kept = after_open name.now result self.old.kept; failures = self.new.failures; opened = self.new.opened } }
+        ensures found { OnOk result (contents name.now self.old ≡ Some self.new.opened) }
+        ensures absent { result ≡ Err DeskFault.NotFound → contents name.now self.old ≡ None }
+        ensures counts { Counts self.old.failures self.new.failures result }
+    {
+        let Ok(kept_name) = Bytes::copied(self.alloc, name.as_bytes()) else {
+            return Err(self.fail());
+        };
+        let Some(bytes) = self.contents(name) else {
+            if self.kept.note_absent(kept_name).is_err() {
+                return Err(self.fail());
+            }
+            return Err(DeskFault::NotFound);
+        };
+        let Ok(opened) = Bytes::copied(self.alloc, bytes) else {
+            return Err(self.fail());
+        };
+        let reading = Reading {
+            name: kept_name,
+            bytes: Bytes::new(self.alloc),
+            ended: false,
+        };
+        if self.kept.begin(Open::ToRead(reading)).is_err() {
+            return Err(self.fail());
+        }
+        self.opened = opened;
+        Ok(())
+    }
+
+    fn create(&mut self, name: &str) -> Result<(), DeskFault>
+        ensures kept { self.new ≡ record self.old { kept = after_create name.now result self.old.kept; failures = self.new.failures } }
+        ensures counts { Counts self.old.failures self.new.failures result }
+        ensures fault { IfErr result (λ e. e ≡ DeskFault.Failed) }
+    {
+        let Ok(name) = Bytes::copied(self.alloc, name.as_bytes()) else {
+            return Err(self.fail());
+        };
+        let bytes = Bytes::new(self.alloc);
+        if self
+            .kept
+            .begin(Open::ToWrite(Writing { name, bytes }))
+            .is_err()
+        {
+            return Err(self.fail());
+        }
+        Ok(())
+    }
+
+    fn read(&mut self, buf: &mut [u8]) -> Result<usize, DeskFault>
+        ensures count { IfOk result (λ n. n ≡ min (length buf.old) (length (unread self.old))) }
+        ensures gives { IfOk result (λ n. take n buf.new ≡ take n (unread self.old)) }
+        ensures kept { self.new ≡ record self.old { kept = after_read buf.new result self.old.kept; failures = self.new.failures } }
+        ensures has_file { OnOk result (is_to_read self.old.kept.current ≡ true) }
+        ensures counts { Counts self.old.failures self.new.failures result }
+        ensures fault { IfErr result (λ e. e ≡ DeskFault.Failed) }
+    {
+        if !self.kept.is_reading() {
+            return Err(self.fail());
+        }
+        let room = buf.len();
+        let next = next_bytes(self.opened.as_slice(), self.kept.given().len(), room);
+        let count = copy_front(next, buf);
+        let ends = count == 0 && room > 0;
+        if self.kept.read_on(&buf[..count], ends).is_err() {
+            return Err(self.fail());
+        }
+        Ok(count)
+    }
+
+    fn write(&mut self, bytes: &[u8]) -> Result<usize, DeskFault>
+        ensures all { IfOk result (λ n. n ≡ length bytes.now) }
+        ensures kept { self.new ≡ record self.old { kept = after_write (taken bytes.now result) self.old.kept; failures = self.new.failures } }
+        ensures has_file { OnOk result (is_to_write self.old.kept.current ≡ true) }
+        ensures counts { Counts self.old.failures self.new.failures result }
+        ensures fault { IfErr result (λ e. e ≡ DeskFault.Failed) }
+    {
+        if !self.kept.is_writing() {
+            return Err(self.fail());
+        }
+        if self.kept.write_on(bytes).is_err() {
+            return Err(self.fail());
+        }
+        Ok(bytes.len())
+    }
+
+    fn out(&mut self, bytes: &[u8]) -> Result<usize, DeskFault>
+        ensures all { IfOk result (λ n. n ≡ length bytes.now) }
+        ensures kept { self.new ≡ record self.old { kept = after_out (taken bytes.now result) self.old.kept; failures = self.new.failures } }
+        ensures counts { Counts self.old.failures self.new.failures result }
+        ensures fault { IfErr result (λ e. e ≡ DeskFault.Failed) }
+    {
+        if self.kept.print(bytes).is_err() {
+            return Err(self.fail());
+        }
+        Ok(bytes.len())
+    }
+
+    fn err(&mut self, bytes: &[u8]) -> Result<usize, DeskFault>
+        ensures all { IfOk result (λ n. n ≡ length bytes.now) }
+        ensures kept { self.new ≡ record self.old { kept = after_err (taken bytes.now result) self.old.kept; failures = self.new.failures } }
+        ensures counts { Counts self.old.failures self.new.failures result }
+        ensures fault { IfErr result (λ e. e ≡ DeskFault.Failed) }
+    {
+        if self.kept.report(bytes).is_err() {
+            return Err(self.fail());
+        }
+        Ok(bytes.len())
+    }
+}

@@ -1,0 +1,68 @@
+//! What a desk was asked, and what it gave.
+ghost use Rattle.std.specs.Prelude.{◌≡◌};
+ghost use Rattle.std.specs.Option.{option_copied};
+ghost use Rattle.avr_desk.specs.Named.{newest};
+
+use crate::bytes::Bytes;
+
+/// A file that is read, with the bytes that it gave so far.
+#[derive(Debug, Drop)]
+pub struct Reading {
+    pub name: Bytes,
+    pub bytes: Bytes,
+    /// The end was seen.
+    pub ended: bool,
+}
+
+/// A file that was created, with the bytes that were written so far.
+#[derive(Debug, Drop)]
+pub struct Writing {
+    pub name: Bytes,
+    pub bytes: Bytes,
+}
+
+/// What one opening gave.
+#[derive(Debug, Drop)]
+pub enum Opening {
+    /// There was no file of this name.
+    Absent(Bytes),
+    Found(Reading),
+}
+
+/// The file that is open.
+#[derive(Debug, Drop)]
+pub enum Open {
+    Closed,
+    ToRead(Reading),
+    ToWrite(Writing),
+}
+
+impl Writing {
+    ghost use Rattle.avr_desk.specs.Named.{or_older};
+
+    /// The file's bytes if it has this name, else `older`.
+    pub(crate) fn or_older<'a>(&'a self, older: Option<&'a [u8]>, name: &[u8]) -> Option<&'a [u8]>
+        ensures { option_copied result ≡ or_older name.now (option_copied older.entry) self.now }
+    {
+        if self.name.as_slice() == name {
+            Some(self.bytes.as_slice())
+        } else {
+            older
+        }
+    }
+}
+
+/// The bytes of the last file of this name, else `older`.
+pub(crate) fn newest<'a>(
+    older: Option<&'a [u8]>,
+    files: &'a [Writing],
+    name: &[u8],
+) -> Option<&'a [u8]>
+    ensures { option_copied result ≡ newest name.now (option_copied older.entry) files.now }
+{
+    let mut found = older;
+    for file in files {
+        found = file.or_older(found, name);
+    }
+    found
+}

@@ -1,0 +1,69 @@
+//! All of the bytes, to one of the three places that a desk writes to.
+ghost use Rattle.std.specs.Prelude.{◌≡◌, ◌≤◌, length, option_map, IfOk, IfErr, OnOk, OnErr};
+ghost use Rattle.avr_desk.specs.Fault.{Counts, HasFailed, TakesNone};
+ghost use Rattle.avr_desk.specs.Record.{after_err, taken};
+ghost use Rattle.avr_desk.specs.Stream.{SendsPart, after_sent, joined};
+
+use crate::desk::Desk;
+use crate::fault::DeskFault;
+
+/// Where bytes go.
+#[derive(Clone, Copy, Debug, PartialEq, Eq)]
+pub enum Stream {
+    /// The file that was created and is open.
+    File,
+    /// Standard output.
+    Output,
+    /// The messages, standard error.
+    Messages,
+}
+
+/// Writes some of the bytes.
+fn write_some<D: Desk>(desk: &mut D, stream: Stream, bytes: &[u8]) -> Result<usize, DeskFault>
+    ensures bound { IfOk result (λ n. n ≤ length bytes.now) }
+    ensures kept { D.kept desk.new ≡ option_map (after_sent stream (taken bytes.now result)) (D.kept desk.old) }
+    ensures counts { Counts (D.failures desk.old) (D.failures desk.new) result }
+    ensures none { TakesNone bytes.now result → HasFailed (D.failures desk.old) (D.failures desk.new) }
+    ensures fault { IfErr result (λ e. e ≡ DeskFault.Failed) }
+{
+    match stream {
+        Stream::File => desk.write(bytes),
+        Stream::Output => desk.out(bytes),
+        Stream::Messages => desk.err(bytes),
+    }
+}
+
+/// Writes all the bytes. After a fault a front of them was written.
+pub fn write_all<D: Desk>(desk: &mut D, stream: Stream, bytes: &[u8]) -> Result<(), DeskFault>
+    ensures all { OnOk result (D.kept desk.new ≡ option_map (after_sent stream bytes.now) (D.kept desk.old)) }
+    ensures part { OnErr result (SendsPart stream (D.kept desk.old) (D.kept desk.new) bytes.now) }
+    ensures counts { Counts (D.failures desk.old) (D.failures desk.new) result }
+    ensures fault { IfErr result (λ e. e ≡ DeskFault.Failed) }
+{
+    let mut at = 0;
+    while at < bytes.len() {
+        let count = write_some(desk, stream, &bytes[at..])?;
+        if count == 0 {
+            return Err(DeskFault::Failed);
+        }
+        at += count;
+    }
+    Ok(())
+}
+
+/// Writes the pieces one after the other as a message. After a fault a front of them was written,
+/// and nothing more is.
+pub fn print_pieces<D: Desk>(desk: &mut D, pieces: &[&[u8]]) -> Result<(), DeskFault>
+    ensures all { OnOk result (D.kept desk.new ≡ option_map (after_err (joined pieces.now)) (D.kept desk.old)) }
+    ensures part { OnErr result (SendsPart Stream.Messages (D.kept desk.old) (D.kept desk.new) (joined pieces.now)) }
+    ensures counts { Counts (D.failures desk.old) (D.failures desk.new) result }
+    ensures fault { IfErr result (λ e. e ≡ DeskFault.Failed) }
+{
+    for piece in pieces {
+        match write_all(desk, Stream::Messages, piece) {
+            Ok(()) => {}
+            Err(fault) => return Err(fault),
+        }
+    }
+    Ok(())
+}
