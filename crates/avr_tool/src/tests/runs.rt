@@ -1,0 +1,274 @@
+//! Worked runs: what is sent, what is printed, and the status. The frames are those of the STK500 protocol, version 2
+//! (AVR068), written out by hand.
+use crate::{Settings, read_words, run, settings};
+use avr_desk::{Bytes, FailingDesk, MemDesk};
+use std::alloc::Global;
+use std::process::Abort;
+use std::test::Fail;
+use stk_host::{FailingLink, Item, TapeLink};
+
+/// What a programmer with this part answers to SIGN_ON, ENTER_PROGMODE_ISP, three of READ_SIGNATURE_ISP and
+/// LEAVE_PROGMODE_ISP.
+const M328P: &str =
+    "1B01000B0E01000853544B3530305F32021B0200020E1000051B0300040E1B001E00171B0400040E1B0095009B1B0500040E1B000F00001B0600020E110000";
+
+/// SIGN_ON, ENTER_PROGMODE_ISP and the three of READ_SIGNATURE_ISP.
+const OPENING: &str =
+    "1B0100010E01141B02000C0E10C8641920005303AC530000311B0300060E1B04300000003F1B0400060E1B0430000100391B0500060E1B04300002003B";
+
+/// A run: the part, the answers as digits with `-` for a silence, the frames as digits, the messages and the status.
+struct Row {
+    part: &'static str,
+    answers: &'static str,
+    frames: &'static [&'static str],
+    messages: &'static str,
+    status: u8,
+}
+
+fn settings_for(alloc: Global, part: &str) -> Result<Settings, Fail> {
+    let mut words: Vec<String> = Vec::new(alloc);
+    for word in ["avrstk", "-P", "stdio:", "-p", part] {
+        words.push(String::from_str(alloc, word)?)?;
+    }
+    let matches = read_words(alloc, words.as_slice())?;
+    Ok(settings(alloc, &matches)?)
+}
+
+/// The items of a tape: bytes as pairs of digits, and silences.
+fn tape(alloc: Global, text: &str) -> Result<Vec<Item>, Fail> {
+    let mut items = Vec::new(alloc);
+    for (n, digits) in text.split('-').enumerate() {
+        if n > 0 {
+            items.push(Item::Silence)?;
+        }
+        for byte in hex::decode(alloc, digits)? {
+            items.push(Item::Byte(byte))?;
+        }
+    }
+    Ok(items)
+}
+
+/// The bytes of several frames as digits.
+fn joined(alloc: Global, frames: &[&str]) -> Result<Vec<u8>, Fail> {
+    let mut bytes = Vec::new(alloc);
+    for digits in frames {
+        bytes.extend_from_slice(hex::decode(alloc, *digits)?.as_slice())?;
+    }
+    Ok(bytes)
+}
+
+/// A run that is over.
+#[derive(Drop)]
+struct Over {
+    desk: MemDesk,
+    link: TapeLink,
+    status: u8,
+}
+
+/// Runs over a tape that is given in pieces of at most this many bytes.
+fn run_over(alloc: Global, part: &str, items: Vec<Item>, cut: usize) -> Result<Over, Fail> {
+    let settings = settings_for(alloc, part)?;
+    let mut desk = MemDesk::new(alloc, Bytes::new(alloc));
+    let mut link = TapeLink::new(alloc, items, cut.max(1));
+    let status = run(&settings, &mut desk, &mut link);
+    Ok(Over { desk, link, status })
+}
+
+/// Looks at what a run sent, printed and answered.
+fn shows(
+    rt: &impl Abort,
+    over: &Over,
+    sent: &[u8],
+    messages: &str,
+    status: u8,
+) -> Result<(), Fail> {
+    assert!(rt; over.desk.messages() == messages.as_bytes(), "{messages}");
+    assert!(rt; over.link.sent() == sent, "{messages}");
+    assert!(rt; over.status == status, "{messages}");
+    Ok(())
+}
+
+fn look(rt: &impl Abort, alloc: Global, row: &Row, cut: usize) -> Result<(), Fail> {
+    let over = run_over(alloc, row.part, tape(alloc, row.answers)?, cut)?;
+    let sent = joined(alloc, row.frames)?;
+    shows(rt, &over, sent.as_slice(), row.messages, row.status)
+}
+
+fn look_at_all(rt: &impl Abort, alloc: Global, rows: &[Row]) -> Result<(), Fail> {
+    for row in rows {
+        for cut in [1usize, 5, 281] {
+            look(rt, alloc, row, cut)?;
+        }
+    }
+    Ok(())
+}
+
+#[test]
+fn signatures(rt: HostRuntime) -> Result<(), Fail> {
+    look_at_all(
+        &rt,
+        rt.alloc(),
+        &[
+            Row {
+                part: "m328p",
+                answers: M328P,
+                frames: &[OPENING, "1B0600030E11010101"],
+                messages: "avrstk: device signature = 1E 95 0F\navrstk: done\n",
+                status: 0,
+            },
+            Row {
+                part: "t85",
+                answers: "1B01000B0E01000853544B3530305F32021B0200020E1000051B0300040E1B001E00171B0400040E1B0093009D1B0500040E1B000B00041B0600020E110000",
+                frames: &[OPENING, "1B0600030E11010101"],
+                messages: "avrstk: device signature = 1E 93 0B\navrstk: done\n",
+                status: 0,
+            },
+            Row {
+                part: "m328p",
+                answers: "1B01000B0E01000853544B3530305F32021B0200020E1000051B0300040E1B001E00171B0400040E1B0095009B1B0500040E1B0014001B1B0600020E110000",
+                frames: &[OPENING, "1B0600030E11010101"],
+                messages: "avrstk: device signature = 1E 95 14\navrstk: error: signature is 1E 95 14, m328p has 1E 95 0F\n",
+                status: 1,
+            },
+            Row {
+                part: "m9",
+                answers: M328P,
+                frames: &[],
+                messages: "avrstk: error: no part m9\n",
+                status: 1,
+            },
+        ],
+    )
+}
+
+#[test]
+fn answers_that_do_not_come(rt: HostRuntime) -> Result<(), Fail> {
+    look_at_all(
+        &rt,
+        rt.alloc(),
+        &[
+            Row {
+                part: "m328p",
+                answers: "--------",
+                frames: &[
+                    "1B0100010E01141B0200010E01171B0300010E01161B0400010E0111",
+                    "1B0500030E110101021B0600030E110101011B0700030E110101001B0800030E1101010F",
+                ],
+                messages: "avrstk: error: no answer\n",
+                status: 1,
+            },
+            // the tape ends where the answer to LEAVE is due
+            Row {
+                part: "m328p",
+                answers: "1B01000B0E01000853544B3530305F32021B0200020E1000051B0300040E1B001E00171B0400040E1B0095009B1B0500040E1B000F0000",
+                frames: &[OPENING, "1B0600030E11010101"],
+                messages: "avrstk: device signature = 1E 95 0F\navrstk: error: link ended\n",
+                status: 1,
+            },
+            Row {
+                part: "m328p",
+                answers: "1B01000B0E01000853544B3530305F3202",
+                frames: &["1B0100010E01141B02000C0E10C8641920005303AC53000031"],
+                messages: "avrstk: error: link ended\n",
+                status: 1,
+            },
+        ],
+    )
+}
+
+#[test]
+fn commands_that_are_refused(rt: HostRuntime) -> Result<(), Fail> {
+    look_at_all(
+        &rt,
+        rt.alloc(),
+        &[
+            Row {
+                part: "m328p",
+                answers: "1B01000B0E01000853544B3530305F32021B0200020E10C0C5",
+                frames: &[
+                    "1B0100010E01141B02000C0E10C8641920005303AC53000031",
+                    "1B0300030E11010104",
+                ],
+                messages: "avrstk: error: command 10 refused with status C0\n",
+                status: 1,
+            },
+            Row {
+                part: "m328p",
+                answers: "1B01000B0E01000853544B3530305F32021B0200020EB0C1641B0300020EB0C1651B0400020EB0C1621B0500020EB0C163",
+                frames: &[
+                    "1B0100010E01141B02000C0E10C8641920005303AC53000031",
+                    "1B03000C0E10C8641920005303AC530000301B04000C0E10C8641920005303AC53000037",
+                    "1B05000C0E10C8641920005303AC530000361B0600030E11010101",
+                ],
+                messages: "avrstk: error: command 10 refused with status C1\n",
+                status: 1,
+            },
+            Row {
+                part: "m328p",
+                answers: "1B01000B0E01000853544B3530305F32021B0200020E110004",
+                frames: &[
+                    "1B0100010E01141B02000C0E10C8641920005303AC53000031",
+                    "1B0300030E11010104",
+                ],
+                messages: "avrstk: error: command 10: bad answer\n",
+                status: 1,
+            },
+        ],
+    )
+}
+
+/// 5,000 start bytes; then a silence, an answer and the end.
+fn rubbish(alloc: Global) -> Result<Vec<Item>, Fail> {
+    let mut items = Vec::new(alloc);
+    for _ in 0..5_000 {
+        items.push(Item::Byte(0x1B))?;
+    }
+    for item in tape(alloc, "-1B03000B0E01000853544B3530305F3200")? {
+        items.push(item)?;
+    }
+    Ok(items)
+}
+
+/// Of the start bytes 4,096 are read for the first answer and 904 for the second.
+#[test]
+fn rubbish_on_the_line(rt: HostRuntime) -> Result<(), Fail> {
+    let over = run_over(rt.alloc(), "m328p", rubbish(rt.alloc())?, 281)?;
+    let sent = joined(
+        rt.alloc(),
+        &[
+            "1B0100010E01141B0200010E01171B0300010E0116",
+            "1B04000C0E10C8641920005303AC53000037",
+        ],
+    )?;
+    shows(
+        &rt,
+        &over,
+        sent.as_slice(),
+        "avrstk: error: link ended\n",
+        1,
+    )
+}
+
+#[test]
+fn a_link_that_fails(rt: HostRuntime) -> Result<(), Fail> {
+    let alloc = rt.alloc();
+    let settings = settings_for(alloc, "m328p")?;
+    let mut desk = MemDesk::new(alloc, Bytes::new(alloc));
+    let mut link = FailingLink::new(TapeLink::new(alloc, tape(alloc, M328P)?, 281), 1, 281);
+    assert!(rt; run(&settings, &mut desk, &mut link) == 1);
+    assert!(rt; desk.messages() == b"avrstk: error: link cannot be written\n".as_slice());
+    Ok(())
+}
+
+/// Nothing is printed then, and no LEAVE is sent.
+#[test]
+fn a_desk_that_fails(rt: HostRuntime) -> Result<(), Fail> {
+    let alloc = rt.alloc();
+    let settings = settings_for(alloc, "m328p")?;
+    let mut desk = FailingDesk::new(MemDesk::new(alloc, Bytes::new(alloc)), 1);
+    let mut link = TapeLink::new(alloc, tape(alloc, M328P)?, 281);
+    assert!(rt; run(&settings, &mut desk, &mut link) == 1);
+    assert!(rt; link.sent() == joined(alloc, &[OPENING])?.as_slice());
+    assert!(rt; desk.inner().messages() == b"".as_slice());
+    Ok(())
+}

@@ -1,0 +1,58 @@
+//! Programs AVR parts through an STK500v2 programmer, as AVRDUDE does with `-c stk500v2`.
+#![tactic(auto)]
+
+use avr_desk::SystemDesk;
+use avr_tool::{Settings, read_words, refuse, run, settings};
+use clap::Error;
+use std::process::ExitCode;
+use std::{env, io};
+use stk_host::StreamLink;
+
+fn main(rt: HostRuntime) -> ExitCode {
+    ExitCode::from(status(&rt))
+}
+
+/// The status of a run; what can't even be printed is 1 too.
+fn status(rt: &HostRuntime) -> u8 {
+    match try_run(rt) {
+        Ok(status) => status,
+        Err(_) => 1,
+    }
+}
+
+fn try_run(rt: &HostRuntime) -> io::Result<u8> {
+    let words: Vec<String> = match env::args(rt) {
+        Ok(words) => words.collect(rt.alloc())?,
+        Err(error) => {
+            eprintln!(rt; "avrstk: error: {error}")?;
+            return Ok(1);
+        }
+    };
+    run_words(rt, words.as_slice())
+}
+
+fn run_words(rt: &HostRuntime, words: &[String]) -> io::Result<u8> {
+    match read_words(rt.alloc(), words) {
+        Ok(matches) => match settings(rt.alloc(), &matches) {
+            Ok(settings) => Ok(run_settings(rt, &settings)),
+            Err(fault) => {
+                let mut desk = SystemDesk::new(rt, rt.stdout(), rt.stderr());
+                Ok(refuse(&fault, &mut desk))
+            }
+        },
+        Err(error) => refused(rt, &error),
+    }
+}
+
+/// Prints what `clap` says: help is no mistake.
+fn refused(rt: &HostRuntime, error: &Error) -> io::Result<u8> {
+    error.print(rt)?;
+    if error.use_stderr() { Ok(1) } else { Ok(0) }
+}
+
+/// Runs over standard input and output, where `stdio:` has its frames.
+fn run_settings(rt: &HostRuntime, settings: &Settings) -> u8 {
+    let mut desk = SystemDesk::new(rt, rt.stdout(), rt.stderr());
+    let mut link = StreamLink::new(rt.stdin(), rt.stdout());
+    run(settings, &mut desk, &mut link)
+}
