@@ -1,0 +1,14 @@
+//! Tests across crates: a host programs an emulated part over a wire that answers, loses and delays.
+//!
+//! ```text
+//! let mut host = Host::new(&part);
+//! host.open(&mut wire, false)?;
+//! host.erase(&mut wire)?;
+//! host.write(&mut wire, Mem::Flash, &image)?;
+//! host.verify(&mut wire, alloc, Mem::Flash, &image)?;
+//! host.close(&mut wire)?;
+//! ```
+#![tactic(auto)]
+
+#[cfg(test)]
+mod programming;
