@@ -6,9 +6,14 @@ ghost use Rattle.avr_image.specs.Fault.{number_of};
 use thiserror::Error;
 
 /// Why no image came of some bytes.
+///
+/// ```text
+/// let fault = parse_immediate(alloc, "1,256", 4).err();
+/// assert_eq!(rt; fault, Some(ImageFault::TooLarge(2)));
+/// ```
 #[derive(Clone, Copy, Debug, Drop, PartialEq, Eq, Error)]
 pub enum ImageFault {
-    /// This address lies outside the memory. Of a raw file it is the memory's size.
+    /// This byte address lies outside the memory. Of a raw file it is the memory's size.
     #[error("address {0} is outside the memory")]
     OutOfRange(u32),
     /// The value at this place, counted from 1, is no number.
@@ -26,7 +31,11 @@ pub enum ImageFault {
 }
 
 impl ImageFault {
-    /// The fault's number.
+    /// The fault's number, from 1 on.
+    ///
+    /// ```text
+    /// assert_eq!(rt; ImageFault::OutOfRange(64).number(), 1);
+    /// ```
     pub fn number(&self) -> u8
         ensures { result ≡ number_of self.now }
     {

@@ -10,8 +10,15 @@ use crate::fault::ImageFault;
 use std::alloc::{AllocError, Global};
 use std::marker::Model;
 
-/// The bytes of a memory, as far as there are any. Contracts see it as the list of optional bytes, one for each address
+/// The bytes of a memory, as far as there are any. Contracts see it as the list of optional bytes, one for each byte address
 /// below its size.
+///
+/// ```text
+/// let mut image = Image::new(alloc, 32_768)?;
+/// image.put(0, 0x0C)?;
+/// assert_eq!(rt; image.get(0), Some(0x0C));
+/// assert_eq!(rt; image.get(1), None);
+/// ```
 #[derive(Drop)]
 pub struct Image {
     bytes: Vec<u8>,
@@ -64,7 +71,13 @@ fn paste(bytes: &mut Vec<u8>, start: usize, span: &[u8])
 }
 
 impl Image {
-    /// An image of this size that holds nothing.
+    /// An image of a memory of this many bytes that holds nothing. It takes all the memory that the image will ever need;
+    /// where that is refused, the fault is `Memory`.
+    ///
+    /// ```text
+    /// let image = Image::new(alloc, 32_768)?;
+    /// assert_eq!(rt; image.len(), 0);
+    /// ```
     pub fn new(alloc: Global, size: u32) -> Result<Image, ImageFault>
         ensures { MatchResult result (λ image. image ≡ empty size) (λ fault. fault ≡ ImageFault.Memory) }
     {
@@ -78,7 +91,12 @@ impl Image {
         Ok(Image { bytes, words })
     }
 
-    /// How many addresses the memory has.
+    /// How many bytes the memory has: its addresses lie below.
+    ///
+    /// ```text
+    /// let image = Image::new(alloc, 32_768)?;
+    /// assert_eq!(rt; image.size(), 32_768);
+    /// ```
     #[tactic(auto, using(crate::proofs::Shown::length_shown))]
     pub fn size(&self) -> u32
         ensures { result ≡ length self.now }
@@ -86,7 +104,13 @@ impl Image {
         self.bytes.len() as u32
     }
 
-    /// How many addresses hold a byte.
+    /// How many addresses hold a byte. Each is looked at.
+    ///
+    /// ```text
+    /// let mut image = Image::new(alloc, 64)?;
+    /// image.put_slice(8, &[0x12, 0x34])?;
+    /// assert_eq!(rt; image.len(), 2);
+    /// ```
     pub fn len(&self) -> u32
         ensures { result ≡ held self.now }
     {
@@ -99,7 +123,14 @@ impl Image {
         count
     }
 
-    /// The byte at an address, if it holds one.
+    /// The byte at a byte address, if it holds one. Outside the memory none does.
+    ///
+    /// ```text
+    /// let mut image = Image::new(alloc, 64)?;
+    /// image.put(8, 0x12)?;
+    /// assert_eq!(rt; image.get(8), Some(0x12));
+    /// assert_eq!(rt; image.get(64), None);
+    /// ```
     pub fn get(&self, addr: u32) -> Option<u8>
         ensures { result ≡ byte_at self.now addr }
     {
@@ -111,7 +142,16 @@ impl Image {
         }
     }
 
-    /// Lays a byte down at an address. Outside the memory nothing changes.
+    /// Lays a byte down at a byte address, over one that it may hold. Outside the memory nothing changes, and the fault is
+    /// `OutOfRange` with the address.
+    ///
+    /// ```text
+    /// let mut image = Image::new(alloc, 64)?;
+    /// image.put(8, 0x12)?;
+    /// image.put(8, 0x11)?;
+    /// assert_eq!(rt; image.get(8), Some(0x11));
+    /// assert_eq!(rt; image.put(64, 0x12), Err(ImageFault::OutOfRange(64)));
+    /// ```
     pub fn put(&mut self, addr: u32, byte: u8) -> Result<(), ImageFault>
         ensures judged { result ≡ (if nat_lt addr (length self.old) then Ok tt else Err (ImageFault.OutOfRange addr)) }
         ensures laid { self.new ≡ with_byte self.old addr byte }
@@ -127,8 +167,15 @@ impl Image {
         Ok(())
     }
 
-    /// Lays bytes down at the addresses from `addr` on, as `put` of each in their order, and answers the address behind them.
-    /// Where one lies outside the memory none is laid, and the fault names the first that does.
+    /// Lays bytes down at the byte addresses from `addr` on, as `put` of each in their order, and answers the address behind
+    /// them. Where one lies outside the memory none is laid, and the fault is `OutOfRange` with the first that does.
+    ///
+    /// ```text
+    /// let mut image = Image::new(alloc, 64)?;
+    /// assert_eq!(rt; image.put_slice(62, &[0x12, 0x34]), Ok(64));
+    /// assert_eq!(rt; image.put_slice(63, &[0x56, 0x78]), Err(ImageFault::OutOfRange(64)));
+    /// assert_eq!(rt; image.get(63), Some(0x34));
+    /// ```
     pub fn put_slice(&mut self, addr: u32, bytes: &[u8]) -> Result<u32, ImageFault>
         ensures judged { result ≡ (if fits addr bytes.now (length self.old) then Ok (addr + length bytes.now) else Err (ImageFault.OutOfRange (max addr (length self.old)))) }
         ensures laid { OnOk result (self.new ≡ laid_over self.old (enumerate_from addr bytes.now)) }
@@ -149,7 +196,14 @@ impl Image {
         Ok(end as u32)
     }
 
-    /// The least address from `addr` on that holds a byte.
+    /// The least byte address from `addr` on that holds a byte.
+    ///
+    /// ```text
+    /// let mut image = Image::new(alloc, 64)?;
+    /// image.put_slice(8, &[0x12, 0x34])?;
+    /// assert_eq!(rt; image.first_from(0), Some(8));
+    /// assert_eq!(rt; image.first_from(10), None);
+    /// ```
     pub fn first_from(&self, addr: u32) -> Option<u32>
         ensures { result ≡ first_from self.now addr }
     {
@@ -163,7 +217,15 @@ impl Image {
         }
     }
 
-    /// The end of the run of addresses that hold a byte and begins at `addr`, at most `end`; `addr` where it holds none.
+    /// The end of the run of byte addresses that hold a byte and begins at `addr`, at most `end`; `addr` where it holds none.
+    /// The end is the address behind the last one.
+    ///
+    /// ```text
+    /// let mut image = Image::new(alloc, 64)?;
+    /// image.put_slice(8, &[0x12, 0x34])?;
+    /// assert_eq!(rt; image.run_from(8, 64), 10);
+    /// assert_eq!(rt; image.run_from(8, 9), 9);
+    /// ```
     pub fn run_from(&self, addr: u32, end: u32) -> u32
         requires { addr ≤ end }
         ensures { result ≡ run_end self.now addr end }
@@ -180,7 +242,15 @@ impl Image {
         ) as u32
     }
 
-    /// Writes the bytes from `start` on, FF in gaps and outside the memory.
+    /// Makes `out` the bytes from the byte address `start` on, FF in gaps and outside the memory.
+    ///
+    /// ```text
+    /// let mut image = Image::new(alloc, 64)?;
+    /// image.put(8, 0x12)?;
+    /// let mut page = [0; 4];
+    /// image.fill(6, &mut page);
+    /// assert_eq!(rt; page, [0xFF, 0xFF, 0x12, 0xFF]);
+    /// ```
     pub fn fill(&self, start: u32, out: &mut [u8])
         requires { start + length out.old ≤ 2 ^ 32 }
         ensures { out.new ≡ filled self.now start (length out.old) }

@@ -29,4 +29,6 @@ pub use raw::RawReader;
 pub use values::parse_immediate;
 
 #[cfg(test)]
+mod examples;
+#[cfg(test)]
 mod tests;

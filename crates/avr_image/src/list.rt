@@ -14,6 +14,16 @@ const LONGEST: usize = 11;
 
 /// Writes bytes as numbers on one line, joined by commas, in pieces of at most 80 bytes. Contracts see it as the text that is
 /// still to come.
+///
+/// ```text
+/// let mut text = Vec::new(alloc);
+/// let mut writer = ListWriter::new(Base::Hex, &[0x12, 0xFF]);
+/// let mut piece = ArrayVec::new();
+/// while writer.next_piece(&mut piece) {
+///     text.extend_from_slice(piece.as_slice())?;
+/// }
+/// assert_eq!(rt; text.as_slice(), b"0x12,0xff\n".as_slice());
+/// ```
 #[derive(Drop)]
 pub struct ListWriter<'a> {
     base: Base,
@@ -31,7 +41,14 @@ impl<'a> Model for ListWriter<'a> {
 }
 
 impl<'a> ListWriter<'a> {
-    /// A writer of these bytes, before its first piece.
+    /// A writer of these bytes, before its first piece. It borrows them and takes no memory.
+    ///
+    /// ```text
+    /// let mut piece = ArrayVec::new();
+    /// let mut writer = ListWriter::new(Base::Dec, &[]);
+    /// assert!(rt; writer.next_piece(&mut piece));
+    /// assert_eq!(rt; piece.as_slice(), b"\n".as_slice());
+    /// ```
     pub fn new(base: Base, bytes: &'a [u8]) -> ListWriter<'a>
         ensures { result ≡ list_text base bytes.now }
     {
@@ -75,6 +92,14 @@ impl<'a> ListWriter<'a> {
     }
 
     /// Makes `out` the next piece of the text, which is never empty. After the last it empties `out` and answers false.
+    ///
+    /// ```text
+    /// let mut piece = ArrayVec::new();
+    /// let mut writer = ListWriter::new(Base::Dec, &[18, 255]);
+    /// assert!(rt; writer.next_piece(&mut piece));
+    /// assert_eq!(rt; piece.as_slice(), b"18,255\n".as_slice());
+    /// assert!(rt; !writer.next_piece(&mut piece));
+    /// ```
     pub fn next_piece(&mut self, out: &mut ArrayVec<u8, 80>) -> bool
         ensures piece { self.old ≡ out.new.items ++ self.new }
         ensures some { result ≡ nat_lt 0 (length self.old) }

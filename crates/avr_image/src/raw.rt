@@ -9,6 +9,15 @@ use std::marker::Model;
 
 /// Reads a raw file in pieces of any size. It keeps the image alone, so a fault comes with the first piece that goes past the
 /// memory; from then on the reader has failed.
+///
+/// ```text
+/// let mut reader = RawReader::new(alloc, 32_768)?;
+/// reader.feed(&[0x0C, 0x94])?;
+/// reader.feed(&[0x34])?;
+/// let image = reader.finish()?;
+/// assert_eq!(rt; image.len(), 3);
+/// assert_eq!(rt; image.get(2), Some(0x34));
+/// ```
 #[derive(Drop)]
 pub struct RawReader {
     image: Image,
@@ -27,7 +36,13 @@ impl Model for RawReader {
 impl RawReader {
     ghost use Rattle.avr_image.specs.Raw.{raw, accepted, Stands};
 
-    /// A reader for a memory of this size, before any byte.
+    /// A reader for a memory of this many bytes, before any byte of the file. It takes all the memory that the reader will
+    /// ever need; where that is refused, the fault is `Memory`.
+    ///
+    /// ```text
+    /// let reader = RawReader::new(alloc, 64)?;
+    /// assert_eq!(rt; reader.finish()?.size(), 64);
+    /// ```
     pub fn new(alloc: Global, size: u32) -> Result<RawReader, ImageFault>
         ensures { MatchResult result (λ reader. Stands reader [] × (length reader.image ≡ size)) (λ fault. fault ≡ ImageFault.Memory) }
     {
@@ -39,7 +54,14 @@ impl RawReader {
         })
     }
 
-    /// Takes the next bytes of the file.
+    /// Takes the next bytes of the file. Where they go past the memory, the fault is `OutOfRange` with the memory's size; from
+    /// then on it is `Failed`.
+    ///
+    /// ```text
+    /// let mut reader = RawReader::new(alloc, 2)?;
+    /// assert_eq!(rt; reader.feed(&[0x0C, 0x94, 0x34]), Err(ImageFault::OutOfRange(2)));
+    /// assert_eq!(rt; reader.feed(&[]), Err(ImageFault::Failed));
+    /// ```
     pub fn feed(&mut self, piece: &[u8]) -> Result<(), ImageFault>
         ensures answer { (text : List ℕ) → Stands self.old text → result ≡ accepted (raw (text ++ piece.now) (length self.old.image)) }
         ensures stands { OnOk result ((text : List ℕ) → Stands self.old text → Stands self.new (text ++ piece.now)) }
@@ -65,7 +87,15 @@ impl RawReader {
         }
     }
 
-    /// The image of the whole file.
+    /// The image of the whole file, its first byte at address 0; or `Failed` after a fault.
+    ///
+    /// ```text
+    /// let mut reader = RawReader::new(alloc, 64)?;
+    /// reader.feed(&[0x0C, 0x94])?;
+    /// let image = reader.finish()?;
+    /// assert_eq!(rt; image.get(1), Some(0x94));
+    /// assert_eq!(rt; image.get(2), None);
+    /// ```
     pub fn finish(self) -> Result<Image, ImageFault>
         ensures answer { (text : List ℕ) → Stands self text → result ≡ raw text (length self.image) }
         ensures failed { self.failed ≡ true → result ≡ Err ImageFault.Failed }

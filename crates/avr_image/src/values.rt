@@ -115,9 +115,16 @@ fn lay_values(image: &mut Image, text: &[u8]) -> Result<(), ImageFault>
 }
 
 /// Reads values from the words of a command: `0x` and hexadecimal digits, `0b` and binary digits, `0` and octal digits, or
-/// decimal digits, separated by commas, spaces and tabs. They stand at the addresses 0, 1 and so on. The first value at fault
-/// is told: `BadNumber` or `TooLarge` with its place, counted from 1, or `OutOfRange` with its address. A text without a value
-/// is `BadNumber(1)`.
+/// decimal digits, separated by commas, spaces and tabs. They stand at the byte addresses 0, 1 and so on of a memory of `size`
+/// bytes. The first value at fault is told: `BadNumber` or `TooLarge` with its place, counted from 1, or `OutOfRange` with its
+/// address. A text without a value is `BadNumber(1)`. `Memory` is the answer where the image's memory is refused.
+///
+/// ```text
+/// let image = parse_immediate(alloc, "0x12, 0b101 017", 4)?;
+/// let mut bytes = [0; 4];
+/// image.fill(0, &mut bytes);
+/// assert_eq!(rt; bytes, [0x12, 0x05, 0x0F, 0xFF]);
+/// ```
 pub fn parse_immediate(alloc: Global, text: &str, size: u32) -> Result<Image, ImageFault>
     ensures { OrMemory result (values text.now size) }
 {

@@ -84,6 +84,12 @@ fn looked_at(front: &[u8]) -> &[u8]
 
 /// Tells the format of a file from its front, of which the first 1,024 bytes are looked at: an ELF file by its magic
 /// number, a record file by the first line that isn't blank; anything else is raw bytes.
+///
+/// ```text
+/// assert_eq!(rt; detect(b"\r\n:0400000001020304F2\r\n"), Found::Ihex);
+/// assert_eq!(rt; detect(b"S107000001020304EE\n"), Found::Srec);
+/// assert_eq!(rt; detect(&[0x0C, 0x94, 0x34, 0x00]), Found::Raw);
+/// ```
 pub fn detect(front: &[u8]) -> Found
     ensures { result ≡ detected front.now }
 {

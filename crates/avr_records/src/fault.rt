@@ -8,6 +8,12 @@ ghost use Rattle.avr_records.specs.Steps.{IsLineFault};
 use thiserror::Error;
 
 /// Why no image came of a record file. The first number is that of the line, the first line being 1.
+///
+/// ```text
+/// let mut reader = RecordReader::new(alloc, Kind::Ihex, 32_768)?;
+/// let fault = reader.feed(b":020000040001F9\n:0100000055AA\n").err();
+/// assert_eq!(rt; fault, Some(RecordFault::OutOfRange(2, 0x10000)));
+/// ```
 #[derive(Clone, Copy, Debug, Drop, PartialEq, Eq, Error)]
 pub enum RecordFault {
     /// The line doesn't begin with `:`, or with `S` and a decimal digit.
@@ -19,6 +25,7 @@ pub enum RecordFault {
     /// An odd number of digits, or another number of bytes than the record says or its type wants.
     #[error("line {0}: bad length")]
     BadLength(u32),
+    /// The checksum isn't that of the record's other bytes.
     #[error("line {0}: bad checksum")]
     BadSum(u32),
     /// There is no record of this type.
@@ -43,6 +50,10 @@ pub enum RecordFault {
 
 impl RecordFault {
     /// The number of the fault's kind, from 1 on.
+    ///
+    /// ```text
+    /// assert_eq!(rt; RecordFault::BadSum(2).number(), 4);
+    /// ```
     pub fn number(&self) -> u8
         ensures { result ≡ fault_number self.now }
     {
@@ -60,7 +71,12 @@ impl RecordFault {
         }
     }
 
-    /// The number of the line at fault, if a line is.
+    /// The number of the line at fault, the first line being 1; none of `Failed` and `Memory`.
+    ///
+    /// ```text
+    /// assert_eq!(rt; RecordFault::BadSum(2).line(), Some(2));
+    /// assert_eq!(rt; RecordFault::Failed.line(), None);
+    /// ```
     pub fn line(&self) -> Option<u32>
         ensures { result ≡ fault_line self.now }
     {

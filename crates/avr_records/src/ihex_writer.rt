@@ -76,11 +76,14 @@ fn row_size(addr: u64) -> usize
 
 /// Writes bytes that stand from an address on as Intel HEX, record by record. Contracts see it as the text still to come.
 ///
-/// ```rust
+/// ```text
+/// let mut text = Vec::new(alloc);
 /// let mut writer = IhexWriter::new(0, &[1, 2, 3, 0xFF]);
+/// let mut piece = ArrayVec::new();
 /// while writer.next_piece(&mut piece) {
-///     file.write_all(piece.as_slice())?; // `:04000000010203FFF7`, then `:00000001FF`
+///     text.extend_from_slice(piece.as_slice())?;
 /// }
+/// assert_eq!(rt; text.as_slice(), b":04000000010203FFF7\n:00000001FF\n".as_slice());
 /// ```
 #[derive(Drop)]
 pub struct IhexWriter<'a> {
@@ -105,6 +108,13 @@ impl<'a> Model for IhexWriter<'a> {
 
 impl<'a> IhexWriter<'a> {
     /// A writer of bytes whose first one stands at the byte address `base`. It borrows the bytes and takes no memory.
+    ///
+    /// ```text
+    /// let mut piece = ArrayVec::new();
+    /// let mut writer = IhexWriter::new(0x20000, &[0x55]);
+    /// assert!(rt; writer.next_piece(&mut piece));
+    /// assert_eq!(rt; piece.as_slice(), b":020000040002F8\n".as_slice());
+    /// ```
     pub fn new(base: u32, bytes: &'a [u8]) -> IhexWriter<'a>
         requires { base + length bytes.now ≤ 2 ^ 32 }
         ensures { result ≡ ihex_text base bytes.now }
@@ -117,7 +127,15 @@ impl<'a> IhexWriter<'a> {
         }
     }
 
-    /// Makes `out` the next piece of the text, which is a line, or empties it where nothing is left.
+    /// Makes `out` the next piece of the text, which is a line, and answers true; or empties it, where nothing is left.
+    ///
+    /// ```text
+    /// let mut piece = ArrayVec::new();
+    /// let mut writer = IhexWriter::new(0, &[]);
+    /// assert!(rt; writer.next_piece(&mut piece));
+    /// assert_eq!(rt; piece.as_slice(), b":00000001FF\n".as_slice());
+    /// assert!(rt; !writer.next_piece(&mut piece));
+    /// ```
     pub fn next_piece(&mut self, out: &mut ArrayVec<u8, 80>) -> bool
         ensures joined { self.old ≡ out.new.items ++ self.new }
         ensures some { IsTrue result ↔ (0 < length out.new.items) }

@@ -1,6 +1,14 @@
 //! Kinds of files.
 
 /// A kind of record file.
+///
+/// ```text
+/// let mut reader = RecordReader::new(alloc, Kind::Srec, 4)?;
+/// reader.feed(b"S107000001020304EE\nS9030000FC\n")?;
+/// let (image, ending) = reader.finish()?;
+/// assert_eq!(rt; image.len(), 4);
+/// assert_eq!(rt; ending, Ending::Ended);
+/// ```
 #[derive(Clone, Copy, Debug, PartialEq, Eq)]
 pub enum Kind {
     /// Intel HEX.
@@ -9,14 +17,33 @@ pub enum Kind {
     Srec,
 }
 
-/// Whether a record file had its end record.
+/// Whether a record file had its end record. A file that was cut short at a line's end reads well but for this.
+///
+/// ```text
+/// let mut reader = RecordReader::new(alloc, Kind::Ihex, 4)?;
+/// reader.feed(b":0400000001020304F2\n")?;
+/// let (image, ending) = reader.finish()?;
+/// assert_eq!(rt; image.len(), 4);
+/// assert_eq!(rt; ending, Ending::NoEnd);
+/// ```
 #[derive(Clone, Copy, Debug, Drop, PartialEq, Eq)]
 pub enum Ending {
+    /// The end record came; what stands behind it wasn't judged.
     Ended,
+    /// The file ended without one.
     NoEnd,
 }
 
 /// What the front of a file shows.
+///
+/// ```text
+/// let kind = match detect(b"S107000001020304EE\n") {
+///     Found::Ihex => Some(Kind::Ihex),
+///     Found::Srec => Some(Kind::Srec),
+///     Found::Elf | Found::Raw => None,
+/// };
+/// assert_eq!(rt; kind, Some(Kind::Srec));
+/// ```
 #[derive(Clone, Copy, Debug, PartialEq, Eq)]
 pub enum Found {
     /// Intel HEX.

@@ -6,7 +6,8 @@
 //!
 //! ```text
 //! let mut reader = RecordReader::new(alloc, Kind::Ihex, 32_768)?;
-//! reader.feed(b":0400000001020304F2\n:00000001FF\n")?;
+//! reader.feed(b":04000000010203")?;
+//! reader.feed(b"04F2\n:00000001FF\n")?;
 //! let (image, ending) = reader.finish()?;
 //! ```
 #![tactic(auto)]
@@ -14,6 +15,8 @@
 mod checksum;
 mod detection;
 mod digits;
+#[cfg(test)]
+mod examples;
 mod fault;
 mod ihex;
 mod ihex_writer;

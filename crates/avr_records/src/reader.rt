@@ -16,6 +16,15 @@ use std::marker::Model;
 ///
 /// A reader keeps no text: one line of at most 600 bytes, and the image. The contracts speak of the texts that it may have
 /// been fed (`Stands`): whatever the pieces, the answers are those of the whole text.
+///
+/// ```text
+/// let mut reader = RecordReader::new(alloc, Kind::Ihex, 32_768)?;
+/// reader.feed(b":04000000010203")?;
+/// reader.feed(b"04F2\n:00000001FF\n")?;
+/// let (image, ending) = reader.finish()?;
+/// assert_eq!(rt; image.get(3), Some(0x04));
+/// assert_eq!(rt; ending, Ending::Ended);
+/// ```
 #[derive(Drop)]
 pub struct RecordReader {
     lines: LineReader,
@@ -37,8 +46,15 @@ impl Model for RecordReader {
 }
 
 impl RecordReader {
-    /// A reader for a memory of this many bytes, below which all addresses have to lie. It makes all the room that the
-    /// reader needs, so no other call answers `Memory`.
+    /// A reader for a memory of this many bytes, below which all byte addresses have to lie. It makes all the room that the
+    /// reader needs; where that is refused, the fault is `Memory`, which no other call answers.
+    ///
+    /// ```text
+    /// let reader = RecordReader::new(alloc, Kind::Srec, 32_768)?;
+    /// let (image, ending) = reader.finish()?;
+    /// assert_eq!(rt; image.size(), 32_768);
+    /// assert_eq!(rt; ending, Ending::NoEnd);
+    /// ```
     pub fn new(alloc: Global, kind: Kind, size: u32) -> Result<RecordReader, RecordFault>
         ensures { MatchResult result (IsNew kind size) (λ fault. fault ≡ RecordFault.Memory) }
     {
@@ -53,6 +69,12 @@ impl RecordReader {
     }
 
     /// How many bytes were fed. A call of `feed` that answers a fault doesn't count.
+    ///
+    /// ```text
+    /// let mut reader = RecordReader::new(alloc, Kind::Ihex, 4)?;
+    /// reader.feed(b":00000001FF")?;
+    /// assert_eq!(rt; reader.fed(), 11);
+    /// ```
     pub fn fed(&self) -> u32
         ensures { result ≡ self.now.fed }
     {
@@ -61,6 +83,13 @@ impl RecordReader {
 
     /// Takes the next piece of the file. The fault of a line is answered by the call that brings its line end; where the
     /// piece ends several lines, that of the first faulty one. After a fault every call answers `Failed`.
+    ///
+    /// ```text
+    /// let mut reader = RecordReader::new(alloc, Kind::Ihex, 4)?;
+    /// reader.feed(b":0400000001020304F3")?;
+    /// assert_eq!(rt; reader.feed(b"\n"), Err(RecordFault::BadSum(1)));
+    /// assert_eq!(rt; reader.finish().err(), Some(RecordFault::Failed));
+    /// ```
     pub fn feed(&mut self, piece: &[u8]) -> Result<(), RecordFault>
         requires { self.old.fed + length piece.now < 2 ^ 32 }
         ensures answer { (text : List ℕ) → Stands self.old text → result ≡ unless_fault (closed_fault self.old.kind (text ++ piece.now) (memory_size self.old)) }
@@ -87,7 +116,14 @@ impl RecordReader {
         }
     }
 
-    /// What the whole file says: the image, and whether the end record came; or its first fault.
+    /// What the whole file says: the image, and whether the end record came; or the fault of its last line, where no line end
+    /// stands behind it; or `Failed` after a fault.
+    ///
+    /// ```text
+    /// let mut reader = RecordReader::new(alloc, Kind::Ihex, 4)?;
+    /// reader.feed(b":0400000001020304F3")?;
+    /// assert_eq!(rt; reader.finish().err(), Some(RecordFault::BadSum(1)));
+    /// ```
     pub fn finish(self) -> Result<(Image, Ending), RecordFault>
         ensures answer { (text : List ℕ) → Stands self text → result ≡ read self.kind text (memory_size self) }
         ensures failed { self.failed ≡ true → result ≡ Err RecordFault.Failed }

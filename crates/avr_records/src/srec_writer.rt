@@ -81,11 +81,14 @@ fn address_size_of(last: u32) -> usize
 
 /// Writes bytes that stand from an address on as S-records, record by record. Contracts see it as the text still to come.
 ///
-/// ```rust
+/// ```text
+/// let mut text = Vec::new(alloc);
 /// let mut writer = SrecWriter::new(0, &[1, 2, 3, 0xFF]);
+/// let mut piece = ArrayVec::new();
 /// while writer.next_piece(&mut piece) {
-///     file.write_all(piece.as_slice())?; // `S1070000010203FFF3`, then `S9030000FC`
+///     text.extend_from_slice(piece.as_slice())?;
 /// }
+/// assert_eq!(rt; text.as_slice(), b"S1070000010203FFF3\nS9030000FC\n".as_slice());
 /// ```
 #[derive(Drop)]
 pub struct SrecWriter<'a> {
@@ -110,6 +113,13 @@ impl<'a> Model for SrecWriter<'a> {
 
 impl<'a> SrecWriter<'a> {
     /// A writer of bytes whose first one stands at the byte address `base`. It borrows the bytes and takes no memory.
+    ///
+    /// ```text
+    /// let mut piece = ArrayVec::new();
+    /// let mut writer = SrecWriter::new(0x10000, &[0xAA]);
+    /// assert!(rt; writer.next_piece(&mut piece));
+    /// assert_eq!(rt; piece.as_slice(), b"S205010000AA4F\n".as_slice());
+    /// ```
     pub fn new(base: u32, bytes: &'a [u8]) -> SrecWriter<'a>
         requires { base + length bytes.now ≤ 2 ^ 32 }
         ensures { result ≡ srec_text base bytes.now }
@@ -126,7 +136,15 @@ impl<'a> SrecWriter<'a> {
         }
     }
 
-    /// Makes `out` the next piece of the text, which is a line, or empties it where nothing is left.
+    /// Makes `out` the next piece of the text, which is a line, and answers true; or empties it, where nothing is left.
+    ///
+    /// ```text
+    /// let mut piece = ArrayVec::new();
+    /// let mut writer = SrecWriter::new(0, &[]);
+    /// assert!(rt; writer.next_piece(&mut piece));
+    /// assert_eq!(rt; piece.as_slice(), b"S9030000FC\n".as_slice());
+    /// assert!(rt; !writer.next_piece(&mut piece));
+    /// ```
     pub fn next_piece(&mut self, out: &mut ArrayVec<u8, 80>) -> bool
         ensures joined { self.old ≡ out.new.items ++ self.new }
         ensures some { IsTrue result ↔ (0 < length out.new.items) }

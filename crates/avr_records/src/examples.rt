@@ -1,0 +1,146 @@
+//! The examples of the documentation.
+
+use crate::{Ending, Found, IhexWriter, Kind, RecordFault, RecordReader, SrecWriter, detect};
+use arrayvec::ArrayVec;
+use std::test::Fail;
+
+#[test]
+fn formats_are_detected(rt: HostRuntime) {
+    assert_eq!(rt; detect(b"\r\n:0400000001020304F2\r\n"), Found::Ihex);
+    assert_eq!(rt; detect(b"S107000001020304EE\n"), Found::Srec);
+    assert_eq!(rt; detect(&[0x0C, 0x94, 0x34, 0x00]), Found::Raw);
+    let kind = match detect(b"S107000001020304EE\n") {
+        Found::Ihex => Some(Kind::Ihex),
+        Found::Srec => Some(Kind::Srec),
+        Found::Elf | Found::Raw => None,
+    };
+    assert_eq!(rt; kind, Some(Kind::Srec));
+}
+
+#[test]
+fn ihex_is_read_in_pieces(rt: HostRuntime) -> Result<(), Fail> {
+    let alloc = rt.alloc();
+    let mut reader = RecordReader::new(alloc, Kind::Ihex, 32_768)?;
+    reader.feed(b":04000000010203")?;
+    reader.feed(b"04F2\n:00000001FF\n")?;
+    let (image, ending) = reader.finish()?;
+    assert_eq!(rt; image.get(3), Some(0x04));
+    assert_eq!(rt; ending, Ending::Ended);
+    Ok(())
+}
+
+#[test]
+fn srecords_are_read(rt: HostRuntime) -> Result<(), Fail> {
+    let alloc = rt.alloc();
+    let mut reader = RecordReader::new(alloc, Kind::Srec, 4)?;
+    reader.feed(b"S107000001020304EE\nS9030000FC\n")?;
+    let (image, ending) = reader.finish()?;
+    assert_eq!(rt; image.len(), 4);
+    assert_eq!(rt; ending, Ending::Ended);
+    Ok(())
+}
+
+#[test]
+fn an_end_record_may_be_missing(rt: HostRuntime) -> Result<(), Fail> {
+    let alloc = rt.alloc();
+    let mut reader = RecordReader::new(alloc, Kind::Ihex, 4)?;
+    reader.feed(b":0400000001020304F2\n")?;
+    let (image, ending) = reader.finish()?;
+    assert_eq!(rt; image.len(), 4);
+    assert_eq!(rt; ending, Ending::NoEnd);
+    let reader = RecordReader::new(alloc, Kind::Srec, 32_768)?;
+    let (image, ending) = reader.finish()?;
+    assert_eq!(rt; image.size(), 32_768);
+    assert_eq!(rt; ending, Ending::NoEnd);
+    Ok(())
+}
+
+#[test]
+fn bytes_fed_are_counted(rt: HostRuntime) -> Result<(), Fail> {
+    let alloc = rt.alloc();
+    let mut reader = RecordReader::new(alloc, Kind::Ihex, 4)?;
+    reader.feed(b":00000001FF")?;
+    assert_eq!(rt; reader.fed(), 11);
+    Ok(())
+}
+
+#[test]
+fn a_line_is_judged_at_its_end(rt: HostRuntime) -> Result<(), Fail> {
+    let alloc = rt.alloc();
+    let mut reader = RecordReader::new(alloc, Kind::Ihex, 4)?;
+    reader.feed(b":0400000001020304F3")?;
+    assert_eq!(rt; reader.feed(b"\n"), Err(RecordFault::BadSum(1)));
+    assert_eq!(rt; reader.finish().err(), Some(RecordFault::Failed));
+    let mut reader = RecordReader::new(alloc, Kind::Ihex, 4)?;
+    reader.feed(b":0400000001020304F3")?;
+    assert_eq!(rt; reader.finish().err(), Some(RecordFault::BadSum(1)));
+    Ok(())
+}
+
+#[test]
+fn faults_name_their_line(rt: HostRuntime) -> Result<(), Fail> {
+    let alloc = rt.alloc();
+    let mut reader = RecordReader::new(alloc, Kind::Ihex, 32_768)?;
+    let fault = reader.feed(b":020000040001F9\n:0100000055AA\n").err();
+    assert_eq!(rt; fault, Some(RecordFault::OutOfRange(2, 0x10000)));
+    assert_eq!(rt; RecordFault::BadSum(2).number(), 4);
+    assert_eq!(rt; RecordFault::BadSum(2).line(), Some(2));
+    assert_eq!(rt; RecordFault::Failed.line(), None);
+    Ok(())
+}
+
+#[test]
+fn ihex_is_written(rt: HostRuntime) -> Result<(), Fail> {
+    let alloc = rt.alloc();
+    let mut text = Vec::new(alloc);
+    let mut writer = IhexWriter::new(0, &[1, 2, 3, 0xFF]);
+    let mut piece = ArrayVec::new();
+    while writer.next_piece(&mut piece) {
+        text.extend_from_slice(piece.as_slice())?;
+    }
+    assert_eq!(rt;
+        text.as_slice(),
+        b":04000000010203FFF7\n:00000001FF\n".as_slice()
+    );
+    Ok(())
+}
+
+#[test]
+fn ihex_is_written_line_by_line(rt: HostRuntime) {
+    let mut piece = ArrayVec::new();
+    let mut writer = IhexWriter::new(0x20000, &[0x55]);
+    assert!(rt; writer.next_piece(&mut piece));
+    assert_eq!(rt; piece.as_slice(), b":020000040002F8\n".as_slice());
+    let mut writer = IhexWriter::new(0, &[]);
+    assert!(rt; writer.next_piece(&mut piece));
+    assert_eq!(rt; piece.as_slice(), b":00000001FF\n".as_slice());
+    assert!(rt; !writer.next_piece(&mut piece));
+}
+
+#[test]
+fn srecords_are_written(rt: HostRuntime) -> Result<(), Fail> {
+    let alloc = rt.alloc();
+    let mut text = Vec::new(alloc);
+    let mut writer = SrecWriter::new(0, &[1, 2, 3, 0xFF]);
+    let mut piece = ArrayVec::new();
+    while writer.next_piece(&mut piece) {
+        text.extend_from_slice(piece.as_slice())?;
+    }
+    assert_eq!(rt;
+        text.as_slice(),
+        b"S1070000010203FFF3\nS9030000FC\n".as_slice()
+    );
+    Ok(())
+}
+
+#[test]
+fn srecords_are_written_line_by_line(rt: HostRuntime) {
+    let mut piece = ArrayVec::new();
+    let mut writer = SrecWriter::new(0x10000, &[0xAA]);
+    assert!(rt; writer.next_piece(&mut piece));
+    assert_eq!(rt; piece.as_slice(), b"S205010000AA4F\n".as_slice());
+    let mut writer = SrecWriter::new(0, &[]);
+    assert!(rt; writer.next_piece(&mut piece));
+    assert_eq!(rt; piece.as_slice(), b"S9030000FC\n".as_slice());
+    assert!(rt; !writer.next_piece(&mut piece));
+}
