@@ -1,5 +1,5 @@
 -- Blocks, byte by byte.
-use Rattle.std.proofs.Common.{true, false, if◌then◌else◌, ◌/◌, subst, ◌≡◌, ℕ, zero, suc, ◌+◌, ◌-◌, ◌<◌, Bool, List, [], ◌∷◌, ◌++◌, length, get_or, drop, refl, ap, sym, ◌∙◌, arith, add-one, drop-cons, append_assoc}
+use Rattle.std.proofs.Common.{true, false, if◌then◌else◌, ◌/◌, subst, ◌≡◌, ℕ, suc, ◌+◌, ◌<◌, Bool, List, [], ◌∷◌, ◌++◌, length, get_or, drop, refl, ap, sym, ◌∙◌, add-one, drop-cons, append_assoc}
 use Rattle.avr_part.specs.State.{State, spi_of}
 use Rattle.stk_frame.specs.declared.command.ProgramBlock.{ProgramBlock}
 use Rattle.stk_emu.specs.Programmer.{Programmer, moved, instructed, flash_fits, eeprom_fits, program_flash, program_eeprom, flash_writes, eeprom_writes, is_written, writes_page, sent_to, flash_loads, eeprom_loads, flash_looks, eeprom_looks, extension, at_address, for_half, word_at, byte_at}

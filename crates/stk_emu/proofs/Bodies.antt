@@ -1,5 +1,5 @@
 -- Each answer of the programmer is a body that a frame can carry.
-use Rattle.std.proofs.Common.{◌≡◌, ℕ, zero, suc, ◌+◌, ◌%◌, ◌≤◌, ◌<◌, List, [], ◌∷◌, ◌++◌, length, refl, ap, sym, ◌∙◌, arith, Bool, true, false, if◌then◌else◌, Option, Some, None, length-append, take, drop}
+use Rattle.std.proofs.Common.{◌≡◌, ℕ, zero, suc, ◌+◌, ◌%◌, ◌≤◌, List, [], ◌∷◌, ◌++◌, length, refl, ap, arith, Bool, true, false, if◌then◌else◌, Option, Some, None, length-append, take, drop}
 use Rattle.std.proofs.lemmas.Bool.{leb-true, false≢true}
 use Rattle.std.proofs.lemmas.List.{length-take}
 use Rattle.std.specs.Prelude.{◌==◌, ◌&&◌, not, nat_le}
@@ -9,7 +9,7 @@ use Rattle.stk_frame.specs.declared.command.Command.TheVariants.{SignOn, SetPara
 use Rattle.stk_frame.specs.declared.command.ReadBlock.{ReadBlock}
 use Rattle.stk_frame.specs.declared.command.ReadByte.{ReadByte}
 use Rattle.stk_frame.specs.Decoding.{command_of}
-use Rattle.stk_emu.specs.Programmer.{Programmer, Done, Looked, obey, obey_command, read_as, block, flash_looks, eeprom_looks, extension, at_address, for_half, word_at, byte_at, sent_to, read_flash, read_eeprom, read_byte, spi_multi}
+use Rattle.stk_emu.specs.Programmer.{Programmer, Done, obey, obey_command, read_as, flash_looks, eeprom_looks, extension, at_address, for_half, word_at, byte_at, sent_to, read_flash, read_eeprom, read_byte, spi_multi}
 use Rattle.stk_emu.specs.Device.{device}
 use Rattle.stk_emu.specs.Lawful.{IsBody}
 use Rattle.stk_emu.proofs.Fused.{AnswersBodies}

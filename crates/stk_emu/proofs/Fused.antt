@@ -1,36 +1,36 @@
 -- A dialog played over the wire's tape goes as it goes along the line.
-use Rattle.std.proofs.Common.{◌≡◌, ℕ, zero, suc, ◌+◌, ◌%◌, ◌≤◌, ◌<◌, ◌≢◌, List, [], ◌∷◌, ◌++◌, length, refl, sym, ap, ◌∙◌, subst, arith, Option, Some, None}
-use Rattle.std.proofs.lemmas.List.Elements.{All-head, All-tail, All-nil}
+use Rattle.std.proofs.Common.{◌≡◌, ℕ, ◌≢◌, List, [], ◌∷◌, ◌++◌, length, refl, sym, ap, ◌∙◌, subst, arith, Option, Some, None}
+use Rattle.std.proofs.lemmas.List.Elements.{All-head, All-tail}
 use Rattle.stk_frame.specs.Frame.{frame}
-use Rattle.stk_host.specs.Tape.{Tape, Reading, answer}
-use Rattle.stk_host.specs.Dialog.{Dialog, Done, Say, Ask, Event, Frame, Said, Played, played, behind, by_answer, next}
+use Rattle.stk_host.specs.Tape.{Tape, Reading}
+use Rattle.stk_host.specs.Dialog.{Dialog, Done, Say, Ask, Frame, played, behind, by_answer, next}
 use Rattle.stk_host.proofs.Tapes.{answer_waits}
 use Rattle.stk_emu.specs.declared.fate.Fate.{Fate}
 use Rattle.stk_emu.specs.Device.{Device}
-use Rattle.stk_emu.specs.Wire.{first_fate, other_fates, IsLawfulFate, AreLawful, Wire, segment, passed, tape_of, wire_after}
+use Rattle.stk_emu.specs.Wire.{first_fate, other_fates, IsLawfulFate, AreLawful, Wire, passed, tape_of}
 use Rattle.stk_emu.specs.Lawful.{IsBody, IsClear}
-use Rattle.stk_emu.specs.Along.{Standing, along, reading_of, AsksBodies, frames_in, Fused}
+use Rattle.stk_emu.specs.Along.{along, reading_of, AsksBodies, frames_in, Fused}
 use Rattle.stk_emu.proofs.Segments.{segment_read, segment_leaves, segment_late}
 
 -- each answer to a body is a body that a frame can carry
 abbrev pub AnswersBodies : {P : Type 0} → Device P → Type 0
 AnswersBodies {P} m = (bytes : List ℕ) (p : P) → IsBody bytes → IsBody (m.answer bytes p)
 
-first_lawful : (fates : List Fate) → AreLawful fates → IsLawfulFate (first_fate fates)
+pub first_lawful : (fates : List Fate) → AreLawful fates → IsLawfulFate (first_fate fates)
 first_lawful [] l = tt
 first_lawful (fate ∷ fates) l = All-head IsLawfulFate fate fates l
 
-others_lawful : (fates : List Fate) → AreLawful fates → AreLawful (other_fates fates)
+pub others_lawful : (fates : List Fate) → AreLawful fates → AreLawful (other_fates fates)
 others_lawful [] l = l
 others_lawful (fate ∷ fates) l = All-tail IsLawfulFate fate fates l
 
-next_other : (n : ℕ) → n ≢ next n
+pub next_other : (n : ℕ) → n ≢ next n
 next_other n = omega arith
 
-head_is : (x y : List ℕ) (xs ys : List (List ℕ)) → x ∷ xs ≡ y ∷ ys → x ≡ y
+pub head_is : (x y : List ℕ) (xs ys : List (List ℕ)) → x ∷ xs ≡ y ∷ ys → x ≡ y
 head_is x y xs ys e = cc
 
-tail_is : (x y : List ℕ) (xs ys : List (List ℕ)) → x ∷ xs ≡ y ∷ ys → xs ≡ ys
+pub tail_is : (x y : List ℕ) (xs ys : List (List ℕ)) → x ∷ xs ≡ y ∷ ys → xs ≡ ys
 tail_is x y xs ys e = cc
 
 abbrev result_of : {R : Type 0} → R → Option (R × ℕ × Tape) → R
@@ -41,7 +41,7 @@ abbrev tape_left : {R : Type 0} → Tape → Option (R × ℕ × Tape) → Tape
 tape_left other None = other
 tape_left other (Some (r, seq, tape)) = tape
 
-none_some : {A : Type 0} (a : A) → None ≡ Some a → ⊥
+pub none_some : {A : Type 0} (a : A) → None ≡ Some a → ⊥
 none_some a e = cc
 
 cons_none : (x : List ℕ) (xs : List (List ℕ)) → [] ≡ x ∷ xs → ⊥
@@ -49,7 +49,7 @@ cons_none x xs e = cc
 
 module _ {P : Type 0} (m : Device P) (answers : AnswersBodies m) where
   -- the first frame, and what the play goes on with
-  first_played : {E R : Type 0} (bytes : List ℕ) (go_on : Reading → Dialog E R) (n : ℕ) (w : Wire P) (sent : List (List ℕ)) → IsBody bytes → IsClear n w.late → AreLawful w.fates
+  pub first_played : {E R : Type 0} (bytes : List ℕ) (go_on : Reading → Dialog E R) (n : ℕ) (w : Wire P) (sent : List (List ℕ)) → IsBody bytes → IsClear n w.late → AreLawful w.fates
       → played (Ask bytes go_on) n (tape_of m (frame n bytes ∷ sent) w)
       ≡ behind (Frame (frame n bytes) ∷ []) (played (go_on (reading_of (first_fate w.fates) (m.answer bytes w.programmer))) (next n) (tape_of m sent (passed m (frame n bytes) w)))
   first_played bytes go_on n w sent b clear lawful =

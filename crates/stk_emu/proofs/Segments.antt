@@ -1,22 +1,22 @@
 -- What a frame brings over the wire, as it is read.
-use Rattle.std.proofs.Common.{◌≡◌, ℕ, zero, suc, ◌+◌, ◌-◌, ◌≤◌, ◌<◌, ◌≢◌, List, [], ◌∷◌, ◌++◌, length, take, drop, refl, sym, ap, ◌∙◌, subst, append_assoc, arith, Bool, true, false, cond, ◌⊎◌, inl, inr, Option, Some, None, length-append}
-use Rattle.std.proofs.lemmas.Bool.{cases_Bool, and_left, ne_eqb, eq-eqb, and_from, false≢true}
-use Rattle.std.proofs.lemmas.List.{append-nil, take_at}
-use Rattle.std.specs.Prelude.{filter, ◌==◌, ◌&&◌, slice_range}
-use Rattle.stk_frame.specs.Frame.{frame, header, sealed, xor_all}
-use Rattle.stk_frame.specs.Cut.{cut, is_good, is_frame, seq_of, body_of, IsPiece}
+use Rattle.std.proofs.Common.{◌≡◌, ℕ, ◌+◌, ◌-◌, ◌≤◌, ◌<◌, ◌≢◌, List, [], ◌∷◌, ◌++◌, length, refl, sym, ap, ◌∙◌, subst, append_assoc, arith, Bool, true, false, inl, inr, Option, Some, None, length-append}
+use Rattle.std.proofs.lemmas.Bool.{cases_Bool, and_left, ne_eqb, eq-eqb, and_from}
+use Rattle.std.proofs.lemmas.List.{take_at}
+use Rattle.std.specs.Prelude.{filter, ◌==◌, ◌&&◌}
+use Rattle.stk_frame.specs.Frame.{frame, header, xor_all}
+use Rattle.stk_frame.specs.Cut.{cut, is_good, body_of}
 use Rattle.stk_frame.proofs.Cut.{chosen, refused}
 use Rattle.stk_frame.proofs.Feeding.{cut_whole}
 use Rattle.stk_frame.proofs.Laws.{cut_first, frame_is_piece, frame_is_good}
-use Rattle.stk_host.specs.declared.link.Item.TheVariants.{Byte, Silence, End}
-use Rattle.stk_host.specs.Tape.{Tape, Reading, Answered, Silent, answer, on_tape, first_answer, is_answer, further, limit}
+use Rattle.stk_host.specs.declared.link.Item.TheVariants.{Silence}
+use Rattle.stk_host.specs.Tape.{Tape, Answered, Silent, answer, on_tape, first_answer, is_answer, further, limit}
 use Rattle.stk_host.proofs.Tapes.{answer_found, answer_silent, on_tape_append}
 use Rattle.stk_emu.specs.declared.fate.Fate.{Fate}
 use Rattle.stk_emu.specs.declared.fate.Fate.TheVariants.{Good, LostCommand, LostAnswer, LateAnswer, CommandRefused, AnswerSpoiled}
-use Rattle.stk_emu.specs.Device.{Device, refusal, answer_body, after_frame}
-use Rattle.stk_emu.specs.Wire.{IsLawfulFate, first_fate, other_fates, after_fate, back, late_of, Wire, segment, passed}
+use Rattle.stk_emu.specs.Device.{Device, refusal, answer_body}
+use Rattle.stk_emu.specs.Wire.{IsLawfulFate, first_fate, after_fate, back, late_of, Wire, segment, passed}
 use Rattle.stk_emu.specs.Along.{reading_of}
-use Rattle.stk_emu.specs.Lawful.{IsLawful, IsBody, IsLate, IsClear}
+use Rattle.stk_emu.specs.Lawful.{IsLawful, IsBody, IsClear}
 
 further_zero : (o : Option (List ℕ × ℕ)) → o ≡ further 0 o
 further_zero None = refl

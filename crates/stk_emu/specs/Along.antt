@@ -1,5 +1,5 @@
 -- A dialog over a line, question by question: neither bytes nor sequence numbers, and no late answers.
-use Rattle.std.specs.Prelude.{ℕ, zero, suc, List, [], ◌∷◌, ◌++◌, ◌≡◌, Option, Some, None, length}
+use Rattle.std.specs.Prelude.{ℕ, zero, suc, List, [], ◌∷◌, ◌≡◌, Some, length}
 use Rattle.stk_host.specs.Tape.{Tape, Reading, Answered, Silent}
 use Rattle.stk_host.specs.Dialog.{Dialog, Done, Say, Ask, Event, Frame, Said, played}
 use Rattle.stk_emu.specs.declared.fate.Fate.{Fate}

@@ -1,5 +1,5 @@
 -- What an emulator holds, what it was fed, and what it answers.
-use Rattle.std.specs.Prelude.{ℕ, List, ◌++◌, ◌≡◌, ◌≤◌, length, filter}
+use Rattle.std.specs.Prelude.{ℕ, List, ◌≡◌, ◌≤◌, length, filter}
 use Rattle.stk_frame.specs.Cut.{frames, is_frame}
 use Rattle.stk_frame.specs.Reader.{Stands, Fed}
 use Rattle.stk_emu.specs.Programmer.{Programmer}

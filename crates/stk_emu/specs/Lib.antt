@@ -3,8 +3,16 @@ pub mod Device
 pub mod Emulator
 pub mod Lawful
 pub mod Wire
-pub mod Log
 pub mod Waiting
 pub mod Wired
 pub mod WiredInside
 pub mod Along
+pub mod Effect
+pub mod Settled
+pub mod Fits
+pub mod Strokes
+pub mod Climbs
+pub mod Given
+pub mod Leads
+pub mod Bound
+pub mod Tallies

@@ -1,5 +1,5 @@
 -- The programmer, and what each command makes it do.
-use Rattle.std.specs.Prelude.{ℕ, Bool, true, false, zero, suc, List, [], ◌∷◌, ◌++◌, ◌+◌, ◌-◌, ◌*◌, ◌/◌, ◌%◌, length, ◌==◌, ◌&&◌, ◌||◌, not, nat_le, nat_lt, if◌then◌else◌, slice_index, slice_set, bit_or, take, drop, replicate, Option, Some, None}
+use Rattle.std.specs.Prelude.{ℕ, Bool, true, false, zero, suc, List, [], ◌∷◌, ◌++◌, ◌+◌, ◌-◌, ◌/◌, ◌%◌, length, ◌==◌, ◌&&◌, ◌||◌, not, nat_le, nat_lt, if◌then◌else◌, slice_index, slice_set, bit_or, take, drop, replicate, Option, Some, None}
 use Rattle.std.specs.Int.{bit_at}
 use Rattle.avr_part.specs.State.{State, spi_of}
 use Rattle.stk_frame.specs.declared.command.Command.{Command}

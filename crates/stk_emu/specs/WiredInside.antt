@@ -1,6 +1,5 @@
 -- The fields of a wire, as its state. (For contracts inside this crate.)
 use Rattle.std.specs.Prelude.{drop, length, ◌≤◌}
-use Rattle.stk_emu.specs.Log.{talk_in, Adds}
 use Rattle.stk_emu.specs.Waiting.{tape_in}
 use Rattle.stk_emu.specs.Wired.{State}
 use Rattle.stk_emu.specs.declared.wired.Wired.TheInside.{Inside}
@@ -10,10 +9,9 @@ state_of w = record {
   held = w.reader;
   wire = w.line;
   waits = tape_in (drop w.at w.waits.items);
-  talk = talk_in w.log;
+  talk = w.log.talk;
   failures = w.failures;
 }
 
 pub record IsSound (w : Inside) : Type 0 where
-  pub log : Adds w.log
   pub at : w.at ≤ length w.waits.items

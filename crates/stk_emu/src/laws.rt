@@ -1,16 +1,40 @@
-//! Laws of a conversation over a bad wire, and no code.
+//! Laws of a conversation over a bad wire, over the definitions alone: what the programmer's memories are at each moment,
+//! and what is read of them. No code.
 #![tactic(auto)]
 
-ghost use Rattle.std.specs.Prelude.{◌≡◌, ◌++◌, ℕ, List, Some};
+ghost use Rattle.std.specs.Prelude.{◌≡◌, ◌++◌, ℕ, List, [], ◌∷◌, Some, Ok, Result, Bool, None, length, take, replicate, slice_index, ◌≤◌, ◌<◌, ◌*◌, ◌↔◌};
+ghost use Rattle.avr_image.specs.Image.{byte_at, or_blank};
+ghost use Rattle.avr_part.specs.State as chip;
+ghost use Rattle.avr_part.specs.Part.{Part, IsPart};
+ghost use Rattle.avr_part.specs.Sound.{IsSound};
+ghost use Rattle.avr_part.specs.declared.mem.Mem.{Mem};
+ghost use Rattle.stk_frame.specs.declared.command.Command.{Command};
 ghost use Rattle.stk_frame.specs.Frame.{frame};
+ghost use Rattle.stk_frame.specs.Cut.{frames};
+ghost use Rattle.stk_frame.specs.HostCommands.{enter, leave};
 ghost use Rattle.stk_host.specs.Tape.{Tape, answer};
-ghost use Rattle.stk_host.specs.Dialog.{Dialog, played};
-ghost use Rattle.stk_host.specs.Steps.{Outcome};
-ghost use Rattle.stk_emu.specs.Programmer.{Programmer};
+ghost use Rattle.stk_host.specs.Dialog.{Dialog, Event, played, Done};
+ghost use Rattle.stk_host.specs.Steps.{Outcome, step, play};
+ghost use Rattle.stk_host.specs.ReadSteps.{read_steps};
+ghost use Rattle.stk_host.specs.declared.fault.HostFault.{HostFault};
+ghost use Rattle.stk_host.specs.Operations.{opening, operation, closing, difference_from};
+ghost use Rattle.stk_host.specs.Talk.{Talk, sent};
+ghost use Rattle.stk_host.specs.Play.{InTurn, Plays, Breaks, NoPart};
+ghost use Rattle.stk_emu.specs.Programmer.{Programmer, fresh_programmer};
 ghost use Rattle.stk_emu.specs.Device.{device};
 ghost use Rattle.stk_emu.specs.Lawful.{IsBody, IsClear};
 ghost use Rattle.stk_emu.specs.Wire.{Wire, AreLawful, IsLawfulFate, first_fate, segment, tape_of};
-ghost use Rattle.stk_emu.specs.Along.{reading_of, AsksBodies, frames_in, Fused};
+ghost use Rattle.stk_emu.specs.Along.{along, reading_of, AsksBodies, frames_in, Fused};
+ghost use Rattle.stk_emu.specs.Effect.{Memories, Image, Item, effect, effects, memories_of, memory_in, laid, and_in};
+ghost use Rattle.stk_emu.specs.Settled.{Idle, Settled, FitsPart};
+ghost use Rattle.stk_emu.specs.Fits.{Fits};
+ghost use Rattle.stk_emu.specs.Strokes.{IsStep, AreSteps, struck, struck_by, strokes_of, all_steps, AllFitItems};
+ghost use Rattle.stk_emu.specs.Given.{given_by, all_given, Holds};
+ghost use Rattle.stk_emu.specs.Wired.{State, Keeps, NeverIdle};
+ghost use Rattle.stk_emu.specs.Bound.{commands_in};
+ghost use Rattle.stk_emu.specs.Leads.{Leads, Reached, AfterOperation, AfterOpening, AreGood, GoesAlong};
+ghost use Rattle.stk_emu.specs.Climbs.{Climbs};
+ghost use Rattle.stk_emu.specs.declared.fate.Fate.{Fate};
 
 /// Whatever is asked, the programmer answers with a body that a frame can carry.
 pub fn every_answer_fits_a_frame()
@@ -30,4 +54,131 @@ pub fn a_segment_is_read_whole()
 pub fn a_conversation_goes_along_the_line()
     ensures { (d : Dialog ⊥ Outcome) (n : ℕ) (w : Wire Programmer) (sent more : List (List ℕ)) → AsksBodies d → IsClear n w.late → AreLawful w.fates
         → frames_in (played d n (tape_of device sent w)).events ≡ sent ++ more → Fused device d n w sent }
+{}
+
+/// A programmer as it begins, with any chip, is ready for SIGN_ON, and the chip's memories have its part's sizes.
+#[tactic(auto, using(crate::proofs::Beginning::fresh_idle, crate::proofs::Beginning::fresh_fits))]
+pub fn a_programmer_begins_idle()
+    ensures idle { (s : chip.State) → IsSound s → Idle s.part (memories_of s) (fresh_programmer s) }
+    ensures sizes { (s : chip.State) → IsSound s → FitsPart s.part (memories_of s) }
+{}
+
+/// SIGN_ON changes nothing, ENTER settles the programmer, and LEAVE keeps the memories: whatever of them is obeyed, and
+/// however often.
+pub fn opening_and_closing_keep_the_memories()
+    ensures sign_on { (part : Part) (m : Memories) → Fits device (Command.SignOn ∷ []) (Idle part m) (Idle part m) }
+    ensures sign_on_settled { (part : Part) (m : Memories) → Fits device (Command.SignOn ∷ []) (Settled part m) (Settled part m) }
+    ensures enter { (part : Part) (m : Memories) → Fits device (enter ∷ []) (Idle part m) (Settled part m) }
+    ensures leave { (part : Part) (m : Memories) → Fits device (leave ∷ []) (Idle part m) (Idle part m) }
+    ensures settled_is_idle { (part : Part) (m : Memories) (p : Programmer) → Settled part m p → Idle part m p }
+{}
+
+/// What is erased or written twice is erased or written once, also under the lock.
+pub fn an_effect_twice_is_once()
+    ensures { (part : Part) (item : Item) (m : Memories) → effect part item (effect part item m) ≡ effect part item m }
+{}
+
+/// Obeying any first commands of a step from a settled programmer leaves the memories or what the step makes of them; all
+/// of the step leaves the latter, and keeps it where it was made before: also where the chip is locked.
+pub fn a_step_leads_to_its_stroke()
+    ensures { (part : Part) (commands : List Command) (m : Memories) → IsPart part → IsStep part commands
+        → Fits device commands (Settled part m) (Settled part (struck part commands m)) }
+{}
+
+/// Whatever the line does: at each moment of a play of steps the memories are those of the first so many steps, as many
+/// as came to data and perhaps one more; and where the play came to data, of all.
+pub fn a_play_climbs_from_step_to_step()
+    ensures { (part : Part) (steps : List (List Command)) (m : Memories) (k : ℕ) (before : List ℕ) (p : Programmer) (fates : List Fate)
+        → IsPart part → AreSteps part steps → Settled part m p
+        → Climbs device (λ j. Settled part (struck_by part j steps m)) 0 k steps p fates (along device k (play steps before) p fates) }
+{}
+
+/// The steps of items are steps that the part can bear, and their strokes, one after another, do what the items do: the
+/// pages of flash with FF in gaps, the runs of EEPROM, the fuses and the lock.
+pub fn the_steps_of_items_do_what_they_do()
+    ensures steps { (part : Part) (items : List Item) → IsPart part → AllFitItems part items → AreSteps part (all_steps part items) }
+    ensures reads { (part : Part) (mem : Mem) → IsPart part → AreSteps part (read_steps part mem) }
+    ensures effect { (part : Part) (items : List Item) (m : Memories) → IsPart part → AllFitItems part items → FitsPart part m
+        → effects part (strokes_of (all_steps part items)) m ≡ effects part items m }
+    ensures all { (part : Part) (steps : List (List Command)) (m : Memories)
+        → struck_by part (length steps) steps m ≡ effects part (strokes_of steps) m }
+    ensures sizes { (part : Part) (item : Item) (m : Memories) → IsPart part → FitsPart part m → FitsPart part (effect part item m) }
+{}
+
+/// Over any line what a step gives is what the memories hold, and what a play of steps gives is that of its steps: the
+/// blocks of a memory are the memory.
+pub fn what_is_read_is_the_memory()
+    ensures step { (part : Part) (commands : List Command) (m : Memories) (k : ℕ) (p : Programmer) (fates : List Fate) (got : List ℕ)
+        → IsPart part → IsStep part commands → FitsPart part m → Settled part m p
+        → (along device k (step commands) p fates).dialog ≡ Done (Ok got) → got ≡ given_by part commands m }
+    ensures play { (part : Part) (steps : List (List Command)) (m : Memories) (k : ℕ) (before got : List ℕ) (p : Programmer) (fates : List Fate)
+        → IsPart part → AreSteps part steps → FitsPart part m → Settled part m p
+        → (along device k (play steps before) p fates).dialog ≡ Done (Ok got) → got ≡ before ++ all_given part steps m }
+    ensures memory { (part : Part) (mem : Mem) (m : Memories) → IsPart part → FitsPart part m
+        → all_given part (read_steps part mem) m ≡ memory_in part mem m }
+{}
+
+/// Each step of a write has one stroke: the memories after the first so many steps of items are those that the items'
+/// first so many strokes make. So after any outcome of their play the memories are the effect of some first strokes, as
+/// many as steps came to data and perhaps one more.
+pub fn steps_are_counted_as_strokes()
+    ensures { (part : Part) (items : List Item) (count : ℕ) (m : Memories)
+        → struck_by part count (all_steps part items) m ≡ effects part (take count (strokes_of (all_steps part items))) m }
+{}
+
+/// Over good fates a play of steps comes to all that they give, whenever it is done: no fault.
+pub fn good_fates_bring_all_data()
+    ensures { (part : Part) (steps : List (List Command)) (m : Memories) (k : ℕ) (before : List ℕ) (p : Programmer) (fates : List Fate)
+        (o : Outcome)
+        → IsPart part → AreSteps part steps → FitsPart part m → Settled part m p → AreGood fates
+        → (along device k (play steps before) p fates).dialog ≡ Done o → o ≡ Ok (before ++ all_given part steps m) }
+{}
+
+/// To open a session keeps the memories at each moment, and where a signature is answered it is the part's and the
+/// programmer is settled; to close one keeps them; an operation comes to what its steps give, as it judges it, with the
+/// memories of all its steps, or to a fault, with those of some first ones.
+pub fn a_session_is_led_from_call_to_call()
+    ensures opening { (part : Part) (wanted : List ℕ) (force : Bool) (m : Memories) (p : Programmer) (fates : List Fate)
+        → IsPart part → FitsPart part m → Idle part m p → Leads device (opening wanted force) p fates (Idle part m) (AfterOpening part m) }
+    ensures operation { (part : Part) (steps : List (List Command)) (m : Memories) (judge : List ℕ → Result (List ℕ) HostFault)
+        (p : Programmer) (fates : List Fate)
+        → IsPart part → AreSteps part steps → FitsPart part m → Settled part m p
+        → Leads device (operation steps judge) p fates (Reached part steps m) (AfterOperation part steps m judge) }
+    ensures closing { (part : Part) (m : Memories) (p : Programmer) (fates : List Fate)
+        → Idle part m p → Leads device closing p fates (Idle part m) (λ result q. Idle part m q) }
+{}
+
+/// Whoever talks in turn never listens where nothing comes.
+pub fn a_talk_in_turn_is_never_idle()
+    ensures { (d : Dialog ⊥ Outcome) (n : ℕ) (p : Programmer) (fates : List Fate) (talk : Talk)
+        → AsksBodies d → AreLawful fates → InTurn d n [] talk → NeverIdle p fates talk }
+{}
+
+/// A talk in turn over a wire goes along the line of its fates, one question for each frame. Where it was whole, the
+/// conversation has come there to the same result, and nothing that came is left; where it broke off in any part of a
+/// frame, the programmer stands there all the same.
+pub fn a_talk_over_a_wire_goes_along_the_line()
+    ensures whole { (d : Dialog ⊥ Outcome) (n : ℕ) (p : Programmer) (fates : List Fate) (w : State)
+        (events : List (Event ⊥)) (r : Outcome) (next : ℕ) (left : List ℕ)
+        → AsksBodies d → AreLawful fates → Keeps p fates w → Plays d n [] w.talk events r next left → GoesAlong d p fates w r left }
+    ensures broken { (d : Dialog ⊥ Outcome) (n : ℕ) (p : Programmer) (fates : List Fate) (w : State) (shown : List (Event ⊥))
+        → AsksBodies d → AreLawful fates → Keeps p fates w → Breaks NoPart d n [] w.talk shown
+        → w.wire.programmer ≡ (along device (length (frames (sent w.talk))) d p fates).programmer }
+{}
+
+/// Over every tape a play of steps sends at most four times their commands.
+#[tactic(auto, using(crate::proofs::Bounding::play_most))]
+pub fn a_play_sends_at_most_four_times_its_commands()
+    ensures { (steps : List (List Command)) (before : List ℕ) (n : ℕ) (tape : Tape)
+        → length (frames_in (played (play steps before) n tape).events) ≤ 4 * commands_in steps }
+{}
+
+/// A comparison finds no difference exactly where the memory holds the image; an image laid over a memory is held; and an
+/// erased flash into which one was ANDed holds it, and FF elsewhere.
+pub fn no_difference_is_the_image()
+    ensures same { (addr : ℕ) (image : Image) (bytes : List ℕ)
+        → difference_from addr image bytes ≡ None ↔ Holds image bytes }
+    ensures laid { (image : Image) (bytes : List ℕ) → Holds image (laid image bytes) }
+    ensures erased { (image : Image) (n i : ℕ) → i < n → ((b : ℕ) → byte_at image i ≡ Some b → b < 256)
+        → slice_index (and_in image (replicate n 255)) i ≡ or_blank (byte_at image i) }
 {}

@@ -18,7 +18,6 @@ mod emulator;
 // the wire
 mod fate;
 mod line;
-mod log;
 mod noise;
 mod segment;
 #[cfg(test)]
@@ -30,7 +29,13 @@ mod laws;
 pub use emulator::Emulator;
 pub use fate::Fate;
 pub use laws::{
-    a_conversation_goes_along_the_line, a_segment_is_read_whole, every_answer_fits_a_frame,
+    a_conversation_goes_along_the_line, a_play_climbs_from_step_to_step,
+    a_play_sends_at_most_four_times_its_commands, a_programmer_begins_idle,
+    a_segment_is_read_whole, a_session_is_led_from_call_to_call, a_step_leads_to_its_stroke,
+    a_talk_in_turn_is_never_idle, a_talk_over_a_wire_goes_along_the_line, an_effect_twice_is_once,
+    every_answer_fits_a_frame, good_fates_bring_all_data, no_difference_is_the_image,
+    opening_and_closing_keep_the_memories, steps_are_counted_as_strokes,
+    the_steps_of_items_do_what_they_do, what_is_read_is_the_memory,
 };
 pub use noise::noise_is_lawful;
 pub use wired::Wired;

@@ -13,13 +13,12 @@ ghost use Rattle.stk_emu.specs.Wired.{Keeps, IsNext, after_hearing};
 
 use crate::fate::Fate;
 use crate::line::Line;
-use crate::log::{Log, Mark};
 use crate::segment::{ROOM, Segment, take_bytes};
 use avr_part::Chip;
 use std::alloc::{AllocError, Global};
 use std::marker::Model;
 use stk_frame::FrameReader;
-use stk_host::{Heard, Link, LinkFault};
+use stk_host::{Heard, Link, LinkFault, Log};
 
 /// A link to an emulated programmer over a wire that loses, delays and spoils: the nth whole frame that is sent has the
 /// nth fate, and after the list all are [`Fate::Good`].
@@ -51,12 +50,10 @@ impl Model for Wired {
 /// Makes room for all that a frame can bring, and for a piece of so many bytes that is sent.
 fn make_room(waits: &mut Vec<Option<u8>>, log: &mut Log, count: usize) -> Result<(), AllocError>
     ensures waits { waits.new.items ≡ waits.old.items }
-    ensures marks { log.new.marks.items ≡ log.old.marks.items }
-    ensures out { log.new.out.items ≡ log.old.out.items }
-    ensures back { log.new.back.items ≡ log.old.back.items }
+    ensures talk { log.new.talk ≡ log.old.talk }
     ensures wait_room { OnOk result (vec_len waits.new + 2330 ≤ vec_capacity waits.new) }
-    ensures mark_room { OnOk result (vec_len log.new.marks < vec_capacity log.new.marks) }
-    ensures out_room { OnOk result (vec_len log.new.out + count ≤ vec_capacity log.new.out) }
+    ensures piece_room { OnOk result (0 < log.new.piece_room) }
+    ensures byte_room { OnOk result (count ≤ log.new.byte_room) }
 {
     waits.reserve(ROOM)?;
     log.reserve(count)?;
@@ -66,12 +63,10 @@ fn make_room(waits: &mut Vec<Option<u8>>, log: &mut Log, count: usize) -> Result
 /// Keeps what a frame brought and what was sent, for which there is room.
 fn keep(waits: &mut Vec<Option<u8>>, log: &mut Log, brought: &Segment, sent: &[u8])
     requires wait_room { vec_len waits.old + 2330 ≤ vec_capacity waits.old }
-    requires mark_room { vec_len log.old.marks < vec_capacity log.old.marks }
-    requires out_room { vec_len log.old.out + length sent.now ≤ vec_capacity log.old.out }
+    requires piece_room { 0 < log.old.piece_room }
+    requires byte_room { length sent.now ≤ log.old.byte_room }
     ensures waits { waits.new.items ≡ waits.old.items ++ brought.now.items }
-    ensures marks { log.new.marks.items ≡ log.old.marks.items ++ Mark.Sent (length sent.now) ∷ [] }
-    ensures out { log.new.out.items ≡ log.old.out.items ++ sent.now }
-    ensures back { log.new.back.items ≡ log.old.back.items }
+    ensures talk { log.new.talk ≡ log.old.talk ++ talk.Sent sent.now ∷ [] }
 {
     let _ = waits.extend_from_slice(brought.as_slice());
     log.say(sent);
@@ -122,7 +117,7 @@ impl Wired {
     pub fn sent(&self) -> &[u8]
         ensures { result.now ≡ talk.sent self.now.talk }
     {
-        self.log.out.as_slice()
+        self.log.sent()
     }
 
     /// Counts a failure.
@@ -170,10 +165,11 @@ impl Wired {
 
     /// Hears these bytes, which wait first.
     fn hear(&mut self, bytes: &[u8]) -> Result<(), AllocError>
+        requires { 0 < length bytes.now }
         ensures ok { OnOk result (self.new ≡ after_hearing (on_tape bytes.now) self.old) }
         ensures err { OnErr result (self.new ≡ self.old) }
     {
-        self.log.hear(bytes)?;
+        self.log.hear(Heard::Bytes(bytes.len()), bytes)?;
         self.at = consume(&mut self.waits, self.at, bytes.len());
         Ok(())
     }
@@ -183,7 +179,7 @@ impl Wired {
         ensures ok { OnOk result (self.new ≡ after_hearing (item.Silence ∷ []) self.old) }
         ensures err { OnErr result (self.new ≡ self.old) }
     {
-        self.log.hear_silence()?;
+        self.log.hear(Heard::Silence, &[])?;
         self.at = consume(&mut self.waits, self.at, 1);
         Ok(())
     }

@@ -1,9 +1,10 @@
 -- The steps of an operation, one after another.
-use Rattle.std.proofs.Common.{◌≡◌, ℕ, ◌≤◌, arith, List, [], ◌∷◌, ◌++◌, length, refl, subst, sym, ◌-◌, Bool, true, false, None, Some, ◌∙◌, inl, inr, Option, Ok, Err, Result}
+use Rattle.std.proofs.Common.{◌≡◌, ℕ, ◌<◌, ◌≤◌, ◌^◌, lit≤, arith, List, [], ◌∷◌, ◌++◌, length, refl, subst, sym, ◌-◌, Bool, true, false, None, Some, ◌∙◌, inl, inr, Option, Ok, Err, Result}
 use Rattle.std.specs.Prelude.{OnOk, if◌then◌else◌}
 use Rattle.avr_part.specs.declared.mem.Mem.{Mem}
 use Rattle.avr_part.specs.Mem.{is_writable}
-use Rattle.avr_part.specs.Part.{Part}
+use Rattle.avr_part.specs.declared.mem.Mem.TheVariants.{Flash, Eeprom, Lfuse, Hfuse, Efuse, Lock, Signature, Calibration}
+use Rattle.avr_part.specs.Part.{Part, IsPart, size_of}
 use Rattle.stk_frame.specs.declared.command.Command.{Command}
 use Rattle.stk_frame.specs.declared.answer.Shape.{Shape}
 use Rattle.stk_frame.specs.declared.answer.Shape.TheVariants.{Name, Bytes, Closed}
@@ -167,3 +168,23 @@ pub begins_at : (steps_at : ℕ → List (List Command)) (count : ℕ) (before :
 begins_at steps_at count before m u o =
     let all : count ≡ count - 0 = omega arith in
     subst (λ (n : ℕ). Reaches (play (each_from steps_at 0 count) before) m u o (play (each_from steps_at 0 n) before) m u o) all (reaches_here (play (each_from steps_at 0 count) before) m u o)
+
+-- how many bytes are kept of a memory that was read
+
+pub read_sized : (taken : Result (Unit {0}) Stop) (items : List ℕ) (n : ℕ) → OnOk taken (length items ≡ n) → OnOk (closed taken) (length (kept (closed taken) items) ≡ n)
+read_sized (Ok done) items n size = size
+read_sized (Err stop) items n size = tt
+
+pub read_short : (taken : Result (Unit {0}) Stop) (items : List ℕ) (n : ℕ) → n < 2 ^ 32 → OnOk taken (length items ≡ n) → length (kept (closed taken) items) < 2 ^ 32
+read_short (Ok done) items n bound size = omega (arith, size)
+read_short (Err stop) items n bound size = lit≤ tt
+
+pub size_fits : (mem : Mem) (part : Part) → IsPart part → size_of mem part < 2 ^ 32
+size_fits Flash part is = omega (arith, is.flash_most)
+size_fits Eeprom part is = omega (arith, is.eeprom_most)
+size_fits Lfuse part is = lit≤ tt
+size_fits Hfuse part is = lit≤ tt
+size_fits Efuse part is = lit≤ tt
+size_fits Lock part is = lit≤ tt
+size_fits Signature part is = lit≤ tt
+size_fits Calibration part is = lit≤ tt

@@ -10,6 +10,7 @@ pub mod Going
 pub mod Pages
 pub mod Differences
 pub mod Lifting
+pub mod Bounds
 pub mod Logs
 pub mod Pieces
 pub mod Streams

@@ -15,7 +15,7 @@ use Rattle.avr_part.specs.Part.{Part, IsPart, size_of}
 use Rattle.stk_frame.specs.declared.command.Command.{Command}
 use Rattle.stk_frame.specs.HostCommands.{program_eeprom, read_signature}
 use Rattle.stk_host.specs.Places.{each_from, load_eeprom}
-use Rattle.stk_host.specs.ReadSteps.{load_block, read_block, block_size, block_steps, signature_steps}
+use Rattle.stk_host.specs.ReadSteps.{load_block, read_block, block_size, block_steps, signature_step}
 use Rattle.stk_host.specs.WriteSteps.{is_used, page_step, page_steps, page_end, begins_run, run_step, run_steps}
 
 -- no place has steps
@@ -251,8 +251,8 @@ next_block_is part mem place end size count load read before load_is read_is cou
     rw (load_is, read_is, count_is, size_is) (next_block (block_steps part mem) place end before)
 
 pub next_signature : (place : ℕ) (command : Command) → place < 3 → command ≡ read_signature place
-    → each_from signature_steps place (3 - place) ≡ (command ∷ []) ∷ each_from signature_steps (place + 1) (3 - (place + 1))
-next_signature place command before is = rw is (next_block signature_steps place 3 before)
+    → each_from signature_step place (3 - place) ≡ (command ∷ []) ∷ each_from signature_step (place + 1) (3 - (place + 1))
+next_signature place command before is = rw is (next_block signature_step place 3 before)
 
 -- behind the last place there is none
 pub no_more : (steps_at : ℕ → List (List Command)) (place end : ℕ) → end ≤ place → each_from steps_at place (end - place) ≡ []

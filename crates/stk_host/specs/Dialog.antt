@@ -53,6 +53,12 @@ played (Say e dialog) seq tape = behind (Said e ∷ []) (played dialog seq tape)
 played (Ask body answered) seq tape =
     behind (Frame (frame seq body) ∷ []) (by_answer (λ reading. played (answered reading) (next seq)) (answer seq tape))
 
+-- the frames that were sent
+abbrev pub frames_in : {E : Type 0} → List (Event E) → List (List ℕ)
+frames_in [] = []
+frames_in (Frame bytes ∷ events) = bytes ∷ frames_in events
+frames_in (Said e ∷ events) = frames_in events
+
 -- the bytes of the frames, and what was said beside the line
 abbrev pub bytes_sent : {E : Type 0} → List (Event E) → List ℕ
 bytes_sent [] = []

@@ -7,8 +7,9 @@ pub mod Places
 pub mod WriteSteps
 pub mod ReadSteps
 pub mod Operations
+pub mod Bound
 pub mod Reach
 pub mod Calls
 pub mod State
-pub mod Log
 pub mod Links
+pub mod Log

@@ -9,6 +9,12 @@ use Rattle.stk_host.specs.Tape.{Tape, on_tape, bytes_in}
 use Rattle.stk_host.specs.Talk.{Talk}
 use Rattle.stk_host.specs.Play.{IsPrefixOf}
 
+-- a log: what passed, and the room that is left in it, for so many pieces and for so many bytes that are sent
+pub record LogState : Type 0 where
+  pub talk : Talk
+  pub piece_room : ℕ
+  pub byte_room : ℕ
+
 -- a link over a tape: the items that are left, the most bytes of a piece, what passed, and how often it has failed
 pub record TapeState : Type 0 where
   pub left : Tape

@@ -6,7 +6,7 @@ use Rattle.avr_part.specs.Mem.{is_writable}
 use Rattle.avr_part.specs.Part.{Part}
 use Rattle.stk_frame.specs.declared.command.Command.{Command}
 use Rattle.stk_frame.specs.declared.command.Command.TheVariants.{SignOn}
-use Rattle.stk_frame.specs.HostCommands.{enter, leave, erase, read_signature}
+use Rattle.stk_frame.specs.HostCommands.{enter, leave, erase}
 use Rattle.stk_host.specs.declared.fault.StepFault.{StepFault}
 use Rattle.stk_host.specs.declared.fault.StepFault.TheVariants as of_step
 use Rattle.stk_host.specs.declared.fault.HostFault.{HostFault}
@@ -14,7 +14,7 @@ use Rattle.stk_host.specs.declared.fault.HostFault.TheVariants.{NoAnswer, LinkEn
 use Rattle.stk_host.specs.Dialog.{Dialog, Done, ◌>>=◌}
 use Rattle.stk_host.specs.Steps.{Outcome, if_done, step, play}
 use Rattle.stk_host.specs.WriteSteps.{write_steps}
-use Rattle.stk_host.specs.ReadSteps.{read_steps}
+use Rattle.stk_host.specs.ReadSteps.{signature_steps, read_steps}
 
 -- a step's fault, as the host tells it
 abbrev pub host_fault : StepFault → HostFault
@@ -23,10 +23,6 @@ host_fault of_step.LinkEnded = LinkEnded
 host_fault of_step.Babble = Babble
 host_fault (of_step.Refused command status) = Refused command status
 host_fault (of_step.BadAnswer command) = BadAnswer command
-
--- to read the signature, a byte a step
-abbrev pub signature_steps : List (List Command)
-signature_steps = (read_signature 0 ∷ []) ∷ (read_signature 1 ∷ []) ∷ (read_signature 2 ∷ []) ∷ []
 
 -- to sign on, enter programming mode and read the signature
 unfoldable pub beginning : Dialog ⊥ Outcome

@@ -30,8 +30,12 @@ block_steps part mem number =
     (load_block part mem (number * 256) ∷ read_block mem (block_size (size_of mem part) (number * 256)) ∷ []) ∷ []
 
 -- the step that reads the signature's byte of this place
-abbrev pub signature_steps : ℕ → List (List Command)
-signature_steps place = (read_signature place ∷ []) ∷ []
+abbrev pub signature_step : ℕ → List (List Command)
+signature_step place = (read_signature place ∷ []) ∷ []
+
+-- the signature is read a byte a step
+abbrev pub signature_steps : List (List Command)
+signature_steps = each_from signature_step 0 3
 
 abbrev pub read_steps : Part → Mem → List (List Command)
 read_steps part Flash = each_from (block_steps part Flash) 0 (block_count part.flash_size)
@@ -40,5 +44,5 @@ read_steps part Lfuse = (read_fuse Low ∷ []) ∷ []
 read_steps part Hfuse = (read_fuse High ∷ []) ∷ []
 read_steps part Efuse = (read_fuse Extended ∷ []) ∷ []
 read_steps part Lock = (read_lock ∷ []) ∷ []
-read_steps part Signature = each_from signature_steps 0 3
+read_steps part Signature = signature_steps
 read_steps part Calibration = (read_calibration ∷ []) ∷ []

@@ -1,7 +1,7 @@
 //! The host: operations over a link, and the fault after which it says nothing more.
 #![tactic(auto)]
 
-ghost use Rattle.std.specs.Prelude.{◌≡◌, ◌≤◌, [], length, Some, None, Err, OnOk, OnErr};
+ghost use Rattle.std.specs.Prelude.{◌≡◌, ◌<◌, ◌≤◌, ◌^◌, [], length, Some, None, Err, OnOk, OnErr};
 ghost use Rattle.avr_part.specs.Part.{size_of};
 ghost use Rattle.stk_host.specs.declared.fault.HostFault.{HostFault};
 ghost use Rattle.stk_host.specs.Talk.{HasFailed};
@@ -28,6 +28,22 @@ use std::marker::Model;
 /// and not read are read by the next call. After [`HostFault::LinkEnded`], [`HostFault::SendFailed`] or
 /// [`HostFault::RecvFailed`] every call answers that fault again, and nothing is sent or heard; after every other fault
 /// the host goes on.
+///
+/// ```text
+/// let part = Parts::none().find("m328p")?;
+/// let mut image = Image::new(alloc, part.size_of(Mem::Flash))?;
+/// image.put_slice(0, &[0x0C, 0x94, 0x34, 0x00])?;
+/// let chip = Chip::fresh(alloc, part.copied())?;
+/// let mut wire = Wired::new(alloc, chip, Vec::new(alloc));
+/// let mut host = Host::new(&part);
+/// let signature = host.open(&mut wire, false)?;
+/// host.erase(&mut wire)?;
+/// host.write(&mut wire, Mem::Flash, &image)?;
+/// host.verify(&mut wire, alloc, Mem::Flash, &image)?;
+/// host.close(&mut wire)?;
+/// assert!(rt; signature == [0x1E, 0x95, 0x0F]);
+/// assert!(rt; wire.chip().byte(Mem::Flash, 1) == Some(0x94));
+/// ```
 #[derive(Drop)]
 pub struct Host {
     part: Part,
@@ -247,6 +263,8 @@ impl Host {
         ensures played { self.old.broken ≡ None → EndsOrLacks (reading self.old.part mem) self.old.next self.old.unread
             (L.talk link.old) (L.talk link.new) (given out.new.items result) self.new.next self.new.unread }
         ensures empty { OnErr result (out.new.items ≡ []) }
+        ensures sized { OnOk result (length out.new.items ≡ size_of mem self.old.part) }
+        ensures short { length out.new.items < 2 ^ 32 }
         ensures lasts { self.old.broken ≡ None → self.new.broken ≡ left_by result }
         ensures part { self.new.part ≡ self.old.part }
         ensures signature { self.new.signature ≡ self.old.signature }

@@ -36,10 +36,14 @@ mod reading;
 #[cfg(test)]
 mod tests;
 mod writing;
+// laws
+mod laws;
 
 pub use failing_link::FailingLink;
 pub use fault::{HostFault, StepFault};
 pub use host::Host;
+pub use laws::a_call_sends_at_most_four_times_its_commands;
 pub use link::{Heard, Item, Link, LinkFault};
+pub use log::Log;
 pub use stream_link::StreamLink;
 pub use tape_link::TapeLink;

@@ -1,7 +1,7 @@
 //! A talk that is kept.
 #![tactic(auto)]
 
-ghost use Rattle.std.specs.Prelude.{◌≡◌, ◌++◌, ◌∷◌, [], length, OnOk, OnErr};
+ghost use Rattle.std.specs.Prelude.{◌≡◌, ◌<◌, ◌≤◌, ◌++◌, ◌∷◌, [], length, OnOk, OnErr};
 ghost use Rattle.stk_host.specs.declared.link.Item.TheVariants as item;
 ghost use Rattle.stk_host.specs.Tape.{on_tape};
 ghost use Rattle.stk_host.specs.Talk as talk;
@@ -19,7 +19,9 @@ pub enum Mark {
     End,
 }
 
-/// All that was sent and heard over a link.
+/// All that was sent and heard over a link, in its order.
+///
+/// Contracts see what passed as one list of pieces, and the room that [`Log::reserve`] has made.
 #[derive(Drop)]
 pub struct Log {
     marks: Vec<Mark>,
@@ -28,13 +30,13 @@ pub struct Log {
 }
 
 impl Model for Log {
-    ghost use Rattle.stk_host.specs.Talk.{Talk};
+    ghost use Rattle.stk_host.specs.Links.{LogState};
 
-    ghost Value = { Talk };
+    ghost Value = { LogState };
 
-    ghost use Rattle.stk_host.specs.Log.{talk_in, Adds};
+    ghost use Rattle.stk_host.specs.Log.{state_in, Adds};
 
-    ghost view = { talk_in };
+    ghost view = { state_in };
 
     ghost invariant = { Adds };
 }
@@ -42,7 +44,7 @@ impl Model for Log {
 impl Log {
     /// Nothing has passed.
     pub fn new(alloc: Global) -> Self
-        ensures { result ≡ [] }
+        ensures { result.talk ≡ [] }
     {
         Log {
             marks: Vec::new(alloc),
@@ -53,26 +55,36 @@ impl Log {
 
     /// The bytes sent.
     pub fn sent(&self) -> &[u8]
-        ensures { result.now ≡ talk.sent self.now }
+        ensures { result.now ≡ talk.sent self.now.talk }
     {
         self.out.as_slice()
     }
 
-    /// These bytes were sent.
-    pub fn say(&mut self, bytes: &[u8]) -> Result<(), AllocError>
-        ensures ok { OnOk result (self.new ≡ self.old ++ talk.Sent bytes.now ∷ []) }
-        ensures err { OnErr result (self.new ≡ self.old) }
+    /// Makes room for one piece more, of at most so many bytes if it is sent. Where memory is refused nothing has passed.
+    pub fn reserve(&mut self, count: usize) -> Result<(), AllocError>
+        ensures talk { self.new.talk ≡ self.old.talk }
+        ensures piece { OnOk result (0 < self.new.piece_room) }
+        ensures bytes { OnOk result (count ≤ self.new.byte_room) }
     {
         self.marks.reserve(1)?;
-        self.out.extend_from_slice(bytes)?;
-        self.marks.push_reserved(Mark::Sent(bytes.len()));
+        self.out.reserve(count)?;
         Ok(())
+    }
+
+    /// These bytes were sent. There is room for them.
+    pub fn say(&mut self, bytes: &[u8])
+        requires piece { 0 < self.old.piece_room }
+        requires bytes { length bytes.now ≤ self.old.byte_room }
+        ensures { self.new.talk ≡ self.old.talk ++ talk.Sent bytes.now ∷ [] }
+    {
+        let _there_is_room = self.out.extend_from_slice(bytes);
+        self.marks.push_reserved(Mark::Sent(bytes.len()));
     }
 
     /// These bytes were heard.
     fn hear_bytes(&mut self, bytes: &[u8]) -> Result<(), AllocError>
-        ensures ok { OnOk result (self.new ≡ self.old ++ talk.Got (on_tape bytes.now) ∷ []) }
-        ensures err { OnErr result (self.new ≡ self.old) }
+        ensures ok { OnOk result (self.new.talk ≡ self.old.talk ++ talk.Got (on_tape bytes.now) ∷ []) }
+        ensures err { OnErr result (self.new.talk ≡ self.old.talk) }
     {
         self.marks.reserve(1)?;
         self.back.extend_from_slice(bytes)?;
@@ -82,8 +94,8 @@ impl Log {
 
     /// A silence was heard.
     fn silence(&mut self) -> Result<(), AllocError>
-        ensures ok { OnOk result (self.new ≡ self.old ++ talk.Got (item.Silence ∷ []) ∷ []) }
-        ensures err { OnErr result (self.new ≡ self.old) }
+        ensures ok { OnOk result (self.new.talk ≡ self.old.talk ++ talk.Got (item.Silence ∷ []) ∷ []) }
+        ensures err { OnErr result (self.new.talk ≡ self.old.talk) }
     {
         self.marks.push(Mark::Silence)?;
         Ok(())
@@ -91,18 +103,18 @@ impl Log {
 
     /// An end was heard.
     fn end(&mut self) -> Result<(), AllocError>
-        ensures ok { OnOk result (self.new ≡ self.old ++ talk.Got (item.End ∷ []) ∷ []) }
-        ensures err { OnErr result (self.new ≡ self.old) }
+        ensures ok { OnOk result (self.new.talk ≡ self.old.talk ++ talk.Got (item.End ∷ []) ∷ []) }
+        ensures err { OnErr result (self.new.talk ≡ self.old.talk) }
     {
         self.marks.push(Mark::End)?;
         Ok(())
     }
 
-    /// This was heard, its bytes at the front of the buffer.
+    /// This was heard, its bytes at the front of the buffer. Where memory is refused nothing has passed.
     pub fn hear(&mut self, heard: Heard, buffer: &[u8]) -> Result<(), AllocError>
         requires { talk.FitsBuffer heard (length buffer.now) }
-        ensures ok { OnOk result (self.new ≡ self.old ++ talk.Got (talk.items_of heard buffer.now) ∷ []) }
-        ensures err { OnErr result (self.new ≡ self.old) }
+        ensures ok { OnOk result (self.new.talk ≡ self.old.talk ++ talk.Got (talk.items_of heard buffer.now) ∷ []) }
+        ensures err { OnErr result (self.new.talk ≡ self.old.talk) }
     {
         match heard {
             Heard::Bytes(count) => self.hear_bytes(&buffer[..count]),

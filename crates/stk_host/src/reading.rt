@@ -87,7 +87,7 @@ fn read_signature<L: Link>(
 ) -> Result<(), Stop>
     requires empty { out.old.items ≡ [] }
     requires room { 3 ≤ vec_capacity out.old }
-    ensures played { EndsSteps (play (each_from signature_steps 0 3) []) conversation.old.next conversation.old.unread (L.talk link.old) (L.talk link.new)
+    ensures played { EndsSteps (play signature_steps []) conversation.old.next conversation.old.unread (L.talk link.old) (L.talk link.new)
         (λ done. out.new.items) result conversation.new.next conversation.new.unread }
     ensures counted { CountsLink (L.failures link.old) (L.failures link.new) result }
     ensures bound { length conversation.old.unread ≤ 281 → length conversation.new.unread ≤ 281 }

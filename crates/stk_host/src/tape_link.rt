@@ -34,7 +34,7 @@ impl Model for TapeLink {
     ghost view = { λ link. record {
       left = drop link.at link.items.items;
       cut = link.cut;
-      talk = link.log;
+      talk = link.log.talk;
       failures = link.failures;
     } };
 
@@ -131,10 +131,11 @@ impl Link for TapeLink {
         ensures cut { self.new.cut ≡ self.old.cut }
     {
         let count = self.cut.min(bytes.len());
-        let Ok(()) = self.log.say(&bytes[..count]) else {
+        let Ok(()) = self.log.reserve(count) else {
             self.failures = self.failures.saturating_add(1);
             return Err(LinkFault::Failed);
         };
+        self.log.say(&bytes[..count]);
         Ok(count)
     }
 

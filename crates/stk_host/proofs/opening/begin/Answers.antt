@@ -8,7 +8,8 @@ use Rattle.stk_host.specs.Dialog.{Dialog, ◌>>=◌}
 use Rattle.stk_host.specs.Play.{PlaysOver}
 use Rattle.stk_host.specs.Reach.{Reaches}
 use Rattle.stk_host.specs.Steps.{Outcome, if_done, step, play}
-use Rattle.stk_host.specs.Operations.{beginning, signature_steps}
+use Rattle.stk_host.specs.ReadSteps.{signature_steps}
+use Rattle.stk_host.specs.Operations.{beginning}
 use Rattle.stk_host.proofs.Reaching.{reaches_on}
 use Rattle.stk_host.proofs.Ends.{stops_on, stops_there, goes_on, play_on, play_stops, play_done}
 use Rattle.stk_host.proofs.opening.begin.Goals as goal

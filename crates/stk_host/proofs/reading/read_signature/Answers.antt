@@ -1,6 +1,6 @@
 use Rattle.std.proofs.Common.{ap, arith, length, []}
 use Rattle.std.proofs.lemmas.Result.{err_from_is_err_and}
-use Rattle.stk_host.specs.ReadSteps.{signature_steps}
+use Rattle.stk_host.specs.ReadSteps.{signature_step}
 use Rattle.stk_host.proofs.Reaching.{reaches_here}
 use Rattle.stk_host.proofs.Going.{reaches_next, stops_next, plays_all}
 use Rattle.stk_host.proofs.Pages.{next_signature, no_more}
@@ -32,4 +32,4 @@ loop-place-preserved g c =
     }
 
 pub returns-clause-played : goal.returns-clause-played
-returns-clause-played g c = plays_all _ _ c.loop-place.invariant.reaches (no_more signature_steps _ _ c.loop-place-test.false)
+returns-clause-played g c = plays_all _ _ c.loop-place.invariant.reaches (no_more signature_step _ _ c.loop-place-test.false)

@@ -1,15 +1,15 @@
 use Rattle.std.proofs.Common.{◌≡◌, ◌≤◌, ◌-◌, length, []}
 use Rattle.std.specs.Prelude.{vec_capacity}
 use Rattle.stk_host.specs.Places.{each_from}
-use Rattle.stk_host.specs.ReadSteps.{signature_steps}
+use Rattle.stk_host.specs.ReadSteps.{signature_step, signature_steps}
 use Rattle.stk_host.specs.Reach.{Reaches}
 use Rattle.stk_host.specs.Steps.{play}
 use Rattle.stk_host.proofs.reading.read_signature.Given as goal
 
 abbrev pub invariant-loop-place : goal.invariant-loop-place
 invariant-loop-place g l = record {
-  reaches : Reaches (play (each_from signature_steps 0 3) []) l.fn.conversation.next l.fn.conversation.unread (g.L.Link.talk l.fn.link)
-      (play (each_from signature_steps l.place (3 - l.place)) l.out.items) l.conversation.next l.conversation.unread (g.L.Link.talk l.link);
+  reaches : Reaches (play signature_steps []) l.fn.conversation.next l.fn.conversation.unread (g.L.Link.talk l.fn.link)
+      (play (each_from signature_step l.place (3 - l.place)) l.out.items) l.conversation.next l.conversation.unread (g.L.Link.talk l.link);
   size : length l.out.items ≡ l.place;
   room : 3 ≤ vec_capacity l.out;
   counted : g.L.Link.failures l.fn.link ≤ g.L.Link.failures l.link;

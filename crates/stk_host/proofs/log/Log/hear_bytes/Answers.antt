@@ -14,5 +14,5 @@ invariant_of-self-2 c =
 
 pub returns-clause-ok : goal.returns-clause-ok
 returns-clause-ok c =
-    log_adds c.self.inside.marks.items _ c.self.inside.out.items _ c.self.inside.back.items _ [] c.args.bytes.now (mark.Got (length c.args.bytes.now)) c.args.self.now c.self.invariant.out_is c.self.invariant.back_is c.self.view_is (c.push_reserved.ensures.items ∙ ap (λ ms. ms ++ (mark.Got (length c.args.bytes.now)) ∷ []) c.reserve.ensures.items) (sym (append-nil c.self.inside.out.items)) (c.in_ok-extend_from_slice.ensures.items)
-    ∙ ap (λ bs. c.args.self.now ++ talk.Got (on_tape bs) ∷ []) (take-length c.args.bytes.now)
+    log_adds c.self.inside.marks.items _ c.self.inside.out.items _ c.self.inside.back.items _ [] c.args.bytes.now (mark.Got (length c.args.bytes.now)) c.args.self.now.talk c.self.invariant.out_is c.self.invariant.back_is (ap (λ s. s.talk) c.self.view_is) (c.push_reserved.ensures.items ∙ ap (λ ms. ms ++ (mark.Got (length c.args.bytes.now)) ∷ []) c.reserve.ensures.items) (sym (append-nil c.self.inside.out.items)) (c.in_ok-extend_from_slice.ensures.items)
+    ∙ ap (λ bs. c.args.self.now.talk ++ talk.Got (on_tape bs) ∷ []) (take-length c.args.bytes.now)

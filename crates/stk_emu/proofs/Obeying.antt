@@ -1,0 +1,169 @@
+-- What the programmer is after each command of a host.
+use Rattle.std.proofs.Common.{◌≡◌, ℕ, zero, suc, ◌<◌, ◌^◌, [], ◌∷◌, length, refl, sym, ap, ◌∙◌, subst, ◌⊎◌, inl, inr, true, cond, replicate, None, Option}
+use Rattle.std.proofs.lemmas.List.{length-replicate}
+use Rattle.avr_part.specs.Part.{Part}
+use Rattle.avr_part.specs.State as chip
+use Rattle.stk_frame.specs.declared.command.Command.{Command}
+use Rattle.stk_frame.specs.declared.command.Command.TheVariants.{SignOn, LoadAddress}
+use Rattle.stk_frame.specs.declared.host_command.Fuse.{Fuse}
+use Rattle.stk_frame.specs.declared.host_command.Fuse.TheVariants.{Low, High, Extended}
+use Rattle.stk_frame.specs.Commands.{body}
+use Rattle.stk_frame.specs.Decoding as decoding
+use Rattle.stk_frame.specs.HostCommands.{enter, leave, erase, program_fuse, program_lock, read_fuse, read_lock, read_signature, read_calibration}
+use Rattle.stk_frame.proofs.Decoding.{read_back}
+use Rattle.stk_frame.proofs.Cut.{chosen}
+use Rattle.stk_emu.specs.Programmer.{Programmer, Done, obey, obey_command, read_as}
+use Rattle.stk_emu.specs.Device.{Device, device}
+use Rattle.stk_emu.specs.Fits.{obeyed, Fits}
+use Rattle.stk_emu.specs.Effect.{Memories, memories_of}
+use Rattle.stk_emu.specs.Strokes.{struck}
+use Rattle.stk_emu.specs.Settled.{Idle, Settled}
+
+-- a body is obeyed as its command
+pub obeys : (c : Command) (p : Programmer) → decoding.Fits c → obey (body c) p ≡ obey_command c p
+obeys c p fits = ap (λ o. read_as o (body c) p) (read_back c fits)
+
+module _ {P : Type 0} (m : Device P) where
+  obeyed_none : (i : ℕ) (p : P) → obeyed m i [] p ≡ p
+  obeyed_none zero p = refl
+  obeyed_none (suc i) p = refl
+
+  -- a step of one command
+  pub one_fits : (c : Command) (Before After : P → Type 0) → ((p : P) → Before p → After (m.after (body c) p)) → ((p : P) → After p → After (m.after (body c) p)) → Fits m (c ∷ []) Before After
+  one_fits c Before After does again = record {
+    front = λ p i b. fronts p i b;
+    again = λ p i a. agains p i a;
+    whole = λ p b. does p b;
+  }
+    where
+      fronts : (p : P) (i : ℕ) → Before p → Before (obeyed m i (c ∷ []) p) ⊎ After (obeyed m i (c ∷ []) p)
+      fronts p zero b = inl b
+      fronts p (suc i) b = inr (subst After (sym (obeyed_none i (m.after (body c) p))) (does p b))
+
+      agains : (p : P) (i : ℕ) → After p → After (obeyed m i (c ∷ []) p)
+      agains p zero a = a
+      agains p (suc i) a = subst After (sym (obeyed_none i (m.after (body c) p))) (again p a)
+
+  -- a step of two
+  pub two_fits : (c d : Command) (Before After : P → Type 0) → ((p : P) → Before p → Before (m.after (body c) p)) → ((p : P) → After p → After (m.after (body c) p))
+      → ((p : P) → Before p → After (m.after (body d) (m.after (body c) p))) → ((p : P) → After p → After (m.after (body d) (m.after (body c) p)))
+      → Fits m (c ∷ d ∷ []) Before After
+  two_fits c d Before After first first_again does again = record {
+    front = λ p i b. fronts p i b;
+    again = λ p i a. agains p i a;
+    whole = λ p b. does p b;
+  }
+    where
+      fronts : (p : P) (i : ℕ) → Before p → Before (obeyed m i (c ∷ d ∷ []) p) ⊎ After (obeyed m i (c ∷ d ∷ []) p)
+      fronts p zero b = inl b
+      fronts p (suc zero) b = inl (first p b)
+      fronts p (suc (suc i)) b = inr (subst After (sym (obeyed_none i (m.after (body d) (m.after (body c) p)))) (does p b))
+
+      agains : (p : P) (i : ℕ) → After p → After (obeyed m i (c ∷ d ∷ []) p)
+      agains p zero a = a
+      agains p (suc zero) a = first_again p a
+      agains p (suc (suc i)) a = subst After (sym (obeyed_none i (m.after (body d) (m.after (body c) p)))) (again p a)
+
+-- a command of programming mode, in it
+pub in_mode_is : (p : Programmer) (x y : Done) → p.mode ≡ true → (cond p.mode x y).1 ≡ x.1
+in_mode_is p x y e = ap (λ z. z.1) (chosen p.mode x y e)
+
+module _ (part : Part) where
+  -- what is settled is idle
+  pub settled_idle : (m : Memories) (p : Programmer) → Settled part m p → Idle part m p
+  settled_idle m p s = record {
+    memories = s.memories;
+    part_is = s.part_is;
+    flash_buffer = ap length s.flash_buffer ∙ length-replicate part.flash_page 255;
+    eeprom_buffer = ap length s.eeprom_buffer ∙ length-replicate {A = Option ℕ} part.eeprom_page None;
+  }
+
+  pub sign_on_keeps : (m : Memories) (p : Programmer) → Idle part m p → Idle part m (device.after (body SignOn) p)
+  sign_on_keeps m p s = s
+
+  pub sign_on_stays : (m : Memories) (p : Programmer) → Settled part m p → Settled part m (device.after (body SignOn) p)
+  sign_on_stays m p s = s
+
+  -- ENTER puts the mode on, and empties the buffers
+  pub enter_does : (m : Memories) (p : Programmer) → Idle part m p → Settled part m (device.after (body enter) p)
+  enter_does m p s = record {
+    memories = s.memories;
+    part_is = s.part_is;
+    mode = refl;
+    flash_buffer = ap (λ n. replicate n 255) s.flash_buffer;
+    eeprom_buffer = ap (λ n. replicate {A = Option ℕ} n None) s.eeprom_buffer;
+    extended = λ narrow. refl;
+  }
+
+  pub leave_keeps : (m : Memories) (p : Programmer) → Idle part m p → Idle part m (device.after (body leave) p)
+  leave_keeps m p s = record { memories = s.memories; part_is = s.part_is; flash_buffer = s.flash_buffer; eeprom_buffer = s.eeprom_buffer }
+
+  pub load_keeps : (address : ℕ) (m : Memories) (p : Programmer) → address < 2 ^ 32 → Settled part m p → Settled part m (device.after (body (LoadAddress address)) p)
+  load_keeps address m p fits s = subst (λ z. Settled part m z) (sym (ap (λ z. z.1) (obeys (LoadAddress address) p fits)))
+      (record { memories = s.memories; part_is = s.part_is; mode = s.mode; flash_buffer = s.flash_buffer; eeprom_buffer = s.eeprom_buffer; extended = s.extended })
+
+  -- the fuses
+  pub fuse_does : (f : Fuse) (v : ℕ) (m : Memories) (p : Programmer) → Settled part m p → Settled part (struck part (program_fuse f v ∷ []) m) (device.after (body (program_fuse f v)) p)
+  fuse_does Low v m p s = subst (Settled part (struck part (program_fuse Low v ∷ []) m)) (sym (in_mode_is p _ _ s.mode)) (record {
+    memories = ap (struck part (program_fuse Low v ∷ [])) s.memories;
+    part_is = s.part_is;
+    mode = s.mode;
+    flash_buffer = s.flash_buffer;
+    eeprom_buffer = s.eeprom_buffer;
+    extended = s.extended;
+  })
+  fuse_does High v m p s = subst (Settled part (struck part (program_fuse High v ∷ []) m)) (sym (in_mode_is p _ _ s.mode)) (record {
+    memories = ap (struck part (program_fuse High v ∷ [])) s.memories;
+    part_is = s.part_is;
+    mode = s.mode;
+    flash_buffer = s.flash_buffer;
+    eeprom_buffer = s.eeprom_buffer;
+    extended = s.extended;
+  })
+  fuse_does Extended v m p s = subst (Settled part (struck part (program_fuse Extended v ∷ []) m)) (sym (in_mode_is p _ _ s.mode)) (record {
+    memories = ap (struck part (program_fuse Extended v ∷ [])) s.memories;
+    part_is = s.part_is;
+    mode = s.mode;
+    flash_buffer = s.flash_buffer;
+    eeprom_buffer = s.eeprom_buffer;
+    extended = s.extended;
+  })
+
+  pub lock_does : (v : ℕ) (m : Memories) (p : Programmer) → Settled part m p → Settled part (struck part (program_lock v ∷ []) m) (device.after (body (program_lock v)) p)
+  lock_does v m p s = subst (Settled part (struck part (program_lock v ∷ []) m)) (sym (in_mode_is p _ _ s.mode)) (record {
+    memories = ap (struck part (program_lock v ∷ [])) s.memories;
+    part_is = s.part_is;
+    mode = s.mode;
+    flash_buffer = s.flash_buffer;
+    eeprom_buffer = s.eeprom_buffer;
+    extended = s.extended;
+  })
+
+  -- the EESAVE bit is the part's
+  erase_memories : (s : chip.State) → s.part ≡ part → memories_of (chip.with_erased s) ≡ struck part (erase ∷ []) (memories_of s)
+  erase_memories s e = ap (λ (q : Part). struck q (erase ∷ []) (memories_of s)) e
+
+  pub erase_does : (m : Memories) (p : Programmer) → Settled part m p → Settled part (struck part (erase ∷ []) m) (device.after (body erase) p)
+  erase_does m p s = subst (Settled part (struck part (erase ∷ []) m)) (sym (in_mode_is p _ _ s.mode)) (record {
+    memories = erase_memories p.chip s.part_is ∙ ap (struck part (erase ∷ [])) s.memories;
+    part_is = s.part_is;
+    mode = s.mode;
+    flash_buffer = s.flash_buffer;
+    eeprom_buffer = s.eeprom_buffer;
+    extended = s.extended;
+  })
+
+-- a byte that is read changes nothing
+pub fuse_read_after : (f : Fuse) (p : Programmer) → p.mode ≡ true → device.after (body (read_fuse f)) p ≡ p
+fuse_read_after Low p e = in_mode_is p _ _ e
+fuse_read_after High p e = in_mode_is p _ _ e
+fuse_read_after Extended p e = in_mode_is p _ _ e
+
+pub lock_read_after : (p : Programmer) → p.mode ≡ true → device.after (body read_lock) p ≡ p
+lock_read_after p e = in_mode_is p _ _ e
+
+pub signature_read_after : (place : ℕ) (p : Programmer) → p.mode ≡ true → device.after (body (read_signature place)) p ≡ p
+signature_read_after place p e = in_mode_is p _ _ e
+
+pub calibration_read_after : (p : Programmer) → p.mode ≡ true → device.after (body read_calibration) p ≡ p
+calibration_read_after p e = in_mode_is p _ _ e

@@ -1,0 +1,18 @@
+-- Commands that are cut short and begun again.
+use Rattle.std.specs.Prelude.{ℕ, zero, suc, ◌⊎◌, List, [], ◌∷◌, length}
+use Rattle.stk_frame.specs.declared.command.Command.{Command}
+use Rattle.stk_frame.specs.Commands.{body}
+use Rattle.stk_emu.specs.Device.{Device}
+
+-- what is there after the first so many of these commands
+abbrev pub obeyed : {P : Type 0} → Device P → ℕ → List Command → P → P
+obeyed m zero commands p = p
+obeyed m (suc i) [] p = p
+obeyed m (suc i) (command ∷ commands) p = obeyed m i commands (m.after (body command) p)
+
+-- The commands lead from the one condition to the other, also where they are cut short and begun again: from the first
+-- any front leaves the one or the other, the second is kept by any front, and all of them lead to the second.
+pub record Fits {P : Type 0} (m : Device P) (commands : List Command) (Before After : P → Type 0) : Type 0 where
+  pub front : (p : P) (i : ℕ) → Before p → Before (obeyed m i commands p) ⊎ After (obeyed m i commands p)
+  pub again : (p : P) (i : ℕ) → After p → After (obeyed m i commands p)
+  pub whole : (p : P) → Before p → After (obeyed m (length commands) commands p)

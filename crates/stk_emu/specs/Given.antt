@@ -1,0 +1,71 @@
+-- What each step of a host gives.
+use Rattle.std.specs.Prelude.{ℕ, ◌*◌, ◌%◌, ◌^◌, ◌≡◌, ◌⊎◌, List, [], ◌∷◌, ◌++◌, take, drop, ◌<◌, length, slice_index, Some}
+use Rattle.avr_part.specs.declared.instruction.Fuse.TheVariants as fuse
+use Rattle.avr_part.specs.declared.instruction.Instruction.{Instruction}
+use Rattle.avr_part.specs.declared.instruction.Instruction.TheVariants as instruction
+use Rattle.avr_part.specs.Instruction.{instruction_of}
+use Rattle.avr_part.specs.Part.{Part}
+use Rattle.stk_frame.specs.declared.command.Command.{Command}
+use Rattle.stk_frame.specs.declared.command.Command.TheVariants.{LoadAddress, ReadFlash, ReadEeprom, ReadFuse, ReadLock, ReadSignature, ReadOsccal}
+use Rattle.stk_frame.specs.Commands.{body}
+use Rattle.stk_host.specs.Tape.{Answered}
+use Rattle.stk_host.specs.Steps.{Reply, Data, Again, Stop, replied}
+use Rattle.stk_emu.specs.Device.{Device}
+use Rattle.avr_image.specs.Image.{byte_at}
+use Rattle.stk_emu.specs.Effect.{Memories, Image}
+use Rattle.stk_emu.specs.Strokes.{struck}
+
+-- the byte that an instruction reads by itself
+abbrev pub read_by : Part → Instruction → Memories → List ℕ
+read_by part (instruction.ReadFuse fuse.Low) m = m.lfuse ∷ []
+read_by part (instruction.ReadFuse fuse.High) m = m.hfuse ∷ []
+read_by part (instruction.ReadFuse fuse.Extended) m = m.efuse ∷ []
+read_by part instruction.ReadLock m = m.lock ∷ []
+read_by part (instruction.ReadSignature place) m = take 1 (drop place part.signature)
+read_by part instruction.ReadCalibration m = 255 ∷ []
+read_by part i m = []
+
+-- a block that is read at an address, which counts words of flash and bytes of EEPROM
+abbrev pub read_at : ℕ → List Command → Memories → List ℕ
+read_at address (ReadFlash f ∷ []) m = take f.count (drop (address % 2 ^ 31 * 2) m.flash)
+read_at address (ReadEeprom f ∷ []) m = take f.count (drop address m.eeprom)
+read_at address commands m = []
+
+-- the data of a step, from these memories of a part; a step that writes gives none
+abbrev pub given_by : Part → List Command → Memories → List ℕ
+given_by part (LoadAddress address ∷ commands) m = read_at address commands m
+given_by part (ReadFuse f ∷ []) m = read_by part (instruction_of f.instruction) m
+given_by part (ReadLock f ∷ []) m = read_by part (instruction_of f.instruction) m
+given_by part (ReadSignature f ∷ []) m = read_by part (instruction_of f.instruction) m
+given_by part (ReadOsccal f ∷ []) m = read_by part (instruction_of f.instruction) m
+given_by part commands m = []
+
+-- the data of steps, joined, each from the memories that those before it leave
+abbrev pub all_given : Part → List (List Command) → Memories → List ℕ
+all_given part [] m = []
+all_given part (commands ∷ steps) m = given_by part commands m ++ all_given part steps (struck part commands m)
+
+-- goes on with the data
+abbrev pub on_data : Reply → (List ℕ → Reply) → Reply
+on_data (Data bytes) go_on = go_on bytes
+on_data (Again fault) go_on = Again fault
+on_data (Stop fault) go_on = Stop fault
+
+-- how a command is answered
+abbrev pub reply_to : {P : Type 0} → Device P → Command → P → Reply
+reply_to m command p = replied command (Answered (m.answer (body command) p))
+
+-- what commands come to of which each is obeyed and answered: all data joined, behind those before
+abbrev pub gathered : {P : Type 0} → Device P → List Command → List ℕ → P → Reply
+gathered m [] before p = Data before
+gathered m (command ∷ commands) before p = on_data (reply_to m command p) (λ bytes. gathered m commands (before ++ bytes) (m.after (body command) p))
+
+-- The data of a step are those of one attempt, all of whose commands were obeyed in order, from under the one condition or the other.
+pub record Gives {P : Type 0} (m : Device P) (commands : List Command) (Before After : P → Type 0) (bytes : List ℕ) : Type 0 where
+  pub from : P
+  pub stood : Before from ⊎ After from
+  pub is : gathered m commands [] from ≡ Data bytes
+
+-- the bytes of a memory are those of the image, at each address where it holds one
+abbrev pub Holds : Image → List ℕ → Type 0
+Holds image bytes = (i b : ℕ) → byte_at image i ≡ Some b → i < length bytes → slice_index bytes i ≡ b

@@ -1,0 +1,128 @@
+-- What each step of a host writes.
+use Rattle.std.specs.Prelude.{ℕ, zero, suc, ◌+◌, ◌*◌, ◌%◌, ◌^◌, ◌<◌, ◌≤◌, ◌≡◌, List, [], ◌∷◌, ◌++◌, length, map, replicate, Some, None}
+use Rattle.avr_part.specs.declared.mem.Mem.{Mem}
+use Rattle.avr_part.specs.declared.mem.Mem.TheVariants.{Flash, Eeprom, Lfuse, Hfuse, Efuse, Lock}
+use Rattle.avr_part.specs.declared.instruction.Fuse as instruction_fuse
+use Rattle.avr_part.specs.declared.instruction.Fuse.TheVariants as fuse
+use Rattle.avr_part.specs.declared.instruction.Instruction.{Instruction}
+use Rattle.avr_part.specs.declared.instruction.Instruction.TheVariants as instruction
+use Rattle.avr_part.specs.Instruction.{instruction_of}
+use Rattle.avr_part.specs.Part.{Part, size_of}
+use Rattle.stk_frame.specs.declared.command.Command.{Command}
+use Rattle.stk_frame.specs.declared.command.Command.TheVariants.{LoadAddress, ChipErase, ProgramFlash, ProgramEeprom, ProgramFuse, ProgramLock}
+use Rattle.stk_frame.specs.declared.host_command.Fuse.{Fuse}
+use Rattle.stk_frame.specs.HostCommands.{erase, program_page, program_eeprom, program_fuse, program_lock, read_flash, read_eeprom, read_fuse, read_lock, read_signature, read_calibration}
+use Rattle.stk_host.specs.Places.{load_flash, load_eeprom}
+use Rattle.stk_host.specs.WriteSteps.{write_steps}
+use Rattle.stk_emu.specs.Effect.{Image, Item, Erase, Write, Memories, effects}
+
+-- these bytes from this address on, and nothing else
+abbrev pub placed : ℕ → List ℕ → Image
+placed start bytes = replicate start None ++ map Some bytes
+
+-- the memory of a fuse
+abbrev pub memory_of_fuse : instruction_fuse.Fuse → Mem
+memory_of_fuse fuse.Low = Lfuse
+memory_of_fuse fuse.High = Hfuse
+memory_of_fuse fuse.Extended = Efuse
+
+-- what one instruction writes by itself
+abbrev pub written_by : Instruction → List Item
+written_by instruction.Erase = Erase ∷ []
+written_by (instruction.WriteFuse f byte) = Write (memory_of_fuse f) (Some byte ∷ []) ∷ []
+written_by (instruction.WriteLock byte) = Write Lock (Some byte ∷ []) ∷ []
+written_by i = []
+
+-- what is written at an address: a block of flash, whose address counts words and may ask for the extended one by bit
+-- 31, or of EEPROM
+abbrev pub written_at : ℕ → List Command → List Item
+written_at address (ProgramFlash f ∷ []) = Write Flash (placed (address % 2 ^ 31 * 2) f.bytes) ∷ []
+written_at address (ProgramEeprom f ∷ []) = Write Eeprom (placed address f.bytes) ∷ []
+written_at address commands = []
+
+-- what the commands of a step write: one part of an item, or nothing
+abbrev pub stroke_of : List Command → List Item
+stroke_of (LoadAddress address ∷ commands) = written_at address commands
+stroke_of (ChipErase erase_delay poll_method bytes ∷ []) = written_by (instruction_of bytes)
+stroke_of (ProgramFuse bytes ∷ []) = written_by (instruction_of bytes)
+stroke_of (ProgramLock bytes ∷ []) = written_by (instruction_of bytes)
+stroke_of commands = []
+
+-- and those of steps, in their order
+abbrev pub strokes_of : List (List Command) → List Item
+strokes_of [] = []
+strokes_of (commands ∷ steps) = stroke_of commands ++ strokes_of steps
+
+-- the memories after a step
+abbrev pub struck : Part → List Command → Memories → Memories
+struck part commands m = effects part (stroke_of commands) m
+
+-- the memories after the first so many steps
+abbrev pub struck_by : Part → ℕ → List (List Command) → Memories → Memories
+struck_by part zero steps m = m
+struck_by part (suc count) [] m = m
+struck_by part (suc count) (commands ∷ steps) m = struck_by part count steps (struck part commands m)
+
+-- the steps of items
+abbrev pub steps_of : Part → Item → List (List Command)
+steps_of part Erase = (erase ∷ []) ∷ []
+steps_of part (Write mem image) = write_steps part mem image
+
+abbrev pub all_steps : Part → List Item → List (List Command)
+all_steps part [] = []
+all_steps part (item ∷ items) = steps_of part item ++ all_steps part items
+
+-- an image is no longer than its memory
+abbrev pub FitsItem : Part → Item → Type 0
+FitsItem part Erase = Unit {0}
+FitsItem part (Write mem image) = length image ≤ size_of mem part
+
+abbrev pub AllFitItems : Part → List Item → Type 0
+AllFitItems part [] = Unit {0}
+AllFitItems part (item ∷ items) = FitsItem part item × AllFitItems part items
+
+-- What steps may carry.
+
+-- a page of bytes, by its number
+pub record IsPage (part : Part) (number : ℕ) (bytes : List ℕ) : Type 0 where
+  pub whole : length bytes ≡ part.flash_page
+  pub inside : number * part.flash_page + part.flash_page ≤ part.flash_size
+
+-- some bytes of EEPROM inside one page
+pub record IsRun (part : Part) (address : ℕ) (bytes : List ℕ) : Type 0 where
+  pub some : 0 < length bytes
+  pub within : address % part.eeprom_page + length bytes ≤ part.eeprom_page
+  pub inside : address + length bytes ≤ part.eeprom_size
+
+-- a block of a memory
+pub record IsBlock (part : Part) (mem : Mem) (start count : ℕ) : Type 0 where
+  pub some : 0 < count
+  pub few : count ≤ 256
+  pub inside : start + count ≤ size_of mem part
+
+-- flash is read by words
+pub record AreWords (start count : ℕ) : Type 0 where
+  pub start_even : start % 2 ≡ 0
+  pub count_even : count % 2 ≡ 0
+
+-- the steps that a host takes in programming mode: each writes one part of an item, or reads
+pub data IsStep (part : Part) (commands : List Command) : Type 0 where
+  Erases : commands ≡ erase ∷ [] → IsStep part commands
+  ProgramsPage : (number : ℕ) (bytes : List ℕ) → IsPage part number bytes
+      → commands ≡ load_flash part (number * part.flash_page) ∷ program_page bytes ∷ [] → IsStep part commands
+  ProgramsRun : (address : ℕ) (bytes : List ℕ) → IsRun part address bytes
+      → commands ≡ load_eeprom address ∷ program_eeprom bytes ∷ [] → IsStep part commands
+  ProgramsFuse : (f : Fuse) (byte : ℕ) → commands ≡ program_fuse f byte ∷ [] → IsStep part commands
+  ProgramsLock : (byte : ℕ) → commands ≡ program_lock byte ∷ [] → IsStep part commands
+  ReadsFlash : (start count : ℕ) → IsBlock part Flash start count → AreWords start count
+      → commands ≡ load_flash part start ∷ read_flash count ∷ [] → IsStep part commands
+  ReadsEeprom : (start count : ℕ) → IsBlock part Eeprom start count
+      → commands ≡ load_eeprom start ∷ read_eeprom count ∷ [] → IsStep part commands
+  ReadsFuse : (f : Fuse) → commands ≡ read_fuse f ∷ [] → IsStep part commands
+  ReadsLock : commands ≡ read_lock ∷ [] → IsStep part commands
+  ReadsSignature : (place : ℕ) → place < 3 → commands ≡ read_signature place ∷ [] → IsStep part commands
+  ReadsCalibration : commands ≡ read_calibration ∷ [] → IsStep part commands
+
+abbrev pub AreSteps : Part → List (List Command) → Type 0
+AreSteps part [] = Unit {0}
+AreSteps part (commands ∷ steps) = IsStep part commands × AreSteps part steps

@@ -1,0 +1,38 @@
+-- How many strokes are made along a dialog of several calls.
+use Rattle.std.specs.Prelude.{ℕ, suc, ◌+◌, ◌-◌, ◌≤◌, ◌≡◌, ◌⊎◌, List}
+use Rattle.stk_host.specs.Dialog.{Dialog, Done, Say, Ask}
+use Rattle.stk_emu.specs.declared.fate.Fate.{Fate}
+use Rattle.stk_emu.specs.Device.{Device}
+use Rattle.stk_emu.specs.Along.{along}
+
+-- how many have come to data after so many questions, from a programmer and the fates to come
+abbrev pub Count : Type 0 → Type 0
+Count P = ℕ → P → List Fate → ℕ
+
+-- those of a dialog, and those of the next one where it is done
+abbrev pub with_next : {E A : Type 0} → Dialog E A → ℕ → (A → ℕ) → ℕ
+with_next (Done a) so_far more = so_far + more a
+with_next (Say e dialog) so_far more = so_far
+with_next (Ask bytes go_on) so_far more = so_far
+
+abbrev pub then_count : {E A P : Type 0} → Device P → Dialog E A → Count P → (A → Count P) → Count P
+then_count m d first more k p fates =
+    let s = along m k d p fates in
+    with_next s.dialog (first k p fates) (λ a. more a s.left s.programmer s.fates)
+
+-- At each moment of a dialog so many strokes are made: those that came to data and perhaps one more, which is counted by
+-- the questions before the last, whose answer may not have come.
+pub record Tallies {E R P : Type 0} (m : Device P) (d : Dialog E R) (done : Count P) (At : ℕ → P → Type 0)
+    (p : P) (fates : List Fate) : Type 0 where
+  pub count : ℕ → ℕ
+  pub none : count 0 ≡ 0
+  pub at_least : (k : ℕ) → done k p fates ≤ count k
+  pub at_most : (k : ℕ) → count k ≤ suc (done (k - 1) p fates)
+  pub stands : (k : ℕ) → At (count k) (along m k d p fates).programmer
+
+-- How the next dialog goes on from a result: it makes its strokes behind those made; and either those had all come to
+-- data before the last question, or it makes none.
+pub record GoesOn {E A B P : Type 0} (m : Device P) (d : Dialog E A) (next : A → Dialog E B) (first : Count P) (more : A → Count P)
+    (At : ℕ → P → Type 0) (p : P) (fates : List Fate) (k made : ℕ) (a : A) : Type 0 where
+  pub rest : Tallies m (next a) (more a) (λ j. At (made + j)) (along m k d p fates).programmer (along m k d p fates).fates
+  pub sharp : ((l : ℕ) → (along m k d p fates).left ≡ suc l → made ≤ first (k - 1) p fates) ⊎ ((l : ℕ) → rest.count l ≡ 0)

@@ -1,0 +1,47 @@
+-- How much is asked, and how many frames go out.
+use Rattle.std.specs.Prelude.{ℕ, zero, suc, ◌+◌, ◌*◌, ◌≤◌, List, [], ◌∷◌, length}
+use Rattle.stk_frame.specs.declared.command.Command.{Command}
+use Rattle.stk_frame.specs.declared.command.Command.TheVariants.{SignOn}
+use Rattle.stk_frame.specs.HostCommands.{enter, leave, erase}
+use Rattle.stk_host.specs.Tape.{Tape, Reading}
+use Rattle.stk_host.specs.Talk.{Talk}
+use Rattle.stk_host.specs.Dialog.{Dialog, Done, Say, Ask, Event, played, frames_in}
+use Rattle.stk_host.specs.Play.{Plays, Breaks, NoPart}
+use Rattle.stk_host.specs.ReadSteps.{signature_steps}
+
+-- whatever is read, at most so many questions are asked
+abbrev pub AsksAtMost : {E R : Type 0} → ℕ → Dialog E R → Type 0
+AsksAtMost n (Done r) = Unit {0}
+AsksAtMost n (Say e dialog) = AsksAtMost n dialog
+AsksAtMost zero (Ask body answered) = ⊥
+AsksAtMost (suc n) (Ask body answered) = (reading : Reading) → AsksAtMost n (answered reading)
+
+-- At most so many frames go out: over every tape, in every talk that is the whole play, and in every one that broke off.
+pub record SendsAtMost {E R : Type 0} (SaidPart : E → E → Type 0) (n : ℕ) (dialog : Dialog E R) : Type 0 where
+  pub over_tape : (seq : ℕ) (tape : Tape) → length (frames_in (played dialog seq tape).events) ≤ n
+  pub whole : (seq : ℕ) (unread : List ℕ) (talk : Talk) (events : List (Event E)) (result : R) (next : ℕ) (left : List ℕ)
+      → Plays dialog seq unread talk events result next left → length (frames_in events) ≤ n
+  pub broken_off : (seq : ℕ) (unread : List ℕ) (talk : Talk) (shown : List (Event E))
+      → Breaks SaidPart dialog seq unread talk shown → length (frames_in shown) ≤ n
+
+-- how many commands steps have
+abbrev pub commands_in : List (List Command) → ℕ
+commands_in [] = 0
+commands_in (commands ∷ steps) = length commands + commands_in steps
+
+-- to sign on, enter programming mode and read the signature
+abbrev pub opening_steps : List (List Command)
+opening_steps = (SignOn ∷ []) ∷ (enter ∷ []) ∷ signature_steps
+
+-- to erase the chip
+abbrev pub erasing_steps : List (List Command)
+erasing_steps = (erase ∷ []) ∷ []
+
+-- to leave programming mode
+abbrev pub closing_steps : List (List Command)
+closing_steps = (leave ∷ []) ∷ []
+
+-- A dialog over these steps asks, and sends, at most four times their commands.
+pub record IsBoundedBy {R : Type 0} (steps : List (List Command)) (dialog : Dialog ⊥ R) : Type 0 where
+  pub asks : AsksAtMost (4 * commands_in steps) dialog
+  pub sends : SendsAtMost NoPart (4 * commands_in steps) dialog
