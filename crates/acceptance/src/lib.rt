@@ -11,4 +11,10 @@
 #![tactic(auto)]
 
 #[cfg(test)]
+mod examples;
+#[cfg(test)]
+mod flash;
+#[cfg(test)]
 mod programming;
+#[cfg(test)]
+mod runs;

@@ -1,5 +1,6 @@
-pub mod CommandLemmas
-pub mod Digits
+pub mod Operations
+pub mod Performing
+pub mod Reporting
 pub mod Running
-pub mod Saying
-pub mod Sessions
+pub mod Saves
+pub mod Trimming

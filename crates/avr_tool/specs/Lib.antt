@@ -1,8 +1,9 @@
-pub mod Command
-pub mod Settings
 pub mod Lines
 pub mod Refusal
-pub mod Said
-pub mod Session
+pub mod FileText
 pub mod Runs
-pub mod Plan
+pub mod Session
+pub mod Run
+pub mod Concluding
+pub mod Saving
+pub mod Parts

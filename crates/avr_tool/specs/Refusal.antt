@@ -1,17 +1,36 @@
 -- The message of a fault of the settings.
-use Rattle.std.specs.Prelude.{[], ◌∷◌, Option, Some, None, codes}
-use Rattle.avr_tool.specs.Lines.{Bytes, error}
-use Rattle.avr_tool.specs.declared.chosen.SettingsFault.{SettingsFault}
-use Rattle.avr_tool.specs.declared.chosen.SettingsFault.TheVariants.{NoPart, BadProgrammer, BadPort, Memory}
+use Rattle.std.specs.Prelude.{ℕ, List, [], ◌∷◌, Option, Some, None, codes, decimal}
+use Rattle.avr_cli.specs.declared.chosen.SettingsFault.{SettingsFault}
+use Rattle.avr_cli.specs.declared.chosen.SettingsFault.TheVariants.{NoPart, BadProgrammer, BadPort, NoChip, TooMany, BadUpdate, StandardTaken, Memory}
+use Rattle.avr_cli.specs.declared.update.UpdateFault.{UpdateFault}
+use Rattle.avr_cli.specs.declared.update.UpdateFault.TheVariants as update
+use Rattle.avr_message.specs.Lines.{Bytes, error}
 
--- a port is not known, or none is given
-unfoldable pub bad_port_line : Option Bytes → Bytes
-bad_port_line None = error (codes "no port given (-P)" ∷ [])
-bad_port_line (Some text) = error (codes "port " ∷ text ∷ codes " is not known" ∷ [])
+abbrev pub update_pieces : ℕ → UpdateFault → List Bytes
+update_pieces n update.BadMemory = codes "update " ∷ decimal n ∷ codes ": no such memory" ∷ []
+update_pieces n update.BadOp = codes "update " ∷ decimal n ∷ codes ": no such operation" ∷ []
+update_pieces n update.BadFormat = codes "update " ∷ decimal n ∷ codes ": no such format here" ∷ []
+update_pieces n update.NoFile = codes "update " ∷ decimal n ∷ codes ": no file named" ∷ []
+update_pieces n update.Memory = codes "out of memory" ∷ []
+
+abbrev pub port_pieces : Option Bytes → List Bytes
+port_pieces None = codes "no port given (-P)" ∷ []
+port_pieces (Some text) = codes "port " ∷ text ∷ codes " is not known" ∷ []
+
+abbrev pub refusal_pieces : SettingsFault → List Bytes
+refusal_pieces NoPart = codes "no part given (-p)" ∷ []
+refusal_pieces (BadProgrammer name) = codes "programmer " ∷ name ∷ codes " is not known" ∷ []
+refusal_pieces (BadPort port) = port_pieces port
+refusal_pieces NoChip = codes "no chip file given (--chip)" ∷ []
+refusal_pieces TooMany = codes "more than 16 updates" ∷ []
+refusal_pieces (BadUpdate n fault) = update_pieces n fault
+refusal_pieces StandardTaken = codes "standard streams are taken" ∷ []
+refusal_pieces Memory = codes "out of memory" ∷ []
 
 -- the line of a fault
 unfoldable pub refusal_line : SettingsFault → Bytes
-refusal_line NoPart = error (codes "no part given (-p)" ∷ [])
-refusal_line (BadProgrammer name) = error (codes "programmer " ∷ name ∷ codes " is not known" ∷ [])
-refusal_line (BadPort port) = bad_port_line port
-refusal_line Memory = error (codes "out of memory" ∷ [])
+refusal_line fault = error (refusal_pieces fault)
+
+-- a port that a later version serves
+unfoldable pub unserved_line : Bytes → Bytes
+unserved_line port = error (codes "port " ∷ port ∷ codes " is not served yet" ∷ [])

@@ -1,125 +1,162 @@
-//! The session of a run: what it asks of a programmer, and what it reports at the desk.
-ghost use Rattle.std.specs.Prelude.{◌≡◌, [], IfErr, None, Err, false};
-ghost use Rattle.avr_desk.specs.Fault.{Counts};
-ghost use Rattle.avr_tool.specs.declared.session.Standing.TheVariants.{Fine};
-ghost use Rattle.avr_tool.specs.Said.{Says};
-ghost use Rattle.avr_tool.specs.Session.{standing, status_of, opening_says, closing_says, leaving, session};
-ghost use Rattle.avr_tool.specs.Runs.{Runs, HasBroken};
+//! The session of a plan: what it asks of a programmer, and what it reports at the desk.
+ghost use Rattle.std.specs.Prelude.{◌≡◌, ◌∷◌, [], None, Ok, codes};
+ghost use Rattle.avr_tool.specs.declared.standing.Standing.TheVariants.{Fine, Faulty};
+ghost use Rattle.avr_tool.specs.Concluding.{Serves};
+ghost use Rattle.avr_tool.specs.Parts.{Performs};
+ghost use Rattle.avr_tool.specs.Runs.{RunsTo, Stops};
+ghost use Rattle.avr_tool.specs.Session.{beginning, working, ending, playing, session};
 
-use crate::lines::{print_done, print_fault, print_signature};
-use crate::planned::Plan;
-use avr_desk::{Desk, DeskFault};
-use avr_part::Part;
-use stk_host::{Host, HostFault, Link};
+use crate::parts::{erase_if_due, open_session, perform_all};
+use crate::reports::report_closing;
+use crate::standing::{Standing, Stopped, conclude, status_of};
+use avr_desk::Desk;
+use avr_plan::Plan;
+use std::alloc::Global;
+use stk_host::{Host, Link};
 
-/// How a session stands after an operation of the host.
-#[derive(Clone, Copy, Debug, PartialEq, Eq)]
-enum Standing {
-    /// No fault has come.
-    Fine,
-    /// A fault was told; the line still serves.
-    Faulty,
-    /// The line has ended or failed.
-    Cut,
-}
-
-fn standing_of<T>(outcome: &Result<T, HostFault>) -> Standing
-    ensures { result ≡ standing outcome.now }
-{
-    match outcome {
-        Ok(_) => Standing::Fine,
-        Err(HostFault::LinkEnded | HostFault::SendFailed | HostFault::RecvFailed) => Standing::Cut,
-        Err(_) => Standing::Faulty,
-    }
-}
-
-/// Reports the fault that opening a session came to, behind the signature where that is the fault.
-fn report_opening_fault<D: Desk>(
+/// Opens a session, and erases the chip where that is due.
+fn open_and_erase<D: Desk, L: Link>(
+    host: &mut Host,
     desk: &mut D,
-    part: &Part,
-    fault: HostFault,
-) -> Result<(), DeskFault>
-    ensures says { Says (D.kept desk.old) (D.kept desk.new) (opening_says part.now (Err fault)) result }
-    ensures counts { Counts (D.failures desk.old) (D.failures desk.new) result }
-    ensures fault { IfErr result (λ e. e ≡ DeskFault.Failed) }
+    link: &mut L,
+    plan: &Plan,
+) -> Result<Standing, Stopped>
+    requires sound { host.old.broken ≡ None }
+    requires signature { host.old.signature ≡ plan.now.part.signature }
+    ensures performs { Performs (beginning plan.now) host.old host.new (L.talk link.old) (L.talk link.new) (L.failures link.old) (L.failures link.new)
+        (D.kept desk.old) (D.kept desk.new) (D.failures desk.old) (D.failures desk.new) result }
 {
-    match fault {
-        HostFault::WrongSignature(found) => {
-            print_signature(desk, found)?;
-            print_fault(desk, part, fault)
+    let standing = match open_session(host, desk, link, plan.part(), plan.switches()) {
+        Ok(standing) => standing,
+        Err(stopped) => return Err(stopped),
+    };
+    match standing {
+        Standing::Fine => {
+            erase_if_due(host, desk, link, plan.part(), plan.switches(), plan.tasks())
         }
-        _ => print_fault(desk, part, fault),
+        fault => Ok(fault),
     }
 }
 
-/// Reports what opening a session came to.
-fn report_opening<D: Desk>(
+/// Plays all of a session but its end.
+fn work<D: Desk, L: Link>(
+    alloc: Global,
+    host: &mut Host,
     desk: &mut D,
-    part: &Part,
-    opened: &Result<[u8; 3], HostFault>,
-) -> Result<(), DeskFault>
-    ensures says { Says (D.kept desk.old) (D.kept desk.new) (opening_says part.now opened.now) result }
-    ensures counts { Counts (D.failures desk.old) (D.failures desk.new) result }
-    ensures fault { IfErr result (λ e. e ≡ DeskFault.Failed) }
+    link: &mut L,
+    plan: &Plan,
+) -> Result<Standing, Stopped>
+    requires sound { host.old.broken ≡ None }
+    requires signature { host.old.signature ≡ plan.now.part.signature }
+    requires part { host.old.part ≡ plan.now.part }
+    ensures performs { Performs (working plan.now) host.old host.new (L.talk link.old) (L.talk link.new) (L.failures link.old) (L.failures link.new)
+        (D.kept desk.old) (D.kept desk.new) (D.failures desk.old) (D.failures desk.new) result }
 {
-    match opened {
-        Ok(found) => print_signature(desk, *found),
-        Err(fault) => report_opening_fault(desk, part, *fault),
+    let standing = match open_and_erase(host, desk, link, plan) {
+        Ok(standing) => standing,
+        Err(stopped) => return Err(stopped),
+    };
+    match standing {
+        Standing::Fine => {
+            perform_all(
+                alloc,
+                host,
+                desk,
+                link,
+                plan.part(),
+                plan.switches(),
+                plan.tasks(),
+            )
+        }
+        fault => Ok(fault),
     }
 }
 
-/// Reports what closing a session came to in which no fault was told.
-fn report_closing<D: Desk>(
+/// Ends a session in which no fault came.
+fn close<D: Desk, L: Link>(
+    host: &mut Host,
     desk: &mut D,
-    part: &Part,
-    closed: &Result<(), HostFault>,
-) -> Result<(), DeskFault>
-    ensures says { Says (D.kept desk.old) (D.kept desk.new) (closing_says part.now closed.now) result }
-    ensures counts { Counts (D.failures desk.old) (D.failures desk.new) result }
-    ensures fault { IfErr result (λ e. e ≡ DeskFault.Failed) }
-{
-    match closed {
-        Ok(()) => print_done(desk),
-        Err(fault) => print_fault(desk, part, *fault),
-    }
-}
-
-/// Ends a session in which no fault came, and answers the status.
-fn finish<D: Desk, L: Link>(host: &mut Host, desk: &mut D, link: &mut L, part: &Part) -> u8
+    link: &mut L,
+    plan: &Plan,
+) -> Result<Standing, Stopped>
     requires { host.old.broken ≡ None }
-    ensures runs { Runs (leaving part.now Fine) host.old.next host.old.unread (L.talk link.old) (L.talk link.new) (D.kept desk.old) (D.kept desk.new)
-        (HasBroken (L.failures link.old) (L.failures link.new) (D.failures desk.old) (D.failures desk.new)) result }
+    ensures performs { Performs (ending plan.now.part plan.now.switches Fine) host.old host.new (L.talk link.old) (L.talk link.new) (L.failures link.old) (L.failures link.new)
+        (D.kept desk.old) (D.kept desk.new) (D.failures desk.old) (D.failures desk.new) result }
 {
     let closed = host.close(link);
-    let Ok(()) = report_closing(desk, part, &closed) else {
-        return 1;
-    };
-    match closed {
-        Ok(()) => 0,
-        Err(_) => 1,
+    let reported = report_closing(desk, plan.switches().quiet, plan.part(), &closed);
+    conclude(&closed, reported)
+}
+
+/// Ends a session in which a fault was told; a second one is not told.
+fn close_after_fault<D: Desk, L: Link>(
+    host: &mut Host,
+    desk: &mut D,
+    link: &mut L,
+    plan: &Plan,
+) -> Result<Standing, Stopped>
+    requires { host.old.broken ≡ None }
+    ensures performs { Performs (ending plan.now.part plan.now.switches Faulty) host.old host.new (L.talk link.old) (L.talk link.new) (L.failures link.old) (L.failures link.new)
+        (D.kept desk.old) (D.kept desk.new) (D.failures desk.old) (D.failures desk.new) result }
+{
+    let closed = host.close(link);
+    match conclude(&closed, Ok(())) {
+        Ok(_) => Ok(Standing::Over),
+        Err(stopped) => Err(stopped),
     }
 }
 
-/// Plays the session of a plan over a link, reports it at the desk, and answers the status: 0 where no fault came, else 1.
-///
-/// After a fault of the link its line is printed and nothing more is sent; after a fault of the desk nothing more is
-/// sent or printed.
-pub fn drive<D: Desk, L: Link>(plan: &Plan, desk: &mut D, link: &mut L) -> u8
-    ensures runs { Runs (session plan.now.part false) 1 [] (L.talk link.old) (L.talk link.new) (D.kept desk.old) (D.kept desk.new)
-        (HasBroken (L.failures link.old) (L.failures link.new) (D.failures desk.old) (D.failures desk.new)) result }
+/// Ends a session, as it stands.
+fn end<D: Desk, L: Link>(
+    host: &mut Host,
+    desk: &mut D,
+    link: &mut L,
+    plan: &Plan,
+    standing: Standing,
+) -> Result<Standing, Stopped>
+    requires { Serves (Ok standing) host.old.broken }
+    ensures performs { Performs (ending plan.now.part plan.now.switches standing) host.old host.new (L.talk link.old) (L.talk link.new) (L.failures link.old) (L.failures link.new)
+        (D.kept desk.old) (D.kept desk.new) (D.failures desk.old) (D.failures desk.new) result }
 {
-    let part = plan.part();
-    let mut host = Host::new(part);
-    let opened = host.open(link, false);
-    let Ok(()) = report_opening(desk, part, &opened) else {
-        return 1;
-    };
-    match standing_of(&opened) {
-        Standing::Fine => finish(&mut host, desk, link, part),
-        Standing::Faulty => {
-            let _ = host.close(link);
-            1
-        }
-        Standing::Cut => 1,
+    match standing {
+        Standing::Fine => close(host, desk, link, plan),
+        Standing::Faulty => close_after_fault(host, desk, link, plan),
+        Standing::Over => Ok(Standing::Over),
+    }
+}
+
+/// Plays a session.
+fn play<D: Desk, L: Link>(
+    alloc: Global,
+    host: &mut Host,
+    desk: &mut D,
+    link: &mut L,
+    plan: &Plan,
+) -> Result<Standing, Stopped>
+    requires sound { host.old.broken ≡ None }
+    requires signature { host.old.signature ≡ plan.now.part.signature }
+    requires part { host.old.part ≡ plan.now.part }
+    ensures performs { Performs (playing plan.now) host.old host.new (L.talk link.old) (L.talk link.new) (L.failures link.old) (L.failures link.new)
+        (D.kept desk.old) (D.kept desk.new) (D.failures desk.old) (D.failures desk.new) result }
+{
+    match work(alloc, host, desk, link, plan) {
+        Ok(standing) => end(host, desk, link, plan, standing),
+        Err(stopped) => Err(stopped),
+    }
+}
+
+/// Plays the session of a plan over a link, reports it at the desk, writes the files that were read, and answers the
+/// status: 0 where no fault came, else 1.
+///
+/// After a fault of the link or the desk, or where memory was refused, its line is printed, as far as the desk prints, and
+/// nothing more is sent or said.
+pub fn drive<D: Desk, L: Link>(alloc: Global, plan: &Plan, desk: &mut D, link: &mut L) -> u8
+    ensures runs { RunsTo (session plan.now) (L.talk link.old) (L.talk link.new) (D.kept desk.old) (D.kept desk.new)
+        (Stops (L.failures link.old) (L.failures link.new) (D.failures desk.old) (D.failures desk.new)) result }
+{
+    let mut host = Host::new(plan.part());
+    match play(alloc, &mut host, desk, link, plan) {
+        Ok(standing) => status_of(standing),
+        Err(_) => 1,
     }
 }

@@ -1,3 +1,2 @@
-//! What no contract says: command lines as they are typed, and whole runs byte for byte.
-mod command_line;
+//! What no contract says: whole runs, byte for byte.
 mod runs;

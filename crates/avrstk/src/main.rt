@@ -1,8 +1,9 @@
 //! Programs AVR parts through an STK500v2 programmer, as AVRDUDE does with `-c stk500v2`.
 #![tactic(auto)]
 
+use avr_cli::{Port, Settings, read_words, settings};
 use avr_desk::SystemDesk;
-use avr_tool::{Settings, read_words, refuse, run, settings};
+use avr_tool::{refuse, refuse_port, run};
 use clap::Error;
 use std::process::ExitCode;
 use std::{env, io};
@@ -50,9 +51,16 @@ fn refused(rt: &HostRuntime, error: &Error) -> io::Result<u8> {
     if error.use_stderr() { Ok(1) } else { Ok(0) }
 }
 
-/// Runs over standard input and output, where `stdio:` has its frames.
+/// Runs over the port of the settings: `stdio:` has its frames on standard input and output.
 fn run_settings(rt: &HostRuntime, settings: &Settings) -> u8 {
     let mut desk = SystemDesk::new(rt, rt.stdout(), rt.stderr());
-    let mut link = StreamLink::new(rt.stdin(), rt.stdout());
-    run(settings, &mut desk, &mut link)
+    match &settings.port {
+        Port::Stdio => {
+            let mut link = StreamLink::new(rt.stdin(), rt.stdout());
+            run(rt.alloc(), settings, &mut desk, &mut link)
+        }
+        Port::Emulated(file) => refuse_port(file.as_str(), &mut desk),
+        Port::Network(address) => refuse_port(address.as_str(), &mut desk),
+        Port::Served { port, .. } => refuse_port(port.as_str(), &mut desk),
+    }
 }

@@ -1,6 +1,7 @@
 //! Worked runs: what is sent, what is printed, and the status. The frames are those of the STK500 protocol, version 2
 //! (AVR068), written out by hand.
-use crate::{Settings, read_words, run, settings};
+use crate::run;
+use avr_cli::{Settings, read_words, settings};
 use avr_desk::{Bytes, FailingDesk, MemDesk};
 use std::alloc::Global;
 use std::process::Abort;
@@ -70,7 +71,7 @@ fn run_over(alloc: Global, part: &str, items: Vec<Item>, cut: usize) -> Result<O
     let settings = settings_for(alloc, part)?;
     let mut desk = MemDesk::new(alloc, Bytes::new(alloc));
     let mut link = TapeLink::new(alloc, items, cut.max(1));
-    let status = run(&settings, &mut desk, &mut link);
+    let status = run(alloc, &settings, &mut desk, &mut link);
     Ok(Over { desk, link, status })
 }
 
@@ -255,7 +256,7 @@ fn a_link_that_fails(rt: HostRuntime) -> Result<(), Fail> {
     let settings = settings_for(alloc, "m328p")?;
     let mut desk = MemDesk::new(alloc, Bytes::new(alloc));
     let mut link = FailingLink::new(TapeLink::new(alloc, tape(alloc, M328P)?, 281), 1, 281);
-    assert!(rt; run(&settings, &mut desk, &mut link) == 1);
+    assert!(rt; run(alloc, &settings, &mut desk, &mut link) == 1);
     assert!(rt; desk.messages() == b"avrstk: error: link cannot be written\n".as_slice());
     Ok(())
 }
@@ -267,7 +268,7 @@ fn a_desk_that_fails(rt: HostRuntime) -> Result<(), Fail> {
     let settings = settings_for(alloc, "m328p")?;
     let mut desk = FailingDesk::new(MemDesk::new(alloc, Bytes::new(alloc)), 1);
     let mut link = TapeLink::new(alloc, tape(alloc, M328P)?, 281);
-    assert!(rt; run(&settings, &mut desk, &mut link) == 1);
+    assert!(rt; run(alloc, &settings, &mut desk, &mut link) == 1);
     assert!(rt; link.sent() == joined(alloc, &[OPENING])?.as_slice());
     assert!(rt; desk.inner().messages() == b"".as_slice());
     Ok(())

@@ -1,0 +1,26 @@
+-- Updates that are read one after the other.
+use Rattle.std.proofs.Common.{◌≡◌, ◌∙◌, ap, sym, refl, ℕ, ◌+◌, List, [], ◌∷◌, ◌++◌, Result, Ok, Err, append_assoc}
+use Rattle.avr_cli.specs.Cuts.{Bytes}
+use Rattle.avr_cli.specs.Settings.{◌>>=◌, updates_from, update_at}
+use Rattle.avr_cli.specs.Update.{update_of}
+use Rattle.avr_cli.specs.declared.update.Update.{Update}
+use Rattle.avr_cli.specs.declared.chosen.SettingsFault.{SettingsFault}
+
+-- these updates, and then those of the result
+abbrev pub onto : List Update → Result (List Update) SettingsFault → Result (List Update) SettingsFault
+onto us (Ok vs) = Ok (us ++ vs)
+onto us (Err e) = Err e
+
+onto-next : (us : List Update) (u : Update) (r : Result (List Update) SettingsFault) → onto us (r >>= (λ vs. Ok (u ∷ vs))) ≡ onto (us ++ u ∷ []) r
+onto-next us u (Ok vs) = ap (λ (xs : List Update). Ok xs) (sym (append_assoc us (u ∷ []) vs))
+onto-next us u (Err e) = refl
+
+-- one more text is read
+pub read_next : (all : Result (List Update) SettingsFault) (us : List Update) (left next : List Bytes) (n : ℕ) (text : Bytes) (u : Update)
+    → left ≡ text ∷ next → all ≡ onto us (updates_from n left) → Ok u ≡ update_at n (update_of text)
+    → all ≡ onto (us ++ u ∷ []) (updates_from (n + 1) next)
+read_next all us left next n text u split so_far is =
+    so_far
+    ∙ ap (λ (ts : List Bytes). onto us (updates_from n ts)) split
+    ∙ ap (λ (r : Result Update SettingsFault). onto us (r >>= (λ v. updates_from (n + 1) next >>= (λ vs. Ok (v ∷ vs))))) (sym is)
+    ∙ onto-next us u (updates_from (n + 1) next)

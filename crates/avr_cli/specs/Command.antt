@@ -1,0 +1,114 @@
+-- The command line: its options, as `clap` reads them, and what they give.
+use Rattle.std.specs.Prelude.{ℕ, Bool, true, false, List, [], ◌∷◌, ◌++◌, Option, Some, None, codes, pos, Result, unwrap_or}
+use Rattle.std.specs.Str.{bytes_eq}
+use Rattle.clap.specs.Words.{App, Row, Rule, new_app, new_rule, matches_of, first_of, all_of, count_of}
+use Rattle.clap.specs.declared.builder.ArgAction.TheVariants.{SetTrue, Append, Count}
+use Rattle.clap.specs.declared.builder.value_parser.ValueParser.TheVariants.{Signed}
+use Rattle.avr_cli.specs.Cuts.{Bytes}
+use Rattle.avr_cli.specs.Settings.{Entries, settings_of}
+use Rattle.avr_cli.specs.declared.chosen.Switches.{Switches}
+use Rattle.avr_cli.specs.declared.chosen.Settings.{Settings}
+use Rattle.avr_cli.specs.declared.chosen.SettingsFault.{SettingsFault}
+
+-- an option of one letter, with a value; given again it has its last value
+abbrev pub value_rule : Bytes → ℕ → Rule
+value_rule id short = record (new_rule id) { short = Some short; value_names = 1 }
+
+-- the same, which collects its values
+abbrev pub list_rule : Bytes → ℕ → Rule
+list_rule id short = record (value_rule id short) { action = Some Append }
+
+-- the same, whose value is a number below 2 to the power 32
+abbrev pub number_rule : Bytes → ℕ → Rule
+number_rule id short = record (value_rule id short) { parser = Some (Signed (pos 0) (pos 4294967295)) }
+
+-- a flag of one letter
+abbrev pub flag_rule : Bytes → ℕ → Rule
+flag_rule id short = record (new_rule id) { short = Some short; action = Some SetTrue }
+
+-- a flag of one letter, which is counted
+abbrev pub count_rule : Bytes → ℕ → Rule
+count_rule id short = record (new_rule id) { short = Some short; action = Some Count }
+
+-- an option that is named by its id, with a value
+abbrev pub long_rule : Bytes → Rule
+long_rule id = record (new_rule id) { long = Some id; value_names = 1 }
+
+-- -p, -c, -P and -U: what is programmed, and over what
+unfoldable pub target_rules : List Rule
+target_rules =
+    value_rule (codes "part") 112
+    ∷ value_rule (codes "programmer") 99
+    ∷ value_rule (codes "port") 80
+    ∷ list_rule (codes "update") 85 ∷ []
+
+-- -e, -D, -V, -n, -F and -A: how
+unfoldable pub switch_rules : List Rule
+switch_rules =
+    flag_rule (codes "erase") 101
+    ∷ flag_rule (codes "keep-flash") 68
+    ∷ flag_rule (codes "no-verify") 86
+    ∷ flag_rule (codes "dry") 110
+    ∷ flag_rule (codes "force") 70
+    ∷ flag_rule (codes "all") 65 ∷ []
+
+-- -q, -b and -v
+unfoldable pub telling_rules : List Rule
+telling_rules =
+    count_rule (codes "quiet") 113
+    ∷ number_rule (codes "baud") 98
+    ∷ count_rule (codes "verbose") 118 ∷ []
+
+-- --parts, --serve and --chip
+unfoldable pub file_rules : List Rule
+file_rules = long_rule (codes "parts") ∷ long_rule (codes "serve") ∷ long_rule (codes "chip") ∷ []
+
+-- a command with more options
+abbrev pub with_rules : App → List Rule → App
+with_rules a rules = record a { top = record a.top { rules = a.top.rules ++ rules } }
+
+-- a command whose options may be given again
+abbrev pub overriding : App → App
+overriding a = record a { top = record a.top { args_override_self = true } }
+
+-- the command with all its options
+unfoldable pub avrstk : App
+avrstk =
+    with_rules (with_rules (with_rules (with_rules (overriding (new_app (codes "avrstk")))
+    target_rules) switch_rules) telling_rules) file_rules
+
+-- a flag is given
+abbrev pub is_true : Option Bytes → Bool
+is_true None = false
+is_true (Some text) = bytes_eq text (codes "true")
+
+abbrev pub is_on : Bytes → List Row → Bool
+is_on id rows = is_true (first_of id rows)
+
+abbrev pub switches_of : List Row → Switches
+switches_of rows = record {
+  erase = is_on (codes "erase") rows;
+  keep_flash = is_on (codes "keep-flash") rows;
+  no_verify = is_on (codes "no-verify") rows;
+  dry = is_on (codes "dry") rows;
+  force = is_on (codes "force") rows;
+  all = is_on (codes "all") rows;
+  quiet = count_of (codes "quiet") rows;
+}
+
+-- what was found, as `clap` keeps it
+abbrev pub entries_of : List Row → Entries
+entries_of rows = record {
+  part = first_of (codes "part") rows;
+  programmer = first_of (codes "programmer") rows;
+  port = first_of (codes "port") rows;
+  updates = unwrap_or (all_of (codes "update") rows) [];
+  switches = switches_of rows;
+  parts = first_of (codes "parts") rows;
+  serve = first_of (codes "serve") rows;
+  chip = first_of (codes "chip") rows;
+}
+
+-- what the words of a command line ask for, the program's name first
+abbrev pub asked_by : List Bytes → Result Settings SettingsFault
+asked_by words = settings_of (entries_of (matches_of avrstk words))

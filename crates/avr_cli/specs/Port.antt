@@ -1,0 +1,50 @@
+-- What the frames go over, from the text of `-P` or of `--serve`.
+use Rattle.std.specs.Prelude.{◌==◌, ◌&&◌, ℕ, Bool, false, not, is_some, nat_le, nat_lt, length, Option, Some, None, Result, Ok}
+use Rattle.std.specs.Prelude.{Err, codes, if◌then◌else◌}
+use Rattle.std.specs.List.{list_all}
+use Rattle.std.specs.Char.{is_ascii_digit}
+use Rattle.std.specs.Str.{bytes_eq}
+use Rattle.std.specs.Str.Parse.{digits_value}
+use Rattle.avr_cli.specs.Cuts.{Bytes, after_front, cut_last}
+use Rattle.avr_cli.specs.declared.chosen.Port.{Port}
+use Rattle.avr_cli.specs.declared.chosen.Port.TheVariants.{Stdio, Emulated, Network, Served}
+use Rattle.avr_cli.specs.declared.chosen.SettingsFault.{SettingsFault}
+use Rattle.avr_cli.specs.declared.chosen.SettingsFault.TheVariants.{BadPort, NoChip}
+
+-- decimal digits and nothing else, of a value from 1 to 65535
+abbrev pub port_number : Bytes → Option ℕ
+port_number text =
+    if list_all is_ascii_digit text && nat_le 1 (digits_value 10 text) && nat_lt (digits_value 10 text) 65536
+    then Some (digits_value 10 text) else None
+
+abbrev pub is_host_and_port : Option (Bytes × Bytes) → Bool
+is_host_and_port None = false
+is_host_and_port (Some parts) = not (length parts.0 == 0) && is_some (port_number parts.1)
+
+-- a host that isn't empty, a colon, which is the last one, and the number of a port
+abbrev pub is_address : Bytes → Bool
+is_address text = is_host_and_port (cut_last text)
+
+-- the port of a text, by what follows `emu:` or `net:` there
+abbrev pub port_after : Bytes → Option Bytes → Option Bytes → Result Port SettingsFault
+port_after text (Some file) other =
+    if length file == 0 then Err (BadPort (Some text)) else Ok (Emulated file)
+port_after text None (Some address) =
+    if is_address address then Ok (Network address) else Err (BadPort (Some text))
+port_after text None None = Err (BadPort (Some text))
+
+abbrev pub port_of : Bytes → Result Port SettingsFault
+port_of text =
+    if bytes_eq text (codes "stdio:") then Ok Stdio
+    else port_after text (after_front (codes "emu:") text) (after_front (codes "net:") text)
+
+-- the port of `-P`
+abbrev pub port_given_of : Option Bytes → Result Port SettingsFault
+port_given_of None = Err (BadPort None)
+port_given_of (Some text) = port_of text
+
+-- the port of `--serve`, of this number, with the file of `--chip`
+abbrev pub served_at : Bytes → Option ℕ → Option Bytes → Result Port SettingsFault
+served_at text None chip = Err (BadPort (Some text))
+served_at text (Some n) None = Err NoChip
+served_at text (Some n) (Some chip) = Ok (Served text chip)

@@ -1,0 +1,100 @@
+-- What a run was asked to do, as a function of what the command line gave.
+use Rattle.std.specs.Prelude.{◌≡◌, ◌⊎◌, ◌+◌, ℕ, false, nat_lt, List, [], ◌∷◌, length, Option, Some, None, Result, Ok, Err, codes}
+use Rattle.std.specs.Prelude.{if◌then◌else◌, ⊤}
+use Rattle.std.specs.Str.{bytes_eq}
+use Rattle.avr_cli.specs.Cuts.{Bytes}
+use Rattle.avr_cli.specs.Port.{port_number, port_given_of, served_at}
+use Rattle.avr_cli.specs.Standard.{is_taken}
+use Rattle.avr_cli.specs.Update.{update_of}
+use Rattle.avr_cli.specs.declared.update.Update.{Update}
+use Rattle.avr_cli.specs.declared.update.UpdateFault.{UpdateFault}
+use Rattle.avr_cli.specs.declared.chosen.Port.{Port}
+use Rattle.avr_cli.specs.declared.chosen.Switches.{Switches}
+use Rattle.avr_cli.specs.declared.chosen.Settings.{Settings}
+use Rattle.avr_cli.specs.declared.chosen.SettingsFault.{SettingsFault}
+use Rattle.avr_cli.specs.declared.chosen.SettingsFault.TheVariants.{NoPart, BadProgrammer, TooMany, BadUpdate, StandardTaken, Memory}
+
+-- the texts that the command line gave, and its switches
+pub record Entries : Type 0 where
+  pub part : Option Bytes
+  pub programmer : Option Bytes
+  pub port : Option Bytes
+  pub updates : List Bytes
+  pub switches : Switches
+  pub parts : Option Bytes
+  pub serve : Option Bytes
+  pub chip : Option Bytes
+
+-- the result is the one wanted, or memory was refused
+abbrev pub GivesOrMemory : {T : Type 0} → Result T SettingsFault → Result T SettingsFault → Type 0
+GivesOrMemory want got = (got ≡ want) ⊎ (got ≡ Err Memory)
+
+infixl 10 ◌>>=◌
+abbrev pub ◌>>=◌ : {A B : Type 0} → Result A SettingsFault → (A → Result B SettingsFault) → Result B SettingsFault
+Ok x >>= f = f x
+Err e >>= f = Err e
+
+-- `stk500v2` is the default and the only programmer
+abbrev pub checked_programmer : Option Bytes → Result ⊤ SettingsFault
+checked_programmer None = Ok tt
+checked_programmer (Some name) =
+    if bytes_eq name (codes "stk500v2") then Ok tt else Err (BadProgrammer name)
+
+abbrev pub update_at : ℕ → Result Update UpdateFault → Result Update SettingsFault
+update_at n (Ok u) = Ok u
+update_at n (Err fault) = Err (BadUpdate n fault)
+
+-- the updates of texts, the first of which has the number n
+abbrev pub updates_from : ℕ → List Bytes → Result (List Update) SettingsFault
+updates_from n [] = Ok []
+updates_from n (text ∷ rest) = do
+  update ← update_at n (update_of text)
+  updates ← updates_from (n + 1) rest
+  Ok (update ∷ updates)
+
+-- at most 16 updates, numbered from 1
+abbrev pub updates_of : List Bytes → Result (List Update) SettingsFault
+updates_of texts = if nat_lt 16 (length texts) then Err TooMany else updates_from 1 texts
+
+abbrev pub checked_streams : Port → List Update → Option Bytes → Option Bytes → Result ⊤ SettingsFault
+checked_streams port updates parts chip =
+    if is_taken port updates parts chip then Err StandardTaken else Ok tt
+
+-- the settings of a run over a port
+abbrev pub run_settings : Bytes → Entries → Result Settings SettingsFault
+run_settings part e = do
+  programmer ← checked_programmer e.programmer
+  port ← port_given_of e.port
+  updates ← updates_of e.updates
+  streams ← checked_streams port updates e.parts e.chip
+  Ok (record { part = part; port = port; parts = e.parts; updates = updates; switches = e.switches })
+
+abbrev pub no_switches : Switches
+no_switches = record {
+  erase = false;
+  keep_flash = false;
+  no_verify = false;
+  dry = false;
+  force = false;
+  all = false;
+  quiet = 0;
+}
+
+-- the settings of an emulator that serves at a port, for which the programmer, the updates and the switches count for nothing
+abbrev pub serve_settings : Bytes → Bytes → Entries → Result Settings SettingsFault
+serve_settings part text e = do
+  port ← served_at text (port_number text) e.chip
+  streams ← checked_streams port [] e.parts e.chip
+  Ok (record { part = part; port = port; parts = e.parts; updates = []; switches = no_switches })
+
+abbrev pub settings_by : Option Bytes → Bytes → Entries → Result Settings SettingsFault
+settings_by None part e = run_settings part e
+settings_by (Some text) part e = serve_settings part text e
+
+abbrev pub with_part : Option Bytes → Entries → Result Settings SettingsFault
+with_part None e = Err NoPart
+with_part (Some part) e = settings_by e.serve part e
+
+-- the settings that a command line asks for, or the first fault
+abbrev pub settings_of : Entries → Result Settings SettingsFault
+settings_of e = with_part e.part e

@@ -1,0 +1,48 @@
+-- The standard streams that the command line asks for.
+use Rattle.std.specs.Prelude.{◌&&◌, ◌||◌, Bool, true, false, not, nat_le, List, count_by, Option, codes}
+use Rattle.std.specs.List.{list_any}
+use Rattle.std.specs.Option.{option_map_or}
+use Rattle.std.specs.Str.{bytes_eq}
+use Rattle.avr_cli.specs.Cuts.{Bytes}
+use Rattle.avr_cli.specs.declared.update.Update.{Update}
+use Rattle.avr_cli.specs.declared.update.Op.{Op}
+use Rattle.avr_cli.specs.declared.update.Op.TheVariants.{Read}
+use Rattle.avr_cli.specs.declared.update.Format.{Format}
+use Rattle.avr_cli.specs.declared.update.Format.TheVariants.{Immediate}
+use Rattle.avr_cli.specs.declared.chosen.Port.{Port}
+use Rattle.avr_cli.specs.declared.chosen.Port.TheVariants.{Stdio, Emulated, Network, Served}
+
+abbrev pub is_standard : Bytes → Bool
+is_standard name = bytes_eq name (codes "-")
+
+abbrev pub is_values : Format → Bool
+is_values Immediate = true
+is_values format = false
+
+abbrev pub is_read : Op → Bool
+is_read Read = true
+is_read op = false
+
+-- the update's file is standard input or output; values are no file
+abbrev pub uses_standard : Update → Bool
+uses_standard u = is_standard u.file && not (is_values u.format)
+
+abbrev pub uses_input : Update → Bool
+uses_input u = uses_standard u && not (is_read u.op)
+
+-- a file that is given is a standard stream
+abbrev pub is_given_standard : Option Bytes → Bool
+is_given_standard file = option_map_or is_standard file false
+
+-- the frames take the standard streams that the updates want, or the emulator's chip has none of its own
+abbrev pub is_port_taken : Port → List Update → Bool
+is_port_taken Stdio updates = list_any uses_standard updates
+is_port_taken (Emulated file) updates = is_standard file
+is_port_taken (Network address) updates = false
+is_port_taken (Served port chip) updates = is_standard chip
+
+-- A standard stream is asked for twice, or for what must be a file: by the port and the updates, or by the files of
+-- `--parts` and `--chip`.
+abbrev pub is_taken : Port → List Update → Option Bytes → Option Bytes → Bool
+is_taken port updates parts chip =
+    (is_given_standard parts || is_given_standard chip) || (is_port_taken port updates || nat_le 2 (count_by uses_input updates))

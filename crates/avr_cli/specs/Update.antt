@@ -1,0 +1,111 @@
+-- What is done with one memory, from the text of `-U`: MEMORY:OP:FILE[:FORMAT], or a file for flash alone.
+use Rattle.std.specs.Prelude.{◌≡◌, ◌⊎◌, ◌==◌, ◌-◌, ◌&&◌, ℕ, nat_le, List, [], ◌∷◌, ◌++◌, Option, Some, None, Result, Ok, Err}
+use Rattle.std.specs.Prelude.{codes, length, take, slice_index, find, if◌then◌else◌}
+use Rattle.std.specs.Str.{bytes_eq}
+use Rattle.avr_part.specs.Mem.{name_of}
+use Rattle.avr_part.specs.declared.mem.Mem.{Mem}
+use Rattle.avr_part.specs.declared.mem.Mem.TheVariants.{Flash, Eeprom, Lfuse, Hfuse, Efuse, Lock, Signature, Calibration}
+use Rattle.avr_cli.specs.Cuts.{Bytes, colon, cut_first}
+use Rattle.avr_cli.specs.declared.update.Op.{Op}
+use Rattle.avr_cli.specs.declared.update.Op.TheVariants.{Read, Write, Verify}
+use Rattle.avr_cli.specs.declared.update.Format.{Format}
+use Rattle.avr_cli.specs.declared.update.Format.TheVariants.{Auto, Ihex, Srec, Raw, Immediate, Decimal, Hexadecimal, Octal, Binary}
+use Rattle.avr_cli.specs.declared.update.Update.{Update}
+use Rattle.avr_cli.specs.declared.update.UpdateFault.{UpdateFault}
+use Rattle.avr_cli.specs.declared.update.UpdateFault.TheVariants.{BadMemory, BadOp, BadFormat, NoFile, Memory}
+
+-- the result is the one wanted, or memory was refused
+abbrev pub GivesUpdate : Result Update UpdateFault → Result Update UpdateFault → Type 0
+GivesUpdate want got = (got ≡ want) ⊎ (got ≡ Err Memory)
+
+abbrev pub memories : List Mem
+memories = Flash ∷ Eeprom ∷ Lfuse ∷ Hfuse ∷ Efuse ∷ Lock ∷ Signature ∷ Calibration ∷ []
+
+abbrev pub memory_named : Bytes → Option Mem
+memory_named name = find (λ memory. bytes_eq (name_of memory) name) memories
+
+abbrev pub op_name : Op → Bytes
+op_name Read = codes "r"
+op_name Write = codes "w"
+op_name Verify = codes "v"
+
+abbrev pub op_named : Bytes → Option Op
+op_named name =
+    if bytes_eq name (op_name Read) then Some Read
+    else if bytes_eq name (op_name Write) then Some Write
+    else if bytes_eq name (op_name Verify) then Some Verify
+    else None
+
+-- the letter that names a format
+abbrev pub letter_of : Format → ℕ
+letter_of Auto = 97
+letter_of Ihex = 105
+letter_of Srec = 115
+letter_of Raw = 114
+letter_of Immediate = 109
+letter_of Decimal = 100
+letter_of Hexadecimal = 104
+letter_of Octal = 111
+letter_of Binary = 98
+
+-- the formats of files that are read, and of files that are made
+abbrev pub formats_of : Op → List Format
+formats_of Read = Ihex ∷ Srec ∷ Raw ∷ Decimal ∷ Hexadecimal ∷ Octal ∷ Binary ∷ []
+formats_of op = Ihex ∷ Srec ∷ Raw ∷ Immediate ∷ Auto ∷ []
+
+-- the format where none is named
+abbrev pub default_format : Op → Format
+default_format Read = Raw
+default_format op = Auto
+
+abbrev pub format_named : List Format → ℕ → Option Format
+format_named formats letter = find (λ format. letter_of format == letter) formats
+
+abbrev pub format_of : Op → Option ℕ → Option Format
+format_of op None = Some (default_format op)
+format_of op (Some letter) = format_named (formats_of op) letter
+
+-- the file, and the letter of the format where the last byte but one is a colon
+abbrev pub file_and_letter : Bytes → Bytes × Option ℕ
+file_and_letter rest =
+    if nat_le 2 (length rest) && slice_index rest (length rest - 2) == colon
+    then (take (length rest - 2) rest, Some (slice_index rest (length rest - 1)))
+    else (rest, None)
+
+abbrev pub update_in : Mem → Op → Bytes → Option Format → Result Update UpdateFault
+update_in memory op file None = Err BadFormat
+update_in memory op file (Some format) =
+    Ok (record { memory = memory; op = op; format = format; file = file })
+
+-- an operation on a memory, by the file and the letter of its format
+abbrev pub update_by : Mem → Op → Bytes × Option ℕ → Result Update UpdateFault
+update_by memory op named =
+    if length named.0 == 0 then Err NoFile else update_in memory op named.0 (format_of op named.1)
+
+abbrev pub with_op : Mem → Option Op → Bytes → Result Update UpdateFault
+with_op memory None rest = Err BadOp
+with_op memory (Some op) rest = update_by memory op (file_and_letter rest)
+
+-- what stands before the second colon, or the end, and what follows it
+abbrev pub op_and_rest : Bytes → Option (Bytes × Bytes) → Bytes × Bytes
+op_and_rest after None = (after, [])
+op_and_rest after (Some parts) = parts
+
+abbrev pub with_memory : Option Mem → Bytes → Result Update UpdateFault
+with_memory None after = Err BadMemory
+with_memory (Some memory) after =
+    let parts = op_and_rest after (cut_first after) in with_op memory (op_named parts.0) parts.1
+
+-- a text without a colon is a file, written to flash in whatever format it has
+abbrev pub update_cut : Bytes → Option (Bytes × Bytes) → Result Update UpdateFault
+update_cut text None = update_by Flash Write (text, None)
+update_cut text (Some parts) = with_memory (memory_named parts.0) parts.1
+
+-- the update that a text asks for
+abbrev pub update_of : Bytes → Result Update UpdateFault
+update_of text = update_cut text (cut_first text)
+
+-- the text of an update in all four parts
+abbrev pub update_text : Mem → Op → Bytes → ℕ → Bytes
+update_text memory op file letter =
+    name_of memory ++ (colon ∷ (op_name op ++ (colon ∷ (file ++ colon ∷ letter ∷ []))))

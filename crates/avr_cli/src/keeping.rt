@@ -1,0 +1,25 @@
+//! Texts that settings keep.
+ghost use Rattle.std.specs.Prelude.{Ok, option_map};
+ghost use Rattle.avr_cli.specs.Settings.{GivesOrMemory};
+
+use crate::chosen::SettingsFault;
+use crate::text::Text;
+use std::alloc::Global;
+
+pub fn kept(alloc: Global, text: &str) -> Result<Text, SettingsFault>
+    ensures { GivesOrMemory (Ok text.now) result }
+{
+    match Text::new(alloc, text) {
+        Ok(text) => Ok(text),
+        Err(_) => Err(SettingsFault::Memory),
+    }
+}
+
+pub fn kept_option(alloc: Global, text: Option<&str>) -> Result<Option<Text>, SettingsFault>
+    ensures { GivesOrMemory (Ok (option_map (λ s. s.now) text.entry)) result }
+{
+    match text {
+        Some(text) => Ok(Some(kept(alloc, text)?)),
+        None => Ok(None),
+    }
+}

@@ -1,0 +1,44 @@
+//! The command line: its words, and what they ask for.
+//!
+//! Options and their meaning are those of the AVRDUDE manual, as far as this profile has them. The
+//! one idea: `clap` cuts the words into options, and what the options ask for is a function of
+//! their texts, which names the first fault.
+//!
+//! `let matches = read_words(alloc, &words)?;` and then `settings(alloc, &matches)` makes settings.
+#![tactic(auto)]
+
+// the words
+mod command;
+mod found;
+
+// what they may ask for
+mod chosen;
+mod update;
+mod updates;
+
+// texts that are kept, and cut
+mod cuts;
+mod keeping;
+mod text;
+
+// what they ask for
+mod ports;
+mod reading;
+mod standard;
+mod update_text;
+
+// laws of both
+mod laws;
+
+pub use chosen::{Port, Settings, SettingsFault, Switches};
+pub use command::{make_command, read_words};
+pub use laws::{a_written_update_is_read, an_address_is_cut_at_its_last_colon};
+pub use ports::port_number;
+pub use reading::settings;
+pub use text::Text;
+pub use update::{Format, Op, Update, UpdateFault};
+pub use update_text::parse_update;
+pub use updates::Updates;
+
+#[cfg(test)]
+mod tests;

@@ -1,0 +1,110 @@
+//! What the frames go over, from the text of `-P` or of `--serve`.
+ghost use Rattle.std.specs.Prelude.{◌≡◌, ◌⊎◌, Some, None, option_map};
+ghost use Rattle.std.specs.List.{list_all};
+ghost use Rattle.std.specs.Char.{is_ascii_digit};
+ghost use Rattle.avr_cli.specs.Port.{port_number, is_address, port_after, port_of, port_given_of, served_at};
+ghost use Rattle.avr_cli.specs.Settings.{GivesOrMemory};
+
+use crate::chosen::{Port, SettingsFault};
+use crate::cuts::{after_front, cut_last};
+use crate::keeping::kept;
+use std::alloc::Global;
+
+fn has_only_digits(text: &[u8]) -> bool
+    ensures { result ≡ list_all is_ascii_digit text.now }
+{
+    text.iter().all(|byte| byte.is_ascii_digit())
+}
+
+/// The number of a port: decimal digits and nothing else, of a value from 1 to 65535.
+pub fn port_number(text: &str) -> Option<u16>
+    ensures { result ≡ port_number text.now }
+{
+    if !has_only_digits(text.as_bytes()) {
+        return None;
+    }
+    match text.parse::<u16>() {
+        Ok(number) if number > 0 => Some(number),
+        _ => None,
+    }
+}
+
+/// Whether a text is a host, a colon and the number of a port.
+fn is_address(text: &str) -> bool
+    ensures { result ≡ is_address text.now }
+{
+    match cut_last(text) {
+        Some((host, port)) => !host.is_empty() && port_number(port).is_some(),
+        None => false,
+    }
+}
+
+/// The fault of a text that names no port.
+fn bad_port(alloc: Global, text: &str) -> SettingsFault
+    ensures { (result ≡ SettingsFault.BadPort (Some text.now)) ⊎ (result ≡ SettingsFault.Memory) }
+{
+    match kept(alloc, text) {
+        Ok(text) => SettingsFault::BadPort(Some(text)),
+        Err(fault) => fault,
+    }
+}
+
+fn emulated(alloc: Global, text: &str, file: &str) -> Result<Port, SettingsFault>
+    ensures { GivesOrMemory (port_after text.now (Some file.now) None) result }
+{
+    if file.is_empty() {
+        return Err(bad_port(alloc, text));
+    }
+    Ok(Port::Emulated(kept(alloc, file)?))
+}
+
+fn network(alloc: Global, text: &str, address: &str) -> Result<Port, SettingsFault>
+    ensures { GivesOrMemory (port_after text.now None (Some address.now)) result }
+{
+    if is_address(address) {
+        Ok(Port::Network(kept(alloc, address)?))
+    } else {
+        Err(bad_port(alloc, text))
+    }
+}
+
+/// The port that a text names.
+fn port_of(alloc: Global, text: &str) -> Result<Port, SettingsFault>
+    ensures { GivesOrMemory (port_of text.now) result }
+{
+    if text == "stdio:" {
+        return Ok(Port::Stdio);
+    }
+    if let Some(file) = after_front(text, "emu:") {
+        return emulated(alloc, text, file);
+    }
+    match after_front(text, "net:") {
+        Some(address) => network(alloc, text, address),
+        None => Err(bad_port(alloc, text)),
+    }
+}
+
+/// The port that `-P` gives.
+pub fn port_given(alloc: Global, text: Option<&str>) -> Result<Port, SettingsFault>
+    ensures { GivesOrMemory (port_given_of (option_map (λ s. s.now) text.entry)) result }
+{
+    match text {
+        Some(text) => port_of(alloc, text),
+        None => Err(SettingsFault::BadPort(None)),
+    }
+}
+
+/// The port that `--serve` gives, with the file of `--chip`.
+pub fn served(alloc: Global, text: &str, chip: Option<&str>) -> Result<Port, SettingsFault>
+    ensures { GivesOrMemory (served_at text.now (port_number text.now) (option_map (λ s. s.now) chip.entry)) result }
+{
+    if port_number(text).is_none() {
+        return Err(bad_port(alloc, text));
+    }
+    let Some(chip) = chip else {
+        return Err(SettingsFault::NoChip);
+    };
+    let port = kept(alloc, text)?;
+    let chip = kept(alloc, chip)?;
+    Ok(Port::Served { port, chip })
+}

@@ -1,0 +1,156 @@
+//! The settings, from what the command line gave.
+ghost use Rattle.std.specs.Prelude.{◌≡◌, ◌≤◌, length, map, [], option_map, unwrap_or};
+ghost use Rattle.clap.specs.Words.{found_of, rows_of};
+ghost use Rattle.avr_cli.specs.Command.{entries_of};
+ghost use Rattle.avr_cli.specs.Settings.{GivesOrMemory, settings_of, checked_programmer, updates_of, updates_from, update_at};
+ghost use Rattle.avr_cli.specs.Settings.{run_settings, serve_settings, no_switches};
+ghost use Rattle.avr_cli.specs.Update.{update_of};
+
+use crate::chosen::{Settings, SettingsFault, Switches};
+use crate::found::{switches_of, text_of, texts_of};
+use crate::keeping::{kept, kept_option};
+use crate::ports::{port_given, served};
+use crate::standard::check_streams;
+use crate::update::{Update, UpdateFault};
+use crate::update_text::parse_update;
+use crate::updates::Updates;
+use clap::ArgMatches;
+use std::alloc::Global;
+
+/// The most updates of a command line.
+const MOST_UPDATES: usize = 16;
+
+/// Refuses any programmer but the one that there is.
+fn check_programmer(alloc: Global, given: Option<&str>) -> Result<(), SettingsFault>
+    ensures { GivesOrMemory (checked_programmer (option_map (λ s. s.now) given.entry)) result }
+{
+    let Some(name) = given else {
+        return Ok(());
+    };
+    if name == "stk500v2" {
+        return Ok(());
+    }
+    Err(SettingsFault::BadProgrammer(kept(alloc, name)?))
+}
+
+/// The update of this number.
+fn update_at(alloc: Global, number: u8, text: &str) -> Result<Update, SettingsFault>
+    ensures { GivesOrMemory (update_at number (update_of text.now)) result }
+{
+    match parse_update(alloc, text) {
+        Ok(update) => Ok(update),
+        Err(UpdateFault::Memory) => Err(SettingsFault::Memory),
+        Err(fault) => Err(SettingsFault::BadUpdate(number, fault)),
+    }
+}
+
+fn read_updates(alloc: Global, texts: &[&str]) -> Result<Updates, SettingsFault>
+    requires { length texts.now ≤ 16 }
+    ensures { GivesOrMemory (updates_from 1 (map (λ s. s.now) texts.now)) result }
+{
+    let mut updates = Updates::new(alloc);
+    for (i, text) in texts.iter().enumerate() {
+        let update = update_at(alloc, i as u8 + 1, text)?;
+        if updates.push(update).is_err() {
+            return Err(SettingsFault::Memory);
+        }
+    }
+    Ok(updates)
+}
+
+fn all_updates(alloc: Global, texts: &[&str]) -> Result<Updates, SettingsFault>
+    ensures { GivesOrMemory (updates_of (map (λ s. s.now) texts.now)) result }
+{
+    if texts.len() > MOST_UPDATES {
+        return Err(SettingsFault::TooMany);
+    }
+    read_updates(alloc, texts)
+}
+
+/// The updates, in the order given.
+fn updates_given(alloc: Global, texts: Option<&[&str]>) -> Result<Updates, SettingsFault>
+    ensures { GivesOrMemory (updates_of (unwrap_or (option_map (λ t. map (λ s. s.now) t.now) texts.entry) [])) result }
+{
+    match texts {
+        Some(texts) => all_updates(alloc, texts),
+        None => Ok(Updates::new(alloc)),
+    }
+}
+
+/// The settings of a run over a port.
+fn run_settings(
+    alloc: Global,
+    part: &str,
+    matches: &ArgMatches<'_>,
+) -> Result<Settings, SettingsFault>
+    ensures { GivesOrMemory (run_settings part.now (entries_of (rows_of (found_of matches.now)))) result }
+{
+    check_programmer(alloc, text_of(matches, "programmer"))?;
+    let port = port_given(alloc, text_of(matches, "port"))?;
+    let updates = updates_given(alloc, texts_of(matches, "update"))?;
+    let parts = text_of(matches, "parts");
+    check_streams(&port, updates.as_slice(), parts, text_of(matches, "chip"))?;
+    let part = kept(alloc, part)?;
+    let parts = kept_option(alloc, parts)?;
+    Ok(Settings {
+        part,
+        port,
+        parts,
+        updates,
+        switches: switches_of(matches),
+    })
+}
+
+/// The switches of an emulator that serves: they count for nothing.
+fn no_switches() -> Switches
+    ensures { result ≡ no_switches }
+{
+    Switches {
+        erase: false,
+        keep_flash: false,
+        no_verify: false,
+        dry: false,
+        force: false,
+        all: false,
+        quiet: 0,
+    }
+}
+
+/// The settings of an emulator that serves.
+fn serve_settings(
+    alloc: Global,
+    part: &str,
+    port: &str,
+    matches: &ArgMatches<'_>,
+) -> Result<Settings, SettingsFault>
+    ensures { GivesOrMemory (serve_settings part.now port.now (entries_of (rows_of (found_of matches.now)))) result }
+{
+    let parts = text_of(matches, "parts");
+    let chip = text_of(matches, "chip");
+    let port = served(alloc, port, chip)?;
+    check_streams(&port, &[], parts, chip)?;
+    let part = kept(alloc, part)?;
+    let parts = kept_option(alloc, parts)?;
+    Ok(Settings {
+        part,
+        port,
+        parts,
+        updates: Updates::new(alloc),
+        switches: no_switches(),
+    })
+}
+
+/// The settings that the command line gives. With `--serve` the options but `-p`, `--parts` and
+/// `--chip` aren't looked at. The first fault is told, in the order in which [`SettingsFault`] has
+/// them; `Memory` may come in place of any answer.
+pub fn settings(alloc: Global, matches: &ArgMatches<'_>) -> Result<Settings, SettingsFault>
+    ensures { GivesOrMemory (settings_of (entries_of (rows_of (found_of matches.now)))) result }
+{
+    let Some(part) = text_of(matches, "part") else {
+        return Err(SettingsFault::NoPart);
+    };
+    match text_of(matches, "serve") {
+        Some(port) => serve_settings(alloc, part, port, matches),
+        None => run_settings(alloc, part, matches),
+    }
+}

@@ -1,0 +1,146 @@
+//! What is done with one memory.
+ghost use Rattle.std.specs.Prelude.{◌≡◌};
+ghost use Rattle.avr_cli.specs.Fault.{update_fault_number};
+ghost use Rattle.avr_cli.specs.Update.{letter_of, formats_of, default_format};
+
+use crate::text::Text;
+use avr_part::Mem;
+use thiserror::Error;
+
+/// What is done with a memory.
+#[derive(Clone, Copy, Debug, PartialEq, Eq)]
+pub enum Op {
+    /// `r`: the memory is read into the file.
+    Read,
+    /// `w`: the file is written to the memory.
+    Write,
+    /// `v`: the memory is compared with the file.
+    Verify,
+}
+
+/// The format of a file, as AVRDUDE's `-U` names it by a letter.
+#[derive(Clone, Copy, Debug, PartialEq, Eq)]
+pub enum Format {
+    /// `a`: whatever the file's first bytes look like. For files that are read.
+    Auto,
+    /// `i`: Intel HEX.
+    Ihex,
+    /// `s`: Motorola S-records.
+    Srec,
+    /// `r`: the bytes themselves.
+    Raw,
+    /// `m`: the values stand in the file's place. For writes and verifies.
+    Immediate,
+    /// `d`: a list of decimal numbers. For files that are made, as the rest.
+    Decimal,
+    /// `h`: a list of hexadecimal numbers.
+    Hexadecimal,
+    /// `o`: a list of octal numbers.
+    Octal,
+    /// `b`: a list of binary numbers.
+    Binary,
+}
+
+static MADE: [Format; 7] = [
+    Format::Ihex,
+    Format::Srec,
+    Format::Raw,
+    Format::Decimal,
+    Format::Hexadecimal,
+    Format::Octal,
+    Format::Binary,
+];
+
+static READ: [Format; 5] = [
+    Format::Ihex,
+    Format::Srec,
+    Format::Raw,
+    Format::Immediate,
+    Format::Auto,
+];
+
+impl Op {
+    /// The formats of the file, which a read makes and the others read.
+    pub(crate) fn formats(self) -> &'static [Format]
+        ensures { result.now ≡ formats_of self }
+    {
+        match self {
+            Op::Read => MADE.as_slice(),
+            Op::Write | Op::Verify => READ.as_slice(),
+        }
+    }
+
+    /// The format where none is named.
+    pub(crate) fn default_format(self) -> Format
+        ensures { result ≡ default_format self }
+    {
+        match self {
+            Op::Read => Format::Raw,
+            Op::Write | Op::Verify => Format::Auto,
+        }
+    }
+}
+
+impl Format {
+    /// The letter that names the format.
+    pub(crate) fn letter(self) -> u8
+        ensures { result ≡ letter_of self }
+    {
+        match self {
+            Format::Auto => b'a',
+            Format::Ihex => b'i',
+            Format::Srec => b's',
+            Format::Raw => b'r',
+            Format::Immediate => b'm',
+            Format::Decimal => b'd',
+            Format::Hexadecimal => b'h',
+            Format::Octal => b'o',
+            Format::Binary => b'b',
+        }
+    }
+}
+
+/// What is done with one memory: one `-U` of the command line.
+#[derive(Debug, Drop)]
+pub struct Update {
+    pub memory: Mem,
+    pub op: Op,
+    pub format: Format,
+    /// The file's name, `-` for standard input or output; with [`Format::Immediate`] the values.
+    pub file: Text,
+}
+
+/// Why a text is no update.
+#[derive(Clone, Copy, Debug, PartialEq, Eq, Error)]
+pub enum UpdateFault {
+    /// No memory has the name before the first colon.
+    #[error("no such memory")]
+    BadMemory,
+    /// The operation is none of `r`, `w` and `v`.
+    #[error("no such operation")]
+    BadOp,
+    /// The letter names no format of this operation.
+    #[error("no such format here")]
+    BadFormat,
+    /// The file's name is empty or missing.
+    #[error("no file named")]
+    NoFile,
+    /// Memory was refused.
+    #[error("out of memory")]
+    Memory,
+}
+
+impl UpdateFault {
+    /// The number of the fault.
+    pub fn number(&self) -> u8
+        ensures { result ≡ update_fault_number self.now }
+    {
+        match self {
+            UpdateFault::BadMemory => 1,
+            UpdateFault::BadOp => 2,
+            UpdateFault::BadFormat => 3,
+            UpdateFault::NoFile => 4,
+            UpdateFault::Memory => 5,
+        }
+    }
+}

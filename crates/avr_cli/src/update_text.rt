@@ -1,0 +1,125 @@
+//! The text of `-U`.
+ghost use Rattle.std.specs.Prelude.{◌≡◌, option_map};
+ghost use Rattle.avr_cli.specs.Update.{memory_named, op_named, format_named, format_of, file_and_letter, GivesUpdate, update_of};
+ghost use Rattle.avr_cli.specs.Update.{update_by};
+
+use crate::cuts::cut_first;
+use crate::text::Text;
+use crate::update::{Format, Op, Update, UpdateFault};
+use avr_part::Mem;
+use std::alloc::Global;
+
+static MEMORIES: [Mem; 8] = [
+    Mem::Flash,
+    Mem::Eeprom,
+    Mem::Lfuse,
+    Mem::Hfuse,
+    Mem::Efuse,
+    Mem::Lock,
+    Mem::Signature,
+    Mem::Calibration,
+];
+
+fn memory_named(name: &str) -> Option<Mem>
+    ensures { result ≡ memory_named name.now }
+{
+    MEMORIES
+        .iter()
+        .copied()
+        .find(|memory| memory.name() == name)
+}
+
+fn op_named(name: &str) -> Option<Op>
+    ensures { result ≡ op_named name.now }
+{
+    match name {
+        "r" => Some(Op::Read),
+        "w" => Some(Op::Write),
+        "v" => Some(Op::Verify),
+        _ => None,
+    }
+}
+
+fn format_named(formats: &[Format], letter: u8) -> Option<Format>
+    ensures { result ≡ format_named formats.now letter }
+{
+    formats
+        .iter()
+        .copied()
+        .find(|format| format.letter() == letter)
+}
+
+/// The format that a letter names for an operation, or the one where none is named.
+fn format_of(op: Op, letter: Option<u8>) -> Option<Format>
+    ensures { result ≡ format_of op letter }
+{
+    match letter {
+        Some(letter) => format_named(op.formats(), letter),
+        None => Some(op.default_format()),
+    }
+}
+
+/// The file, and the letter of the format where the last byte but one is a colon.
+fn file_and_letter(rest: &str) -> (&str, Option<u8>)
+    ensures { (result.0.now, result.1) ≡ file_and_letter rest.now }
+{
+    let bytes = rest.as_bytes();
+    let count = bytes.len();
+    if count >= 2 && bytes[count - 2] == b':' {
+        (&rest[..count - 2], Some(bytes[count - 1]))
+    } else {
+        (rest, None)
+    }
+}
+
+/// An operation on a memory, by the file and the letter of its format.
+fn update_by(
+    alloc: Global,
+    memory: Mem,
+    op: Op,
+    file: &str,
+    letter: Option<u8>,
+) -> Result<Update, UpdateFault>
+    ensures { GivesUpdate (update_by memory op (file.now, letter)) result }
+{
+    if file.is_empty() {
+        return Err(UpdateFault::NoFile);
+    }
+    let Some(format) = format_of(op, letter) else {
+        return Err(UpdateFault::BadFormat);
+    };
+    match Text::new(alloc, file) {
+        Ok(file) => Ok(Update {
+            memory,
+            op,
+            format,
+            file,
+        }),
+        Err(_) => Err(UpdateFault::Memory),
+    }
+}
+
+/// The update that a text asks for: `MEMORY:OP:FILE`, `MEMORY:OP:FILE:FORMAT`, or a file alone,
+/// which is written to flash. Colons beyond these belong to the file.
+///
+/// The first fault is told: the memory, the operation, the file, the format; `Memory` may come in
+/// place of any answer.
+pub fn parse_update(alloc: Global, text: &str) -> Result<Update, UpdateFault>
+    ensures { GivesUpdate (update_of text.now) result }
+{
+    let Some((name, after)) = cut_first(text) else {
+        return update_by(alloc, Mem::Flash, Op::Write, text, None);
+    };
+    let Some(memory) = memory_named(name) else {
+        return Err(UpdateFault::BadMemory);
+    };
+    let (name, rest) = match cut_first(after) {
+        Some(parts) => parts,
+        None => (after, ""),
+    };
+    let Some(op) = op_named(name) else {
+        return Err(UpdateFault::BadOp);
+    };
+    let (file, letter) = file_and_letter(rest);
+    update_by(alloc, memory, op, file, letter)
+}

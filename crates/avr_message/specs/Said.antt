@@ -1,0 +1,79 @@
+-- What a run does at the desk: files that are read, lines that are printed, files and output that are written.
+use Rattle.std.specs.Prelude.{◌≡◌, ◌⊎◌, ℕ, List, [], ◌∷◌, ◌++◌, Option, option_map, Result, Ok, Err}
+use Rattle.avr_desk.specs.Record.{Record, with_open, with_absent, after_write, after_out, after_err}
+use Rattle.avr_desk.specs.Fault.{HasFailed}
+use Rattle.avr_desk.specs.Stream.{SendsPart}
+use Rattle.avr_desk.specs.declared.record.Opening.{Opening}
+use Rattle.avr_desk.specs.declared.record.Opening.TheVariants.{Absent, Found}
+use Rattle.avr_desk.specs.declared.record.Open.TheVariants.{ToRead, ToWrite}
+use Rattle.avr_desk.specs.declared.stream.Stream.TheVariants.{Messages}
+
+abbrev pub Bytes : Type 0
+Bytes = List ℕ
+
+-- A file is opened to be read, and gives what it gives; a line of messages is printed; a file of this name is created;
+-- bytes are written to it, or to standard output.
+pub data Saying : Type 0 where
+  Opens : Opening → Saying
+  Line : Bytes → Saying
+  Creates : Bytes → Saying
+  Writes : Bytes → Saying
+  Outs : Bytes → Saying
+
+abbrev pub after_opening : Opening → Record → Record
+after_opening (Absent name) r = with_absent name r
+after_opening (Found reading) r = with_open (ToRead reading) r
+
+-- what a desk keeps after it
+abbrev pub after : Saying → Record → Record
+after (Opens opening) r = after_opening opening r
+after (Line bytes) r = after_err bytes r
+after (Creates name) r = with_open (ToWrite (record { name = name; bytes = [] })) r
+after (Writes bytes) r = after_write bytes r
+after (Outs bytes) r = after_out bytes r
+
+-- after several, in their order
+abbrev pub after_all : List Saying → Record → Record
+after_all [] r = r
+after_all (saying ∷ sayings) r = after_all sayings (after saying r)
+
+-- these bytes are a front of those
+abbrev pub IsPrefixOf : Bytes → Bytes → Type 0
+IsPrefixOf front bytes = (back : Bytes) × (front ++ back ≡ bytes)
+
+-- a part of it was done: of what is printed or written, a front
+abbrev pub SaidPart : Saying → Saying → Type 0
+SaidPart (Line part) (Line whole) = IsPrefixOf part whole
+SaidPart (Writes part) (Writes whole) = IsPrefixOf part whole
+SaidPart (Outs part) (Outs whole) = IsPrefixOf part whole
+SaidPart _ _ = ⊥
+
+-- nothing, or a part of the first of the sayings
+abbrev pub IsBegun : List Saying → List Saying → Type 0
+IsBegun [] sayings = Unit {0}
+IsBegun (part ∷ []) (saying ∷ sayings) = SaidPart part saying
+IsBegun _ _ = ⊥
+
+-- A front of the sayings was done: some of them, and perhaps a part of the next.
+pub record SaysFront (old new : Option Record) (sayings : List Saying) : Type 0 where
+  pub whole : List Saying
+  pub begun : List Saying
+  pub later : List Saying
+  pub sayings_are : sayings ≡ whole ++ later
+  pub part : IsBegun begun later
+  pub kept : new ≡ option_map (after_all (whole ++ begun)) old
+
+-- All of them were done, or where the desk failed a front of them.
+abbrev pub Says : {T Fault : Type 0} → Option Record → Option Record → List Saying → Result T Fault → Type 0
+Says old new sayings (Ok done) = new ≡ option_map (after_all sayings) old
+Says old new sayings (Err fault) = SaysFront old new sayings
+
+-- The line was printed, or where the desk failed a front of it.
+abbrev pub IsPrinted : {T Fault : Type 0} → Option Record → Option Record → Bytes → Result T Fault → Type 0
+IsPrinted old new bytes (Ok done) = new ≡ option_map (after_err bytes) old
+IsPrinted old new bytes (Err fault) = SendsPart Messages old new bytes
+
+-- The line was printed; or the desk has failed, and a front of it was.
+abbrev pub Tells : Option Record → Option Record → Bytes → ℕ → ℕ → Type 0
+Tells old new line before now =
+    (new ≡ option_map (after_err line) old) ⊎ (SendsPart Messages old new line × HasFailed before now)

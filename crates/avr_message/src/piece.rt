@@ -1,0 +1,88 @@
+//! The pieces of a line.
+ghost use Rattle.std.specs.Prelude.{◌≡◌, ◌∷◌, [], option_map, OnOk, OnErr, IfErr, decimal};
+ghost use Rattle.byteorder.specs.Endian.{big_bytes};
+ghost use Rattle.avr_desk.specs.Fault.{Counts};
+ghost use Rattle.avr_desk.specs.Record.{after_err};
+ghost use Rattle.avr_desk.specs.Stream.{SendsPart};
+ghost use Rattle.avr_message.specs.Lines.{digits, spaced, text_of};
+
+use avr_desk::{Desk, DeskFault, Stream, write_all};
+use byteorder::{BigEndian, ByteOrder};
+
+/// A piece of a line.
+#[derive(Clone, Copy, Debug)]
+pub enum Piece<'a> {
+    /// A text as it is.
+    Text(&'a str),
+    /// A byte as two upper-case hexadecimal digits.
+    Byte(u8),
+    /// A signature: three such bytes with a blank between two.
+    Signature([u8; 3]),
+    /// A byte address as eight upper-case hexadecimal digits.
+    Address(u32),
+    /// A decimal number.
+    Number(u32),
+}
+
+/// A byte as two upper-case hexadecimal digits.
+#[tactic(auto, unfolding(crate::specs::Lines::digits))]
+fn digits(byte: u8) -> [u8; 2]
+    ensures { result ≡ digits (byte ∷ []) }
+{
+    let mut digits = [0; 2];
+    let _ = hex::encode_to_slice(&[byte], &mut digits);
+    let [high, low] = digits;
+    [high.to_ascii_uppercase(), low.to_ascii_uppercase()]
+}
+
+/// An address as eight upper-case hexadecimal digits.
+fn address_digits(address: u32) -> [u8; 8]
+    ensures { result ≡ digits (big_bytes 4 address) }
+{
+    let mut bytes = [0; 4];
+    BigEndian::write_u32(&mut bytes, address);
+    let [first, second, third, fourth] = bytes;
+    let [a, b] = digits(first);
+    let [c, d] = digits(second);
+    let [e, f] = digits(third);
+    let [g, h] = digits(fourth);
+    [a, b, c, d, e, f, g, h]
+}
+
+/// A signature as digits, with a blank between two bytes.
+fn spaced(signature: [u8; 3]) -> [u8; 8]
+    ensures { result ≡ spaced signature }
+{
+    let [first, second, third] = signature;
+    let [a, b] = digits(first);
+    let [c, d] = digits(second);
+    let [e, f] = digits(third);
+    [a, b, b' ', c, d, b' ', e, f]
+}
+
+/// Writes a number's decimal digits to the messages.
+fn write_number<D: Desk>(desk: &mut D, number: u32) -> Result<(), DeskFault>
+    ensures all { OnOk result (D.kept desk.new ≡ option_map (after_err (decimal number)) (D.kept desk.old)) }
+    ensures part { OnErr result (SendsPart Stream.Messages (D.kept desk.old) (D.kept desk.new) (decimal number)) }
+    ensures counts { Counts (D.failures desk.old) (D.failures desk.new) result }
+    ensures fault { IfErr result (λ e. e ≡ DeskFault.Failed) }
+{
+    let mut buffer = itoa::Buffer::new();
+    write_all(desk, Stream::Messages, buffer.format(number).as_bytes())
+}
+
+/// Writes a piece to the messages.
+pub(crate) fn write_piece<D: Desk>(desk: &mut D, piece: &Piece<'_>) -> Result<(), DeskFault>
+    ensures all { OnOk result (D.kept desk.new ≡ option_map (after_err (text_of piece.now)) (D.kept desk.old)) }
+    ensures part { OnErr result (SendsPart Stream.Messages (D.kept desk.old) (D.kept desk.new) (text_of piece.now)) }
+    ensures counts { Counts (D.failures desk.old) (D.failures desk.new) result }
+    ensures fault { IfErr result (λ e. e ≡ DeskFault.Failed) }
+{
+    match piece {
+        Piece::Text(text) => write_all(desk, Stream::Messages, text.as_bytes()),
+        Piece::Byte(byte) => write_all(desk, Stream::Messages, &digits(*byte)),
+        Piece::Signature(bytes) => write_all(desk, Stream::Messages, &spaced(*bytes)),
+        Piece::Address(address) => write_all(desk, Stream::Messages, &address_digits(*address)),
+        Piece::Number(number) => write_number(desk, *number),
+    }
+}

@@ -1,0 +1,11 @@
+pub mod FirstFaults
+pub mod Intaking
+pub mod ImageReadings
+pub mod Played
+pub mod FileStages
+pub mod ImageStages
+pub mod Sizes
+pub mod PartStages
+pub mod ValueStages
+pub mod TaskStages
+pub mod Plans

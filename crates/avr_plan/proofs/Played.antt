@@ -1,0 +1,252 @@
+-- Stages of planning that were played, one after the other.
+use Rattle.std.proofs.Common.{◌≡◌, ◌∙◌, sym, subst, option_map, inl, inr, ap, List, [], ◌∷◌, ◌++◌, ℕ, ◌≤◌, take, drop, refl, arith, Option, Some, None, Ok, Err, Result, append_assoc, append-nil, ◌⊎◌, ◌<◌, ◌-◌, ◌^◌}
+use Rattle.std.proofs.lemmas.List.{take-append-drop}
+use Rattle.avr_desk.specs.Record.{Record}
+use Rattle.avr_desk.specs.Fault.{HasFailed, Counts}
+use Rattle.avr_desk.specs.declared.fault.DeskFault.{DeskFault}
+use Rattle.avr_desk.specs.declared.fault.DeskFault.TheVariants.{NotFound, Failed}
+use Rattle.avr_desk.specs.Stream.{SendsPart}
+use Rattle.avr_desk.specs.declared.stream.Stream.TheVariants.{Messages}
+use Rattle.avr_desk.specs.declared.record.Opening.{Opening}
+use Rattle.avr_message.specs.Said.{Saying, Opens, Line, IsBegun, IsPrefixOf, Tells, after_all}
+use Rattle.avr_message.proofs.Saying.{kept_none, kept_append}
+use Rattle.avr_plan.specs.Lines.{memory_line, IsTold}
+use Rattle.avr_plan.specs.Playing.{Went, Break, InLine, NotOpened, NotRead, NoMemory, NoMemoryFor, last_done, OpensNext, IsBreak, HasCause, Rest, BrokeOff, Goes}
+use Rattle.avr_plan.specs.Stage.{Stage, Answer, Made, Refused, Unread, Played, behind, going_on, ◌>>=◌, settled, said}
+
+-- ---- counts
+
+failed_since : (first before now : ℕ) → first ≤ before → HasFailed before now → HasFailed first now
+failed_since first before now rises (inl l) = inl (omega arith)
+failed_since first before now rises (inr e) = inr e
+
+cause_since : (break : Break) (first before now : ℕ) → first ≤ before → HasCause break before now → HasCause break first now
+cause_since (InLine front) first before now rises cause = failed_since first before now rises cause
+cause_since (NotOpened name front) first before now rises cause = failed_since first before now rises cause
+cause_since (NotRead name bytes front) first before now rises cause = failed_since first before now rises cause
+cause_since (NoMemory front) first before now rises (inl whole) = inl whole
+cause_since (NoMemory front) first before now rises (inr failed) = inr (failed_since first before now rises failed)
+cause_since (NoMemoryFor reading front) first before now rises (inl whole) = inl whole
+cause_since (NoMemoryFor reading front) first before now rises (inr failed) = inr (failed_since first before now rises failed)
+
+-- ---- a stage behind another one
+
+opens_more : (name : List ℕ) (more : List Opening) (later extra : List Saying) → OpensNext name more later → OpensNext name more (later ++ extra)
+opens_more name more later extra next = (next.0 ++ extra, ap (λ (ss : List Saying). ss ++ extra) next.1)
+
+begun_more : (front : List ℕ) (later extra : List Saying) → IsBegun (Line front ∷ []) later → IsBegun (Line front ∷ []) (later ++ extra)
+begun_more front [] extra is = absurd is
+begun_more front (saying ∷ later) extra is = is
+
+break_more : (break : Break) (more : List Opening) (later extra : List Saying) → IsBreak break more later → IsBreak break more (later ++ extra)
+break_more (InLine front) more later extra is = begun_more front later extra is
+break_more (NotOpened name front) more later extra is = (opens_more name more later extra is.0, is.1)
+break_more (NotRead name bytes front) more later extra is = (opens_more name more later extra is.0, is.1)
+break_more (NoMemory front) more later extra is = is
+break_more (NoMemoryFor reading front) more later extra is = (opens_more reading.name more later extra is.0, is.1)
+
+-- what a stage says, the stage behind it says after that
+says_more : {A B : Type 0} (says : List Saying) (left : List Opening) (go_on : A → Stage B) (answer : Answer A)
+    → (extra : List Saying) × ((going_on says left go_on answer).says ≡ says ++ extra)
+says_more says left go_on (Made a) = ((go_on a left).says, refl)
+says_more says left go_on Refused = ([], sym (append-nil says))
+says_more says left go_on Unread = ([], sym (append-nil says))
+
+rest_more : {A B : Type 0} (p : Played A) (go_on : A → Stage B) (whole : List Saying) (break : Break) (more : List Opening)
+    → Rest p whole break more
+    → Rest (going_on p.says p.left go_on p.answer) whole break more
+rest_more p go_on whole break more rest =
+    let extra = says_more p.says p.left go_on p.answer in
+    record {
+      later = rest.later ++ extra.0;
+      says_are = extra.1 ∙ ap (λ (ss : List Saying). ss ++ extra.0) rest.says_are ∙ append_assoc whole rest.later extra.0;
+      broken = break_more break more rest.later extra.0 rest.broken;
+    }
+
+rest_behind : {A : Type 0} (says whole : List Saying) (p : Played A) (break : Break) (more : List Opening) → Rest p whole break more
+    → Rest (behind says p) (says ++ whole) break more
+rest_behind says whole p break more rest = record {
+  later = rest.later;
+  says_are = ap (λ (ss : List Saying). says ++ ss) rest.says_are ∙ sym (append_assoc says whole rest.later);
+  broken = rest.broken;
+}
+
+-- a stage that made something, and openings behind its own
+made_then : {A B : Type 0} (stage : Stage A) (go_on : A → Stage B) (old new : Option Record) (a : A) (w : Went stage old new (Made a))
+    (later : List Opening)
+    → (stage >>= go_on) (w.passed ++ later) ≡ behind w.says (go_on a later)
+made_then stage go_on old new a w later = ap (λ p. going_on p.says p.left go_on p.answer) (w.comes later)
+
+pub went_went : {A B : Type 0} (stage : Stage A) (go_on : A → Stage B) (old mid new : Option Record) (a : A) (answer : Answer B)
+    → Went stage old mid (Made a)
+    → Went (go_on a) mid new answer → Went (stage >>= go_on) old new answer
+went_went stage go_on old mid new a answer first then = record {
+  passed = first.passed ++ then.passed;
+  says = first.says ++ then.says;
+  comes = λ more.
+      ap (stage >>= go_on) (append_assoc first.passed then.passed more)
+      ∙ made_then stage go_on old mid a first (then.passed ++ more)
+      ∙ ap (behind first.says) (then.comes more);
+  kept = kept_append first.says then.says old mid new first.kept then.kept;
+}
+
+went_broke : {A B : Type 0} (stage : Stage A) (go_on : A → Stage B) (old mid new : Option Record) (a : A) (before now : ℕ)
+    → Went stage old mid (Made a)
+    → BrokeOff (go_on a) mid new before now → BrokeOff (stage >>= go_on) old new before now
+went_broke stage go_on old mid new a before now first then = record {
+  passed = first.passed ++ then.passed;
+  whole = first.says ++ then.whole;
+  break = then.break;
+  rest = λ more.
+      let is = ap (stage >>= go_on) (append_assoc first.passed then.passed more) ∙ made_then stage go_on old mid a first (then.passed ++ more) in
+      subst (λ p. Rest p (first.says ++ then.whole) then.break more) (sym is)
+      (rest_behind first.says then.whole _ then.break more (then.rest more));
+  cause = then.cause;
+  kept = subst (λ ss. new ≡ option_map (after_all ss) old) (sym (append_assoc first.says then.whole (last_done then.break)))
+      (kept_append first.says (then.whole ++ last_done then.break) old mid new first.kept then.kept);
+}
+
+refused_then : {A B : Type 0} (stage : Stage A) (go_on : A → Stage B) (old new : Option Record) → Went stage old new Refused
+    → Went (stage >>= go_on) old new Refused
+refused_then stage go_on old new first = record {
+  passed = first.passed;
+  says = first.says;
+  comes = λ more. ap (λ p. going_on p.says p.left go_on p.answer) (first.comes more);
+  kept = first.kept;
+}
+
+broke_then : {A B : Type 0} (stage : Stage A) (go_on : A → Stage B) (old new : Option Record) (before now : ℕ) → BrokeOff stage old new before now
+    → BrokeOff (stage >>= go_on) old new before now
+broke_then stage go_on old new before now first = record {
+  passed = first.passed;
+  whole = first.whole;
+  break = first.break;
+  rest = λ more. rest_more (stage (first.passed ++ more)) go_on first.whole first.break more (first.rest more);
+  cause = first.cause;
+  kept = first.kept;
+}
+
+broke_since : {A : Type 0} (stage : Stage A) (old new : Option Record) (first before now : ℕ) → first ≤ before → BrokeOff stage old new before now
+    → BrokeOff stage old new first now
+broke_since stage old new first before now rises b = record {
+  passed = b.passed;
+  whole = b.whole;
+  break = b.break;
+  rest = b.rest;
+  cause = cause_since b.break first before now rises b.cause;
+  kept = b.kept;
+}
+
+-- a stage that made something, and how the next one goes
+pub goes_on : {A B : Type 0} (stage : Stage A) (go_on : A → Stage B) (old mid new : Option Record) (a : A) (first before now : ℕ)
+    (result : Result B ℕ)
+    → Went stage old mid (Made a) → first ≤ before → Goes (go_on a) mid new before now result → Goes (stage >>= go_on) old new first now result
+goes_on stage go_on old mid new a first before now (Ok b) went rises then = went_went stage go_on old mid new a (Made b) went then
+goes_on stage go_on old mid new a first before now (Err status) went rises (one, inl then) =
+    (one, inl (went_went stage go_on old mid new a Refused went then))
+goes_on stage go_on old mid new a first before now (Err status) went rises (one, inr then) =
+    (one, inr (broke_since (stage >>= go_on) old new first before now rises (went_broke stage go_on old mid new a before now went then)))
+
+-- a stage that made nothing
+pub goes_no_further : {A B : Type 0} (stage : Stage A) (go_on : A → Stage B) (old new : Option Record) (before now status : ℕ)
+    → Goes stage old new before now (Err status)
+    → Goes (stage >>= go_on) old new before now (Err status)
+goes_no_further stage go_on old new before now status (one, inl went) = (one, inl (refused_then stage go_on old new went))
+goes_no_further stage go_on old new before now status (one, inr broke) = (one, inr (broke_then stage go_on old new before now broke))
+
+-- ---- stages that read nothing
+
+-- nothing is said or read
+pub went_nowhere : {A : Type 0} (d : Option Record) (a : A) → Went (settled (Ok a)) d d (Made a)
+went_nowhere d a = record { passed = []; says = []; comes = λ more. refl; kept = kept_none d }
+
+-- a line was printed whole
+told_whole : {A : Type 0} (old new : Option Record) (line : List ℕ) → new ≡ option_map (after_all (Line line ∷ [])) old
+    → Went {A = A} (settled (Err line)) old new Refused
+told_whole old new line kept = record { passed = []; says = Line line ∷ []; comes = λ more. refl; kept = kept }
+
+-- or in part
+pub told_part : {A : Type 0} (stage : Stage A) (old new : Option Record) (line : List ℕ) (before now : ℕ)
+    → ((more : List Opening) → (behind : List Saying) × ((stage more).says ≡ Line line ∷ behind))
+    → SendsPart Messages old new line → HasFailed before now → BrokeOff stage old new before now
+told_part stage old new line before now tells part failed = record {
+  passed = [];
+  whole = [];
+  break = InLine (take part.0 line);
+  rest = λ more. record {
+    later = Line line ∷ (tells more).0;
+    says_are = (tells more).1;
+    broken = (drop part.0 line, take-append-drop part.0 line);
+  };
+  cause = failed;
+  kept = part.2;
+}
+
+-- a refusal that was told
+pub goes_refused : {A : Type 0} (old new : Option Record) (line : List ℕ) (before now status : ℕ) → status ≡ 1 → IsTold old new line before now
+    → Goes {A = A} (settled (Err line)) old new before now (Err status)
+goes_refused {A} old new line before now status one told =
+    elim (told.tells) [
+      | inl whole ↦ (one, inl (told_whole {A = A} old new line whole))
+      | inr part ↦ (one, inr (told_part (settled {A = A} (Err line)) old new line before now (λ more. ([], refl)) part.0 part.1))
+    ]
+
+no_memory : {A : Type 0} (stage : Stage A) (old new : Option Record) (front : List ℕ) (before now : ℕ) → IsPrefixOf front memory_line
+    → (front ≡ memory_line) ⊎ HasFailed before now
+    → new ≡ option_map (after_all (Line front ∷ [])) old → BrokeOff stage old new before now
+no_memory stage old new front before now is cause kept = record {
+  passed = [];
+  whole = [];
+  break = NoMemory front;
+  rest = λ more. record { later = (stage more).says; says_are = refl; broken = is };
+  cause = cause;
+  kept = kept;
+}
+
+-- memory that was refused
+pub goes_without_memory : {A : Type 0} (stage : Stage A) (old new : Option Record) (before now status : ℕ) → status ≡ 1
+    → IsTold old new memory_line before now
+    → Goes stage old new before now (Err status)
+goes_without_memory stage old new before now status one told =
+    elim (told.tells) [
+      | inl whole ↦ (one, inr (no_memory stage old new memory_line before now ([], append-nil memory_line) (inl refl) whole))
+      | inr part ↦
+          let front = take part.0.0 memory_line in (
+            one,
+            inr (no_memory stage old new front before now (drop part.0.0 memory_line, take-append-drop part.0.0 memory_line) (inr part.1)
+                part.0.2),
+          )
+    ]
+
+-- ---- judgments, and what is said
+
+pub went_settled : {A : Type 0} (r : Result A (List ℕ)) (a : A) (d : Option Record) → r ≡ Ok a → Went (settled r) d d (Made a)
+went_settled r a d is = subst (λ x. Went (settled x) d d (Made a)) (sym is) (went_nowhere d a)
+
+pub goes_unsettled : {A : Type 0} (r : Result A (List ℕ)) (line : List ℕ) (old new : Option Record) (before now status : ℕ) → r ≡ Err line
+    → status ≡ 1 → IsTold old new line before now
+    → Goes (settled r) old new before now (Err status)
+goes_unsettled r line old new before now status is one told =
+    subst (λ x. Goes (settled x) old new before now (Err status)) (sym is) (goes_refused old new line before now status one told)
+
+pub went_silent : (d : Option Record) → Went (said []) d d (Made tt)
+went_silent d = record { passed = []; says = []; comes = λ more. refl; kept = kept_none d }
+
+pub went_saying : (old new : Option Record) (line : List ℕ) → new ≡ option_map (after_all (Line line ∷ [])) old
+    → Went (said (Line line ∷ [])) old new (Made tt)
+went_saying old new line kept = record { passed = []; says = Line line ∷ []; comes = λ more. refl; kept = kept }
+
+pub goes_saying_part : (old new : Option Record) (line : List ℕ) (before now : ℕ) → SendsPart Messages old new line → HasFailed before now
+    → Goes (said (Line line ∷ [])) old new before now (Err 1)
+goes_saying_part old new line before now part failed =
+    (refl, inr (told_part (said (Line line ∷ [])) old new line before now (λ more. ([], refl)) part failed))
+
+-- what was made, made into something else
+pub went_into : {A B : Type 0} (stage : Stage A) (f : A → B) (old new : Option Record) (a : A) → Went stage old new (Made a)
+    → Went (stage >>= λ x. settled (Ok (f x))) old new (Made (f a))
+went_into stage f old new a went = went_went stage (λ x. settled (Ok (f x))) old new new a (Made (f a)) went (went_nowhere new (f a))
+
+-- a failed call is counted
+pub failed_counts : (before now : ℕ) (fault : DeskFault) → fault ≡ Failed → Counts {T = Unit {0}} before now (Err fault) → HasFailed before now
+failed_counts before now NotFound is counts = cc
+failed_counts before now Failed is counts = counts.1

@@ -1,0 +1,97 @@
+-- The size of an image that was read.
+use Rattle.std.proofs.Common.{◌≡◌, ◌∙◌, sym, ap, refl, arith, ℕ, ◌+◌, ◌≤◌, ◌<◌, List, [], ◌∷◌, length, map, flat_map, nat_le, Option, Some, None, Result, Ok, Err, inl, inr}
+use Rattle.std.proofs.Math.ListN.{length-set}
+use Rattle.std.proofs.lemmas.Bool.{cases_Bool, cases_lt}
+use Rattle.std.proofs.lemmas.Bool.Decides.{nat_tests}
+use Rattle.std.proofs.lemmas.List.{length-replicate}
+use Rattle.avr_cli.specs.declared.update.Format.{Format}
+use Rattle.avr_image.proofs.Immediate.{values_are, no_values}
+use Rattle.avr_image.proofs.Laying.{length-laid_over, length-from_zero}
+use Rattle.avr_image.specs.Image.{empty, from_zero, laid, with_byte}
+use Rattle.avr_image.specs.Placing.{with_pieces, with_piece, with_value, then_on}
+use Rattle.avr_image.specs.Raw as raw_file
+use Rattle.avr_image.specs.Values.{values, judged, pieces}
+use Rattle.avr_image.specs.declared.fault.ImageFault.{ImageFault}
+use Rattle.avr_records.specs.Lines.{lines}
+use Rattle.avr_records.specs.Reading.{Said, answer, first_fault, in_place, up_to_end, placed, read, says, together, ending}
+use Rattle.avr_records.specs.declared.kind.Ending.{Ending}
+use Rattle.avr_records.specs.declared.kind.Ending.TheVariants.{Ended}
+use Rattle.avr_records.specs.declared.kind.Found.{Found}
+use Rattle.avr_records.specs.declared.kind.Found.TheVariants as file
+use Rattle.avr_records.specs.declared.kind.Kind.{Kind}
+use Rattle.avr_records.specs.declared.kind.Kind.TheVariants as records
+use Rattle.avr_records.specs.declared.fault.RecordFault.{RecordFault}
+use Rattle.avr_plan.specs.ImageFile.{Bytes, Given, whole_file, file_within, image_within, kind_of, of_records, of_raw}
+
+abbrev Image : Type 0
+Image = List (Option ℕ)
+
+good-is : (fault : Option RecordFault) (good p : Image × Ending) → answer fault good ≡ Ok p → good ≡ p
+good-is (Some fault) good p is = cc
+good-is None good p is = cc
+
+laid-size : (places : List (ℕ × ℕ)) (size : ℕ) → length (laid size places) ≡ size
+laid-size places size = length-laid_over (empty size) places ∙ length-replicate {A = Option ℕ} size None
+
+together-size : (said : List Said) (size : ℕ) (p : Image × Ending) → together size said ≡ Ok p → length p.0 ≡ size
+together-size said size p is =
+    let good : Image × Ending = (laid size (flat_map placed (in_place [] (up_to_end said))), ending said) in
+    let same = good-is (first_fault size (in_place [] (up_to_end said))) good p is in
+    ap (λ (x : Image × Ending). length x.0) (sym same) ∙ laid-size (flat_map placed (in_place [] (up_to_end said))) size
+
+of-records-is : (r : Result (Image × Ending) RecordFault) (p : Image × Ending) → of_records r ≡ Ok p → r ≡ Ok p
+of-records-is (Ok good) p is = cc
+of-records-is (Err fault) p is = cc
+
+raw-size : (bytes : Bytes) (size : ℕ) (p : Image × Ending) → of_raw (raw_file.raw bytes size) ≡ Ok p → length p.0 ≡ size
+raw-size bytes size p is =
+    elim (cases_Bool (nat_le (length bytes) size)) [
+      | inl t ↦
+          let fits : length bytes ≤ size = grind (arith, nat_tests, t) in
+          let same : (from_zero bytes size, Ended) ≡ p = cc (rw t at is) in
+          ap (λ (x : Image × Ending). length x.0) (sym same) ∙ length-from_zero bytes size fits
+      | inr f ↦ cc (rw f at is)
+    ]
+
+whole-size : (found : Found) (bytes : Bytes) (size : ℕ) (p : Image × Ending) → whole_file found bytes size ≡ Ok p → length p.0 ≡ size
+whole-size file.Ihex bytes size p is = together-size (map (says records.Ihex) (lines bytes)) size p
+    (of-records-is (read records.Ihex bytes size) p is)
+whole-size file.Srec bytes size p is = together-size (map (says records.Srec) (lines bytes)) size p
+    (of-records-is (read records.Srec bytes size) p is)
+whole-size file.Elf bytes size p is = cc
+whole-size file.Raw bytes size p is = raw-size bytes size p is
+
+-- an image of a file
+pub image-size : (limit : ℕ) (format : Format) (bytes : Bytes) (size : ℕ) (image : Image) (last : Ending)
+    → Ok (image, last) ≡ image_within limit format bytes size → length image ≡ size
+image-size limit format bytes size image last is =
+    elim (cases_Bool (nat_le (length bytes) limit)) [
+      | inl t ↦
+          let whole : whole_file (kind_of format bytes) bytes size ≡ Ok (image, last) = sym (rw t at is) in
+          whole-size (kind_of format bytes) bytes size (image, last) whole
+      | inr f ↦ cc (rw f at is)
+    ]
+
+value-size : (image : Image) (addr : ℕ) (value : Result ℕ ImageFault) (next : Image → Result Image ImageFault) (out : Image)
+    → ((after : Image) → next after ≡ Ok out → length out ≡ length after) → then_on (with_value image addr value) next ≡ Ok out
+    → length out ≡ length image
+value-size image addr (Ok byte) next out onward is = onward (with_byte image addr byte) is ∙ length-set image addr (Some byte)
+value-size image addr (Err fault) next out onward is = cc
+
+pieces-size : (image : Image) (addr : ℕ) (parts : List Bytes) (out : Image) → with_pieces image addr parts ≡ Ok out → length out ≡ length image
+pieces-size image addr [] out is = let same : image ≡ out = cc in ap length (sym same)
+pieces-size image addr (part ∷ parts) out is =
+    value-size image addr (judged (length image) (addr, part)) (λ next. with_pieces next (addr + 1) parts) out
+    (λ after onward. pieces-size after (addr + 1) parts out onward) is
+
+-- an image of values
+pub values-size : (text : Bytes) (size : ℕ) (image : Image) → Ok image ≡ values text size → length image ≡ size
+values-size text size image is =
+    elim (cases_lt 0 (length (pieces text))) [
+      | inl some ↦
+          let laid' : with_pieces (empty size) 0 (pieces text) ≡ Ok image = sym (values_are text size some) ∙ sym is in
+          pieces-size (empty size) 0 (pieces text) image laid' ∙ length-replicate {A = Option ℕ} size None
+      | inr none ↦
+          let zero : length (pieces text) ≡ 0 = omega arith in
+          cc (is ∙ no_values text size zero)
+    ]

@@ -1,0 +1,94 @@
+-- The tasks of updates.
+use Rattle.std.proofs.Common.{◌≡◌, sym, ap, subst, arith, ℕ, zero, suc, ◌+◌, ◌≤◌, All, drop, is_ok, is_err, List, [], ◌∷◌, ◌++◌, refl, true, false, Bool, if◌then◌else◌, Option, Result, Ok, Err}
+use Rattle.avr_cli.specs.declared.chosen.Switches.{Switches}
+use Rattle.avr_cli.specs.declared.update.Format.{Format}
+use Rattle.avr_cli.specs.declared.update.Format.TheVariants.{Auto, Ihex, Srec, Raw, Immediate, Decimal, Hexadecimal, Octal, Binary}
+use Rattle.avr_cli.specs.declared.update.Update.{Update}
+use Rattle.avr_desk.specs.Record.{Record}
+use Rattle.avr_part.specs.Mem.{is_writable}
+use Rattle.avr_part.specs.Part.{Part}
+use Rattle.avr_part.specs.declared.mem.Mem.{Mem}
+use Rattle.avr_plan.proofs.Played.{goes_refused, goes_on, goes_no_further}
+use Rattle.avr_plan.specs.Lines.{Bytes, IsTold, read_only_line}
+use Rattle.avr_plan.specs.Planning.{file_image_stage, image_stage, update_image, write_stage, task_stage, tasks_stage}
+use Rattle.avr_plan.specs.Playing.{Goes, Went}
+use Rattle.avr_plan.specs.Stage.{Stage, Made, ◌>>=◌, settled}
+use Rattle.avr_plan.specs.declared.task.Task.{Task}
+use Rattle.avr_plan.specs.declared.task.Task.TheVariants.{Write}
+
+-- a format that is none of values is that of a file
+file_stage-is : (switches : Switches) (memory : Mem) (size : ℕ) (file : Bytes) (format : Format) → (format ≡ Immediate → ⊥)
+    → file_image_stage switches file format size ≡ image_stage switches memory size file format
+file_stage-is switches memory size file Auto other = refl
+file_stage-is switches memory size file Ihex other = refl
+file_stage-is switches memory size file Srec other = refl
+file_stage-is switches memory size file Raw other = refl
+file_stage-is switches memory size file Immediate other = absurd (other refl)
+file_stage-is switches memory size file Decimal other = refl
+file_stage-is switches memory size file Hexadecimal other = refl
+file_stage-is switches memory size file Octal other = refl
+file_stage-is switches memory size file Binary other = refl
+
+pub goes_of_file : (switches : Switches) (memory : Mem) (size size' : ℕ) (file file' : Bytes) (format : Format) (old new : Option Record)
+    (before now : ℕ) (result : Result (List (Option ℕ)) ℕ)
+    → size ≡ size' → file ≡ file' → (format ≡ Immediate → ⊥) → Goes (file_image_stage switches file format size) old new before now result
+    → Goes (image_stage switches memory size' file' format) old new before now result
+goes_of_file switches memory size size' file file' format old new before now result sizes files other goes =
+    let one = subst (λ s. Goes s old new before now result) (file_stage-is switches memory size file format other) goes in
+    let two = subst (λ (n : ℕ). Goes (image_stage switches memory n file format) old new before now result) sizes one in
+    subst (λ (f : Bytes). Goes (image_stage switches memory size' f format) old new before now result) files two
+
+pub goes_of_values : (switches : Switches) (memory : Mem) (size size' : ℕ) (file file' : Bytes) (format : Format) (old new : Option Record)
+    (before now : ℕ) (result : Result (List (Option ℕ)) ℕ)
+    → size ≡ size' → file ≡ file' → format ≡ Immediate → Goes (image_stage switches memory size file Immediate) old new before now result
+    → Goes (image_stage switches memory size' file' format) old new before now result
+goes_of_values switches memory size size' file file' format old new before now result sizes files is goes =
+    let one = subst (λ f. Goes (image_stage switches memory size file f) old new before now result) (sym is) goes in
+    let two = subst (λ (n : ℕ). Goes (image_stage switches memory n file format) old new before now result) sizes one in
+    subst (λ (f : Bytes). Goes (image_stage switches memory size' f format) old new before now result) files two
+
+abbrev writes : Switches → Part → Update → Stage Task
+writes switches part u = update_image switches part u >>= λ image. settled (Ok (Write u.memory image))
+
+pub goes_writable : (switches : Switches) (part : Part) (u : Update) (old new : Option Record) (before now : ℕ) (result : Result Task ℕ)
+    → true ≡ is_writable u.memory
+    → Goes (writes switches part u) old new before now result → Goes (write_stage switches part u) old new before now result
+goes_writable switches part u old new before now result is goes =
+    subst (λ b. Goes (if b then writes switches part u else settled (Err (read_only_line u.memory))) old new before now result) is goes
+
+pub goes_read_only : (switches : Switches) (part : Part) (u : Update) (old new : Option Record) (before now status : ℕ)
+    → false ≡ is_writable u.memory
+    → status ≡ 1 → IsTold old new (read_only_line u.memory) before now → Goes (write_stage switches part u) old new before now (Err status)
+goes_read_only switches part u old new before now status is one told =
+    subst (λ b. Goes (if b then writes switches part u else settled (Err (read_only_line u.memory))) old new before now (Err status)) is
+    (goes_refused old new (read_only_line u.memory) before now status one told)
+
+-- ---- one task after the other
+
+pub goes_with_next : (switches : Switches) (part : Part) (tasks : List Task) (updates : List Update) (i : ℕ) (u : Update)
+    (old mid new : Option Record) (before between now : ℕ) (task : Task) (result : Result (List Task) ℕ)
+    → drop i updates ≡ u ∷ drop (i + 1) updates → Went (task_stage switches part u) old mid (Made task) → before ≤ between
+    → Goes (tasks_stage switches part (tasks ++ task ∷ []) (drop (i + 1) updates)) mid new between now result
+    → Goes (tasks_stage switches part tasks (drop i updates)) old new before now result
+goes_with_next switches part tasks updates i u old mid new before between now task result is went rises goes =
+    subst (λ (us : List Update). Goes (tasks_stage switches part tasks us) old new before now result) (sym is)
+    (goes_on (task_stage switches part u) (λ t. tasks_stage switches part (tasks ++ t ∷ []) (drop (i + 1) updates)) old mid new task before
+    between now result went rises goes)
+
+pub goes_without_next : (switches : Switches) (part : Part) (tasks : List Task) (updates : List Update) (i : ℕ) (u : Update)
+    (old new : Option Record) (before now status : ℕ)
+    → drop i updates ≡ u ∷ drop (i + 1) updates → Goes (task_stage switches part u) old new before now (Err status)
+    → Goes (tasks_stage switches part tasks (drop i updates)) old new before now (Err status)
+goes_without_next switches part tasks updates i u old new before now status is goes =
+    subst (λ (us : List Update). Goes (tasks_stage switches part tasks us) old new before now (Err status)) (sym is)
+    (goes_no_further (task_stage switches part u) (λ t. tasks_stage switches part (tasks ++ t ∷ []) (drop (i + 1) updates)) old new before now
+    status goes)
+
+-- a task that was put behind the others
+pub pushed : {A E : Type 0} (r : Result A E) (new more same : List Task) → new ≡ (if is_ok r then more else same) → false ≡ is_err r → new ≡ more
+pushed (Ok a) new more same is none = is
+pushed (Err e) new more same is none = cc
+
+pub all_one : (P : Task → Type 0) (task : Task) → P task → All P (task ∷ [])
+all_one P task p zero d l = p
+all_one P task p (suc k) d l = absurd (omega (arith, l))

@@ -1,0 +1,13 @@
+use Rattle.std.proofs.Common.{◌≡◌, ◌≤◌, ◌-◌, length, option_map, false}
+use Rattle.avr_desk.specs.Files.{after_reading}
+use Rattle.avr_plan.proofs.image_file.read_front.Given as goal
+
+abbrev pub invariant-front : goal.invariant-front
+invariant-front g l = record {
+  read : g.D.Desk.kept l.desk ≡ option_map (after_reading l.bytes.items false) (g.D.Desk.kept l.initial.desk);
+  rises : g.D.Desk.failures l.initial.desk ≤ g.D.Desk.failures l.desk;
+  bound : length l.bytes.items ≤ 1024;
+}
+
+abbrev pub decreases-front : goal.decreases-front
+decreases-front g l = 1024 - length l.bytes.items

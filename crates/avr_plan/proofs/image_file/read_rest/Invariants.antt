@@ -1,0 +1,14 @@
+use Rattle.std.proofs.Common.{◌≡◌, ◌≤◌, ◌-◌, ◌+◌, length, option_map, false}
+use Rattle.avr_plan.specs.ImageReading.{Going}
+use Rattle.avr_plan.specs.Intake.{counted}
+use Rattle.avr_plan.proofs.image_file.read_rest.Given as goal
+
+abbrev pub invariant-pieces : goal.invariant-pieces
+invariant-pieces g l = record {
+  going : Going (g.D.Desk.kept l.initial.desk) (g.D.Desk.kept l.desk) l.initial.intake l.intake l.initial.left l.left;
+  rises : g.D.Desk.failures l.initial.desk ≤ g.D.Desk.failures l.desk;
+  room : counted l.intake + l.left ≤ counted l.initial.intake + l.initial.left;
+}
+
+abbrev pub decreases-pieces : goal.decreases-pieces
+decreases-pieces g l = l.left

@@ -1,0 +1,17 @@
+use Rattle.std.proofs.Common.{Ok}
+use Rattle.avr_plan.proofs.Played.{went_into, goes_no_further}
+use Rattle.avr_plan.specs.Planning.{update_image}
+use Rattle.avr_plan.specs.Stage.{settled}
+use Rattle.avr_plan.specs.declared.task.Task.TheVariants.{Verify}
+use Rattle.avr_plan.proofs.planning.verify_task.Goals as goal
+
+pub returns-in-Ok-clause-goes : goal.returns-in-Ok-clause-goes
+returns-in-Ok-clause-goes g c =
+    let u = c.args.update.now in
+    went_into (update_image c.args.switches c.args.part.now u) (Verify u.memory) _ _ c.in-Ok.image c.in-Ok.ensures.goes
+
+pub returns-in-Err-clause-goes : goal.returns-in-Err-clause-goes
+returns-in-Err-clause-goes g c =
+    let u = c.args.update.now in
+    goes_no_further (update_image c.args.switches c.args.part.now u) (λ image. settled (Ok (Verify u.memory image))) _ _ _ _ c.in-Err.status
+    c.in-Err.ensures.goes

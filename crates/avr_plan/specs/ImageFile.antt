@@ -1,0 +1,67 @@
+-- The image that the bytes of a file are.
+use Rattle.std.specs.Prelude.{ℕ, List, length, take, nat_le, Option, Some, None, Result, Ok, Err, if◌then◌else◌}
+use Rattle.avr_cli.specs.declared.update.Format.{Format}
+use Rattle.avr_cli.specs.declared.update.Format.TheVariants as letter
+use Rattle.avr_image.specs.Raw as raw_file
+use Rattle.avr_image.specs.declared.fault.ImageFault.{ImageFault}
+use Rattle.avr_records.specs.Closed.{closed_fault}
+use Rattle.avr_records.specs.Detect.{detected}
+use Rattle.avr_records.specs.Reading.{read}
+use Rattle.avr_records.specs.declared.kind.Ending.{Ending}
+use Rattle.avr_records.specs.declared.kind.Ending.TheVariants.{Ended}
+use Rattle.avr_records.specs.declared.kind.Found.{Found}
+use Rattle.avr_records.specs.declared.kind.Found.TheVariants as file
+use Rattle.avr_records.specs.declared.kind.Kind.TheVariants as records
+use Rattle.avr_records.specs.declared.fault.RecordFault.{RecordFault}
+use Rattle.avr_plan.specs.declared.bad_file.BadFile.{BadFile}
+use Rattle.avr_plan.specs.declared.bad_file.BadFile.TheVariants.{Record, Raw, Elf, TooLong}
+
+abbrev pub Bytes : Type 0
+Bytes = List ℕ
+
+-- an image, and whether its file had an end record; or what is wrong with the file
+abbrev pub Given : Type 0
+Given = Result (List (Option ℕ) × Ending) BadFile
+
+abbrev pub of_records : Result (List (Option ℕ) × Ending) RecordFault → Given
+of_records (Ok good) = Ok good
+of_records (Err fault) = Err (Record fault)
+
+-- raw bytes lack no end record
+abbrev pub of_raw : Result (List (Option ℕ)) ImageFault → Given
+of_raw (Ok image) = Ok (image, Ended)
+of_raw (Err fault) = Err (Raw fault)
+
+-- what a file of this kind is to a memory of this size
+abbrev pub whole_file : Found → Bytes → ℕ → Given
+whole_file file.Ihex bytes size = of_records (read records.Ihex bytes size)
+whole_file file.Srec bytes size = of_records (read records.Srec bytes size)
+whole_file file.Elf bytes size = Err Elf
+whole_file file.Raw bytes size = of_raw (raw_file.raw bytes size)
+
+abbrev pub or_too_long : Option RecordFault → BadFile
+or_too_long (Some fault) = Record fault
+or_too_long None = TooLong
+
+-- What is wrong with a longer file of which this is the front: the first fault of a line that ends there, or the length.
+abbrev pub long_file : Found → Bytes → ℕ → BadFile
+long_file file.Ihex front size = or_too_long (closed_fault records.Ihex front size)
+long_file file.Srec front size = or_too_long (closed_fault records.Srec front size)
+long_file found front size = TooLong
+
+-- what a file is that may have as many bytes as the limit says
+abbrev pub file_within : ℕ → Found → Bytes → ℕ → Given
+file_within limit found bytes size =
+    if nat_le (length bytes) limit then whole_file found bytes size
+    else Err (long_file found (take limit bytes) size)
+
+-- the kind of a file: the one given, or what its first bytes show
+abbrev pub kind_of : Format → Bytes → Found
+kind_of letter.Ihex bytes = file.Ihex
+kind_of letter.Srec bytes = file.Srec
+kind_of letter.Raw bytes = file.Raw
+kind_of format bytes = detected bytes
+
+-- what a file of this format is
+abbrev pub image_within : ℕ → Format → Bytes → ℕ → Given
+image_within limit format bytes size = file_within limit (kind_of format bytes) bytes size

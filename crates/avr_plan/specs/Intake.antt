@@ -1,0 +1,48 @@
+-- What is made of the bytes of a file as they come, and the bytes that may have come.
+use Rattle.std.specs.Prelude.{◌≡◌, ℕ, List, length, ◌++◌, Option, Some, None, Result, Err}
+use Rattle.avr_image.specs.Raw as raw_file
+use Rattle.avr_records.specs.Reader.{State, Stands, memory_size}
+use Rattle.avr_records.specs.declared.kind.Found.{Found}
+use Rattle.avr_records.specs.declared.kind.Found.TheVariants as file
+use Rattle.avr_records.specs.declared.kind.Kind.{Kind}
+use Rattle.avr_records.specs.declared.kind.Kind.TheVariants as records
+use Rattle.avr_plan.specs.ImageFile.{Bytes, whole_file, long_file}
+use Rattle.avr_plan.specs.declared.bad_file.BadFile.{BadFile}
+use Rattle.avr_plan.specs.declared.bad_file.BadFile.TheVariants.{Record, TooLong}
+use Rattle.avr_plan.specs.declared.intake.Intake.{Intake}
+use Rattle.avr_plan.specs.declared.intake.Intake.TheVariants as intake
+
+abbrev pub found_as : Kind → Found
+found_as records.Ihex = file.Ihex
+found_as records.Srec = file.Srec
+
+-- what is told of a longer file with this fault in its front
+abbrev pub in_long_file : BadFile → BadFile
+in_long_file (Record fault) = Record fault
+in_long_file fault = TooLong
+
+-- This is the fault of a file that begins with this text, whatever follows.
+pub record Decides (found : Found) (size : ℕ) (fault : BadFile) (text : Bytes) : Type 0 where
+  pub whole : (more : Bytes) → whole_file found (text ++ more) size ≡ Err fault
+  pub long : (more : Bytes) → long_file found (text ++ more) size ≡ in_long_file fault
+
+pub record TakesRecords (found : Found) (size : ℕ) (reader : State) (text : Bytes) : Type 0 where
+  pub of_kind : found ≡ found_as reader.kind
+  pub of_size : memory_size reader ≡ size
+  pub stands : Stands reader text
+
+pub record TakesRaw (found : Found) (size : ℕ) (reader : raw_file.Holding) (text : Bytes) : Type 0 where
+  pub of_kind : found ≡ file.Raw
+  pub of_size : length reader.image ≡ size
+  pub stands : raw_file.Stands reader text
+
+-- it may have been fed this text, of a file of this kind, for a memory of this size
+abbrev pub Takes : Found → ℕ → Intake → Bytes → Type 0
+Takes found size (intake.Records reader) text = TakesRecords found size reader text
+Takes found size (intake.Raw reader) text = TakesRaw found size reader text
+Takes found size (intake.Faulty fault) text = Decides found size fault text
+
+-- how many bytes a reader of records counts
+abbrev pub counted : Intake → ℕ
+counted (intake.Records reader) = reader.fed
+counted taken = 0

@@ -1,0 +1,17 @@
+-- What a run is to do, once everything that it needs was read and judged.
+use Rattle.std.specs.Prelude.{◌≡◌, ℕ, List, length, All}
+use Rattle.avr_cli.specs.declared.chosen.Switches.{Switches}
+use Rattle.avr_part.specs.Part.{Part, size_of}
+use Rattle.avr_plan.specs.declared.task.Task.{Task}
+use Rattle.avr_plan.specs.declared.task.Task.TheVariants.{Write, Verify, Read}
+
+pub record Plan : Type 0 where
+  pub part : Part
+  pub tasks : List Task
+  pub switches : Switches
+
+-- an image is as large as its memory
+abbrev pub IsFitted : Part → Task → Type 0
+IsFitted part (Write memory image) = length image ≡ size_of memory part
+IsFitted part (Verify memory image) = length image ≡ size_of memory part
+IsFitted part task = Unit {0}

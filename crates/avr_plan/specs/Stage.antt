@@ -1,0 +1,75 @@
+-- A stage of planning: what it does at the desk and what it comes to, as a function of what the openings of files give.
+use Rattle.std.specs.Prelude.{ℕ, Bool, ◌||◌, nat_lt, List, [], ◌∷◌, ◌++◌, drop, length, Result, Ok, Err, if◌then◌else◌, ⊤}
+use Rattle.avr_desk.specs.declared.record.Opening.{Opening}
+use Rattle.avr_desk.specs.declared.record.Opening.TheVariants.{Absent, Found}
+use Rattle.avr_desk.specs.declared.record.Reading.{Reading}
+use Rattle.avr_message.specs.Said.{Saying, Opens, Line}
+use Rattle.avr_plan.specs.Lines.{Bytes, not_opened_line}
+
+-- It made something; or it is refused; or it can't be judged, since a file was not read to its end or past its limit.
+pub data Answer (A : Type 0) : Type 0 where
+  Made : A → Answer A
+  Refused : Answer A
+  Unread : Answer A
+
+-- what was said, the answer, and what the later openings give
+pub record Played (A : Type 0) : Type 0 where
+  pub says : List Saying
+  pub answer : Answer A
+  pub left : List Opening
+
+abbrev pub Stage : Type 0 → Type 0
+Stage A = List Opening → Played A
+
+-- behind these sayings
+abbrev pub behind : {A : Type 0} → List Saying → Played A → Played A
+behind says p = record { says = says ++ p.says; answer = p.answer; left = p.left }
+
+abbrev pub going_on : {A B : Type 0} → List Saying → List Opening → (A → Stage B) → Answer A → Played B
+going_on says left go_on (Made a) = behind says (go_on a left)
+going_on says left go_on Refused = record { says = says; answer = Refused; left = left }
+going_on says left go_on Unread = record { says = says; answer = Unread; left = left }
+
+-- one stage, and then the one that its answer chooses
+infixl 10 ◌>>=◌
+abbrev pub ◌>>=◌ : {A B : Type 0} → Stage A → (A → Stage B) → Stage B
+◌>>=◌ stage go_on openings =
+    let p = stage openings in
+    going_on p.says p.left go_on p.answer
+
+-- something is said
+abbrev pub said : List Saying → Stage ⊤
+said says openings = record { says = says; answer = Made tt; left = openings }
+
+-- a judgment: what it gives, or the line of its refusal
+abbrev pub settled : {A : Type 0} → Result A Bytes → Stage A
+settled (Ok a) openings = record { says = []; answer = Made a; left = openings }
+settled (Err line) openings = record { says = Line line ∷ []; answer = Refused; left = openings }
+
+abbrev pub unread : {A : Type 0} → Stage A
+unread openings = record { says = []; answer = Unread; left = openings }
+
+-- what the next opening gives; behind the last one no file is there
+abbrev pub next_opening : Bytes → List Opening → Opening
+next_opening name [] = Absent name
+next_opening name (opening ∷ openings) = opening
+
+abbrev pub opened : Bytes → Stage Opening
+opened name openings = record {
+  says = Opens (next_opening name openings) ∷ [];
+  answer = Made (next_opening name openings);
+  left = drop 1 openings;
+}
+
+-- the file was read to its end, or past the limit
+abbrev pub is_whole : ℕ → Reading → Bool
+is_whole limit reading = reading.ended || nat_lt limit (length reading.bytes)
+
+abbrev pub judged : {A : Type 0} → Bytes → ℕ → (Bytes → Result A Bytes) → Opening → Stage A
+judged name limit judge (Absent other) = settled (Err (not_opened_line name))
+judged name limit judge (Found reading) =
+    if is_whole limit reading then settled (judge reading.bytes) else unread
+
+-- the judgment of a file, once it was read to its end or past its limit
+abbrev pub file_stage : {A : Type 0} → Bytes → ℕ → (Bytes → Result A Bytes) → Stage A
+file_stage name limit judge = opened name >>= judged name limit judge

@@ -1,0 +1,167 @@
+//! An image file over a desk: read in pieces to its end, or past the limit, and only then judged.
+ghost use Rattle.std.specs.Prelude.{◌≡◌, ◌+◌, ◌<◌, ◌≤◌, ◌^◌, ℕ, IfErr, length};
+ghost use Rattle.avr_records.specs.declared.kind.Found.{Found as AnyFound};
+ghost use Rattle.avr_plan.specs.ImageFile.{Bytes, kind_of, whole_file};
+ghost use Rattle.avr_plan.specs.ImageReading.{IsGiven, FrontIsRead, RestIsRead, OpenIsRead, ImageIsRead, IsCounted, IsCountedRead};
+ghost use Rattle.avr_plan.specs.Intake.{Takes, counted};
+
+use crate::bad_file::BadFile;
+use crate::intake::Intake;
+use arrayvec::ArrayVec;
+use avr_cli::Format;
+use avr_desk::{Desk, DeskFault, FileFault};
+use avr_image::Image;
+use avr_records::{Ending, Found, detect};
+use std::alloc::Global;
+use thiserror::Error;
+
+/// The most bytes of an image file.
+const LIMIT: usize = 4_194_304;
+
+/// The most bytes that are asked of a desk at a time.
+const PIECE: usize = 4096;
+
+/// How many bytes of a file show its format.
+const FRONT: usize = 1024;
+
+/// Why no image came of a file.
+#[derive(Clone, Copy, Debug, PartialEq, Eq, Error)]
+pub enum ReadFault {
+    /// The file was not read to its end.
+    #[error("{0}")]
+    File(FileFault),
+    /// It was, and is no image.
+    #[error("{0}")]
+    Image(BadFile),
+}
+
+/// The front of a file: all that it has, or enough to show its format.
+#[derive(Drop)]
+pub(crate) struct Front {
+    pub bytes: ArrayVec<u8, FRONT>,
+    pub ended: bool,
+}
+
+/// The kind of a file of this format, by its front where no kind is given.
+fn file_kind(format: Format, front: &[u8]) -> Found
+    ensures { result ≡ kind_of format front.now }
+{
+    match format {
+        Format::Ihex => Found::Ihex,
+        Format::Srec => Found::Srec,
+        Format::Raw => Found::Raw,
+        _ => detect(front),
+    }
+}
+
+/// Reads the front of the open file.
+fn read_front<D: Desk>(desk: &mut D) -> Result<Front, FileFault>
+    ensures kept { FrontIsRead (D.kept desk.old) (D.kept desk.new) result }
+    ensures rises { D.failures desk.old ≤ D.failures desk.new }
+    ensures counted { IfErr result (IsCounted (D.failures desk.old) (D.failures desk.new)) }
+{
+    let mut bytes: ArrayVec<u8, FRONT> = ArrayVec::new();
+    let mut piece = [0u8; FRONT];
+    'front: while !bytes.is_full() {
+        let room = bytes.remaining_capacity();
+        let Ok(given) = desk.read(&mut piece[..room]) else {
+            return Err(FileFault::NotRead);
+        };
+        if given == 0 {
+            return Ok(Front { bytes, ended: true });
+        }
+        let _ = bytes.try_extend_from_slice(&piece[..given]);
+    }
+    Ok(Front {
+        bytes,
+        ended: false,
+    })
+}
+
+/// What the whole file is.
+fn finish(intake: Intake) -> Result<(Image, Ending), ReadFault>
+    ensures given { (found : AnyFound) (size : ℕ) (text : Bytes) → Takes found size intake text → IsGiven (whole_file found text size) result }
+    ensures counted { IfErr result (λ fault. (old : ℕ) (new : ℕ) → IsCountedRead old new fault) }
+{
+    match intake.finish() {
+        Ok(good) => Ok(good),
+        Err(bad) => Err(ReadFault::Image(bad)),
+    }
+}
+
+/// Reads the rest of the open file, which may have `left` more bytes, and judges the whole.
+fn read_rest<D: Desk>(
+    desk: &mut D,
+    mut intake: Intake,
+    mut left: usize,
+) -> Result<(Image, Ending), ReadFault>
+    requires { counted intake + left < 2 ^ 31 }
+    ensures read { (limit : ℕ) (found : AnyFound) (size : ℕ) (before : Bytes) → Takes found size intake before → length before + left ≡ limit
+        → RestIsRead limit found size before (D.kept desk.old) (D.kept desk.new) result }
+    ensures rises { D.failures desk.old ≤ D.failures desk.new }
+    ensures counted { IfErr result (IsCountedRead (D.failures desk.old) (D.failures desk.new)) }
+{
+    let mut piece = [0u8; PIECE];
+    'pieces: loop {
+        let Ok(count) = desk.read(&mut piece) else {
+            return Err(ReadFault::File(FileFault::NotRead));
+        };
+        if count == 0 {
+            return finish(intake);
+        }
+        if count > left {
+            return Err(ReadFault::Image(intake.fed(&piece[..left]).exceeded()));
+        }
+        intake = intake.fed(&piece[..count]);
+        left -= count;
+    }
+}
+
+/// Reads the open file, of at most `limit` bytes.
+fn read_open<D: Desk>(
+    alloc: Global,
+    desk: &mut D,
+    format: Format,
+    size: u32,
+    limit: usize,
+) -> Result<(Image, Ending), ReadFault>
+    requires front { FRONT ≤ limit }
+    requires most { limit < 2 ^ 31 }
+    ensures read { OpenIsRead limit format size (D.kept desk.old) (D.kept desk.new) result }
+    ensures rises { D.failures desk.old ≤ D.failures desk.new }
+    ensures counted { IfErr result (IsCountedRead (D.failures desk.old) (D.failures desk.new)) }
+{
+    let front = match read_front(desk) {
+        Ok(front) => front,
+        Err(fault) => return Err(ReadFault::File(fault)),
+    };
+    let bytes = front.bytes.as_slice();
+    let intake = match Intake::new(alloc, file_kind(format, bytes), size) {
+        Ok(intake) => intake.fed(bytes),
+        Err(fault) => return Err(ReadFault::File(fault)),
+    };
+    if front.ended {
+        return finish(intake);
+    }
+    read_rest(desk, intake, limit - bytes.len())
+}
+
+/// Reads an image file: opens it, reads it to its end or until more than 4,194,304 bytes came, in pieces of at most 4,096,
+/// and then tells what it is to a memory of this size. No more than a piece is held beside the image.
+pub fn read_image<D: Desk>(
+    alloc: Global,
+    desk: &mut D,
+    name: &str,
+    format: Format,
+    size: u32,
+) -> Result<(Image, Ending), ReadFault>
+    ensures read { ImageIsRead 4194304 format size name.now (D.kept desk.old) (D.kept desk.new) result }
+    ensures rises { D.failures desk.old ≤ D.failures desk.new }
+    ensures counted { IfErr result (IsCountedRead (D.failures desk.old) (D.failures desk.new)) }
+{
+    match desk.open(name) {
+        Ok(()) => read_open(alloc, desk, format, size, LIMIT),
+        Err(DeskFault::NotFound) => Err(ReadFault::File(FileFault::Absent)),
+        Err(DeskFault::Failed) => Err(ReadFault::File(FileFault::NotOpened)),
+    }
+}

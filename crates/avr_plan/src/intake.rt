@@ -1,0 +1,107 @@
+//! An image that is made of the bytes of a file as they come.
+ghost use Rattle.std.specs.Prelude.{◌≡◌, ◌+◌, ◌<◌, ◌≤◌, ◌^◌, ◌++◌, ℕ, List, [], Ok, Err, length, MatchResult};
+ghost use Rattle.avr_records.specs.declared.kind.Found.{Found as AnyFound};
+ghost use Rattle.avr_plan.specs.ImageFile.{Bytes, whole_file, long_file};
+ghost use Rattle.avr_plan.specs.Intake.{Takes, counted, found_as, in_long_file};
+
+use crate::bad_file::BadFile;
+use avr_desk::FileFault;
+use avr_image::{Image, RawReader};
+use avr_records::{Ending, Found, Kind, RecordReader};
+use std::alloc::Global;
+
+/// What is made of the bytes of a file as they come: a reader's work, or the fault that it met.
+#[derive(Drop)]
+pub enum Intake {
+    Records(RecordReader),
+    Raw(RawReader),
+    Faulty(BadFile),
+}
+
+/// A reader of a record file.
+fn record_intake(alloc: Global, kind: Kind, size: u32) -> Result<Intake, FileFault>
+    ensures { MatchResult result (λ intake. Takes (found_as kind) size intake [] × (counted intake ≡ 0)) (λ fault. fault ≡ FileFault.Memory) }
+{
+    match RecordReader::new(alloc, kind, size) {
+        Ok(reader) => Ok(Intake::Records(reader)),
+        Err(_) => Err(FileFault::Memory),
+    }
+}
+
+/// A reader of raw bytes.
+fn raw_intake(alloc: Global, size: u32) -> Result<Intake, FileFault>
+    ensures { MatchResult result (λ intake. Takes Found.Raw size intake [] × (counted intake ≡ 0)) (λ fault. fault ≡ FileFault.Memory) }
+{
+    match RawReader::new(alloc, size) {
+        Ok(reader) => Ok(Intake::Raw(reader)),
+        Err(_) => Err(FileFault::Memory),
+    }
+}
+
+/// What is wrong with a file that is too long, with this fault in its front.
+fn in_long_file(fault: BadFile) -> BadFile
+    ensures { result ≡ in_long_file fault }
+{
+    match fault {
+        BadFile::Record(_) => fault,
+        _ => BadFile::TooLong,
+    }
+}
+
+impl Intake {
+    /// For a file of this kind and a memory of this size, before any byte.
+    pub(crate) fn new(alloc: Global, found: Found, size: u32) -> Result<Intake, FileFault>
+        ensures { MatchResult result (λ intake. Takes found size intake [] × (counted intake ≡ 0)) (λ fault. fault ≡ FileFault.Memory) }
+    {
+        match found {
+            Found::Ihex => record_intake(alloc, Kind::Ihex, size),
+            Found::Srec => record_intake(alloc, Kind::Srec, size),
+            Found::Elf => Ok(Intake::Faulty(BadFile::Elf)),
+            Found::Raw => raw_intake(alloc, size),
+        }
+    }
+
+    /// With the next bytes of the file. The first fault is kept.
+    pub(crate) fn fed(self, piece: &[u8]) -> Intake
+        requires { counted self + length piece.now < 2 ^ 32 }
+        ensures takes { (found : AnyFound) (size : ℕ) (text : Bytes) → Takes found size self text → Takes found size result (text ++ piece.now) }
+        ensures count { counted result ≤ counted self + length piece.now }
+    {
+        match self {
+            Intake::Records(mut reader) => match reader.feed(piece) {
+                Ok(()) => Intake::Records(reader),
+                Err(fault) => Intake::Faulty(BadFile::Record(fault)),
+            },
+            Intake::Raw(mut reader) => match reader.feed(piece) {
+                Ok(()) => Intake::Raw(reader),
+                Err(fault) => Intake::Faulty(BadFile::Raw(fault)),
+            },
+            Intake::Faulty(fault) => Intake::Faulty(fault),
+        }
+    }
+
+    /// What the whole file is.
+    pub(crate) fn finish(self) -> Result<(Image, Ending), BadFile>
+        ensures { (found : AnyFound) (size : ℕ) (text : Bytes) → Takes found size self text → result ≡ whole_file found text size }
+    {
+        match self {
+            Intake::Records(reader) => reader.finish().map_err(BadFile::Record),
+            Intake::Raw(reader) => match reader.finish() {
+                Ok(image) => Ok((image, Ending::Ended)),
+                Err(fault) => Err(BadFile::Raw(fault)),
+            },
+            Intake::Faulty(fault) => Err(fault),
+        }
+    }
+
+    /// What is wrong with the file, of which this was the front.
+    pub(crate) fn exceeded(self) -> BadFile
+        ensures { (found : AnyFound) (size : ℕ) (text : Bytes) → Takes found size self text → result ≡ long_file found text size }
+    {
+        match self {
+            Intake::Records(_) => BadFile::TooLong,
+            Intake::Raw(_) => BadFile::TooLong,
+            Intake::Faulty(fault) => in_long_file(fault),
+        }
+    }
+}

@@ -1,0 +1,37 @@
+//! The plan of a run: what the settings ask for is read and judged, before any frame is sent or file created.
+//!
+//! The rules are those of AVRDUDE's `-U`: a part is looked up, in the part file before the built-in parts, and the file of
+//! each update becomes an image of its memory. The one idea: planning is a function of what the openings of files give, and
+//! what a call does at the desk and answers is that function, over the openings that passed and whatever might follow.
+//!
+//! ```text
+//! match plan(alloc, &settings, &mut desk) {
+//!     Ok(plan) => drive(&plan, ..),
+//!     Err(status) => status, // 1, and the line of the refusal was printed
+//! }
+//! ```
+#![tactic(auto)]
+
+// an image file, read to its end or past its limit
+mod bad_file;
+mod image_file;
+mod intake;
+// the part, and the image of an update
+mod part_choice;
+mod update_image;
+// what is to be done
+mod planned;
+mod task;
+mod tasks;
+// the plan, and why there is none
+mod planning;
+mod refusal;
+
+pub use bad_file::BadFile;
+pub use image_file::{ReadFault, read_image};
+pub use planned::Plan;
+pub use planning::plan;
+pub use task::Task;
+
+#[cfg(test)]
+mod tests;

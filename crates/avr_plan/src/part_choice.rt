@@ -1,0 +1,57 @@
+//! The part: the part file is read and judged, and the part looked up.
+ghost use Rattle.std.specs.Prelude.{◌≤◌, Some};
+ghost use Rattle.avr_plan.specs.Planning.{parts_stage, part_stage};
+ghost use Rattle.avr_plan.specs.Playing.{Goes};
+
+use crate::refusal::{refuse_file, refuse_part, refuse_part_file, refuse_too_long};
+use avr_cli::Text;
+use avr_desk::{Desk, FileFault, read_file};
+use avr_part::{Part, PartFault, Parts, parse_parts};
+use std::alloc::Global;
+
+/// The most bytes of a part file.
+const LIMIT: usize = 65_536;
+
+/// The parts of a part file.
+fn file_parts<D: Desk>(alloc: Global, desk: &mut D, file: &str) -> Result<Parts, u8>
+    ensures goes { Goes (parts_stage (Some file.now)) (D.kept desk.old) (D.kept desk.new) (D.failures desk.old) (D.failures desk.new) result }
+    ensures rises { D.failures desk.old ≤ D.failures desk.new }
+{
+    let contents = match read_file(alloc, desk, file, LIMIT) {
+        Ok(contents) => contents,
+        Err(fault) => return Err(refuse_file(desk, file, fault)),
+    };
+    if !contents.ended {
+        return Err(refuse_too_long(desk, file, LIMIT as u32));
+    }
+    match parse_parts(alloc, contents.bytes.as_slice()) {
+        Ok(parts) => Ok(parts),
+        Err(fault) => Err(refuse_part_file(desk, file, fault)),
+    }
+}
+
+/// The parts of the part file, if one is given.
+pub(crate) fn given_parts<D: Desk>(
+    alloc: Global,
+    desk: &mut D,
+    file: &Option<Text>,
+) -> Result<Parts, u8>
+    ensures goes { Goes (parts_stage file.now) (D.kept desk.old) (D.kept desk.new) (D.failures desk.old) (D.failures desk.new) result }
+    ensures rises { D.failures desk.old ≤ D.failures desk.new }
+{
+    match file {
+        Some(file) => file_parts(alloc, desk, file.as_str()),
+        None => Ok(Parts::none()),
+    }
+}
+
+/// The part of this id.
+pub(crate) fn chosen_part<D: Desk>(desk: &mut D, parts: &Parts, id: &str) -> Result<Part, u8>
+    ensures goes { Goes (part_stage id.now parts.now) (D.kept desk.old) (D.kept desk.new) (D.failures desk.old) (D.failures desk.new) result }
+    ensures rises { D.failures desk.old ≤ D.failures desk.new }
+{
+    match parts.find(id) {
+        Ok(part) => Ok(part),
+        Err(_) => Err(refuse_part(desk, id)),
+    }
+}

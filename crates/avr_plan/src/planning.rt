@@ -1,0 +1,146 @@
+//! The plan of a run: everything that it needs is read and judged, before any frame is sent.
+ghost use Rattle.std.specs.Prelude.{◌≤◌, [], All, IfOk};
+ghost use Rattle.avr_cli.specs.declared.chosen.Switches.{Switches as AnySwitches};
+ghost use Rattle.avr_part.specs.Part.{Part as PartData};
+ghost use Rattle.avr_plan.specs.Plan.{IsFitted};
+ghost use Rattle.avr_plan.specs.Planning.{task_stage, op_stage, write_stage, tasks_stage, planned};
+ghost use Rattle.avr_plan.specs.Playing.{Goes};
+
+use crate::part_choice::{chosen_part, given_parts};
+use crate::planned::Plan;
+use crate::refusal::{refuse_memory, refuse_write};
+use crate::task::Task;
+use crate::tasks::Tasks;
+use crate::update_image::update_image;
+use avr_cli::{Op, Settings, Switches, Text, Update};
+use avr_desk::Desk;
+use avr_part::Part;
+use std::alloc::Global;
+
+/// The task of a write.
+fn write_task<D: Desk>(
+    alloc: Global,
+    desk: &mut D,
+    switches: Switches,
+    part: &Part,
+    update: &Update,
+) -> Result<Task, u8>
+    ensures goes { Goes (write_stage switches part.now update.now)
+        (D.kept desk.old) (D.kept desk.new) (D.failures desk.old) (D.failures desk.new) result }
+    ensures rises { D.failures desk.old ≤ D.failures desk.new }
+    ensures fitted { IfOk result (IsFitted part.now) }
+{
+    if !update.memory.writable() {
+        return Err(refuse_write(desk, update.memory));
+    }
+    match update_image(alloc, desk, switches, part, update) {
+        Ok(image) => Ok(Task::Write(update.memory, image)),
+        Err(status) => Err(status),
+    }
+}
+
+/// The task of a comparison.
+fn verify_task<D: Desk>(
+    alloc: Global,
+    desk: &mut D,
+    switches: Switches,
+    part: &Part,
+    update: &Update,
+) -> Result<Task, u8>
+    ensures goes { Goes (op_stage switches part.now update.now Op.Verify)
+        (D.kept desk.old) (D.kept desk.new) (D.failures desk.old) (D.failures desk.new) result }
+    ensures rises { D.failures desk.old ≤ D.failures desk.new }
+    ensures fitted { IfOk result (IsFitted part.now) }
+{
+    match update_image(alloc, desk, switches, part, update) {
+        Ok(image) => Ok(Task::Verify(update.memory, image)),
+        Err(status) => Err(status),
+    }
+}
+
+/// The task of a read.
+fn read_task<D: Desk>(alloc: Global, desk: &mut D, update: &Update) -> Result<Task, u8>
+    ensures goes { (switches : AnySwitches) (part : PartData) → Goes (op_stage switches part update.now Op.Read)
+        (D.kept desk.old) (D.kept desk.new) (D.failures desk.old) (D.failures desk.new) result }
+    ensures rises { D.failures desk.old ≤ D.failures desk.new }
+    ensures fitted { IfOk result (λ task. (part : PartData) → IsFitted part task) }
+{
+    match Text::new(alloc, update.file.as_str()) {
+        Ok(file) => Ok(Task::Read {
+            memory: update.memory,
+            format: update.format,
+            file,
+        }),
+        Err(_) => Err(refuse_memory(desk)),
+    }
+}
+
+/// The task of an update.
+fn update_task<D: Desk>(
+    alloc: Global,
+    desk: &mut D,
+    switches: Switches,
+    part: &Part,
+    update: &Update,
+) -> Result<Task, u8>
+    ensures goes { Goes (task_stage switches part.now update.now)
+        (D.kept desk.old) (D.kept desk.new) (D.failures desk.old) (D.failures desk.new) result }
+    ensures rises { D.failures desk.old ≤ D.failures desk.new }
+    ensures fitted { IfOk result (IsFitted part.now) }
+{
+    match update.op {
+        Op::Write => write_task(alloc, desk, switches, part, update),
+        Op::Verify => verify_task(alloc, desk, switches, part, update),
+        Op::Read => read_task(alloc, desk, update),
+    }
+}
+
+/// The tasks of the updates, in their order.
+fn update_tasks<D: Desk>(
+    alloc: Global,
+    desk: &mut D,
+    switches: Switches,
+    part: &Part,
+    updates: &[Update],
+) -> Result<Tasks, u8>
+    ensures goes { Goes (tasks_stage switches part.now [] updates.now)
+        (D.kept desk.old) (D.kept desk.new) (D.failures desk.old) (D.failures desk.new) result }
+    ensures rises { D.failures desk.old ≤ D.failures desk.new }
+    ensures fitted { IfOk result (All (IsFitted part.now)) }
+{
+    let mut tasks = Tasks::new(alloc);
+    for update in updates {
+        let task = match update_task(alloc, desk, switches, part, update) {
+            Ok(task) => task,
+            Err(status) => return Err(status),
+        };
+        if tasks.push(task).is_err() {
+            return Err(refuse_memory(desk));
+        }
+    }
+    Ok(tasks)
+}
+
+/// Makes the plan of a run: reads and judges the part file, looks the part up, and then reads and judges the file of each
+/// update in order. The first refusal prints its line and answers the status, 1; a missing end record is warned of.
+///
+/// Every file is opened anew and read to its end, or past its limit, before it is judged. No file is created.
+pub fn plan<D: Desk>(alloc: Global, settings: &Settings, desk: &mut D) -> Result<Plan, u8>
+    ensures goes { Goes (planned settings.now) (D.kept desk.old) (D.kept desk.new) (D.failures desk.old) (D.failures desk.new) result }
+    ensures rises { D.failures desk.old ≤ D.failures desk.new }
+{
+    let parts = match given_parts(alloc, desk, &settings.parts) {
+        Ok(parts) => parts,
+        Err(status) => return Err(status),
+    };
+    let part = match chosen_part(desk, &parts, settings.part.as_str()) {
+        Ok(part) => part,
+        Err(status) => return Err(status),
+    };
+    let switches = settings.switches;
+    let tasks = match update_tasks(alloc, desk, switches, &part, settings.updates.as_slice()) {
+        Ok(tasks) => tasks,
+        Err(status) => return Err(status),
+    };
+    Ok(Plan::new(part, tasks, switches))
+}

@@ -1,0 +1,345 @@
+//! Every line of a plan brought about once, and what a plan holds.
+use crate::{Task, plan};
+use avr_cli::{Format, Op, Port, Settings, Switches, Text, Update, Updates};
+use avr_desk::{Bytes, FailingDesk, MemDesk};
+use avr_part::Mem;
+use std::alloc::{AllocError, Global};
+use std::test::Fail;
+
+#[derive(Clone, Copy)]
+/// What is asked for: a part, a part file (none if the name is empty), and one update.
+struct Asked<'a> {
+    part: &'a str,
+    parts: &'a str,
+    memory: Mem,
+    op: Op,
+    format: Format,
+    file: &'a str,
+    quiet: u8,
+}
+
+/// A write of this file to the flash of m328p, its format detected.
+fn flash_of<'a>(file: &'a str) -> Asked<'a> {
+    Asked {
+        part: "m328p",
+        parts: "",
+        memory: Mem::Flash,
+        op: Op::Write,
+        format: Format::Auto,
+        file,
+        quiet: 0,
+    }
+}
+
+/// A read of the flash of this part.
+fn part_of<'a>(parts: &'a str, part: &'a str) -> Asked<'a> {
+    Asked {
+        part,
+        parts,
+        memory: Mem::Flash,
+        op: Op::Read,
+        format: Format::Raw,
+        file: "out.bin",
+        quiet: 0,
+    }
+}
+
+fn settings(alloc: Global, asked: &Asked<'_>) -> Result<Settings, AllocError> {
+    let mut updates = Updates::new(alloc);
+    updates.push(Update {
+        memory: asked.memory,
+        op: asked.op,
+        format: asked.format,
+        file: Text::new(alloc, asked.file)?,
+    })?;
+    let parts = if asked.parts.is_empty() {
+        None
+    } else {
+        Some(Text::new(alloc, asked.parts)?)
+    };
+    Ok(Settings {
+        part: Text::new(alloc, asked.part)?,
+        port: Port::Stdio,
+        parts,
+        updates,
+        switches: Switches {
+            erase: false,
+            keep_flash: false,
+            no_verify: false,
+            dry: false,
+            force: false,
+            all: false,
+            quiet: asked.quiet,
+        },
+    })
+}
+
+/// Whether there is no plan over a desk with this file, and this is what is said.
+fn refuses(
+    alloc: Global,
+    name: &str,
+    bytes: &[u8],
+    asked: &Asked<'_>,
+    line: &str,
+) -> Result<bool, AllocError> {
+    let mut desk = MemDesk::new(alloc, Bytes::new(alloc));
+    desk.put(name, bytes)?;
+    let refused = plan(alloc, &settings(alloc, asked)?, &mut desk).is_err();
+    Ok(refused && desk.messages() == line.as_bytes())
+}
+
+/// Whether there is a plan whose one image holds so many bytes, and this is what is said.
+fn plans(
+    alloc: Global,
+    name: &str,
+    bytes: &[u8],
+    asked: &Asked<'_>,
+    held: u32,
+    line: &str,
+) -> Result<bool, AllocError> {
+    let mut desk = MemDesk::new(alloc, Bytes::new(alloc));
+    desk.put(name, bytes)?;
+    let Ok(made) = plan(alloc, &settings(alloc, asked)?, &mut desk) else {
+        return Ok(false);
+    };
+    let [Task::Write(_, image)] = made.tasks() else {
+        return Ok(false);
+    };
+    Ok(image.len() == held && desk.messages() == line.as_bytes())
+}
+
+/// Whether each of these texts as a.hex is refused with its line.
+fn refuses_all(alloc: Global, rows: &[(&str, &str)]) -> Result<bool, AllocError> {
+    for (text, line) in rows {
+        if !refuses(alloc, "a.hex", text.as_bytes(), &flash_of("a.hex"), line)? {
+            return Ok(false);
+        }
+    }
+    Ok(true)
+}
+
+#[test]
+fn lines_of_record_files(rt: HostRuntime) -> Result<(), Fail> {
+    let rows = [
+        (
+            ":0400000001020304F3\n",
+            "avrstk: error: a.hex: line 1: bad checksum\n",
+        ),
+        (
+            ":020000040001F9\n:0100000055AA\n",
+            "avrstk: error: a.hex: line 2: address 00010000 out of range\n",
+        ),
+        (
+            ":00000000000\n",
+            "avrstk: error: a.hex: line 1: bad length\n",
+        ),
+        (
+            ":0000000000G0\n",
+            "avrstk: error: a.hex: line 1: bad digit\n",
+        ),
+        (
+            ":00000006FA\n",
+            "avrstk: error: a.hex: line 1: bad record type\n",
+        ),
+        (
+            ":0000000000\n0000000000\n",
+            "avrstk: error: a.hex: line 2: no record mark\n",
+        ),
+        (
+            "S107000001020304EE\nS5030002FA\n",
+            "avrstk: error: a.hex: line 2: bad record count\n",
+        ),
+    ];
+    assert!(rt; refuses_all(rt.alloc(), &rows)?);
+    Ok(())
+}
+
+/// A text of `n` bytes that begins so, and goes on with this block over and over.
+fn text_of(alloc: Global, front: &[u8], block: &[u8], n: usize) -> Result<Vec<u8>, AllocError> {
+    let mut text = Vec::new(alloc);
+    text.extend_from_slice(front)?;
+    for _ in 0..n {
+        if text.len() >= n {
+            break;
+        }
+        text.extend_from_slice(block)?;
+    }
+    text.truncate(n);
+    Ok(text)
+}
+
+/// An empty line, for all its blanks.
+const EMPTY: &[u8] = b"                                                               \n";
+
+/// Whether a file that begins so and goes on with this block is refused with this line.
+fn refuses_text(
+    alloc: Global,
+    front: &[u8],
+    block: &[u8],
+    n: usize,
+    line: &str,
+) -> Result<bool, AllocError> {
+    let text = text_of(alloc, front, block, n)?;
+    refuses(alloc, "a.hex", text.as_slice(), &flash_of("a.hex"), line)
+}
+
+#[test]
+fn a_line_too_long(rt: HostRuntime) -> Result<(), Fail> {
+    let line = "avrstk: error: a.hex: line 1: line too long\n";
+    assert!(rt; refuses_text(rt.alloc(), b":", b"0", 601, line)?);
+    Ok(())
+}
+
+/// The first record of a file, with a bad checksum and with a good one.
+const BAD: &[u8] = b":0400000001020304F3\n";
+
+const GOOD: &[u8] = b":0400000001020304F2\n";
+
+#[test]
+fn files_past_the_limit(rt: HostRuntime) -> Result<(), Fail> {
+    let alloc = rt.alloc();
+    let line = "avrstk: error: a.hex: line 1: bad checksum\n";
+    assert!(rt; refuses_text(alloc, BAD, EMPTY, 4_194_305, line)?);
+    let line = "avrstk: error: a.hex: longer than 4194304 bytes\n";
+    assert!(rt; refuses_text(alloc, GOOD, EMPTY, 4_194_305, line)?);
+    Ok(())
+}
+
+#[test]
+fn a_file_of_the_limit(rt: HostRuntime) -> Result<(), Fail> {
+    let alloc = rt.alloc();
+    let text = text_of(alloc, GOOD, EMPTY, 4_194_304)?;
+    let line = "avrstk: warning: a.hex: no end record\n";
+    assert!(rt; plans(alloc, "a.hex", text.as_slice(), &flash_of("a.hex"), 4, line)?);
+    Ok(())
+}
+
+#[test]
+fn images(rt: HostRuntime) -> Result<(), Fail> {
+    let alloc = rt.alloc();
+    let line = "avrstk: warning: a.hex: no end record\n";
+    assert!(rt; plans(alloc, "a.hex", GOOD, &flash_of("a.hex"), 4, line)?);
+    let mut silent = flash_of("a.hex");
+    silent.quiet = 2;
+    assert!(rt; plans(alloc, "a.hex", GOOD, &silent, 4, "")?);
+    assert!(rt; plans(alloc, "a.hex", b"", &flash_of("a.hex"), 0, "")?);
+    assert!(rt; plans(alloc, "a.bin", b"\xFF\xFF", &flash_of("a.bin"), 2, "")?);
+    Ok(())
+}
+
+#[test]
+fn other_files(rt: HostRuntime) -> Result<(), Fail> {
+    let alloc = rt.alloc();
+    let line = "avrstk: error: a.bin: ELF is not read\n";
+    assert!(rt; refuses(alloc, "a.bin", b"\x7FELF", &flash_of("a.bin"), line)?);
+    let line = "avrstk: error: b.hex: cannot be opened\n";
+    assert!(rt; refuses(alloc, "a.hex", b"", &flash_of("b.hex"), line)?);
+    let mut fuse = flash_of("a.bin");
+    fuse.memory = Mem::Lfuse;
+    let line = "avrstk: error: a.bin: address 00000001 out of range\n";
+    assert!(rt; refuses(alloc, "a.bin", b"ab", &fuse, line)?);
+    let mut signature = flash_of("1");
+    signature.memory = Mem::Signature;
+    let line = "avrstk: error: signature is read-only\n";
+    assert!(rt; refuses(alloc, "1", b"", &signature, line)?);
+    Ok(())
+}
+
+/// Whether these values for the low fuse are refused with this line.
+fn refuses_values(alloc: Global, values: &str, line: &str) -> Result<bool, AllocError> {
+    let mut asked = flash_of(values);
+    asked.memory = Mem::Lfuse;
+    asked.format = Format::Immediate;
+    refuses(alloc, "-", b"", &asked, line)
+}
+
+#[test]
+fn lines_of_values(rt: HostRuntime) -> Result<(), Fail> {
+    let alloc = rt.alloc();
+    let line = "avrstk: error: lfuse: value 1: not a number\n";
+    assert!(rt; refuses_values(alloc, "-", line)?);
+    let line = "avrstk: error: lfuse: value 1: above 255\n";
+    assert!(rt; refuses_values(alloc, "0x100", line)?);
+    let line = "avrstk: error: lfuse: address 00000001 out of range\n";
+    assert!(rt; refuses_values(alloc, "0xE2, 1", line)?);
+    Ok(())
+}
+
+const PART: &str =
+    "[parts.m328p]\nsignature = \"1E950F\"\nflash_size = 100\nflash_page = 64\neeprom_size = 1024\neeprom_page = 4\neesave_bit = 3\n";
+
+#[test]
+fn lines_of_part_files(rt: HostRuntime) -> Result<(), Fail> {
+    let alloc = rt.alloc();
+    let asked = part_of("p.toml", "m328p");
+    let line = "avrstk: error: p.toml: not TOML\n";
+    assert!(rt; refuses(alloc, "p.toml", b"[", &asked, line)?);
+    let line = "avrstk: error: p.toml: parts is missing\n";
+    assert!(rt; refuses(alloc, "p.toml", b"", &asked, line)?);
+    let line = "avrstk: error: p.toml: parts has a bad value\n";
+    assert!(rt; refuses(alloc, "p.toml", b"parts = 1", &asked, line)?);
+    let line = "avrstk: error: p.toml: sizes do not fit\n";
+    assert!(rt; refuses(alloc, "p.toml", PART.as_bytes(), &asked, line)?);
+    Ok(())
+}
+
+#[test]
+fn other_parts(rt: HostRuntime) -> Result<(), Fail> {
+    let alloc = rt.alloc();
+    let line = "avrstk: error: no part x9\n";
+    assert!(rt; refuses(alloc, "-", b"", &part_of("", "x9"), line)?);
+    let long = vec![in alloc; b'\n'; 65_537]?;
+    let line = "avrstk: error: p.toml: longer than 65536 bytes\n";
+    assert!(rt;
+        refuses(
+            alloc,
+            "p.toml",
+            long.as_slice(),
+            &part_of("p.toml", "x9"),
+            line
+        )?
+    );
+    Ok(())
+}
+
+/// The messages of a plan over a desk whose nth call fails.
+fn fails_at(alloc: Global, n: u64, line: &str) -> Result<bool, AllocError> {
+    let mut desk = MemDesk::new(alloc, Bytes::new(alloc));
+    desk.put("a.hex", b":00000001FF\n")?;
+    let mut desk = FailingDesk::new(desk, n);
+    let refused = plan(alloc, &settings(alloc, &flash_of("a.hex"))?, &mut desk).is_err();
+    Ok(refused && desk.inner().messages() == line.as_bytes())
+}
+
+#[test]
+fn a_desk_that_fails(rt: HostRuntime) -> Result<(), Fail> {
+    let alloc = rt.alloc();
+    assert!(rt; fails_at(alloc, 1, "avrstk: error: a.hex: cannot be opened\n")?);
+    assert!(rt; fails_at(alloc, 2, "avrstk: error: a.hex: cannot be read\n")?);
+    assert!(rt; fails_at(alloc, 3, "avrstk: error: a.hex: cannot be read\n")?);
+    Ok(())
+}
+
+#[test]
+fn reads_need_nothing(rt: HostRuntime) -> Result<(), Fail> {
+    let alloc = rt.alloc();
+    let mut desk = MemDesk::new(alloc, Bytes::new(alloc));
+    let made = plan(alloc, &settings(alloc, &part_of("", "t85"))?, &mut desk);
+    let Ok(made) = made else {
+        assert!(rt; false, "no plan");
+        return Ok(());
+    };
+    assert!(rt; made.part().id() == "t85");
+    assert!(rt;
+        matches!(
+            made.tasks(),
+            [Task::Read {
+                memory: Mem::Flash,
+                ..
+            }]
+        )
+    );
+    assert!(rt; made.switches().quiet == 0);
+    assert!(rt; desk.openings().is_empty());
+    Ok(())
+}

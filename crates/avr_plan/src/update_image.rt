@@ -1,0 +1,111 @@
+//! The image of an update, in a file or in the words of the command.
+ghost use Rattle.std.specs.Prelude.{◌≡◌, ◌≤◌, length, IfOk};
+ghost use Rattle.avr_cli.specs.declared.chosen.Switches.{Switches as AnySwitches};
+ghost use Rattle.avr_part.specs.Part.{size_of};
+ghost use Rattle.avr_plan.specs.Planning.{is_warned, warned, file_image_stage, image_stage, update_image as update_image_stage};
+ghost use Rattle.avr_plan.specs.Playing.{Goes};
+ghost use Rattle.avr_plan.specs.Stage.{said};
+
+use crate::image_file::{ReadFault, read_image};
+use crate::refusal::{refuse_image, refuse_values};
+use avr_cli::{Format, Switches, Update};
+use avr_desk::Desk;
+use avr_image::{Image, parse_immediate};
+use avr_message::{Piece, print_warning};
+use avr_part::{Mem, Part};
+use avr_records::Ending;
+use std::alloc::Global;
+
+/// Whether the ending of a file is warned of: no end record came, and warnings are not off.
+fn is_warned(switches: Switches, ending: Ending) -> bool
+    ensures { result ≡ is_warned switches ending }
+{
+    match ending {
+        Ending::Ended => false,
+        Ending::NoEnd => switches.quiet < 2,
+    }
+}
+
+/// Warns of a missing end record, unless warnings are off.
+fn warn_of_ending<D: Desk>(
+    desk: &mut D,
+    switches: Switches,
+    file: &str,
+    ending: Ending,
+) -> Result<(), u8>
+    ensures goes { Goes (said (warned switches file.now ending))
+        (D.kept desk.old) (D.kept desk.new) (D.failures desk.old) (D.failures desk.new) result }
+    ensures rises { D.failures desk.old ≤ D.failures desk.new }
+{
+    let warns = is_warned(switches, ending);
+    if !warns {
+        return Ok(());
+    }
+    match print_warning(desk, &[Piece::Text(file), Piece::Text(": no end record")]) {
+        Ok(()) => Ok(()),
+        Err(_) => Err(1),
+    }
+}
+
+/// The image in a file.
+fn file_image<D: Desk>(
+    alloc: Global,
+    desk: &mut D,
+    switches: Switches,
+    file: &str,
+    format: Format,
+    size: u32,
+) -> Result<Image, u8>
+    ensures goes { Goes (file_image_stage switches file.now format size)
+        (D.kept desk.old) (D.kept desk.new) (D.failures desk.old) (D.failures desk.new) result }
+    ensures rises { D.failures desk.old ≤ D.failures desk.new }
+    ensures sized { IfOk result (λ image. length image ≡ size) }
+{
+    match read_image(alloc, desk, file, format, size) {
+        Ok((image, ending)) => match warn_of_ending(desk, switches, file, ending) {
+            Ok(()) => Ok(image),
+            Err(status) => Err(status),
+        },
+        Err(fault) => Err(refuse_image(desk, file, fault)),
+    }
+}
+
+/// The image of values in the words of the command.
+fn values_image<D: Desk>(
+    alloc: Global,
+    desk: &mut D,
+    memory: Mem,
+    text: &str,
+    size: u32,
+) -> Result<Image, u8>
+    ensures goes { (switches : AnySwitches) → Goes (image_stage switches memory size text.now Format.Immediate)
+        (D.kept desk.old) (D.kept desk.new) (D.failures desk.old) (D.failures desk.new) result }
+    ensures rises { D.failures desk.old ≤ D.failures desk.new }
+    ensures sized { IfOk result (λ image. length image ≡ size) }
+{
+    match parse_immediate(alloc, text, size) {
+        Ok(image) => Ok(image),
+        Err(fault) => Err(refuse_values(desk, memory, fault)),
+    }
+}
+
+/// The image of an update for a part.
+pub(crate) fn update_image<D: Desk>(
+    alloc: Global,
+    desk: &mut D,
+    switches: Switches,
+    part: &Part,
+    update: &Update,
+) -> Result<Image, u8>
+    ensures goes { Goes (update_image_stage switches part.now update.now)
+        (D.kept desk.old) (D.kept desk.new) (D.failures desk.old) (D.failures desk.new) result }
+    ensures rises { D.failures desk.old ≤ D.failures desk.new }
+    ensures sized { IfOk result (λ image. length image ≡ size_of update.now.memory part.now) }
+{
+    let size = part.size_of(update.memory);
+    let text = update.file.as_str();
+    match update.format {
+        Format::Immediate => values_image(alloc, desk, update.memory, text, size),
+        format => file_image(alloc, desk, switches, text, format, size),
+    }
+}

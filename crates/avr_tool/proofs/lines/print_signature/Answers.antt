@@ -1,8 +1,0 @@
-use Rattle.std.proofs.Common.{rules}
-use Rattle.avr_tool.specs.Lines.{signature_line}
-use Rattle.avr_tool.proofs.Saying.{printed_as}
-use Rattle.avr_tool.proofs.lines.print_signature.Goals as goal
-
-pub returns-clause-printed : goal.returns-clause-printed
-unfolding signature_line
-returns-clause-printed g c = printed_as _ _ _ _ _ c.print_pieces.ensures.all c.print_pieces.ensures.part (search rules)

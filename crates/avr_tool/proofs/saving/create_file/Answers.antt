@@ -1,0 +1,18 @@
+use Rattle.std.proofs.Common.{[], ◌∷◌}
+use Rattle.avr_message.specs.Said.{Creates, Writes}
+use Rattle.avr_message.proofs.Saying.{none_said}
+use Rattle.avr_tool.specs.FileText.{file_text}
+use Rattle.avr_tool.specs.Runs.{NotCreated, cause_line}
+use Rattle.avr_tool.proofs.Reporting.{file_stops}
+use Rattle.avr_tool.proofs.Saves.{failed_by, not_created, created_then}
+use Rattle.avr_tool.proofs.saving.create_file.Goals as goal
+
+pub returns-in-Ok-clause-reports : goal.returns-in-Ok-clause-reports
+returns-in-Ok-clause-reports g c =
+    created_then _ _ (g.D.Desk.kept c.write_file.new.desk) c.args.file.now (Writes (file_text c.args.format c.args.bytes.now) ∷ []) _ (g.D.Desk.failures c.create.new.self) _ c.create.result c.write_file.result c.in-Ok.is c.create.ensures.kept c.create.ensures.counts.0 c.write_file.ensures.reports
+
+pub returns-in-Err-clause-reports : goal.returns-in-Err-clause-reports
+unfolding cause_line
+returns-in-Err-clause-reports g c =
+    file_stops _ _ _ _ c.args.file.now NotCreated _ _ _ (not_created _ _ c.args.file.now c.create.result _ _ c.in-Err.is c.create.ensures.kept) (failed_by _ _ c.create.result _ c.in-Err.is c.create.ensures.fault c.create.ensures.counts) c.create.ensures.counts.0
+    c.tell_trouble.ensures.counted c.tell_trouble.ensures.some

@@ -1,0 +1,29 @@
+-- The file that a memory's bytes are written to.
+use Rattle.std.specs.Prelude.{ℕ, ◌==◌, ◌&&◌, ◌+◌, ◌*◌, ◌/◌, List, [], ◌∷◌, take, if◌then◌else◌}
+use Rattle.avr_cli.specs.declared.update.Format.{Format}
+use Rattle.avr_cli.specs.declared.update.Format.TheVariants.{Ihex, Srec, Decimal, Hexadecimal, Octal, Binary}
+use Rattle.avr_image.specs.Lists.{list_text}
+use Rattle.avr_image.specs.declared.base.Base.TheVariants.{Dec, Hex, Oct, Bin}
+use Rattle.avr_records.specs.Text.{ihex_text, srec_text}
+
+abbrev pub Bytes : Type 0
+Bytes = List ℕ
+
+-- the text of a file in a format; any other than these is raw: the bytes themselves
+unfoldable pub file_text : Format → Bytes → Bytes
+file_text Ihex bytes = ihex_text 0 bytes
+file_text Srec bytes = srec_text 0 bytes
+file_text Decimal bytes = list_text Dec bytes
+file_text Hexadecimal bytes = list_text Hex bytes
+file_text Octal bytes = list_text Oct bytes
+file_text Binary bytes = list_text Bin bytes
+file_text format bytes = bytes
+
+-- how many bytes there are up to the last that isn't FF
+abbrev pub used : Bytes → ℕ
+used [] = 0
+used (byte ∷ bytes) = if used bytes == 0 && byte == 255 then 0 else 1 + used bytes
+
+-- what is kept of a flash that was read: no trailing FF, but one where the length would be odd
+abbrev pub trimmed : Bytes → Bytes
+trimmed bytes = take ((used bytes + 1) / 2 * 2) bytes

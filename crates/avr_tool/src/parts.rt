@@ -1,0 +1,339 @@
+//! The parts of a session: each is an operation of the host and its report.
+ghost use Rattle.std.specs.Prelude.{◌≡◌, ◌∷◌, ◌≤◌, [], None, codes, length, All};
+ghost use Rattle.std.specs.List.{list_any};
+ghost use Rattle.avr_part.specs.Part.{size_of};
+ghost use Rattle.avr_plan.specs.Plan.{IsFitted};
+ghost use Rattle.avr_tool.specs.Lines.{warns};
+ghost use Rattle.avr_tool.specs.Runs.{Reports, PrintStops};
+ghost use Rattle.avr_tool.specs.Parts.{Performs, LeavesOut};
+ghost use Rattle.avr_tool.specs.Session.{opening_part, chip_erasing_part, left_out_erase, erasing_part, verifying_part, writing_part, read_back_part, reading_part, left_out_write, write_part, task_part, tasks_part, writes_flash, is_erase_due};
+
+use crate::reports::{report_bytes, report_done, report_erased, report_opening, warn};
+use crate::saving::report_read;
+use crate::standing::{Standing, Stopped, conclude, fine_if_said};
+use avr_cli::{Format, Switches, Text};
+use avr_desk::Desk;
+use avr_image::Image;
+use avr_message::Piece;
+use avr_part::{Mem, Part};
+use avr_plan::Task;
+use std::alloc::Global;
+use stk_host::{Host, Link};
+
+/// Opens a session.
+pub(crate) fn open_session<D: Desk, L: Link>(
+    host: &mut Host,
+    desk: &mut D,
+    link: &mut L,
+    part: &Part,
+    switches: Switches,
+) -> Result<Standing, Stopped>
+    requires sound { host.old.broken ≡ None }
+    requires signature { host.old.signature ≡ part.now.signature }
+    ensures performs { Performs (opening_part part.now switches) host.old host.new (L.talk link.old) (L.talk link.new) (L.failures link.old) (L.failures link.new)
+        (D.kept desk.old) (D.kept desk.new) (D.failures desk.old) (D.failures desk.new) result }
+{
+    let opened = host.open(link, switches.force);
+    let reported = report_opening(desk, switches.quiet, part, &opened);
+    conclude(&opened, reported)
+}
+
+/// Erases the chip.
+fn erase_chip<D: Desk, L: Link>(
+    host: &mut Host,
+    desk: &mut D,
+    link: &mut L,
+    part: &Part,
+    switches: Switches,
+) -> Result<Standing, Stopped>
+    requires sound { host.old.broken ≡ None }
+    ensures performs { Performs (chip_erasing_part part.now switches) host.old host.new (L.talk link.old) (L.talk link.new) (L.failures link.old) (L.failures link.new)
+        (D.kept desk.old) (D.kept desk.new) (D.failures desk.old) (D.failures desk.new) result }
+{
+    let erased = host.erase(link);
+    let reported = report_erased(desk, switches.quiet, part, &erased);
+    conclude(&erased, reported)
+}
+
+/// Warns that an erase that was asked for is left out.
+fn warn_of_no_erase<D: Desk>(desk: &mut D, quiet: u8) -> Result<(), Stopped>
+    ensures reports { Reports (D.kept desk.old) (D.kept desk.new) (warns quiet (codes "chip not erased because of -n" ∷ [])) (PrintStops (D.failures desk.old) (D.failures desk.new)) result }
+    ensures counted { D.failures desk.old ≤ D.failures desk.new }
+{
+    warn(desk, quiet, &[Piece::Text("chip not erased because of -n")])
+}
+
+/// Leaves out an erase, with a warning if one was asked for.
+fn leave_out_erase<D: Desk>(desk: &mut D, switches: Switches) -> Result<Standing, Stopped>
+    ensures leaves { LeavesOut (left_out_erase switches) (D.kept desk.old) (D.kept desk.new) (D.failures desk.old) (D.failures desk.new) result }
+{
+    if switches.erase {
+        let warned = warn_of_no_erase(desk, switches.quiet);
+        return fine_if_said(warned);
+    }
+    Ok(Standing::Fine)
+}
+
+/// Whether the task writes flash.
+fn writes_flash(task: &Task) -> bool
+    ensures { result ≡ writes_flash task.now }
+{
+    matches!(task, Task::Write(Mem::Flash, _))
+}
+
+/// Whether some task writes flash.
+fn any_writes_flash(tasks: &[Task]) -> bool
+    ensures { result ≡ list_any writes_flash tasks.now }
+{
+    tasks.iter().any(|task| writes_flash(task))
+}
+
+/// Whether an erase is asked for, or due because flash is written.
+fn is_erase_due(switches: Switches, tasks: &[Task]) -> bool
+    ensures { result ≡ is_erase_due switches tasks.now }
+{
+    switches.erase || (any_writes_flash(tasks) && !switches.keep_flash)
+}
+
+/// Erases the chip where that is due.
+pub(crate) fn erase_if_due<D: Desk, L: Link>(
+    host: &mut Host,
+    desk: &mut D,
+    link: &mut L,
+    part: &Part,
+    switches: Switches,
+    tasks: &[Task],
+) -> Result<Standing, Stopped>
+    requires sound { host.old.broken ≡ None }
+    ensures performs { Performs (erasing_part part.now switches tasks.now) host.old host.new (L.talk link.old) (L.talk link.new) (L.failures link.old) (L.failures link.new)
+        (D.kept desk.old) (D.kept desk.new) (D.failures desk.old) (D.failures desk.new) result }
+{
+    if switches.dry {
+        return leave_out_erase(desk, switches);
+    }
+    if is_erase_due(switches, tasks) {
+        return erase_chip(host, desk, link, part, switches);
+    }
+    Ok(Standing::Fine)
+}
+
+/// Compares a memory with an image.
+fn verify<D: Desk, L: Link>(
+    alloc: Global,
+    host: &mut Host,
+    desk: &mut D,
+    link: &mut L,
+    part: &Part,
+    switches: Switches,
+    mem: Mem,
+    image: &Image,
+) -> Result<Standing, Stopped>
+    requires sound { host.old.broken ≡ None }
+    requires part { host.old.part ≡ part.now }
+    requires fits { length image.now ≤ size_of mem part.now }
+    ensures performs { Performs (verifying_part part.now switches mem image.now) host.old host.new (L.talk link.old) (L.talk link.new) (L.failures link.old) (L.failures link.new)
+        (D.kept desk.old) (D.kept desk.new) (D.failures desk.old) (D.failures desk.new) result }
+{
+    let verified = host.verify(link, alloc, mem, image);
+    let count = image.len();
+    let reported = report_done(
+        desk,
+        switches.quiet,
+        part,
+        mem,
+        count,
+        " bytes verified",
+        &verified,
+    );
+    conclude(&verified, reported)
+}
+
+/// Writes an image.
+fn write<D: Desk, L: Link>(
+    host: &mut Host,
+    desk: &mut D,
+    link: &mut L,
+    part: &Part,
+    switches: Switches,
+    mem: Mem,
+    image: &Image,
+) -> Result<Standing, Stopped>
+    requires sound { host.old.broken ≡ None }
+    requires part { host.old.part ≡ part.now }
+    requires fits { length image.now ≤ size_of mem part.now }
+    ensures performs { Performs (writing_part part.now switches mem image.now) host.old host.new (L.talk link.old) (L.talk link.new) (L.failures link.old) (L.failures link.new)
+        (D.kept desk.old) (D.kept desk.new) (D.failures desk.old) (D.failures desk.new) result }
+{
+    let written = host.write(link, mem, image);
+    let count = image.len();
+    let reported = report_done(
+        desk,
+        switches.quiet,
+        part,
+        mem,
+        count,
+        " bytes written",
+        &written,
+    );
+    conclude(&written, reported)
+}
+
+/// Reads back what was written, unless that isn't wanted.
+fn read_back<D: Desk, L: Link>(
+    alloc: Global,
+    host: &mut Host,
+    desk: &mut D,
+    link: &mut L,
+    part: &Part,
+    switches: Switches,
+    mem: Mem,
+    image: &Image,
+) -> Result<Standing, Stopped>
+    requires sound { host.old.broken ≡ None }
+    requires part { host.old.part ≡ part.now }
+    requires fits { length image.now ≤ size_of mem part.now }
+    ensures performs { Performs (read_back_part part.now switches mem image.now) host.old host.new (L.talk link.old) (L.talk link.new) (L.failures link.old) (L.failures link.new)
+        (D.kept desk.old) (D.kept desk.new) (D.failures desk.old) (D.failures desk.new) result }
+{
+    if switches.no_verify {
+        return Ok(Standing::Fine);
+    }
+    verify(alloc, host, desk, link, part, switches, mem, image)
+}
+
+/// Leaves out a write, and says so.
+fn leave_out_write<D: Desk>(
+    desk: &mut D,
+    switches: Switches,
+    mem: Mem,
+    image: &Image,
+) -> Result<Standing, Stopped>
+    ensures leaves { LeavesOut (left_out_write switches mem image.now) (D.kept desk.old) (D.kept desk.new) (D.failures desk.old) (D.failures desk.new) result }
+{
+    let said = report_bytes(desk, switches.quiet, mem, image.len(), " bytes not written");
+    fine_if_said(said)
+}
+
+/// Writes an image and reads it back.
+fn write_and_verify<D: Desk, L: Link>(
+    alloc: Global,
+    host: &mut Host,
+    desk: &mut D,
+    link: &mut L,
+    part: &Part,
+    switches: Switches,
+    mem: Mem,
+    image: &Image,
+) -> Result<Standing, Stopped>
+    requires sound { host.old.broken ≡ None }
+    requires part { host.old.part ≡ part.now }
+    requires fits { length image.now ≤ size_of mem part.now }
+    ensures performs { Performs (write_part part.now switches mem image.now) host.old host.new (L.talk link.old) (L.talk link.new) (L.failures link.old) (L.failures link.new)
+        (D.kept desk.old) (D.kept desk.new) (D.failures desk.old) (D.failures desk.new) result }
+{
+    if switches.dry {
+        return leave_out_write(desk, switches, mem, image);
+    }
+    let standing = match write(host, desk, link, part, switches, mem, image) {
+        Ok(standing) => standing,
+        Err(stopped) => return Err(stopped),
+    };
+    match standing {
+        Standing::Fine => read_back(alloc, host, desk, link, part, switches, mem, image),
+        fault => Ok(fault),
+    }
+}
+
+/// Reads a memory into a file.
+fn read<D: Desk, L: Link>(
+    alloc: Global,
+    host: &mut Host,
+    desk: &mut D,
+    link: &mut L,
+    part: &Part,
+    switches: Switches,
+    mem: Mem,
+    format: Format,
+    file: &Text,
+) -> Result<Standing, Stopped>
+    requires sound { host.old.broken ≡ None }
+    requires part { host.old.part ≡ part.now }
+    ensures performs { Performs (reading_part part.now switches mem format file.now) host.old host.new (L.talk link.old) (L.talk link.new) (L.failures link.old) (L.failures link.new)
+        (D.kept desk.old) (D.kept desk.new) (D.failures desk.old) (D.failures desk.new) result }
+{
+    let mut bytes = Vec::new(alloc);
+    let outcome = host.read(link, mem, &mut bytes);
+    let reported = report_read(
+        desk,
+        switches,
+        part,
+        mem,
+        format,
+        file,
+        bytes.as_slice(),
+        &outcome,
+    );
+    conclude(&outcome, reported)
+}
+
+/// Does what one update asks for.
+fn perform<D: Desk, L: Link>(
+    alloc: Global,
+    host: &mut Host,
+    desk: &mut D,
+    link: &mut L,
+    part: &Part,
+    switches: Switches,
+    task: &Task,
+) -> Result<Standing, Stopped>
+    requires sound { host.old.broken ≡ None }
+    requires part { host.old.part ≡ part.now }
+    requires fits { IsFitted part.now task.now }
+    ensures performs { Performs (task_part part.now switches task.now) host.old host.new (L.talk link.old) (L.talk link.new) (L.failures link.old) (L.failures link.new)
+        (D.kept desk.old) (D.kept desk.new) (D.failures desk.old) (D.failures desk.new) result }
+{
+    match task {
+        Task::Write(mem, image) => {
+            write_and_verify(alloc, host, desk, link, part, switches, *mem, image)
+        }
+        Task::Verify(mem, image) => verify(alloc, host, desk, link, part, switches, *mem, image),
+        Task::Read {
+            memory,
+            format,
+            file,
+        } => read(
+            alloc, host, desk, link, part, switches, *memory, *format, file,
+        ),
+    }
+}
+
+/// Does what the updates ask for, in their order and up to the first fault.
+pub(crate) fn perform_all<D: Desk, L: Link>(
+    alloc: Global,
+    host: &mut Host,
+    desk: &mut D,
+    link: &mut L,
+    part: &Part,
+    switches: Switches,
+    tasks: &[Task],
+) -> Result<Standing, Stopped>
+    requires sound { host.old.broken ≡ None }
+    requires part { host.old.part ≡ part.now }
+    requires fits { All (IsFitted part.now) tasks.now }
+    ensures performs { Performs (tasks_part part.now switches tasks.now) host.old host.new (L.talk link.old) (L.talk link.new) (L.failures link.old) (L.failures link.new)
+        (D.kept desk.old) (D.kept desk.new) (D.failures desk.old) (D.failures desk.new) result }
+{
+    match tasks {
+        [] => Ok(Standing::Fine),
+        [task, more @ ..] => {
+            let standing = match perform(alloc, host, desk, link, part, switches, task) {
+                Ok(standing) => standing,
+                Err(stopped) => return Err(stopped),
+            };
+            match standing {
+                Standing::Fine => perform_all(alloc, host, desk, link, part, switches, more),
+                fault => Ok(fault),
+            }
+        }
+    }
+}

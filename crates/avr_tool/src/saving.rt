@@ -1,0 +1,137 @@
+//! What was read of a memory becomes a file.
+ghost use Rattle.std.specs.Prelude.{◌≡◌, ◌∷◌, ◌≤◌, ◌<◌, ◌^◌, [], length, OnErr};
+ghost use Rattle.avr_message.specs.Lines.{error};
+ghost use Rattle.avr_message.specs.Said.{Creates, Writes};
+ghost use Rattle.avr_tool.specs.FileText.{file_text};
+ghost use Rattle.avr_tool.specs.Runs.{Reports, PrintStops, DeskStops, PrintsSome};
+ghost use Rattle.avr_tool.specs.Saving.{sent_says};
+ghost use Rattle.avr_tool.specs.Session.{saved, kept_of, read_says, fault_or};
+ghost use Rattle.stk_host.specs.Calls.{given};
+
+use crate::file_text::{trimmed, write_text};
+use crate::reports::{report_bytes, tell, tell_fault};
+use crate::standing::Stopped;
+use avr_cli::{Format, Switches, Text};
+use avr_desk::{Desk, Stream};
+use avr_message::Piece;
+use avr_part::{Mem, Part};
+use stk_host::HostFault;
+
+/// Prints what can't be done with a file, as far as the desk prints it.
+fn tell_trouble<D: Desk>(desk: &mut D, file: &str, trouble: &str)
+    ensures some { PrintsSome (D.kept desk.old) (D.kept desk.new) (error (file.now ∷ trouble.now ∷ [])) }
+    ensures counted { D.failures desk.old ≤ D.failures desk.new }
+{
+    let _ = tell(desk, &[Piece::Text(file), Piece::Text(trouble)]);
+}
+
+/// Writes the text that these bytes are in a format to the file that was created, or to standard output.
+fn write_file<D: Desk>(
+    desk: &mut D,
+    stream: Stream,
+    file: &str,
+    format: Format,
+    bytes: &[u8],
+) -> Result<(), Stopped>
+    requires { length bytes.now ≤ 2 ^ 32 }
+    ensures reports { Reports (D.kept desk.old) (D.kept desk.new) (sent_says stream (file_text format bytes.now)) (DeskStops (D.failures desk.old) (D.failures desk.new)) result }
+    ensures counted { D.failures desk.old ≤ D.failures desk.new }
+{
+    match write_text(desk, stream, format, bytes) {
+        Ok(()) => Ok(()),
+        Err(_) => {
+            tell_trouble(desk, file, ": cannot be written");
+            Err(Stopped)
+        }
+    }
+}
+
+/// Creates the file of this name and writes it.
+fn create_file<D: Desk>(
+    desk: &mut D,
+    file: &str,
+    format: Format,
+    bytes: &[u8],
+) -> Result<(), Stopped>
+    requires { length bytes.now ≤ 2 ^ 32 }
+    ensures reports { Reports (D.kept desk.old) (D.kept desk.new) (Creates file.now ∷ Writes (file_text format bytes.now) ∷ []) (DeskStops (D.failures desk.old) (D.failures desk.new)) result }
+    ensures counted { D.failures desk.old ≤ D.failures desk.new }
+{
+    match desk.create(file) {
+        Ok(()) => write_file(desk, Stream::File, file, format, bytes),
+        Err(_) => {
+            tell_trouble(desk, file, ": cannot be created");
+            Err(Stopped)
+        }
+    }
+}
+
+/// Saves bytes in a format: in the file of this name, or on standard output where that is `-`.
+pub(crate) fn save<D: Desk>(
+    desk: &mut D,
+    file: &str,
+    format: Format,
+    bytes: &[u8],
+) -> Result<(), Stopped>
+    requires { length bytes.now ≤ 2 ^ 32 }
+    ensures reports { Reports (D.kept desk.old) (D.kept desk.new) (saved file.now (file_text format bytes.now)) (DeskStops (D.failures desk.old) (D.failures desk.new)) result }
+    ensures counted { D.failures desk.old ≤ D.failures desk.new }
+{
+    if file == "-" {
+        write_file(desk, Stream::Output, file, format, bytes)
+    } else {
+        create_file(desk, file, format, bytes)
+    }
+}
+
+/// What is kept of what was read: trailing FF of flash are dropped, unless `all` is wanted.
+fn kept_of(mem: Mem, all: bool, bytes: &[u8]) -> &[u8]
+    ensures { result.now ≡ kept_of mem all bytes.now }
+{
+    match (mem, all) {
+        (Mem::Flash, false) => trimmed(bytes),
+        _ => bytes,
+    }
+}
+
+/// Saves what was read of a memory, and reports it.
+fn report_bytes_read<D: Desk>(
+    desk: &mut D,
+    switches: Switches,
+    mem: Mem,
+    format: Format,
+    file: &Text,
+    bytes: &[u8],
+) -> Result<(), Stopped>
+    requires { length bytes.now < 2 ^ 32 }
+    ensures reports { Reports (D.kept desk.old) (D.kept desk.new) (read_says switches mem format file.now bytes.now) (DeskStops (D.failures desk.old) (D.failures desk.new)) result }
+    ensures counted { D.failures desk.old ≤ D.failures desk.new }
+{
+    let kept = kept_of(mem, switches.all, bytes);
+    match save(desk, file.as_str(), format, kept) {
+        Ok(()) => report_bytes(desk, switches.quiet, mem, kept.len() as u32, " bytes read"),
+        Err(stopped) => Err(stopped),
+    }
+}
+
+/// Reports what reading a memory came to.
+pub(crate) fn report_read<D: Desk>(
+    desk: &mut D,
+    switches: Switches,
+    part: &Part,
+    mem: Mem,
+    format: Format,
+    file: &Text,
+    bytes: &[u8],
+    outcome: &Result<(), HostFault>,
+) -> Result<(), Stopped>
+    requires { length bytes.now < 2 ^ 32 }
+    ensures reports { Reports (D.kept desk.old) (D.kept desk.new) (fault_or part.now (read_says switches mem format file.now) (given bytes.now outcome.now)) (DeskStops (D.failures desk.old) (D.failures desk.new)) result }
+    ensures told { OnErr outcome.now (Reports (D.kept desk.old) (D.kept desk.new) (fault_or part.now (read_says switches mem format file.now) (given bytes.now outcome.now)) (PrintStops (D.failures desk.old) (D.failures desk.new)) result) }
+    ensures counted { D.failures desk.old ≤ D.failures desk.new }
+{
+    match outcome {
+        Ok(()) => report_bytes_read(desk, switches, mem, format, file, bytes),
+        Err(fault) => tell_fault(desk, part, *fault),
+    }
+}
