@@ -27,9 +27,8 @@ fn lines_are_their_pieces(rt: HostRuntime) -> Result<(), Fail> {
     let alloc = rt.alloc();
     let mut desk = MemDesk::new(alloc, Bytes::copied(alloc, b"")?);
     assert!(rt; prints(&mut desk));
-    assert!(rt;
-        desk.messages()
-            == b"avrstk: signature 1E 95 0F\navrstk: warning: a.hex: no end record\navrstk: error: 4194304 00010000 C0\n"
-    );
+    let wanted =
+        b"avrstk: signature 1E 95 0F\navrstk: warning: a.hex: no end record\navrstk: error: 4194304 00010000 C0\n";
+    assert!(rt; desk.messages() == wanted.as_slice());
     Ok(())
 }
