@@ -1,6 +1,7 @@
 -- What a run is to do, once everything that it needs was read and judged.
-use Rattle.std.specs.Prelude.{◌≡◌, ℕ, List, length, All}
+use Rattle.std.specs.Prelude.{◌≡◌, ℕ, true, List, length, All}
 use Rattle.avr_cli.specs.declared.chosen.Switches.{Switches}
+use Rattle.avr_part.specs.Mem.{is_writable}
 use Rattle.avr_part.specs.Part.{Part, size_of}
 use Rattle.avr_plan.specs.declared.task.Task.{Task}
 use Rattle.avr_plan.specs.declared.task.Task.TheVariants.{Write, Verify, Read}
@@ -10,8 +11,8 @@ pub record Plan : Type 0 where
   pub tasks : List Task
   pub switches : Switches
 
--- an image is as large as its memory
+-- an image is as large as its memory, and a memory that is written can be
 abbrev pub IsFitted : Part → Task → Type 0
-IsFitted part (Write memory image) = length image ≡ size_of memory part
+IsFitted part (Write memory image) = (length image ≡ size_of memory part) × (is_writable memory ≡ true)
 IsFitted part (Verify memory image) = length image ≡ size_of memory part
 IsFitted part task = Unit {0}

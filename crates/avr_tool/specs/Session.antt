@@ -77,6 +77,18 @@ abbrev pub kept_of : Mem → Bool → Bytes → Bytes
 kept_of Flash false bytes = trimmed bytes
 kept_of mem all bytes = bytes
 
+abbrev pub erased_says : ℕ → Part → Result ⊤ HostFault → List Saying
+erased_says quiet part = fault_or part (λ _. informs quiet (codes "chip erased" ∷ []))
+
+abbrev pub written_says : ℕ → Part → Mem → List (Option ℕ) → Result ⊤ HostFault → List Saying
+written_says quiet part mem image = fault_or part (λ _. bytes_say quiet mem (held image) (codes " bytes written"))
+
+abbrev pub verified_says : ℕ → Part → Mem → List (Option ℕ) → Result ⊤ HostFault → List Saying
+verified_says quiet part mem image = fault_or part (λ _. bytes_say quiet mem (held image) (codes " bytes verified"))
+
+abbrev pub closed_says : ℕ → Part → Result ⊤ HostFault → List Saying
+closed_says quiet part = fault_or part (λ _. informs quiet (codes "done" ∷ []))
+
 abbrev pub read_says : Switches → Mem → Format → Bytes → Bytes → List Saying
 read_says s mem format file bytes =
     let kept = kept_of mem s.all bytes in
@@ -100,7 +112,7 @@ abbrev pub left_out_erase : Switches → List Saying
 left_out_erase s = if s.erase then warns s.quiet (codes "chip not erased because of -n" ∷ []) else []
 
 abbrev pub chip_erasing_part : Part → Switches → Dialog Saying Standing
-chip_erasing_part part s = reported erasing (fault_or part (λ _. informs s.quiet (codes "chip erased" ∷ [])))
+chip_erasing_part part s = reported erasing (erased_says s.quiet part)
 
 -- the chip is erased where that is due
 abbrev pub erasing_part : Part → Switches → List Task → Dialog Saying Standing
@@ -111,11 +123,11 @@ erasing_part part s tasks =
 
 -- a memory is compared with an image
 abbrev pub verifying_part : Part → Switches → Mem → List (Option ℕ) → Dialog Saying Standing
-verifying_part part s mem image = reported (verifying part mem image) (fault_or part (λ _. bytes_say s.quiet mem (held image) (codes " bytes verified")))
+verifying_part part s mem image = reported (verifying part mem image) (verified_says s.quiet part mem image)
 
 -- an image is written
 abbrev pub writing_part : Part → Switches → Mem → List (Option ℕ) → Dialog Saying Standing
-writing_part part s mem image = reported (writing part mem image) (fault_or part (λ _. bytes_say s.quiet mem (held image) (codes " bytes written")))
+writing_part part s mem image = reported (writing part mem image) (written_says s.quiet part mem image)
 
 -- and then read back, unless that isn't wanted
 abbrev pub read_back_part : Part → Switches → Mem → List (Option ℕ) → Dialog Saying Standing
@@ -153,7 +165,7 @@ working plan = beginning plan >>= unless_fault (tasks_part plan.part plan.switch
 -- The end of a session: programming mode is left, also after a fault, but not where the line has ended. A second fault
 -- is not told.
 abbrev pub ending : Part → Switches → Standing → Dialog Saying Standing
-ending part s Fine = reported closing (fault_or part (λ _. informs s.quiet (codes "done" ∷ [])))
+ending part s Fine = reported closing (closed_says s.quiet part)
 ending part s Faulty = reported closing (λ _. []) >>= λ closed. Done Over
 ending part s Over = Done Over
 

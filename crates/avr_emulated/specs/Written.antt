@@ -1,0 +1,46 @@
+-- What the memories hold after a verified run of status 0, address by address.
+use Rattle.std.specs.Prelude.{ℕ, ◌≡◌, ◌==◌, ◌<◌, ◌&&◌, not, List, [], ◌∷◌, slice_index, None, if◌then◌else◌}
+use Rattle.avr_image.specs.Image.{empty, byte_at, over}
+use Rattle.avr_part.specs.Part.{Part, size_of}
+use Rattle.avr_part.specs.declared.mem.Mem.{Mem}
+use Rattle.avr_part.specs.declared.mem.Mem.TheVariants.{Flash, Eeprom, Lfuse, Hfuse, Efuse, Lock, Signature, Calibration}
+use Rattle.avr_plan.specs.Plan.{Plan}
+use Rattle.avr_plan.specs.declared.task.Task.{Task}
+use Rattle.avr_plan.specs.declared.task.Task.TheVariants.{Write, Verify, Read}
+use Rattle.avr_tool.specs.Session.{is_erase_due}
+use Rattle.stk_emu.specs.Effect.{Image, Memories, keeps_eeprom, memory_in}
+use Rattle.avr_emulated.specs.Agrees.{Shows}
+
+abbrev pub number_of : Mem → ℕ
+number_of Flash = 0
+number_of Eeprom = 1
+number_of Lfuse = 2
+number_of Hfuse = 3
+number_of Efuse = 4
+number_of Lock = 5
+number_of Signature = 6
+number_of Calibration = 7
+
+-- the images that tasks write to a memory, laid over each other: a later one's byte stands
+abbrev pub written_to : Part → Mem → List Task → Image
+written_to part mem [] = empty (size_of mem part)
+written_to part mem (Write other image ∷ tasks) =
+    if number_of other == number_of mem then over image (written_to part mem tasks) else written_to part mem tasks
+written_to part mem (Verify other image ∷ tasks) = written_to part mem tasks
+written_to part mem (Read other format file ∷ tasks) = written_to part mem tasks
+
+abbrev pub byte_in : Part → Mem → ℕ → Memories → ℕ
+byte_in part mem addr m = slice_index (memory_in part mem m) addr
+
+-- Each memory holds the images written to it. Elsewhere flash is FF where the chip was erased, and EEPROM too, unless its
+-- fuse keeps it; else they are as before. A fuse that wasn't written is as before.
+pub record IsWritten (plan : Plan) (before after : Memories) : Type 0 where
+  pub images : (mem : Mem) → Shows plan.part mem (written_to plan.part mem plan.tasks) after
+  pub rest_of_flash : (addr : ℕ) → addr < plan.part.flash_size → byte_at (written_to plan.part Flash plan.tasks) addr ≡ None
+      → byte_in plan.part Flash addr after ≡ (if is_erase_due plan.switches plan.tasks then 255 else byte_in plan.part Flash addr before)
+  pub rest_of_eeprom : (addr : ℕ) → addr < plan.part.eeprom_size → byte_at (written_to plan.part Eeprom plan.tasks) addr ≡ None
+      → byte_in plan.part Eeprom addr after
+      ≡ (if is_erase_due plan.switches plan.tasks && not (keeps_eeprom plan.part before) then 255 else byte_in plan.part Eeprom addr before)
+  pub lfuse : byte_at (written_to plan.part Lfuse plan.tasks) 0 ≡ None → after.lfuse ≡ before.lfuse
+  pub hfuse : byte_at (written_to plan.part Hfuse plan.tasks) 0 ≡ None → after.hfuse ≡ before.hfuse
+  pub efuse : byte_at (written_to plan.part Efuse plan.tasks) 0 ≡ None → after.efuse ≡ before.efuse

@@ -1,0 +1,34 @@
+//! What the memories hold after a verified run, address by address. No code.
+#![tactic(auto)]
+
+ghost use Rattle.std.specs.Prelude.{◌≡◌, ◌↔◌, false, List, All, map};
+ghost use Rattle.avr_cli.specs.declared.chosen.Switches.{Switches};
+ghost use Rattle.avr_part.specs.Part.{IsPart};
+ghost use Rattle.avr_part.specs.declared.mem.Mem.{Mem};
+ghost use Rattle.avr_plan.specs.Plan.{Plan, IsFitted};
+ghost use Rattle.avr_plan.specs.declared.task.Task.{Task};
+ghost use Rattle.stk_emu.specs.Effect.{Memories, effects};
+ghost use Rattle.stk_emu.specs.Settled.{FitsPart};
+ghost use Rattle.avr_emulated.specs.Agrees.{Agrees, TasksAgree};
+ghost use Rattle.avr_emulated.specs.Course.{course};
+ghost use Rattle.avr_emulated.specs.Items.{items};
+ghost use Rattle.avr_emulated.specs.Outcome.{IsDone};
+ghost use Rattle.avr_emulated.specs.Written.{IsWritten, written_to};
+
+/// The status of a course is 0 exactly where its comparisons agree, and then it has done all that its plan writes.
+pub fn a_course_succeeds_where_it_agrees()
+    ensures status { (plan : Plan) (m : Memories) → (course plan m).status ≡ 0 ↔ Agrees plan m }
+    ensures memories { (plan : Plan) (m : Memories) → Agrees plan m → (course plan m).memories ≡ effects plan.part (items plan) m }
+{}
+
+/// After a verified run of status 0 each memory holds the images that were written to it, laid over each other, and nothing else
+/// changed but what an erase erased; and a further comparison with these images agrees.
+pub fn a_verified_run_leaves_its_images()
+    ensures images { (plan : Plan) (before after : Memories)
+        → IsPart plan.part → All (IsFitted plan.part) plan.tasks → FitsPart plan.part before
+        → plan.switches.dry ≡ false → plan.switches.no_verify ≡ false → IsDone plan before after → IsWritten plan before after }
+    ensures again { (plan : Plan) (before after : Memories) (s : Switches) (mems : List Mem)
+        → IsPart plan.part → All (IsFitted plan.part) plan.tasks → FitsPart plan.part before
+        → plan.switches.dry ≡ false → plan.switches.no_verify ≡ false → IsDone plan before after
+        → TasksAgree plan.part s (map (λ mem. Task.Verify mem (written_to plan.part mem plan.tasks)) mems) after }
+{}
