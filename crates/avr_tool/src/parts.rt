@@ -7,6 +7,7 @@ ghost use Rattle.avr_tool.specs.Lines.{warns};
 ghost use Rattle.avr_tool.specs.Runs.{Reports, PrintStops};
 ghost use Rattle.avr_tool.specs.Parts.{Performs, LeavesOut};
 ghost use Rattle.avr_tool.specs.Session.{opening_part, chip_erasing_part, left_out_erase, erasing_part, verifying_part, writing_part, read_back_part, reading_part, left_out_write, write_part, task_part, tasks_part, writes_flash, is_erase_due};
+ghost use Rattle.stk_host.specs.Talk.{Stays};
 
 use crate::reports::{report_bytes, report_done, report_erased, report_opening, warn};
 use crate::saving::report_read;
@@ -32,6 +33,7 @@ pub(crate) fn open_session<D: Desk, L: Link>(
     requires signature { host.old.signature ≡ part.now.signature }
     ensures performs { Performs (opening_part part.now switches) host.old host.new (L.talk link.old) (L.talk link.new) (L.failures link.old) (L.failures link.new)
         (D.kept desk.old) (D.kept desk.new) (D.failures desk.old) (D.failures desk.new) result }
+    ensures comes { Stays L.comes_of link.old link.new }
 {
     let opened = host.open(link, switches.force);
     let reported = report_opening(desk, switches.quiet, part, &opened);
@@ -49,6 +51,7 @@ fn erase_chip<D: Desk, L: Link>(
     requires sound { host.old.broken ≡ None }
     ensures performs { Performs (chip_erasing_part part.now switches) host.old host.new (L.talk link.old) (L.talk link.new) (L.failures link.old) (L.failures link.new)
         (D.kept desk.old) (D.kept desk.new) (D.failures desk.old) (D.failures desk.new) result }
+    ensures comes { Stays L.comes_of link.old link.new }
 {
     let erased = host.erase(link);
     let reported = report_erased(desk, switches.quiet, part, &erased);
@@ -107,6 +110,7 @@ pub(crate) fn erase_if_due<D: Desk, L: Link>(
     requires sound { host.old.broken ≡ None }
     ensures performs { Performs (erasing_part part.now switches tasks.now) host.old host.new (L.talk link.old) (L.talk link.new) (L.failures link.old) (L.failures link.new)
         (D.kept desk.old) (D.kept desk.new) (D.failures desk.old) (D.failures desk.new) result }
+    ensures comes { Stays L.comes_of link.old link.new }
 {
     if switches.dry {
         return leave_out_erase(desk, switches);
@@ -133,6 +137,7 @@ fn verify<D: Desk, L: Link>(
     requires fits { length image.now ≤ size_of mem part.now }
     ensures performs { Performs (verifying_part part.now switches mem image.now) host.old host.new (L.talk link.old) (L.talk link.new) (L.failures link.old) (L.failures link.new)
         (D.kept desk.old) (D.kept desk.new) (D.failures desk.old) (D.failures desk.new) result }
+    ensures comes { Stays L.comes_of link.old link.new }
 {
     let verified = host.verify(link, alloc, mem, image);
     let count = image.len();
@@ -163,6 +168,7 @@ fn write<D: Desk, L: Link>(
     requires fits { length image.now ≤ size_of mem part.now }
     ensures performs { Performs (writing_part part.now switches mem image.now) host.old host.new (L.talk link.old) (L.talk link.new) (L.failures link.old) (L.failures link.new)
         (D.kept desk.old) (D.kept desk.new) (D.failures desk.old) (D.failures desk.new) result }
+    ensures comes { Stays L.comes_of link.old link.new }
 {
     let written = host.write(link, mem, image);
     let count = image.len();
@@ -194,6 +200,7 @@ fn read_back<D: Desk, L: Link>(
     requires fits { length image.now ≤ size_of mem part.now }
     ensures performs { Performs (read_back_part part.now switches mem image.now) host.old host.new (L.talk link.old) (L.talk link.new) (L.failures link.old) (L.failures link.new)
         (D.kept desk.old) (D.kept desk.new) (D.failures desk.old) (D.failures desk.new) result }
+    ensures comes { Stays L.comes_of link.old link.new }
 {
     if switches.no_verify {
         return Ok(Standing::Fine);
@@ -230,6 +237,7 @@ fn write_and_verify<D: Desk, L: Link>(
     requires fits { length image.now ≤ size_of mem part.now }
     ensures performs { Performs (write_part part.now switches mem image.now) host.old host.new (L.talk link.old) (L.talk link.new) (L.failures link.old) (L.failures link.new)
         (D.kept desk.old) (D.kept desk.new) (D.failures desk.old) (D.failures desk.new) result }
+    ensures comes { Stays L.comes_of link.old link.new }
 {
     if switches.dry {
         return leave_out_write(desk, switches, mem, image);
@@ -260,6 +268,7 @@ fn read<D: Desk, L: Link>(
     requires part { host.old.part ≡ part.now }
     ensures performs { Performs (reading_part part.now switches mem format file.now) host.old host.new (L.talk link.old) (L.talk link.new) (L.failures link.old) (L.failures link.new)
         (D.kept desk.old) (D.kept desk.new) (D.failures desk.old) (D.failures desk.new) result }
+    ensures comes { Stays L.comes_of link.old link.new }
 {
     let mut bytes = Vec::new(alloc);
     let outcome = host.read(link, mem, &mut bytes);
@@ -291,6 +300,7 @@ fn perform<D: Desk, L: Link>(
     requires fits { IsFitted part.now task.now }
     ensures performs { Performs (task_part part.now switches task.now) host.old host.new (L.talk link.old) (L.talk link.new) (L.failures link.old) (L.failures link.new)
         (D.kept desk.old) (D.kept desk.new) (D.failures desk.old) (D.failures desk.new) result }
+    ensures comes { Stays L.comes_of link.old link.new }
 {
     match task {
         Task::Write(mem, image) => {
@@ -322,6 +332,7 @@ pub(crate) fn perform_all<D: Desk, L: Link>(
     requires fits { All (IsFitted part.now) tasks.now }
     ensures performs { Performs (tasks_part part.now switches tasks.now) host.old host.new (L.talk link.old) (L.talk link.new) (L.failures link.old) (L.failures link.new)
         (D.kept desk.old) (D.kept desk.new) (D.failures desk.old) (D.failures desk.new) result }
+    ensures comes { Stays L.comes_of link.old link.new }
 {
     match tasks {
         [] => Ok(Standing::Fine),

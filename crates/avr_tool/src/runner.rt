@@ -1,5 +1,6 @@
 //! A run, from settings to status.
 ghost use Rattle.avr_tool.specs.Run.{RunsSettings};
+ghost use Rattle.stk_host.specs.Talk.{Stays};
 
 use crate::session::drive;
 use avr_cli::Settings;
@@ -13,6 +14,7 @@ use stk_host::Link;
 pub fn run<D: Desk, L: Link>(alloc: Global, settings: &Settings, desk: &mut D, link: &mut L) -> u8
     ensures runs { RunsSettings settings.now (L.talk link.old) (L.talk link.new) (D.kept desk.old) (D.kept desk.new)
         (L.failures link.old) (L.failures link.new) (D.failures desk.old) (D.failures desk.new) result }
+    ensures comes { Stays L.comes_of link.old link.new }
 {
     match plan(alloc, settings, desk) {
         Ok(plan) => drive(alloc, &plan, desk, link),

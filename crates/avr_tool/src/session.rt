@@ -5,6 +5,7 @@ ghost use Rattle.avr_tool.specs.Concluding.{Serves};
 ghost use Rattle.avr_tool.specs.Parts.{Performs};
 ghost use Rattle.avr_tool.specs.Runs.{RunsTo, Stops};
 ghost use Rattle.avr_tool.specs.Session.{beginning, working, ending, playing, session};
+ghost use Rattle.stk_host.specs.Talk.{Stays};
 
 use crate::parts::{erase_if_due, open_session, perform_all};
 use crate::reports::report_closing;
@@ -25,6 +26,7 @@ fn open_and_erase<D: Desk, L: Link>(
     requires signature { host.old.signature ≡ plan.now.part.signature }
     ensures performs { Performs (beginning plan.now) host.old host.new (L.talk link.old) (L.talk link.new) (L.failures link.old) (L.failures link.new)
         (D.kept desk.old) (D.kept desk.new) (D.failures desk.old) (D.failures desk.new) result }
+    ensures comes { Stays L.comes_of link.old link.new }
 {
     let standing = match open_session(host, desk, link, plan.part(), plan.switches()) {
         Ok(standing) => standing,
@@ -51,6 +53,7 @@ fn work<D: Desk, L: Link>(
     requires part { host.old.part ≡ plan.now.part }
     ensures performs { Performs (working plan.now) host.old host.new (L.talk link.old) (L.talk link.new) (L.failures link.old) (L.failures link.new)
         (D.kept desk.old) (D.kept desk.new) (D.failures desk.old) (D.failures desk.new) result }
+    ensures comes { Stays L.comes_of link.old link.new }
 {
     let standing = match open_and_erase(host, desk, link, plan) {
         Ok(standing) => standing,
@@ -82,6 +85,7 @@ fn close<D: Desk, L: Link>(
     requires { host.old.broken ≡ None }
     ensures performs { Performs (ending plan.now.part plan.now.switches Fine) host.old host.new (L.talk link.old) (L.talk link.new) (L.failures link.old) (L.failures link.new)
         (D.kept desk.old) (D.kept desk.new) (D.failures desk.old) (D.failures desk.new) result }
+    ensures comes { Stays L.comes_of link.old link.new }
 {
     let closed = host.close(link);
     let reported = report_closing(desk, plan.switches().quiet, plan.part(), &closed);
@@ -98,6 +102,7 @@ fn close_after_fault<D: Desk, L: Link>(
     requires { host.old.broken ≡ None }
     ensures performs { Performs (ending plan.now.part plan.now.switches Faulty) host.old host.new (L.talk link.old) (L.talk link.new) (L.failures link.old) (L.failures link.new)
         (D.kept desk.old) (D.kept desk.new) (D.failures desk.old) (D.failures desk.new) result }
+    ensures comes { Stays L.comes_of link.old link.new }
 {
     let closed = host.close(link);
     match conclude(&closed, Ok(())) {
@@ -117,6 +122,7 @@ fn end<D: Desk, L: Link>(
     requires { Serves (Ok standing) host.old.broken }
     ensures performs { Performs (ending plan.now.part plan.now.switches standing) host.old host.new (L.talk link.old) (L.talk link.new) (L.failures link.old) (L.failures link.new)
         (D.kept desk.old) (D.kept desk.new) (D.failures desk.old) (D.failures desk.new) result }
+    ensures comes { Stays L.comes_of link.old link.new }
 {
     match standing {
         Standing::Fine => close(host, desk, link, plan),
@@ -138,6 +144,7 @@ fn play<D: Desk, L: Link>(
     requires part { host.old.part ≡ plan.now.part }
     ensures performs { Performs (playing plan.now) host.old host.new (L.talk link.old) (L.talk link.new) (L.failures link.old) (L.failures link.new)
         (D.kept desk.old) (D.kept desk.new) (D.failures desk.old) (D.failures desk.new) result }
+    ensures comes { Stays L.comes_of link.old link.new }
 {
     match work(alloc, host, desk, link, plan) {
         Ok(standing) => end(host, desk, link, plan, standing),
@@ -153,6 +160,7 @@ fn play<D: Desk, L: Link>(
 pub fn drive<D: Desk, L: Link>(alloc: Global, plan: &Plan, desk: &mut D, link: &mut L) -> u8
     ensures runs { RunsTo (session plan.now) (L.talk link.old) (L.talk link.new) (D.kept desk.old) (D.kept desk.new)
         (Stops (L.failures link.old) (L.failures link.new) (D.failures desk.old) (D.failures desk.new)) result }
+    ensures comes { Stays L.comes_of link.old link.new }
 {
     let mut host = Host::new(plan.part());
     match play(alloc, &mut host, desk, link, plan) {

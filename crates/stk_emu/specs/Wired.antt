@@ -6,9 +6,9 @@ use Rattle.stk_host.specs.declared.link.Item.TheVariants.{Silence}
 use Rattle.stk_host.specs.Tape.{Tape}
 use Rattle.stk_host.specs.Talk.{Talk, Got, sent, heard}
 use Rattle.stk_emu.specs.declared.fate.Fate.{Fate}
-use Rattle.stk_emu.specs.Programmer.{Programmer}
+use Rattle.stk_emu.specs.Programmer.{Programmer, fresh_programmer}
 use Rattle.stk_emu.specs.Device.{device}
-use Rattle.stk_emu.specs.Wire.{Wire, fresh, tape_of, wire_after}
+use Rattle.stk_emu.specs.Wire.{Wire, AreLawful, fresh, tape_of, wire_after}
 
 -- the bytes of a frame that has not ended; the wire; the items that wait to be heard; what passed; and the failures
 pub record State : Type 0 where
@@ -33,6 +33,20 @@ pub record Keeps (p : Programmer) (fates : List Fate) (w : State) : Type 0 where
   pub held : Stands w.held (sent w.talk)
   pub stands : w.wire ≡ wire_after device (frames (sent w.talk)) (fresh p fates)
   pub brings : NeverIdle p fates w.talk → brought p fates (sent w.talk) ≡ heard w.talk ++ w.waits
+
+-- how a wire began: its programmer, and the fates of its frames
+pub record Start : Type 0 where
+  pub programmer : Programmer
+  pub fates : List Fate
+
+abbrev pub ComesOf : Start → State → Type 0
+ComesOf start w = Keeps start.programmer start.fates w
+
+-- Nothing has passed over the wire, its programmer has done nothing yet, and its fates are lawful.
+pub record IsFresh (w : State) : Type 0 where
+  pub silent : w.talk ≡ []
+  pub begins : Keeps (fresh_programmer w.wire.programmer.chip) w.wire.fates w
+  pub lawful : AreLawful w.wire.fates
 
 -- items are heard, and wait no more
 abbrev pub after_hearing : Tape → State → State

@@ -5,11 +5,10 @@ ghost use Rattle.std.specs.Prelude.{◌≡◌, ◌+◌, ◌<◌, ◌≤◌, ◌+
 ghost use Rattle.stk_host.specs.declared.link.Item.TheVariants as item;
 ghost use Rattle.stk_host.specs.Tape.{Tape, on_tape};
 ghost use Rattle.stk_host.specs.Talk as talk;
-ghost use Rattle.stk_host.specs.Talk.{Grows, HasFailed, FitsBuffer, items_of};
-ghost use Rattle.stk_emu.specs.declared.fate.Fate.{Fate};
-ghost use Rattle.stk_emu.specs.Programmer.{Programmer, fresh_programmer};
+ghost use Rattle.stk_host.specs.Talk.{Grows, HasFailed, Stays, FitsBuffer, items_of};
+ghost use Rattle.stk_emu.specs.Programmer.{fresh_programmer};
 ghost use Rattle.stk_emu.specs.Wire.{AreLawful, fresh};
-ghost use Rattle.stk_emu.specs.Wired.{Keeps, IsNext, after_hearing};
+ghost use Rattle.stk_emu.specs.Wired.{Start, ComesOf, IsFresh, IsNext, after_hearing};
 
 use crate::fate::Fate;
 use crate::line::Line;
@@ -94,7 +93,7 @@ impl Wired {
         ensures waits { result.waits ≡ [] }
         ensures talk { result.talk ≡ [] }
         ensures sound { result.failures ≡ 0 }
-        ensures keeps { Keeps (fresh_programmer chip) fates.items result }
+        ensures fresh { IsFresh result }
     {
         Wired {
             reader: FrameReader::new(),
@@ -135,7 +134,7 @@ impl Wired {
         ensures progress { IfOk result (λ n. 0 < length bytes.now → 0 < n) }
         ensures talk { IfOk result (λ n. self.new.talk ≡ self.old.talk ++ talk.Sent (take n bytes.now) ∷ []) }
         ensures failures { self.new.failures ≡ self.old.failures }
-        ensures keeps { IfOk result (λ n. (p : Programmer) (fates : List Fate) → Keeps p fates self.old → Keeps p fates self.new) }
+        ensures comes { IfOk result (λ n. Stays ComesOf self.old self.new) }
         ensures err { OnErr result (self.new ≡ self.old) }
     {
         make_room(&mut self.waits, &mut self.log, bytes.len())?;
@@ -190,6 +189,10 @@ impl Link for Wired {
 
     ghost failures = { λ link. link.failures };
 
+    ghost Start = { Start };
+
+    ghost comes_of = { ComesOf };
+
     fn send(&mut self, bytes: &[u8]) -> Result<usize, LinkFault>
         ensures within { IfOk result (λ n. n ≤ length bytes.now) }
         ensures ok { IfOk result (λ n. Grows (Some self.old.talk) (talk.Sent (take n bytes.now) ∷ []) (Some self.new.talk)) }
@@ -199,7 +202,7 @@ impl Link for Wired {
         ensures stuck { IfOk result (λ n. n ≡ 0 → 0 < length bytes.now → HasFailed self.old.failures self.new.failures) }
         ensures same { OnErr result (self.new ≡ record self.old { failures = self.new.failures }) }
         // Sent and heard stay what the fates say.
-        ensures keeps { (p : Programmer) (fates : List Fate) → Keeps p fates self.old → Keeps p fates self.new }
+        ensures comes { Stays ComesOf self.old self.new }
     {
         match self.pass(bytes) {
             Ok(used) => Ok(used),
@@ -221,7 +224,7 @@ impl Link for Wired {
         ensures heard { IfOk result (λ heard. self.new ≡ after_hearing (items_of heard buffer.new) self.old) }
         ensures next { IfOk result (λ heard. IsNext (items_of heard buffer.new) self.old.waits) }
         ensures same { OnErr result (self.new ≡ record self.old { failures = self.new.failures }) }
-        ensures keeps { (p : Programmer) (fates : List Fate) → Keeps p fates self.old → Keeps p fates self.new }
+        ensures comes { Stays ComesOf self.old self.new }
     {
         match self.listen(buffer) {
             Ok(heard) => Ok(heard),

@@ -1,25 +1,27 @@
-//! The bodies of commands.
+//! The bodies of commands, and the frames that carry them.
 #![tactic(auto)]
 
 ghost use Rattle.std.specs.Prelude.{◌≡◌, ◌+◌, ◌<◌, ◌≤◌, ◌++◌, length};
 ghost use Rattle.byteorder.specs.Endian.{big_bytes};
+ghost use Rattle.stk_frame.specs.Frame.{frame};
 ghost use Rattle.stk_frame.specs.Commands.{body, enter_progmode_fields, program_block_fields, read_block_fields, read_byte_fields};
 
 use crate::command::{Command, EnterProgmode, ProgramBlock, ReadBlock, ReadByte};
+use crate::frame::{begin, seal};
 use arrayvec::ArrayVec;
 use byteorder::{BigEndian, ByteOrder};
 
 /// Puts bytes behind those of `out`.
-fn put(out: &mut ArrayVec<u8, 275>, bytes: &[u8])
-    requires { length out.old.items + length bytes.now ≤ 275 }
+fn put<const CAP: usize>(out: &mut ArrayVec<u8, CAP>, bytes: &[u8])
+    requires { length out.old.items + length bytes.now ≤ CAP }
     ensures { out.new.items ≡ out.old.items ++ bytes.now }
 {
     let _ = out.try_extend_from_slice(bytes);
 }
 
 /// Puts a number in two bytes, its high byte first.
-fn put_u16(out: &mut ArrayVec<u8, 275>, number: u16)
-    requires { length out.old.items + 2 ≤ 275 }
+fn put_u16<const CAP: usize>(out: &mut ArrayVec<u8, CAP>, number: u16)
+    requires { length out.old.items + 2 ≤ CAP }
     ensures { out.new.items ≡ out.old.items ++ big_bytes 2 number }
 {
     let mut bytes = [0; 2];
@@ -28,8 +30,8 @@ fn put_u16(out: &mut ArrayVec<u8, 275>, number: u16)
 }
 
 /// Puts a number in four bytes, its highest byte first.
-fn put_u32(out: &mut ArrayVec<u8, 275>, number: u32)
-    requires { length out.old.items + 4 ≤ 275 }
+fn put_u32<const CAP: usize>(out: &mut ArrayVec<u8, CAP>, number: u32)
+    requires { length out.old.items + 4 ≤ CAP }
     ensures { out.new.items ≡ out.old.items ++ big_bytes 4 number }
 {
     let mut bytes = [0; 4];
@@ -38,8 +40,8 @@ fn put_u32(out: &mut ArrayVec<u8, 275>, number: u32)
 }
 
 /// Puts the fields of a command that programs a block.
-fn put_program_block(out: &mut ArrayVec<u8, 275>, block: &ProgramBlock<'_>)
-    requires { length out.old.items + length (program_block_fields block.now) ≤ 275 }
+fn put_program_block<const CAP: usize>(out: &mut ArrayVec<u8, CAP>, block: &ProgramBlock<'_>)
+    requires { length out.old.items + length (program_block_fields block.now) ≤ CAP }
     ensures { out.new.items ≡ out.old.items ++ program_block_fields block.now }
 {
     put_u16(out, block.count);
@@ -59,8 +61,8 @@ fn put_program_block(out: &mut ArrayVec<u8, 275>, block: &ProgramBlock<'_>)
 }
 
 /// Puts the fields of ENTER_PROGMODE_ISP.
-fn put_enter_progmode(out: &mut ArrayVec<u8, 275>, enter: &EnterProgmode)
-    requires { length out.old.items + 11 ≤ 275 }
+fn put_enter_progmode<const CAP: usize>(out: &mut ArrayVec<u8, CAP>, enter: &EnterProgmode)
+    requires { length out.old.items + 11 ≤ CAP }
     ensures { out.new.items ≡ out.old.items ++ enter_progmode_fields enter.now }
 {
     put(
@@ -78,8 +80,8 @@ fn put_enter_progmode(out: &mut ArrayVec<u8, 275>, enter: &EnterProgmode)
 }
 
 /// Puts the fields of a command that reads a block.
-fn put_read_block(out: &mut ArrayVec<u8, 275>, block: &ReadBlock)
-    requires { length out.old.items + 3 ≤ 275 }
+fn put_read_block<const CAP: usize>(out: &mut ArrayVec<u8, CAP>, block: &ReadBlock)
+    requires { length out.old.items + 3 ≤ CAP }
     ensures { out.new.items ≡ out.old.items ++ read_block_fields block.now }
 {
     put_u16(out, block.count);
@@ -87,8 +89,8 @@ fn put_read_block(out: &mut ArrayVec<u8, 275>, block: &ReadBlock)
 }
 
 /// Puts the fields of a command that reads one byte.
-fn put_read_byte(out: &mut ArrayVec<u8, 275>, read: &ReadByte)
-    requires { length out.old.items + 5 ≤ 275 }
+fn put_read_byte<const CAP: usize>(out: &mut ArrayVec<u8, CAP>, read: &ReadByte)
+    requires { length out.old.items + 5 ≤ CAP }
     ensures { out.new.items ≡ out.old.items ++ read_byte_fields read.now }
 {
     put(out, &[read.return_address]);
@@ -96,6 +98,43 @@ fn put_read_byte(out: &mut ArrayVec<u8, 275>, read: &ReadByte)
 }
 
 impl Command<'_> {
+    /// How many bytes the command's body has.
+    fn body_len(&self) -> usize
+        requires { length (body self.now) ≤ 275 }
+        ensures { result ≡ length (body self.now) }
+    {
+        match self {
+            Command::SignOn => 1,
+            Command::GetParameter { .. } => 2,
+            Command::SetParameter { .. } | Command::LeaveProgmode { .. } => 3,
+            Command::ReadFlash(_) | Command::ReadEeprom(_) => 4,
+            Command::LoadAddress { .. }
+            | Command::ProgramFuse { .. }
+            | Command::ProgramLock { .. } => 5,
+            Command::ReadFuse(_)
+            | Command::ReadLock(_)
+            | Command::ReadSignature(_)
+            | Command::ReadOsccal(_) => 6,
+            Command::ChipErase { .. } => 7,
+            Command::EnterProgmode(_) => 12,
+            Command::ProgramFlash(block) | Command::ProgramEeprom(block) => {
+                10 + block.bytes.bytes().len()
+            }
+            Command::SpiMulti { bytes, .. } => 4 + bytes.bytes().len(),
+        }
+    }
+
+    /// Makes `out` the frame that carries the command under the sequence number `seq`. The bytes that the command lends are
+    /// copied into the frame and nowhere else.
+    pub fn put_frame(&self, seq: u8, out: &mut ArrayVec<u8, 281>)
+        requires { length (body self.now) ≤ 275 }
+        ensures { out.new.items ≡ frame seq (body self.now) }
+    {
+        begin(seq, self.body_len() as u16, out);
+        self.put_body(out);
+        seal(out);
+    }
+
     /// Makes `out` the command's body: its byte, and its fields in their order. Counts and addresses
     /// have their highest byte first.
     pub fn body(&self, out: &mut ArrayVec<u8, 275>)
@@ -104,7 +143,15 @@ impl Command<'_> {
         ensures some { 0 < length out.new.items }
     {
         out.clear();
-        out.push(self.code());
+        self.put_body(out);
+    }
+
+    /// Puts the command's byte and its fields behind the bytes of `out`.
+    fn put_body<const CAP: usize>(&self, out: &mut ArrayVec<u8, CAP>)
+        requires { length out.old.items + length (body self.now) ≤ CAP }
+        ensures { out.new.items ≡ out.old.items ++ body self.now }
+    {
+        put(out, &[self.code()]);
         match self {
             Command::SignOn => {}
             Command::SetParameter { number, value } => put(out, &[*number, *value]),

@@ -2,7 +2,7 @@
 #![tactic(auto)]
 
 ghost use Rattle.std.specs.Prelude.{◌≡◌, ◌<◌, ◌≤◌, length};
-ghost use Rattle.stk_frame.specs.Frame.{frame, xor_all, header};
+ghost use Rattle.stk_frame.specs.Frame.{frame, xor_all, header, sealed};
 
 use arrayvec::ArrayVec;
 use byteorder::{BigEndian, ByteOrder};
@@ -23,6 +23,24 @@ fn header_of(seq: u8, size: u16) -> [u8; 5]
     header
 }
 
+/// Makes `out` what stands in front of a body of this size.
+pub(crate) fn begin(seq: u8, size: u16, out: &mut ArrayVec<u8, 281>)
+    ensures { out.new.items ≡ header seq size }
+{
+    out.clear();
+    let header = header_of(seq, size);
+    let _ = out.try_extend_from_slice(&header);
+}
+
+/// Puts the byte behind those of `out` that makes the XOR of all 0.
+pub(crate) fn seal(out: &mut ArrayVec<u8, 281>)
+    requires { length out.old.items < 281 }
+    ensures { out.new.items ≡ sealed out.old.items }
+{
+    let xor = xor_of(out.as_slice());
+    out.push(xor);
+}
+
 /// Makes `out` the frame that carries `body` under the sequence number `seq`.
 ///
 /// A frame is the start byte `1B`, the number, the body's size in two bytes (the high one first),
@@ -32,10 +50,7 @@ pub fn put_frame(seq: u8, body: &[u8], out: &mut ArrayVec<u8, 281>)
     requires fits { length body.now ≤ 275 }
     ensures { out.new.items ≡ frame seq body.now }
 {
-    out.clear();
-    let header = header_of(seq, body.len() as u16);
-    let _ = out.try_extend_from_slice(&header);
+    begin(seq, body.len() as u16, out);
     let _ = out.try_extend_from_slice(body);
-    let xor = xor_of(out.as_slice());
-    out.push(xor);
+    seal(out);
 }

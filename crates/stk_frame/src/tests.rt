@@ -17,8 +17,11 @@ const ANSWERS: [u8; 63] = [
 fn a_command_goes_into_a_frame(rt: HostRuntime) {
     let mut body = ArrayVec::new();
     Command::read_signature(1).body(&mut body);
+    let mut carried = ArrayVec::new();
+    put_frame(4, body.as_slice(), &mut carried);
     let mut frame = ArrayVec::new();
-    put_frame(4, body.as_slice(), &mut frame);
+    Command::read_signature(1).put_frame(4, &mut frame);
+    assert_eq!(rt; carried.as_slice(), frame.as_slice());
     assert_eq!(rt;
         frame.as_slice(),
         [

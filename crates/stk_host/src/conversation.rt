@@ -4,7 +4,7 @@
 ghost use Rattle.std.specs.Prelude.{◌≡◌, ◌<◌, ◌≤◌, ◌++◌, ◌∷◌, [], length, IfOk, IsOkAnd, OnOk, OnErr, All};
 ghost use Rattle.stk_frame.specs.Frame.{frame};
 ghost use Rattle.stk_frame.specs.Commands.{body, judge, shape, SizedBy};
-ghost use Rattle.stk_host.specs.Talk.{HasFailed};
+ghost use Rattle.stk_host.specs.Talk.{HasFailed, Stays};
 ghost use Rattle.stk_host.specs.Play.{PlaysOver, BreaksOver};
 ghost use Rattle.stk_host.specs.Reach.{Says};
 ghost use Rattle.stk_host.specs.Steps.{exchange, attempt, step, judged, replied};
@@ -18,7 +18,7 @@ use crate::send::send_all;
 use crate::unread::Unread;
 use arrayvec::ArrayVec;
 use std::marker::Model;
-use stk_frame::{Answer, Command, FrameFault, FrameReader, put_frame};
+use stk_frame::{Answer, Command, FrameFault, FrameReader};
 
 /// How many attempts a step has.
 const ATTEMPTS: u8 = 4;
@@ -58,12 +58,11 @@ fn send_command<L: Link>(link: &mut L, seq: u8, command: &Command<'_>) -> Result
     ensures ok { OnOk result (Says (frame seq (body command.now)) (L.talk link.old) (L.talk link.new)) }
     ensures err { OnErr result (SaysFront (frame seq (body command.now)) (L.talk link.old) (L.talk link.new)) }
     ensures counted { L.failures link.old ≤ L.failures link.new }
+    ensures comes { Stays L.comes_of link.old link.new }
     ensures failed { OnErr result (HasFailed (L.failures link.old) (L.failures link.new)) }
 {
-    let mut body = ArrayVec::new();
-    command.body(&mut body);
     let mut frame = ArrayVec::new();
-    put_frame(seq, body.as_slice(), &mut frame);
+    command.put_frame(seq, &mut frame);
     send_all(link, frame.as_slice())
 }
 
@@ -126,6 +125,7 @@ impl Conversation {
         ensures quiet { IsQuiet command.now → IsOkAnd result (λ reply. reply ≡ Reply.Data) → data_held command.now self.new.held ≡ [] }
         ensures err { OnErr result (BreaksOver (exchange command.now) self.old.next self.old.unread (L.talk link.old) (L.talk link.new)) }
         ensures counted { L.failures link.old ≤ L.failures link.new }
+        ensures comes { Stays L.comes_of link.old link.new }
         ensures failed { OnErr result (HasFailed (L.failures link.old) (L.failures link.new)) }
         ensures bound { length self.new.unread ≤ 281 }
     {
@@ -154,6 +154,7 @@ impl Conversation {
         ensures err { OnErr result (BreaksOver (attempt (first.now ++ last.now ∷ []) []) self.old.next self.old.unread (L.talk link.old) (L.talk link.new)) }
         ensures sized { IsOkAnd result (λ reply. reply ≡ Reply.Data) → SizedBy (shape last.now) (data_held last.now self.new.held) }
         ensures counted { L.failures link.old ≤ L.failures link.new }
+        ensures comes { Stays L.comes_of link.old link.new }
         ensures failed { OnErr result (HasFailed (L.failures link.old) (L.failures link.new)) }
         ensures bound { length self.new.unread ≤ 281 }
     {
@@ -182,6 +183,7 @@ impl Conversation {
             (λ done. data_held last.now self.new.held) result self.new.next self.new.unread }
         ensures sized { OnOk result (SizedBy (shape last.now) (data_held last.now self.new.held)) }
         ensures counted { CountsLink (L.failures link.old) (L.failures link.new) result }
+        ensures comes { Stays L.comes_of link.old link.new }
         ensures bound { length self.new.unread ≤ 281 }
     {
         let mut fault = StepFault::NoAnswer;

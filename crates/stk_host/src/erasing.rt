@@ -5,6 +5,7 @@ ghost use Rattle.std.specs.Prelude.{◌≡◌, ◌≤◌, ◌∷◌, [], length}
 ghost use Rattle.stk_frame.specs.HostCommands.{erase};
 ghost use Rattle.stk_host.specs.Steps.{play};
 ghost use Rattle.stk_host.specs.Calls.{EndsSteps, CountsLink};
+ghost use Rattle.stk_host.specs.Talk.{Stays};
 
 use crate::conversation::Conversation;
 use crate::fault::Stop;
@@ -17,6 +18,7 @@ pub(crate) fn erase_chip<L: Link>(conversation: &mut Conversation, link: &mut L)
     ensures played { EndsSteps (play ((erase ∷ []) ∷ []) []) conversation.old.next conversation.old.unread (L.talk link.old) (L.talk link.new)
         (λ done. []) result conversation.new.next conversation.new.unread }
     ensures counted { CountsLink (L.failures link.old) (L.failures link.new) result }
+    ensures comes { Stays L.comes_of link.old link.new }
     ensures bound { length conversation.new.unread ≤ 281 }
 {
     play_step(conversation, link, &[], &Command::erase())

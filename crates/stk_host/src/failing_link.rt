@@ -4,7 +4,7 @@
 ghost use Rattle.std.specs.Prelude.{◌≡◌, ◌==◌, ◌≢◌, ◌<◌, ◌≤◌, ◌+◌, ◌-◌, ◌^◌, ◌∷◌, [], ℕ, length, take, min, Err, IfOk, OnErr};
 ghost use Rattle.stk_host.specs.declared.link.LinkFault.TheVariants.{Failed};
 ghost use Rattle.stk_host.specs.Links.{total_failures};
-ghost use Rattle.stk_host.specs.Talk.{Sent, Got, Grows, HasFailed, FitsBuffer, items_of};
+ghost use Rattle.stk_host.specs.Talk.{Sent, Got, Grows, HasFailed, Stays, FitsBuffer, items_of};
 
 use crate::link::{Heard, Link, LinkFault};
 use std::marker::Model;
@@ -79,6 +79,10 @@ impl<L: Link + Drop> Link for FailingLink<L> {
 
     ghost failures = { λ link. total_failures (L.failures link.inner) link.failed };
 
+    ghost Start = { L.Start };
+
+    ghost comes_of = { λ start link. L.comes_of start link.inner };
+
     fn send(&mut self, bytes: &[u8]) -> Result<usize, LinkFault>
         ensures within { IfOk result (λ n. n ≤ length bytes.now) }
         ensures ok { IfOk result (λ n. Grows (L.talk self.old.inner) (Sent (take n bytes.now) ∷ []) (L.talk self.new.inner)) }
@@ -86,6 +90,7 @@ impl<L: Link + Drop> Link for FailingLink<L> {
         ensures counted { total_failures (L.failures self.old.inner) self.old.failed ≤ total_failures (L.failures self.new.inner) self.new.failed }
         ensures failed { OnErr result (HasFailed (total_failures (L.failures self.old.inner) self.old.failed) (total_failures (L.failures self.new.inner) self.new.failed)) }
         ensures stuck { IfOk result (λ n. n ≡ 0 → 0 < length bytes.now → HasFailed (total_failures (L.failures self.old.inner) self.old.failed) (total_failures (L.failures self.new.inner) self.new.failed)) }
+        ensures comes { Stays L.comes_of self.old.inner self.new.inner }
         ensures due { self.new.due ≡ self.old.due - 1 }
         ensures cut { self.new.cut ≡ self.old.cut }
         // The call that is due fails, and the inner link isn't called.
@@ -108,6 +113,7 @@ impl<L: Link + Drop> Link for FailingLink<L> {
         ensures err { OnErr result (Grows (L.talk self.old.inner) [] (L.talk self.new.inner)) }
         ensures counted { total_failures (L.failures self.old.inner) self.old.failed ≤ total_failures (L.failures self.new.inner) self.new.failed }
         ensures failed { OnErr result (HasFailed (total_failures (L.failures self.old.inner) self.old.failed) (total_failures (L.failures self.new.inner) self.new.failed)) }
+        ensures comes { Stays L.comes_of self.old.inner self.new.inner }
         ensures due { self.new.due ≡ self.old.due - 1 }
         ensures cut { self.new.cut ≡ self.old.cut }
         // The call that is due fails, and the inner link isn't called.

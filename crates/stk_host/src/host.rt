@@ -4,7 +4,7 @@
 ghost use Rattle.std.specs.Prelude.{◌≡◌, ◌<◌, ◌≤◌, ◌^◌, [], length, Some, None, Err, OnOk, OnErr};
 ghost use Rattle.avr_part.specs.Part.{size_of};
 ghost use Rattle.stk_host.specs.declared.fault.HostFault.{HostFault};
-ghost use Rattle.stk_host.specs.Talk.{HasFailed};
+ghost use Rattle.stk_host.specs.Talk.{HasFailed, Stays};
 ghost use Rattle.stk_host.specs.Operations.{opening, closing, erasing, writing, reading, verifying};
 ghost use Rattle.stk_host.specs.State.{left_by};
 ghost use Rattle.stk_host.specs.Calls.{EndsCall, EndsOrLacks, IsBroken, told, opened, closed, given, kept, verified};
@@ -178,6 +178,7 @@ impl Host {
         // A fault of the link is told only where the link has failed.
         ensures failed { self.old.broken ≡ None → IsBroken result → HasFailed (L.failures link.old) (L.failures link.new) }
         ensures counted { L.failures link.old ≤ L.failures link.new }
+        ensures comes { Stays L.comes_of link.old link.new }
         // Of what was heard at most one piece is left.
         ensures bound { self.old.broken ≡ None → length self.new.unread ≤ 281 }
     {
@@ -203,6 +204,7 @@ impl Host {
         // A fault of the link is told only where the link has failed.
         ensures failed { self.old.broken ≡ None → IsBroken result → HasFailed (L.failures link.old) (L.failures link.new) }
         ensures counted { L.failures link.old ≤ L.failures link.new }
+        ensures comes { Stays L.comes_of link.old link.new }
         // Of what was heard at most one piece is left.
         ensures bound { self.old.broken ≡ None → length self.new.unread ≤ 281 }
     {
@@ -232,6 +234,7 @@ impl Host {
         // A fault of the link is told only where the link has failed.
         ensures failed { self.old.broken ≡ None → IsBroken result → HasFailed (L.failures link.old) (L.failures link.new) }
         ensures counted { L.failures link.old ≤ L.failures link.new }
+        ensures comes { Stays L.comes_of link.old link.new }
         // Of what was heard at most one piece is left.
         ensures bound { self.old.broken ≡ None → length self.new.unread ≤ 281 }
     {
@@ -271,6 +274,7 @@ impl Host {
         // A fault of the link is told only where the link has failed.
         ensures failed { self.old.broken ≡ None → IsBroken result → HasFailed (L.failures link.old) (L.failures link.new) }
         ensures counted { L.failures link.old ≤ L.failures link.new }
+        ensures comes { Stays L.comes_of link.old link.new }
         // Of what was heard at most one piece is left.
         ensures bound { self.old.broken ≡ None → length self.new.unread ≤ 281 }
     {
@@ -312,6 +316,7 @@ impl Host {
         // A fault of the link is told only where the link has failed.
         ensures failed { self.old.broken ≡ None → IsBroken result → HasFailed (L.failures link.old) (L.failures link.new) }
         ensures counted { L.failures link.old ≤ L.failures link.new }
+        ensures comes { Stays L.comes_of link.old link.new }
         // Of what was heard at most one piece is left.
         ensures bound { self.old.broken ≡ None → length self.new.unread ≤ 281 }
     {
@@ -341,6 +346,7 @@ impl Host {
         // A fault of the link is told only where the link has failed.
         ensures failed { self.old.broken ≡ None → IsBroken result → HasFailed (L.failures link.old) (L.failures link.new) }
         ensures counted { L.failures link.old ≤ L.failures link.new }
+        ensures comes { Stays L.comes_of link.old link.new }
         // Of what was heard at most one piece is left.
         ensures bound { self.old.broken ≡ None → length self.new.unread ≤ 281 }
     {

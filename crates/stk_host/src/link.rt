@@ -2,7 +2,7 @@
 #![tactic(auto)]
 
 ghost use Rattle.std.specs.Prelude.{◌≡◌, ◌<◌, ◌≤◌, ℕ, length, take, [], ◌∷◌, ◌++◌, Option, IfOk, OnOk, OnErr};
-ghost use Rattle.stk_host.specs.Talk.{Talk, Sent, Got, Grows, HasFailed, FitsBuffer, items_of};
+ghost use Rattle.stk_host.specs.Talk.{Talk, Sent, Got, Grows, HasFailed, Stays, FitsBuffer, items_of};
 
 use thiserror::Error;
 
@@ -58,6 +58,12 @@ pub trait Link {
     /// How often the link has failed.
     ghost failures: { Self → ℕ };
 
+    /// What a link may begin with, where that tells what it does later on: for a wire its programmer and its fates.
+    ghost Start: { Type 0 } = { Unit {0} };
+
+    /// The link has begun so, and is what it became of that. Whatever is sent and heard, it stays so.
+    ghost comes_of: { Start → Self → Type 0 } = { λ start link. Unit {0} };
+
     /// Sends the bytes or a front of them, and says how many.
     ///
     /// It is 0 for bytes that aren't none only where the link has failed. After a fault nothing was sent.
@@ -67,7 +73,8 @@ pub trait Link {
         ensures err { OnErr result (Grows (talk self.old) [] (talk self.new)) }
         ensures counted { failures self.old ≤ failures self.new }
         ensures failed { OnErr result (HasFailed (failures self.old) (failures self.new)) }
-        ensures stuck { IfOk result (λ n. n ≡ 0 → 0 < length bytes.now → HasFailed (failures self.old) (failures self.new)) };
+        ensures stuck { IfOk result (λ n. n ≡ 0 → 0 < length bytes.now → HasFailed (failures self.old) (failures self.new)) }
+        ensures comes { Stays comes_of self.old self.new };
 
     /// Listens: for at least one byte and as many as the buffer holds, a silence or the end.
     ///
@@ -78,5 +85,6 @@ pub trait Link {
         ensures ok { IfOk result (λ heard. Grows (talk self.old) (Got (items_of heard buffer.new) ∷ []) (talk self.new)) }
         ensures err { OnErr result (Grows (talk self.old) [] (talk self.new)) }
         ensures counted { failures self.old ≤ failures self.new }
-        ensures failed { OnErr result (HasFailed (failures self.old) (failures self.new)) };
+        ensures failed { OnErr result (HasFailed (failures self.old) (failures self.new)) }
+        ensures comes { Stays comes_of self.old self.new };
 }

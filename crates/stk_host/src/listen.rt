@@ -4,7 +4,7 @@
 ghost use Rattle.std.specs.Prelude.{◌≡◌, ◌<◌, ◌≤◌, ◌++◌, ℕ, List, length, IfOk, OnErr, true, false, None};
 ghost use Rattle.stk_frame.specs.Reader.{Fed, found, Tells, HoldsFrame};
 ghost use Rattle.stk_host.specs.Tape.{is_answer, first_answer};
-ghost use Rattle.stk_host.specs.Talk.{HasFailed};
+ghost use Rattle.stk_host.specs.Talk.{HasFailed, Stays};
 ghost use Rattle.stk_host.specs.Reach.{Hears, HearsNone};
 ghost use Rattle.stk_host.specs.Calls.{reading_of, HoldsAnswer};
 
@@ -64,6 +64,7 @@ pub(crate) fn listen<L: Link>(
     ensures holds { IfOk result (λ reading. HoldsAnswer reading reader.new) }
     ensures err { OnErr result (HearsNone seq unread.old (L.talk link.old) (L.talk link.new)) }
     ensures counted { L.failures link.old ≤ L.failures link.new }
+    ensures comes { Stays L.comes_of link.old link.new }
     ensures failed { OnErr result (HasFailed (L.failures link.old) (L.failures link.new)) }
 {
     reader.reset();

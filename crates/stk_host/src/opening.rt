@@ -6,6 +6,7 @@ ghost use Rattle.stk_frame.specs.HostCommands.{leave, read_signature};
 ghost use Rattle.stk_host.specs.Steps.{step};
 ghost use Rattle.stk_host.specs.Operations.{beginning};
 ghost use Rattle.stk_host.specs.Calls.{EndsSteps, CountsLink};
+ghost use Rattle.stk_host.specs.Talk.{Stays};
 
 use crate::conversation::Conversation;
 use crate::fault::Stop;
@@ -21,6 +22,7 @@ fn signature_byte<L: Link>(
     ensures played { EndsSteps (step (read_signature place ∷ [])) conversation.old.next conversation.old.unread (L.talk link.old) (L.talk link.new)
         (λ byte. byte ∷ []) result conversation.new.next conversation.new.unread }
     ensures counted { CountsLink (L.failures link.old) (L.failures link.new) result }
+    ensures comes { Stays L.comes_of link.old link.new }
     ensures bound { length conversation.new.unread ≤ 281 }
 {
     let command = Command::read_signature(place);
@@ -33,6 +35,7 @@ pub(crate) fn begin<L: Link>(conversation: &mut Conversation, link: &mut L) -> R
     ensures played { EndsSteps beginning conversation.old.next conversation.old.unread (L.talk link.old) (L.talk link.new)
         (λ found. found) result conversation.new.next conversation.new.unread }
     ensures counted { CountsLink (L.failures link.old) (L.failures link.new) result }
+    ensures comes { Stays L.comes_of link.old link.new }
     ensures bound { length conversation.new.unread ≤ 281 }
 {
     conversation.step(link, &[], &Command::SignOn)?;
@@ -48,6 +51,7 @@ pub(crate) fn end<L: Link>(conversation: &mut Conversation, link: &mut L) -> Res
     ensures played { EndsSteps (step (leave ∷ [])) conversation.old.next conversation.old.unread (L.talk link.old) (L.talk link.new)
         (λ done. []) result conversation.new.next conversation.new.unread }
     ensures counted { CountsLink (L.failures link.old) (L.failures link.new) result }
+    ensures comes { Stays L.comes_of link.old link.new }
     ensures bound { length conversation.new.unread ≤ 281 }
 {
     conversation.step(link, &[], &Command::leave())

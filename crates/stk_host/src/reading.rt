@@ -8,6 +8,7 @@ ghost use Rattle.stk_host.specs.Places.{each_from};
 ghost use Rattle.stk_host.specs.ReadSteps.{block_count, block_size, load_block, read_block, block_steps, signature_steps, read_steps};
 ghost use Rattle.stk_host.specs.Steps.{play};
 ghost use Rattle.stk_host.specs.Calls.{EndsSteps, CountsLink, Fits, IsQuiet, IsCounted, data_count};
+ghost use Rattle.stk_host.specs.Talk.{Stays};
 
 use crate::conversation::Conversation;
 use crate::fault::Stop;
@@ -66,6 +67,7 @@ fn read_blocks<L: Link>(
     ensures played { EndsSteps (play (each_from (block_steps part.now mem) 0 (block_count (parts.size_of mem part.now))) []) conversation.old.next conversation.old.unread (L.talk link.old) (L.talk link.new)
         (λ done. out.new.items) result conversation.new.next conversation.new.unread }
     ensures counted { CountsLink (L.failures link.old) (L.failures link.new) result }
+    ensures comes { Stays L.comes_of link.old link.new }
     ensures bound { length conversation.old.unread ≤ 281 → length conversation.new.unread ≤ 281 }
     ensures size { OnOk result (length out.new.items ≡ parts.size_of mem part.now) }
 {
@@ -90,6 +92,7 @@ fn read_signature<L: Link>(
     ensures played { EndsSteps (play signature_steps []) conversation.old.next conversation.old.unread (L.talk link.old) (L.talk link.new)
         (λ done. out.new.items) result conversation.new.next conversation.new.unread }
     ensures counted { CountsLink (L.failures link.old) (L.failures link.new) result }
+    ensures comes { Stays L.comes_of link.old link.new }
     ensures bound { length conversation.old.unread ≤ 281 → length conversation.new.unread ≤ 281 }
     ensures size { OnOk result (length out.new.items ≡ 3) }
 {
@@ -120,6 +123,7 @@ fn read_byte<L: Link>(
     ensures played { EndsSteps (play ((command.now ∷ []) ∷ []) []) conversation.old.next conversation.old.unread (L.talk link.old) (L.talk link.new)
         (λ done. out.new.items) result conversation.new.next conversation.new.unread }
     ensures counted { CountsLink (L.failures link.old) (L.failures link.new) result }
+    ensures comes { Stays L.comes_of link.old link.new }
     ensures bound { length conversation.new.unread ≤ 281 }
     ensures size { OnOk result (length out.new.items ≡ 1) }
 {
@@ -139,6 +143,7 @@ pub(crate) fn read_memory<L: Link>(
     ensures played { EndsSteps (play (read_steps part.now mem) []) conversation.old.next conversation.old.unread (L.talk link.old) (L.talk link.new)
         (λ done. out.new.items) result conversation.new.next conversation.new.unread }
     ensures counted { CountsLink (L.failures link.old) (L.failures link.new) result }
+    ensures comes { Stays L.comes_of link.old link.new }
     ensures bound { length conversation.old.unread ≤ 281 → length conversation.new.unread ≤ 281 }
     ensures size { OnOk result (length out.new.items ≡ parts.size_of mem part.now) }
 {

@@ -4,6 +4,7 @@
 ghost use Rattle.std.specs.Prelude.{◌≡◌, ◌+◌, ◌≤◌, ◌++◌, ◌∷◌, [], length, All, OnOk, vec_capacity};
 ghost use Rattle.stk_frame.specs.Commands.{shape};
 ghost use Rattle.stk_host.specs.Calls.{GoesOn, CountsLink, Fits, IsQuiet, IsCounted, data_count};
+ghost use Rattle.stk_host.specs.Talk.{Stays};
 
 use crate::conversation::Conversation;
 use crate::fault::Stop;
@@ -33,6 +34,7 @@ pub(crate) fn play_step<L: Link>(
     ensures played { GoesOn (first.now ++ last.now ∷ []) [] [] conversation.old.next conversation.old.unread (L.talk link.old) (L.talk link.new)
         result conversation.new.next conversation.new.unread }
     ensures counted { CountsLink (L.failures link.old) (L.failures link.new) result }
+    ensures comes { Stays L.comes_of link.old link.new }
     ensures bound { length conversation.new.unread ≤ 281 }
 {
     conversation.step(link, first, last)
@@ -53,6 +55,7 @@ pub(crate) fn read_step<L: Link>(
     ensures played { GoesOn (first.now ++ last.now ∷ []) out.old.items out.new.items conversation.old.next conversation.old.unread (L.talk link.old) (L.talk link.new)
         result conversation.new.next conversation.new.unread }
     ensures counted { CountsLink (L.failures link.old) (L.failures link.new) result }
+    ensures comes { Stays L.comes_of link.old link.new }
     ensures bound { length conversation.new.unread ≤ 281 }
     ensures size { OnOk result (length out.new.items ≡ length out.old.items + data_count (shape last.now)) }
     ensures room { vec_capacity out.old ≤ vec_capacity out.new }

@@ -2,7 +2,7 @@
 #![tactic(auto)]
 
 ghost use Rattle.std.specs.Prelude.{◌≡◌, ◌<◌, ◌≤◌, ◌↔◌, IsTrue, ℕ, length, take, drop, [], ◌∷◌, ◌++◌, IfOk, IfErr, OnErr};
-ghost use Rattle.stk_host.specs.Talk.{Grows, HasFailed};
+ghost use Rattle.stk_host.specs.Talk.{Grows, HasFailed, Stays};
 ghost use Rattle.stk_host.specs.Calls.{HearsPiece};
 
 use crate::link::{Heard, Link, LinkFault};
@@ -76,6 +76,7 @@ impl Unread {
         ensures ok { IfOk result (λ heard. HearsPiece heard self.new (L.talk link.old) (L.talk link.new)) }
         ensures err { OnErr result (Grows (L.talk link.old) [] (L.talk link.new)) }
         ensures counted { L.failures link.old ≤ L.failures link.new }
+        ensures comes { Stays L.comes_of link.old link.new }
         ensures failed { OnErr result (HasFailed (L.failures link.old) (L.failures link.new)) }
     {
         self.start = 0;

@@ -9,6 +9,7 @@ ghost use Rattle.stk_host.specs.Places as places;
 ghost use Rattle.stk_host.specs.WriteSteps.{page_step, byte_steps, write_steps};
 ghost use Rattle.stk_host.specs.Steps.{play};
 ghost use Rattle.stk_host.specs.Calls.{GoesOn, EndsSteps, CountsLink};
+ghost use Rattle.stk_host.specs.Talk.{Stays};
 
 use crate::conversation::Conversation;
 use crate::fault::Stop;
@@ -34,6 +35,7 @@ fn program_page<L: Link>(
     ensures played { GoesOn (page_step part.now image.now start) [] [] conversation.old.next conversation.old.unread (L.talk link.old) (L.talk link.new)
         result conversation.new.next conversation.new.unread }
     ensures counted { CountsLink (L.failures link.old) (L.failures link.new) result }
+    ensures comes { Stays L.comes_of link.old link.new }
     ensures bound { length conversation.new.unread ≤ 281 }
 {
     let size = page_size(part, Mem::Flash) as usize;
@@ -55,6 +57,7 @@ fn write_flash<L: Link>(
     ensures played { EndsSteps (play (write_steps part.now Mem.Flash image.now) []) conversation.old.next conversation.old.unread (L.talk link.old) (L.talk link.new)
         (λ done. []) result conversation.new.next conversation.new.unread }
     ensures counted { CountsLink (L.failures link.old) (L.failures link.new) result }
+    ensures comes { Stays L.comes_of link.old link.new }
     ensures bound { length conversation.old.unread ≤ 281 → length conversation.new.unread ≤ 281 }
 {
     let size = page_size(part, Mem::Flash);
@@ -80,6 +83,7 @@ fn program_run<L: Link>(
     ensures played { GoesOn (places.load_eeprom start ∷ host.program_eeprom (filled image.now start (end - start)) ∷ []) [] [] conversation.old.next conversation.old.unread (L.talk link.old) (L.talk link.new)
         result conversation.new.next conversation.new.unread }
     ensures counted { CountsLink (L.failures link.old) (L.failures link.new) result }
+    ensures comes { Stays L.comes_of link.old link.new }
     ensures bound { length conversation.new.unread ≤ 281 }
 {
     let size = (end - start) as usize;
@@ -101,6 +105,7 @@ fn write_eeprom<L: Link>(
     ensures played { EndsSteps (play (write_steps part.now Mem.Eeprom image.now) []) conversation.old.next conversation.old.unread (L.talk link.old) (L.talk link.new)
         (λ done. []) result conversation.new.next conversation.new.unread }
     ensures counted { CountsLink (L.failures link.old) (L.failures link.new) result }
+    ensures comes { Stays L.comes_of link.old link.new }
     ensures bound { length conversation.old.unread ≤ 281 → length conversation.new.unread ≤ 281 }
 {
     let size = page_size(part, Mem::Eeprom);
@@ -123,6 +128,7 @@ fn write_fuse<L: Link>(
     ensures played { EndsSteps (play (byte_steps (host.program_fuse fuse) byte) []) conversation.old.next conversation.old.unread (L.talk link.old) (L.talk link.new)
         (λ done. []) result conversation.new.next conversation.new.unread }
     ensures counted { CountsLink (L.failures link.old) (L.failures link.new) result }
+    ensures comes { Stays L.comes_of link.old link.new }
     ensures bound { length conversation.old.unread ≤ 281 → length conversation.new.unread ≤ 281 }
 {
     match byte {
@@ -140,6 +146,7 @@ fn write_lock<L: Link>(
     ensures played { EndsSteps (play (byte_steps host.program_lock byte) []) conversation.old.next conversation.old.unread (L.talk link.old) (L.talk link.new)
         (λ done. []) result conversation.new.next conversation.new.unread }
     ensures counted { CountsLink (L.failures link.old) (L.failures link.new) result }
+    ensures comes { Stays L.comes_of link.old link.new }
     ensures bound { length conversation.old.unread ≤ 281 → length conversation.new.unread ≤ 281 }
 {
     match byte {
@@ -160,6 +167,7 @@ pub(crate) fn write_memory<L: Link>(
     ensures played { EndsSteps (play (write_steps part.now mem image.now) []) conversation.old.next conversation.old.unread (L.talk link.old) (L.talk link.new)
         (λ done. []) result conversation.new.next conversation.new.unread }
     ensures counted { CountsLink (L.failures link.old) (L.failures link.new) result }
+    ensures comes { Stays L.comes_of link.old link.new }
     ensures bound { length conversation.old.unread ≤ 281 → length conversation.new.unread ≤ 281 }
 {
     match mem {

@@ -7,9 +7,7 @@ use Rattle.avr_tool.proofs.Operations.{call_ended, lack_ended, told_of}
 use Rattle.avr_tool.proofs.Performing.{operation_performs, opening_told}
 use Rattle.avr_tool.proofs.parts.verify.Goals as goal
 
-pub returns : goal.returns
-returns g c = record {
-  performs = operation_performs (fault_or c.args.part.now (λ _. bytes_say c.args.switches.quiet c.args.mem (held c.args.image.now) (codes " bytes verified"))) c.verify-verified.result c.report_done-reported.result c.conclude.result (PrintStops _ _) (print_is_desk _ _) c.conclude.ensures
+pub returns-clause-performs : goal.returns-clause-performs
+returns-clause-performs g c = operation_performs (fault_or c.args.part.now (λ _. bytes_say c.args.switches.quiet c.args.mem (held c.args.image.now) (codes " bytes verified"))) c.verify-verified.result c.report_done-reported.result c.conclude.result (PrintStops _ _) (print_is_desk _ _) c.conclude.ensures
       (lack_ended _ _ _ _ _ c.verify-verified.result _ _ (rw c.requires.part at (c.verify-verified.ensures.played c.requires.sound))) (c.verify-verified.ensures.bound c.requires.sound) (rw c.len-count.ensures at c.report_done-reported.ensures.reports)
-      (told_of _ _ c.args.part.now _ _ _ c.verify-verified.result c.report_done-reported.result (rw c.len-count.ensures at c.report_done-reported.ensures.reports)) (c.verify-verified.ensures.failed c.requires.sound) (c.verify-verified.ensures.lasts c.requires.sound) c.verify-verified.ensures.part c.verify-verified.ensures.counted c.report_done-reported.ensures.counted;
-}
+      (told_of _ _ c.args.part.now _ _ _ c.verify-verified.result c.report_done-reported.result (rw c.len-count.ensures at c.report_done-reported.ensures.reports)) (c.verify-verified.ensures.failed c.requires.sound) (c.verify-verified.ensures.lasts c.requires.sound) c.verify-verified.ensures.part c.verify-verified.ensures.counted c.report_done-reported.ensures.counted

@@ -2,8 +2,8 @@ use Rattle.avr_tool.specs.Session.{ending}
 use Rattle.avr_tool.proofs.Performing.{performs_on, performs_until}
 use Rattle.avr_tool.proofs.session.play.Goals as goal
 
-pub returns-in-Ok : goal.returns-in-Ok
-returns-in-Ok g c = record { performs = performs_on (ending c.args.plan.now.part c.args.plan.now.switches) c.in-Ok.standing c.end.result (rw c.in-Ok.is at c.work.ensures.performs) c.end.ensures.performs }
+pub returns-in-Ok-clause-performs : goal.returns-in-Ok-clause-performs
+returns-in-Ok-clause-performs g c = performs_on (ending c.args.plan.now.part c.args.plan.now.switches) c.in-Ok.standing c.end.result (rw c.in-Ok.is at c.work.ensures.performs) c.end.ensures.performs
 
-pub returns-in-Err : goal.returns-in-Err
-returns-in-Err g c = record { performs = performs_until (ending c.args.plan.now.part c.args.plan.now.switches) c.in-Err.stopped (rw c.in-Err.is at c.work.ensures.performs) }
+pub returns-in-Err-clause-performs : goal.returns-in-Err-clause-performs
+returns-in-Err-clause-performs g c = performs_until (ending c.args.plan.now.part c.args.plan.now.switches) c.in-Err.stopped (rw c.in-Err.is at c.work.ensures.performs)

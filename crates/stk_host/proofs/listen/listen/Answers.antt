@@ -11,6 +11,7 @@ loop-count-init g c = record {
   fits = λ h. h;
   listening = rw c.reset.ensures (begins c.args.seq c.args.unread.now (g.L.Link.talk c.args.link.now));
   counted = omega arith;
+  comes = λ start of. of;
 }
 
 pub returns-in-Silence-clause-ok : goal.returns-in-Silence-clause-ok
@@ -49,6 +50,10 @@ loop-count-preserved g c =
       counted = elim c.if-is_empty.branch [
         | then-is_empty+in_ok-hear+in-Bytes w ↦ rw w.link-is (omega (arith, w.in_ok-hear.ensures.counted))
         | else-is_empty w ↦ rw w.link-is (omega arith)
+      ];
+      comes = elim c.if-is_empty.branch [
+        | then-is_empty+in_ok-hear+in-Bytes w ↦ rw w.link-is (λ start of. w.in_ok-hear.ensures.comes start (c.loop-count.invariant.comes start of))
+        | else-is_empty w ↦ rw w.link-is c.loop-count.invariant.comes
       ];
     }
 

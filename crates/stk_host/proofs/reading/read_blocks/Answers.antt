@@ -12,6 +12,7 @@ loop-block-init g c = record {
   size = omega (arith, ap length c.requires.empty);
   room = c.requires.room;
   counted = omega arith;
+  comes = λ start of. of;
   bound = λ bound. bound;
 }
 
@@ -31,6 +32,7 @@ loop-block-preserved g c =
       size = omega (arith, c.in_ok-read_step.ensures.size, c.read_block-read.ensures.size, c.block_size.ensures, c.size_of-size.ensures.value, c.loop-block.invariant.size, c.loop-block-test.true);
       room = omega (arith, c.read_step.ensures.room, c.loop-block.invariant.room);
       counted = omega (arith, c.in_ok-read_step.ensures.counted.0, c.loop-block.invariant.counted);
+      comes = λ start of. c.read_step.ensures.comes start (c.loop-block.invariant.comes start of);
       bound = λ bound. c.read_step.ensures.bound;
     }
 

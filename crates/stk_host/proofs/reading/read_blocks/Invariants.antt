@@ -5,6 +5,7 @@ use Rattle.stk_host.specs.Places.{each_from}
 use Rattle.stk_host.specs.ReadSteps.{block_count, block_steps}
 use Rattle.stk_host.specs.Reach.{Reaches}
 use Rattle.stk_host.specs.Steps.{play}
+use Rattle.stk_host.specs.Talk.{Stays}
 use Rattle.stk_host.proofs.reading.read_blocks.Given as goal
 
 abbrev pub invariant-loop-block : goal.invariant-loop-block
@@ -14,5 +15,6 @@ invariant-loop-block g l = record {
   size : length l.out.items ≡ min (l.block * 256) (size_of l.mem l.part);
   room : size_of l.mem l.part ≤ vec_capacity l.out;
   counted : g.L.Link.failures l.fn.link ≤ g.L.Link.failures l.link;
+  comes : Stays g.L.Link.comes_of l.fn.link l.link;
   bound : length l.fn.conversation.unread ≤ 281 → length l.conversation.unread ≤ 281;
 }

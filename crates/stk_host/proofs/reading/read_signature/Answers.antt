@@ -12,6 +12,7 @@ loop-place-init g c = record {
   size = ap length c.requires.empty;
   room = c.requires.room;
   counted = omega arith;
+  comes = λ start of. of;
   bound = λ bound. bound;
 }
 
@@ -28,6 +29,7 @@ loop-place-preserved g c =
       size = omega (arith, one, c.loop-place.invariant.size);
       room = omega (arith, c.read_step.ensures.room, c.loop-place.invariant.room);
       counted = omega (arith, c.in_ok-read_step.ensures.counted.0, c.loop-place.invariant.counted);
+      comes = λ start of. c.read_step.ensures.comes start (c.loop-place.invariant.comes start of);
       bound = λ bound. c.read_step.ensures.bound;
     }
 

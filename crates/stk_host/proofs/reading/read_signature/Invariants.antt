@@ -4,6 +4,7 @@ use Rattle.stk_host.specs.Places.{each_from}
 use Rattle.stk_host.specs.ReadSteps.{signature_step, signature_steps}
 use Rattle.stk_host.specs.Reach.{Reaches}
 use Rattle.stk_host.specs.Steps.{play}
+use Rattle.stk_host.specs.Talk.{Stays}
 use Rattle.stk_host.proofs.reading.read_signature.Given as goal
 
 abbrev pub invariant-loop-place : goal.invariant-loop-place
@@ -13,5 +14,6 @@ invariant-loop-place g l = record {
   size : length l.out.items ≡ l.place;
   room : 3 ≤ vec_capacity l.out;
   counted : g.L.Link.failures l.fn.link ≤ g.L.Link.failures l.link;
+  comes : Stays g.L.Link.comes_of l.fn.link l.link;
   bound : length l.fn.conversation.unread ≤ 281 → length l.conversation.unread ≤ 281;
 }

@@ -12,6 +12,7 @@ loop-start-init g c = record {
   within = omega arith;
   border = inl (zero_border c.args.part.now.eeprom_page);
   counted = omega arith;
+  comes = λ start of. of;
   bound = λ bound. bound;
 }
 
@@ -44,6 +45,7 @@ loop-start-preserved g c =
       within = walk.within;
       border = walk.border;
       counted = omega (arith, c.in_ok-program_run.ensures.counted.0, c.loop-start.invariant.counted);
+      comes = λ start of. c.program_run.ensures.comes start (c.loop-start.invariant.comes start of);
       bound = λ bound. c.program_run.ensures.bound;
     }
 

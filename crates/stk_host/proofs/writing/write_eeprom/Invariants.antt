@@ -5,6 +5,7 @@ use Rattle.stk_host.specs.Places.{each_from}
 use Rattle.stk_host.specs.WriteSteps.{run_steps, write_steps}
 use Rattle.stk_host.specs.Reach.{Reaches}
 use Rattle.stk_host.specs.Steps.{play}
+use Rattle.stk_host.specs.Talk.{Stays}
 use Rattle.stk_host.proofs.writing.write_eeprom.Given as goal
 
 abbrev pub invariant-loop-start : goal.invariant-loop-start
@@ -14,6 +15,7 @@ invariant-loop-start g l = record {
   within : l.next ≤ l.part.eeprom_size;
   border : (l.next % l.part.eeprom_page ≡ 0) ⊎ (byte_at l.image l.next ≡ None);
   counted : g.L.Link.failures l.fn.link ≤ g.L.Link.failures l.link;
+  comes : Stays g.L.Link.comes_of l.fn.link l.link;
   bound : length l.fn.conversation.unread ≤ 281 → length l.conversation.unread ≤ 281;
 }
 

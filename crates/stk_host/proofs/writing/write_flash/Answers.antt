@@ -10,6 +10,7 @@ loop-addr-init g c = record {
   reaches = begins_at (page_steps c.args.part.now c.args.image.now) (c.args.part.now.flash_size / c.args.part.now.flash_page) [] _ _ _;
   within = omega arith;
   counted = omega arith;
+  comes = λ start of. of;
   bound = λ bound. bound;
 }
 
@@ -36,6 +37,7 @@ loop-addr-preserved g c =
       reaches = reaches_next _ _ _ _ _ c.loop-addr.invariant.reaches walk.steps c.in_ok-program_page.ensures.played;
       within = omega (arith, walk.within);
       counted = omega (arith, c.in_ok-program_page.ensures.counted.0, c.loop-addr.invariant.counted);
+      comes = λ start of. c.program_page.ensures.comes start (c.loop-addr.invariant.comes start of);
       bound = λ bound. c.program_page.ensures.bound;
     }
 

@@ -4,6 +4,7 @@ use Rattle.stk_host.specs.Places.{each_from}
 use Rattle.stk_host.specs.WriteSteps.{page_steps, write_steps}
 use Rattle.stk_host.specs.Reach.{Reaches}
 use Rattle.stk_host.specs.Steps.{play}
+use Rattle.stk_host.specs.Talk.{Stays}
 use Rattle.stk_host.proofs.writing.write_flash.Given as goal
 
 abbrev pub invariant-loop-addr : goal.invariant-loop-addr
@@ -12,6 +13,7 @@ invariant-loop-addr g l = record {
       (play (each_from (page_steps l.part l.image) l.next (l.part.flash_size / l.part.flash_page - l.next)) []) l.conversation.next l.conversation.unread (g.L.Link.talk l.link);
   within : l.next ≤ l.part.flash_size / l.part.flash_page;
   counted : g.L.Link.failures l.fn.link ≤ g.L.Link.failures l.link;
+  comes : Stays g.L.Link.comes_of l.fn.link l.link;
   bound : length l.fn.conversation.unread ≤ 281 → length l.conversation.unread ≤ 281;
 }
 

@@ -13,9 +13,9 @@ pub returns-clause-talk : goal.returns-clause-talk
 returns-clause-talk c =
     rw (← c.self.view_is) (c.keep.ensures.talk ∙ ap (λ t. t ++ talk.Sent (take c.feed-used.result.0 c.args.bytes.now) ∷ []) c.in_ok-make_room.ensures.talk)
 
-pub returns-clause-keeps : goal.returns-clause-keeps
-returns-clause-keeps c = λ p fates keeps.
-    keeps_passing c.args.self.now _ (take c.feed-used.result.0 c.args.bytes.now) p fates (rw (← c.self.view_is) (record {
+pub returns-clause-comes : goal.returns-clause-comes
+returns-clause-comes c = λ start keeps.
+    keeps_passing c.args.self.now _ (take c.feed-used.result.0 c.args.bytes.now) start.programmer start.fates (rw (← c.self.view_is) (record {
       found = found c.feed-used.result.1 c.feed-used.new.self;
       are_frames = found_frames c.feed-used.result.1 c.feed-used.new.self c.feed-used.ensures.tells;
       fed = c.feed-used.ensures.fed;

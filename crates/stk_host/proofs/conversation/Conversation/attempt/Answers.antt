@@ -20,6 +20,7 @@ pub loop-command-init : goal.loop-command-init
 loop-command-init g c = record {
   reaches = reaches_here _ _ _ _;
   counted = omega arith;
+  comes = λ start of. of;
 }
 
 pub exchange-requires : goal.exchange-requires
@@ -43,6 +44,7 @@ loop-command-preserved g c = record {
   reaches = rw add-one (turn_data _ _ _ _ _ c.loop-command.invariant.reaches (next_command c.args.first.now c.args.last.now _ c.loop-command.command-index c.loop-command-test.true c.command-item.is) c.in_ok-exchange.ensures.ok c.in-Data.is
       (c.in_ok-exchange.ensures.quiet (its_own c.args.first.now _ c.loop-command.command-index c.loop-command-test.true c.command-item.is c.requires.quiet) c.in-Data.is));
   counted = omega (arith, c.exchange.ensures.counted);
+  comes = λ start of. c.exchange.ensures.comes start (c.loop-command.invariant.comes start of);
 }
 
 pub returns-in_err-reply-clause-err : goal.returns-in_err-reply-clause-err

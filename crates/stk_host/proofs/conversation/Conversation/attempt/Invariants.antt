@@ -1,6 +1,7 @@
 use Rattle.std.proofs.Common.{◌≤◌, drop, [], ◌∷◌, ◌++◌}
 use Rattle.stk_host.specs.Reach.{Reaches}
 use Rattle.stk_host.specs.Steps.{attempt}
+use Rattle.stk_host.specs.Talk.{Stays}
 use Rattle.stk_host.proofs.conversation.Conversation.attempt.Given as goal
 
 abbrev pub invariant-loop-command : goal.invariant-loop-command
@@ -8,4 +9,5 @@ invariant-loop-command g l = record {
   reaches : Reaches (attempt (l.first ++ l.last ∷ []) []) l.fn.self.next l.fn.self.unread (g.L.Link.talk l.fn.link)
       (attempt (drop l.command-index l.first ++ l.last ∷ []) []) l.self.next l.self.unread (g.L.Link.talk l.link);
   counted : g.L.Link.failures l.fn.link ≤ g.L.Link.failures l.link;
+  comes : Stays g.L.Link.comes_of l.fn.link l.link;
 }

@@ -8,6 +8,7 @@ loop-tried-init g c = record {
   reaches = reaches_here _ _ _ _;
   bound = λ some. absurd (omega (arith, some));
   counted = omega arith;
+  comes = λ start of. of;
 }
 
 pub returns-in-Ok-Data-clause-played : goal.returns-in-Ok-Data-clause-played
@@ -27,6 +28,7 @@ loop-tried-preserved g c = record {
   reaches = try_again (4 - c.loop-tried.tried) (4 - (c.loop-tried.tried + 1)) _ _ _ _ _ (omega arith) c.loop-tried.invariant.reaches c.in-Ok-Again.ensures.ok c.in-Ok-Again.field-0-is;
   bound = λ some. c.attempt.ensures.bound;
   counted = omega (arith, c.attempt.ensures.counted);
+  comes = λ start of. c.attempt.ensures.comes start (c.loop-tried.invariant.comes start of);
 }
 
 pub returns-clause-played : goal.returns-clause-played

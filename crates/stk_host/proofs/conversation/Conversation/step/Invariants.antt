@@ -1,6 +1,7 @@
 use Rattle.std.proofs.Common.{◌≤◌, ◌<◌, length, ◌-◌, ◌∷◌, ◌++◌, []}
 use Rattle.stk_host.specs.Reach.{Reaches}
 use Rattle.stk_host.specs.Steps.{step, tries}
+use Rattle.stk_host.specs.Talk.{Stays}
 use Rattle.stk_host.proofs.conversation.Conversation.step.Given as goal
 
 abbrev pub invariant-loop-tried : goal.invariant-loop-tried
@@ -9,4 +10,5 @@ invariant-loop-tried g l = record {
       (tries (4 - l.tried) (l.first ++ l.last ∷ []) l.fault) l.self.next l.self.unread (g.L.Link.talk l.link);
   bound : 0 < l.tried → length l.self.unread ≤ 281;
   counted : g.L.Link.failures l.fn.link ≤ g.L.Link.failures l.link;
+  comes : Stays g.L.Link.comes_of l.fn.link l.link;
 }
