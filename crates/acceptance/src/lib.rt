@@ -11,6 +11,8 @@
 #![tactic(auto)]
 
 #[cfg(test)]
+mod emulated;
+#[cfg(test)]
 mod examples;
 #[cfg(test)]
 mod flash;

@@ -1,5 +1,5 @@
 pub mod Items
 pub mod Agrees
 pub mod Course
-pub mod Outcome
 pub mod Written
+pub mod Outcome

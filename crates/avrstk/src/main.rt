@@ -3,6 +3,7 @@
 
 use avr_cli::{Port, Settings, read_words, settings};
 use avr_desk::SystemDesk;
+use avr_emulated::run_emulated;
 use avr_tool::{refuse, refuse_port, run};
 use clap::Error;
 use std::process::ExitCode;
@@ -51,7 +52,7 @@ fn refused(rt: &HostRuntime, error: &Error) -> io::Result<u8> {
     if error.use_stderr() { Ok(1) } else { Ok(0) }
 }
 
-/// Runs over the port of the settings: `stdio:` has its frames on standard input and output.
+/// Runs over the port of the settings: `stdio:` has its frames on standard input and output, `emu:` is the emulator.
 fn run_settings(rt: &HostRuntime, settings: &Settings) -> u8 {
     let mut desk = SystemDesk::new(rt, rt.stdout(), rt.stderr());
     match &settings.port {
@@ -59,7 +60,7 @@ fn run_settings(rt: &HostRuntime, settings: &Settings) -> u8 {
             let mut link = StreamLink::new(rt.stdin(), rt.stdout());
             run(rt.alloc(), settings, &mut desk, &mut link)
         }
-        Port::Emulated(file) => refuse_port(file.as_str(), &mut desk),
+        Port::Emulated(file) => run_emulated(rt.alloc(), settings, file.as_str(), &mut desk),
         Port::Network(address) => refuse_port(address.as_str(), &mut desk),
         Port::Served { port, .. } => refuse_port(port.as_str(), &mut desk),
     }

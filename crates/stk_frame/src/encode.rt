@@ -62,7 +62,7 @@ fn put_program_block<const CAP: usize>(out: &mut ArrayVec<u8, CAP>, block: &Prog
 
 /// Puts the fields of ENTER_PROGMODE_ISP.
 fn put_enter_progmode<const CAP: usize>(out: &mut ArrayVec<u8, CAP>, enter: &EnterProgmode)
-    requires { length out.old.items + 11 ≤ CAP }
+    requires { length out.old.items + length (enter_progmode_fields enter.now) ≤ CAP }
     ensures { out.new.items ≡ out.old.items ++ enter_progmode_fields enter.now }
 {
     put(
@@ -90,7 +90,7 @@ fn put_read_block<const CAP: usize>(out: &mut ArrayVec<u8, CAP>, block: &ReadBlo
 
 /// Puts the fields of a command that reads one byte.
 fn put_read_byte<const CAP: usize>(out: &mut ArrayVec<u8, CAP>, read: &ReadByte)
-    requires { length out.old.items + 5 ≤ CAP }
+    requires { length out.old.items + length (read_byte_fields read.now) ≤ CAP }
     ensures { out.new.items ≡ out.old.items ++ read_byte_fields read.now }
 {
     put(out, &[read.return_address]);
@@ -108,15 +108,16 @@ impl Command<'_> {
             Command::GetParameter { .. } => 2,
             Command::SetParameter { .. } | Command::LeaveProgmode { .. } => 3,
             Command::ReadFlash(_) | Command::ReadEeprom(_) => 4,
-            Command::LoadAddress { .. }
-            | Command::ProgramFuse { .. }
-            | Command::ProgramLock { .. } => 5,
-            Command::ReadFuse(_)
-            | Command::ReadLock(_)
-            | Command::ReadSignature(_)
-            | Command::ReadOsccal(_) => 6,
-            Command::ChipErase { .. } => 7,
-            Command::EnterProgmode(_) => 12,
+            Command::LoadAddress { .. } => 5,
+            Command::ProgramFuse { instruction } | Command::ProgramLock { instruction } => {
+                1 + instruction.as_slice().len()
+            }
+            Command::ReadFuse(read)
+            | Command::ReadLock(read)
+            | Command::ReadSignature(read)
+            | Command::ReadOsccal(read) => 2 + read.instruction.as_slice().len(),
+            Command::ChipErase { instruction, .. } => 3 + instruction.as_slice().len(),
+            Command::EnterProgmode(enter) => 8 + enter.instruction.as_slice().len(),
             Command::ProgramFlash(block) | Command::ProgramEeprom(block) => {
                 10 + block.bytes.bytes().len()
             }

@@ -1,0 +1,211 @@
+//! Whole runs over the emulated programmer, from the words of the command line to the chip file.
+use avr_cli::{Settings, read_words, settings};
+use avr_desk::{Bytes, MemDesk};
+use avr_emulated::run_emulated;
+use std::alloc::Global;
+use std::process::Abort;
+use std::test::Fail;
+
+/// Where the fuses of an ATmega328P stand in its chip file, behind 32,768 bytes of flash and 1,024 of EEPROM.
+const LFUSE: usize = 33_792;
+const LOCK: usize = 33_795;
+const CHIP_FILE: usize = 33_796;
+
+/// A run with the chip file `chip.bin`: the words behind the program's name and port, what goes to standard output, the
+/// messages without the program's name in front, and the status.
+#[derive(Drop)]
+struct Row {
+    words: &'static [&'static str],
+    output: &'static str,
+    messages: &'static [&'static str],
+    status: u8,
+}
+
+fn settings_for(alloc: Global, words: &[&str]) -> Result<Settings, Fail> {
+    let mut all: Vec<String> = Vec::new(alloc);
+    for word in ["avrstk", "-P", "emu:chip.bin", "-p", "m328p"] {
+        all.push(String::from_str(alloc, word)?)?;
+    }
+    for word in words {
+        all.push(String::from_str(alloc, *word)?)?;
+    }
+    let matches = read_words(alloc, all.as_slice())?;
+    Ok(settings(alloc, &matches)?)
+}
+
+fn no_files(alloc: Global) -> MemDesk {
+    MemDesk::new(alloc, Bytes::new(alloc))
+}
+
+/// The chip file of an erased part in which these bytes stand.
+fn chip_file(alloc: Global, places: &[(usize, u8)]) -> Result<Vec<u8>, Fail> {
+    let mut bytes = Vec::new(alloc);
+    bytes.resize(CHIP_FILE, 0xFF)?;
+    for (place, byte) in places {
+        if let Some(at) = bytes.get_mut(*place) {
+            *at = *byte;
+        }
+    }
+    Ok(bytes)
+}
+
+/// A desk with such a chip file.
+fn desk_with(alloc: Global, places: &[(usize, u8)]) -> Result<MemDesk, Fail> {
+    let mut desk = no_files(alloc);
+    desk.put("chip.bin", chip_file(alloc, places)?.as_slice())?;
+    Ok(desk)
+}
+
+fn printed(alloc: Global, lines: &[&str]) -> Result<Vec<u8>, Fail> {
+    let mut bytes = Vec::new(alloc);
+    for line in lines {
+        bytes.extend_from_slice(b"avrstk: ")?;
+        bytes.extend_from_slice(line.as_bytes())?;
+        bytes.extend_from_slice(b"\n")?;
+    }
+    Ok(bytes)
+}
+
+/// Runs and looks at what was said and answered.
+fn run_row(rt: &impl Abort, alloc: Global, desk: &mut MemDesk, row: &Row) -> Result<(), Fail> {
+    let settings = settings_for(alloc, row.words)?;
+    let status = run_emulated(alloc, &settings, "chip.bin", desk);
+    assert!(rt; desk.messages() == printed(alloc, row.messages)?.as_slice());
+    assert!(rt; desk.output() == row.output.as_bytes());
+    assert!(rt; status == row.status);
+    Ok(())
+}
+
+/// The chip file is the one of an erased part in which these bytes stand.
+fn look_at_chip(
+    rt: &impl Abort,
+    alloc: Global,
+    desk: &MemDesk,
+    places: &[(usize, u8)],
+) -> Result<(), Fail> {
+    let wanted = chip_file(alloc, places)?;
+    assert!(rt; desk.file("chip.bin") == Some(wanted.as_slice()));
+    Ok(())
+}
+
+#[test]
+fn a_fuse_is_written_to_a_new_chip(rt: HostRuntime) -> Result<(), Fail> {
+    let mut desk = no_files(rt.alloc());
+    let row = Row {
+        words: &["-U", "lfuse:w:0xE2:m", "-U", "lfuse:r:-:h"],
+        output: "0xe2\n",
+        messages: &[
+            "device signature = 1E 95 0F",
+            "lfuse: 1 bytes written",
+            "lfuse: 1 bytes verified",
+            "lfuse: 1 bytes read",
+            "done",
+        ],
+        status: 0,
+    };
+    run_row(&rt, rt.alloc(), &mut desk, &row)?;
+    look_at_chip(&rt, rt.alloc(), &desk, &[(LFUSE, 0xE2)])
+}
+
+#[test]
+fn a_locked_chip_is_erased_and_written(rt: HostRuntime) -> Result<(), Fail> {
+    let mut desk = desk_with(rt.alloc(), &[(0, 0x0F), (LOCK, 0xFE)])?;
+    let row = Row {
+        words: &["-e", "-U", "lfuse:w:0x62:m"],
+        output: "",
+        messages: &[
+            "device signature = 1E 95 0F",
+            "chip erased",
+            "lfuse: 1 bytes written",
+            "lfuse: 1 bytes verified",
+            "done",
+        ],
+        status: 0,
+    };
+    run_row(&rt, rt.alloc(), &mut desk, &row)?;
+    look_at_chip(&rt, rt.alloc(), &desk, &[(LFUSE, 0x62)])
+}
+
+/// Without an erase flash keeps its zeros, and the run says where.
+#[test]
+fn flash_that_was_not_erased_differs(rt: HostRuntime) -> Result<(), Fail> {
+    let mut desk = desk_with(rt.alloc(), &[(0, 0x0F)])?;
+    let row = Row {
+        words: &["-D", "-U", "flash:w:0xF0:m"],
+        output: "",
+        messages: &[
+            "device signature = 1E 95 0F",
+            "flash: 1 bytes written",
+            "error: flash: address 00000000: F0 expected, 00 found",
+        ],
+        status: 1,
+    };
+    run_row(&rt, rt.alloc(), &mut desk, &row)?;
+    look_at_chip(&rt, rt.alloc(), &desk, &[(0, 0)])
+}
+
+/// Trailing FF of flash are not kept, to an even length.
+#[test]
+fn flash_is_read_without_its_end(rt: HostRuntime) -> Result<(), Fail> {
+    let mut desk = desk_with(rt.alloc(), &[(0, 1), (1, 2), (2, 3)])?;
+    let row = Row {
+        words: &["-U", "flash:r:-:i"],
+        output: ":04000000010203FFF7\n:00000001FF\n",
+        messages: &[
+            "device signature = 1E 95 0F",
+            "flash: 4 bytes read",
+            "done",
+        ],
+        status: 0,
+    };
+    run_row(&rt, rt.alloc(), &mut desk, &row)
+}
+
+#[test]
+fn all_of_an_erased_flash_is_read(rt: HostRuntime) -> Result<(), Fail> {
+    let mut desk = no_files(rt.alloc());
+    let row = Row {
+        words: &["-A", "-U", "flash:r:f.bin"],
+        output: "",
+        messages: &[
+            "device signature = 1E 95 0F",
+            "flash: 32768 bytes read",
+            "done",
+        ],
+        status: 0,
+    };
+    run_row(&rt, rt.alloc(), &mut desk, &row)?;
+    assert!(&rt; desk.file("f.bin").map(|bytes| bytes.len()) == Some(32_768));
+    Ok(())
+}
+
+/// A chip file of another length is refused, and stays as it is.
+#[test]
+fn a_chip_file_of_another_length_is_refused(rt: HostRuntime) -> Result<(), Fail> {
+    let mut desk = no_files(rt.alloc());
+    desk.put("chip.bin", &[0; 100])?;
+    let row = Row {
+        words: &[],
+        output: "",
+        messages: &["error: chip.bin: 100 bytes, 33796 expected"],
+        status: 1,
+    };
+    run_row(&rt, rt.alloc(), &mut desk, &row)?;
+    assert!(&rt; desk.file("chip.bin").map(|bytes| bytes.len()) == Some(100));
+    Ok(())
+}
+
+/// A refused plan loads no chip, and creates no file.
+#[test]
+fn a_refused_plan_leaves_no_chip(rt: HostRuntime) -> Result<(), Fail> {
+    let mut desk = no_files(rt.alloc());
+    let row = Row {
+        words: &["-U", "flash:w:a.hex"],
+        output: "",
+        messages: &["error: a.hex: cannot be opened"],
+        status: 1,
+    };
+    run_row(&rt, rt.alloc(), &mut desk, &row)?;
+    assert!(&rt; desk.file("chip.bin").is_none());
+    Ok(())
+}

@@ -1,0 +1,35 @@
+//! A run over a wire to the emulated programmer.
+ghost use Rattle.std.specs.Prelude.{◌≡◌, Some};
+ghost use Rattle.avr_tool.specs.Runs.{RunsTo, Stops};
+ghost use Rattle.avr_tool.specs.Session.{session};
+ghost use Rattle.stk_emu.specs.Effect.{memories_of};
+ghost use Rattle.stk_emu.specs.Leads.{AreGood};
+ghost use Rattle.stk_emu.specs.Wired.{IsFresh};
+ghost use Rattle.avr_emulated.specs.Outcome.{Leaves, GoesWell};
+
+use avr_desk::Desk;
+use avr_plan::Plan;
+use avr_tool::drive;
+use std::alloc::Global;
+use stk_emu::Wired;
+
+/// Plays the session of a plan over a wire to the emulated programmer, as [`avr_tool::drive`] does over any link.
+///
+/// Nothing has passed over the wire yet, and its chip is of the plan's part.
+pub fn drive_wired<D: Desk>(alloc: Global, plan: &Plan, desk: &mut D, wire: &mut Wired) -> u8
+    requires fresh { IsFresh wire.old }
+    requires part { wire.old.wire.programmer.chip.part ≡ plan.now.part }
+    // What is sent, said and answered is the play of the session.
+    ensures runs { RunsTo (session plan.now) (Some wire.old.talk) (Some wire.new.talk) (D.kept desk.old) (D.kept desk.new)
+        (Stops wire.old.failures wire.new.failures (D.failures desk.old) (D.failures desk.new)) result }
+    // Whatever the line loses, delays and spoils, this is what the run leaves in the chip.
+    ensures leaves { Leaves plan.now (memories_of wire.old.wire.programmer.chip) (memories_of wire.new.wire.programmer.chip) result }
+    // Over a good line it goes as its course says.
+    ensures good { AreGood wire.old.wire.fates → GoesWell plan.now (memories_of wire.old.wire.programmer.chip) (memories_of wire.new.wire.programmer.chip)
+        (D.kept desk.old) (D.kept desk.new) (Some wire.new.talk) (Stops wire.old.failures wire.new.failures (D.failures desk.old) (D.failures desk.new)) result }
+{
+    // What the clauses rest on: each image has the size of its memory, and the chip's memories those of its part.
+    let _tasks = plan.tasks();
+    let _part = wire.chip().part();
+    drive(alloc, plan, desk, wire)
+}
