@@ -1,0 +1,3 @@
+pub mod GoodLineEnds
+pub mod GoodLineCalls
+pub mod GoodLine
