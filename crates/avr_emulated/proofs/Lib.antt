@@ -1,1 +1,4 @@
+pub mod GoodLineCalls
+pub mod GoodLineEnds
+pub mod GoodLine
 pub mod Wiring

@@ -6,7 +6,7 @@ ghost use Rattle.avr_part.specs.Part.{IsPart};
 ghost use Rattle.avr_plan.specs.Plan.{Plan, IsFitted};
 ghost use Rattle.avr_tool.specs.Session.{session};
 ghost use Rattle.stk_host.specs.Dialog.{Done};
-ghost use Rattle.stk_emu.specs.Along.{along};
+ghost use Rattle.stk_emu.specs.Along.{along, said_along};
 ghost use Rattle.stk_emu.specs.Device.{device};
 ghost use Rattle.stk_emu.specs.Effect.{Memories, memories_of};
 ghost use Rattle.stk_emu.specs.Leads.{AreGood};
@@ -17,7 +17,15 @@ ghost use Rattle.avr_emulated.specs.Course.{course};
 
 /// Over good fates a session that is done has said what its course says, and no more, with its status and its memories.
 pub fn a_run_over_a_good_line_has_its_course()
-    ensures { (plan : Plan) (m : Memories) (k status : ℕ) (p : Programmer) (fates : List Fate)
+    ensures status { (plan : Plan) (m : Memories) (k status : ℕ) (p : Programmer) (fates : List Fate)
         → IsPart plan.part → All (IsFitted plan.part) plan.tasks → FitsPart plan.part m → Idle plan.part m p → AreGood fates
         → (along device k (session plan) p fates).dialog ≡ Done status → status ≡ (course plan m).status }
+    ensures memories { (plan : Plan) (m : Memories) (k status : ℕ) (p : Programmer) (fates : List Fate)
+        → IsPart plan.part → All (IsFitted plan.part) plan.tasks → FitsPart plan.part m → Idle plan.part m p → AreGood fates
+        → (along device k (session plan) p fates).dialog ≡ Done status
+        → memories_of (along device k (session plan) p fates).programmer.chip ≡ (course plan m).memories }
+    ensures says { (plan : Plan) (m : Memories) (k status : ℕ) (p : Programmer) (fates : List Fate)
+        → IsPart plan.part → All (IsFitted plan.part) plan.tasks → FitsPart plan.part m → Idle plan.part m p → AreGood fates
+        → (along device k (session plan) p fates).dialog ≡ Done status
+        → said_along device k (session plan) p fates ≡ (course plan m).says }
 {}

@@ -26,6 +26,7 @@ pub mod Giving
 pub mod PlayGiven
 pub mod Extending
 pub mod Turning
+pub mod SaidAlong
 pub mod LeadsOn
 pub mod GoodFates
 pub mod Asking

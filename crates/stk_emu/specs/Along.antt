@@ -32,6 +32,14 @@ along m zero (Ask bytes go_on) p fates = record { dialog = Ask bytes go_on; prog
 along m (suc k) (Ask bytes go_on) p fates =
     along m k (go_on (reading_of (first_fate fates) (m.answer bytes p))) (after_fate (first_fate fates) (m.after bytes p) p) (other_fates fates)
 
+-- what a dialog says beside the line in at most so many questions
+abbrev pub said_along : {E R P : Type 0} → Device P → ℕ → Dialog E R → P → List Fate → List E
+said_along m k (Done r) p fates = []
+said_along m k (Say e dialog) p fates = e ∷ said_along m k dialog p fates
+said_along m zero (Ask bytes go_on) p fates = []
+said_along m (suc k) (Ask bytes go_on) p fates =
+    said_along m k (go_on (reading_of (first_fate fates) (m.answer bytes p))) (after_fate (first_fate fates) (m.after bytes p) p) (other_fates fates)
+
 -- each question is a body that a frame can carry
 abbrev pub AsksBodies : {E R : Type 0} → Dialog E R → Type 0
 AsksBodies (Done r) = Unit {0}

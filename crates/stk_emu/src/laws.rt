@@ -13,7 +13,7 @@ ghost use Rattle.stk_frame.specs.Frame.{frame};
 ghost use Rattle.stk_frame.specs.Cut.{frames};
 ghost use Rattle.stk_frame.specs.HostCommands.{enter, leave};
 ghost use Rattle.stk_host.specs.Tape.{Tape, answer};
-ghost use Rattle.stk_host.specs.Dialog.{Dialog, Event, played, Done};
+ghost use Rattle.stk_host.specs.Dialog.{Dialog, Event, played, sayings, Done};
 ghost use Rattle.stk_host.specs.Steps.{Outcome, step, play};
 ghost use Rattle.stk_host.specs.ReadSteps.{read_steps};
 ghost use Rattle.stk_host.specs.declared.fault.HostFault.{HostFault};
@@ -24,7 +24,7 @@ ghost use Rattle.stk_emu.specs.Programmer.{Programmer, fresh_programmer};
 ghost use Rattle.stk_emu.specs.Device.{device};
 ghost use Rattle.stk_emu.specs.Lawful.{IsBody, IsClear};
 ghost use Rattle.stk_emu.specs.Wire.{Wire, AreLawful, IsLawfulFate, first_fate, segment, tape_of};
-ghost use Rattle.stk_emu.specs.Along.{along, reading_of, AsksBodies, frames_in, Fused};
+ghost use Rattle.stk_emu.specs.Along.{along, said_along, reading_of, AsksBodies, frames_in, Fused};
 ghost use Rattle.stk_emu.specs.Effect.{Memories, Image, Item, effect, effects, memories_of, memory_in, laid, and_in};
 ghost use Rattle.stk_emu.specs.Settled.{Idle, Settled, FitsPart};
 ghost use Rattle.stk_emu.specs.Fits.{Fits};
@@ -164,6 +164,18 @@ pub fn a_talk_over_a_wire_goes_along_the_line()
     ensures broken { (d : Dialog ⊥ Outcome) (n : ℕ) (p : Programmer) (fates : List Fate) (w : State) (shown : List (Event ⊥))
         → AsksBodies d → AreLawful fates → Keeps p fates w → Breaks NoPart d n [] w.talk shown
         → w.wire.programmer ≡ (along device (length (frames (sent w.talk))) d p fates).programmer }
+{}
+
+/// What is said beside the line over what a wire brings is what is said along the line of its fates, in as many questions as
+/// frames were sent: so far, and where a talk over the wire was a whole play. (Said are any bytes here, as lines of text.)
+pub fn what_is_said_over_a_wire_is_said_along_the_line()
+    ensures over { (d : Dialog (List ℕ) ℕ) (n : ℕ) (w : Wire Programmer) (sent more : List (List ℕ)) → AsksBodies d → IsClear n w.late → AreLawful w.fates
+        → frames_in (played d n (tape_of device sent w)).events ≡ sent ++ more
+        → sayings (played d n (tape_of device sent w)).events ≡ said_along device (length sent) d w.programmer w.fates }
+    ensures whole { (d : Dialog (List ℕ) ℕ) (n : ℕ) (p : Programmer) (fates : List Fate) (w : State)
+        (events : List (Event (List ℕ))) (r next : ℕ) (left : List ℕ)
+        → AsksBodies d → AreLawful fates → Keeps p fates w → Plays d n [] w.talk events r next left
+        → sayings events ≡ said_along device (length (frames (sent w.talk))) d p fates }
 {}
 
 /// Over every tape a play of steps sends at most four times their commands.

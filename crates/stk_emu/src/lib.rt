@@ -36,6 +36,7 @@ pub use laws::{
     every_answer_fits_a_frame, good_fates_bring_all_data, no_difference_is_the_image,
     opening_and_closing_keep_the_memories, steps_are_counted_as_strokes,
     the_steps_of_items_do_what_they_do, what_is_read_is_the_memory,
+    what_is_said_over_a_wire_is_said_along_the_line,
 };
 pub use noise::noise_is_lawful;
 pub use wired::Wired;

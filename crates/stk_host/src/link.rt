@@ -59,10 +59,10 @@ pub trait Link {
     ghost failures: { Self → ℕ };
 
     /// What a link may begin with, where that tells what it does later on: for a wire its programmer and its fates.
-    ghost Start: { Type 0 } = { Unit {0} };
+    ghost Start: { Type 0 };
 
     /// The link has begun so, and is what it became of that. Whatever is sent and heard, it stays so.
-    ghost comes_of: { Start → Self → Type 0 } = { λ start link. Unit {0} };
+    ghost comes_of: { Start → Self → Type 0 };
 
     /// Sends the bytes or a front of them, and says how many.
     ///

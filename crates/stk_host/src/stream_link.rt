@@ -122,6 +122,10 @@ impl<R: Read + Drop, W: Write + Drop> Link for StreamLink<R, W> {
 
     ghost failures = { λ link. link.failures };
 
+    ghost Start = { Unit {0} };
+
+    ghost comes_of = { λ start link. Unit {0} };
+
     fn send(&mut self, bytes: &[u8]) -> Result<usize, LinkFault>
         ensures within { IfOk result (λ n. n ≤ length bytes.now) }
         ensures ok { IfOk result (λ n. Grows None (Sent (take n bytes.now) ∷ []) None) }

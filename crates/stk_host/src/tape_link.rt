@@ -118,6 +118,10 @@ impl Link for TapeLink {
 
     ghost failures = { λ link. link.failures };
 
+    ghost Start = { Unit {0} };
+
+    ghost comes_of = { λ start link. Unit {0} };
+
     fn send(&mut self, bytes: &[u8]) -> Result<usize, LinkFault>
         ensures within { IfOk result (λ n. n ≤ length bytes.now) }
         ensures ok { IfOk result (λ n. Grows (Some self.old.talk) (Sent (take n bytes.now) ∷ []) (Some self.new.talk)) }
