@@ -18,6 +18,13 @@ use Rattle.avr_chip.proofs.Openings.{goes_opened}
 use Rattle.avr_chip.specs.Lines.{length_line}
 use Rattle.avr_chip.specs.Loading.{chip_or_line, judged_chip, chip_given, chip_stage}
 
+-- ---- a fresh chip
+
+pub went_fresh : (part : Part) (chip : State) (d : Option Record) → GivesOrMemory (Ok (fresh_state part)) (Ok chip)
+    → Went (settled (Ok (fresh_state part))) d d (Made chip)
+went_fresh part chip d (inl gives) = went_settled (Ok (fresh_state part)) chip d (sym gives)
+went_fresh part chip d (inr memory) = cc
+
 -- ---- the chip of some bytes
 
 -- a chip is the one of these bytes, in either answer
