@@ -1,15 +1,16 @@
 -- The chip of a file.
-use Rattle.std.proofs.Common.{◌≡◌, refl, sym, ap, arith, ℕ, ◌≤◌, ◌==◌, length, Bool, true, false, nat_le, nat_lt, ◌||◌, inl, inr, Option, option_map, Result, Ok, Err, if◌then◌else◌}
+use Rattle.std.proofs.Common.{◌≡◌, refl, sym, ap, arith, ℕ, ◌≤◌, ◌==◌, length, Bool, true, false, nat_le, nat_lt, inl, inr, Option, option_map, Result, Ok, Err, if◌then◌else◌}
 use Rattle.std.proofs.lemmas.Bool.Decides.{nat_tests}
 use Rattle.avr_desk.specs.Files.{IsWhole, with_read}
 use Rattle.avr_desk.specs.Record.{Record}
 use Rattle.avr_desk.specs.declared.record.Opening.TheVariants.{Found}
+use Rattle.avr_desk.specs.declared.record.Reading.{Reading}
 use Rattle.avr_part.specs.ChipFile.{chip_file_size, chip_in, state_in}
 use Rattle.avr_part.specs.Part.{Part}
 use Rattle.avr_part.specs.PartFile.{GivesOrMemory}
 use Rattle.avr_part.specs.State.{State, fresh_state}
 use Rattle.avr_part.specs.declared.fault.PartFault.{PartFault}
-use Rattle.avr_part.specs.declared.fault.PartFault.TheVariants.{BadChipFile, Memory}
+use Rattle.avr_part.specs.declared.fault.PartFault.TheVariants.{BadChipFile}
 use Rattle.avr_plan.proofs.Played.{went_settled, goes_unsettled}
 use Rattle.avr_plan.specs.Lines.{Bytes, IsTold, too_long_line}
 use Rattle.avr_plan.specs.Playing.{Goes, Went}
@@ -22,7 +23,7 @@ use Rattle.avr_chip.specs.Loading.{chip_or_line, judged_chip, chip_given, chip_s
 
 pub went_fresh : (part : Part) (chip : State) (d : Option Record) → GivesOrMemory (Ok (fresh_state part)) (Ok chip)
     → Went (settled (Ok (fresh_state part))) d d (Made chip)
-went_fresh part chip d (inl gives) = went_settled (Ok (fresh_state part)) chip d (sym gives)
+went_fresh part chip d (inl gives) = let same : fresh_state part ≡ chip = cc in went_settled (Ok (fresh_state part)) chip d (ap Ok same)
 went_fresh part chip d (inr memory) = cc
 
 -- ---- the chip of some bytes
@@ -72,9 +73,9 @@ pub goes_ended : (part : Part) (file bytes : Bytes) (ended : Bool) (old mid new 
 goes_ended part file bytes false old mid new before between now result kept whole is rose goes = cc
 goes_ended part file bytes true old mid new before between now result kept whole is rose goes =
     let fits : nat_le (length bytes) 4194304 ≡ true = grind (arith, nat_tests, whole) in
-    let reading = record { name = file; bytes = bytes; ended = true } in
-    let then : Goes (chip_given part file (Found reading)) mid new between now result = rw fits goes in
-    goes_opened file (chip_given part file) (Found reading) old mid new before between now result kept rose then
+    let reading : Reading = record { name = file; bytes = bytes; ended = true } in
+    let next : Goes (chip_given part file (Found reading)) mid new between now result = rw fits goes in
+    goes_opened file (chip_given part file) (Found reading) old mid new before between now result kept rose next
 
 -- or past the limit
 pub goes_past : (part : Part) (file bytes : Bytes) (ended : Bool) (old mid new : Option Record) (before between now status : ℕ)
@@ -88,11 +89,6 @@ goes_past part file bytes false old mid new before between now status kept whole
     let long : nat_le (length bytes) 4194304 ≡ false = grind (arith, nat_tests, more) in
     let given : judged_chip part file bytes ≡ Err (too_long_line file 4194304) = rw long refl in
     let goes = goes_unsettled (judged_chip part file bytes) (too_long_line file 4194304) mid new between now status given one told in
-    let reading = record { name = file; bytes = bytes; ended = false } in
-    let then : Goes (chip_given part file (Found reading)) mid new between now (Err status) = rw past goes in
-    goes_opened file (chip_given part file) (Found reading) old mid new before between now (Err status) kept rose then
-
--- a length within the limit
-pub is_within : (bytes : Bytes) (ended : Bool) → IsWhole 4194304 (record { bytes = bytes; ended = ended }) → ended ≡ true → length bytes ≤ 4194304
-is_within bytes true whole is = whole
-is_within bytes false whole is = cc
+    let reading : Reading = record { name = file; bytes = bytes; ended = false } in
+    let next : Goes (chip_given part file (Found reading)) mid new between now (Err status) = rw past goes in
+    goes_opened file (chip_given part file) (Found reading) old mid new before between now (Err status) kept rose next

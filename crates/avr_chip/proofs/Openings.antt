@@ -1,10 +1,13 @@
 -- Stages that begin with the opening of a file.
-use Rattle.std.proofs.Common.{◌≡◌, ◌∙◌, refl, arith, ℕ, ◌≤◌, ◌⊎◌, inl, inr, List, [], ◌∷◌, take, drop, append-nil, Option, option_map, false, Result, Err}
+use Rattle.std.proofs.Common.{◌≡◌, refl, subst, arith, ℕ, ◌≤◌, ◌⊎◌, inl, inr, List, [], ◌∷◌, take, drop, append-nil, Option, option_map, false, Result, Err}
 use Rattle.std.proofs.lemmas.Bool.{cases_lt}
 use Rattle.std.proofs.lemmas.List.{take-append-drop}
 use Rattle.avr_desk.specs.Fault.{HasFailed}
+use Rattle.avr_desk.specs.Files.{FaultCounts, ReadsFile}
 use Rattle.avr_desk.specs.Record.{Record}
+use Rattle.avr_desk.specs.declared.files.FileFault.TheVariants as fault
 use Rattle.avr_desk.specs.declared.record.Opening.{Opening}
+use Rattle.avr_desk.specs.declared.record.Reading.{Reading}
 use Rattle.avr_message.proofs.Saying.{kept_append}
 use Rattle.avr_message.specs.Said.{Opens, Line, IsPrefixOf, Tells, after_all}
 use Rattle.avr_plan.proofs.Played.{goes_on, goes_no_further}
@@ -47,25 +50,29 @@ failed_before : (before between now : ℕ) → before ≤ between → between �
 failed_before before between now rose rises (inl l) = inl (omega arith)
 failed_before before between now rose rises (inr end) = elim (cases_lt before now) [ inl l ↦ inl l | inr none ↦ inr (omega arith) ]
 
-pub goes_unopened : {A : Type 0} (name : Bytes) (next : Opening → Stage A) (old new : Option Record) (before between now status : ℕ)
-    → before ≤ between → between ≤ now → HasFailed before between → status ≡ 1 → IsTold old new (not_opened_line name) between now
+-- the file could not be opened
+pub goes_unopened : {A : Type 0} (name : Bytes) (next : Opening → Stage A) (old mid new : Option Record) (before between now status : ℕ)
+    → ReadsFile name old mid (Err fault.NotOpened) → FaultCounts before between (Err fault.NotOpened)
+    → between ≤ now → status ≡ 1 → IsTold mid new (not_opened_line name) between now
     → Goes (opened name >>= next) old new before now (Err status)
-goes_unopened name next old new before between now status rose rises failed one told =
-    let front = front_told old new (not_opened_line name) between now told.tells in
-    let cause = failed_before before between now rose rises failed in
+goes_unopened name next old mid new before between now status same counts rises one told =
+    let tells = subst (λ d. Tells d new (not_opened_line name) between now) same told.tells in
+    let front = front_told old new (not_opened_line name) between now tells in
+    let cause = failed_before before between now counts.0 rises counts.1 in
     goes_no_further (opened name) next old new before now status
     (one, inr (broke_opening name (NotOpened name front.0) old new before now (λ more. (opens_next name more, front.1)) cause front.3))
 
-pub goes_unread : {A : Type 0} (name bytes : Bytes) (next : Opening → Stage A) (old mid new : Option Record) (before between now status : ℕ)
-    → mid ≡ option_map (after_all (part_read name bytes ∷ [])) old
-    → before ≤ between → between ≤ now → HasFailed before between → status ≡ 1 → IsTold mid new (not_read_line name) between now
+-- or not be read on
+pub goes_unread : {A : Type 0} (name : Bytes) (next : Opening → Stage A) (old mid new : Option Record) (before between now status : ℕ)
+    → ReadsFile name old mid (Err fault.NotRead) → FaultCounts before between (Err fault.NotRead)
+    → between ≤ now → status ≡ 1 → IsTold mid new (not_read_line name) between now
     → Goes (opened name >>= next) old new before now (Err status)
-goes_unread name bytes next old mid new before between now status kept rose rises failed one told =
+goes_unread name next old mid new before between now status read counts rises one told =
     let front = front_told mid new (not_read_line name) between now told.tells in
-    let cause = failed_before before between now rose rises failed in
-    let done = kept_append (part_read name bytes ∷ []) (Line front.0 ∷ []) old mid new kept front.3 in
+    let cause = failed_before before between now counts.0 rises counts.1 in
+    let done = kept_append (part_read name read.0 ∷ []) (Line front.0 ∷ []) old mid new read.1 front.3 in
     goes_no_further (opened name) next old new before now status
-    (one, inr (broke_opening name (NotRead name bytes front.0) old new before now (λ more. (opens_next name more, front.1)) cause done))
+    (one, inr (broke_opening name (NotRead name read.0 front.0) old new before now (λ more. (opens_next name more, front.1)) cause done))
 
 memory_cause : (front : Bytes) (before between now : ℕ) → before ≤ between → (front ≡ memory_line) ⊎ HasFailed between now
     → (front ≡ memory_line) ⊎ HasFailed before now
@@ -73,13 +80,14 @@ memory_cause front before between now rose (inl whole) = inl whole
 memory_cause front before between now rose (inr (inl l)) = inr (inl (omega arith))
 memory_cause front before between now rose (inr (inr end)) = inr (inr end)
 
-pub goes_unheld : {A : Type 0} (name bytes : Bytes) (next : Opening → Stage A) (old mid new : Option Record) (before between now status : ℕ)
-    → mid ≡ option_map (after_all (part_read name bytes ∷ [])) old → before ≤ between → status ≡ 1 → IsTold mid new memory_line between now
+-- or there was no memory for it
+pub goes_unheld : {A : Type 0} (name : Bytes) (next : Opening → Stage A) (old mid new : Option Record) (before between now status : ℕ)
+    → ReadsFile name old mid (Err fault.Memory) → before ≤ between → status ≡ 1 → IsTold mid new memory_line between now
     → Goes (opened name >>= next) old new before now (Err status)
-goes_unheld name bytes next old mid new before between now status kept rose one told =
+goes_unheld name next old mid new before between now status read rose one told =
     let front = front_told mid new memory_line between now told.tells in
     let cause = memory_cause front.0 before between now rose front.2 in
-    let done = kept_append (part_read name bytes ∷ []) (Line front.0 ∷ []) old mid new kept front.3 in
-    let reading = record { name = name; bytes = bytes; ended = false } in
+    let done = kept_append (part_read name read.0 ∷ []) (Line front.0 ∷ []) old mid new read.1 front.3 in
+    let reading : Reading = record { name = name; bytes = read.0; ended = false } in
     goes_no_further (opened name) next old new before now status
     (one, inr (broke_opening name (NoMemoryFor reading front.0) old new before now (λ more. (opens_next name more, front.1)) cause done))

@@ -63,12 +63,7 @@ fn chip_of<D: Desk>(
 ///
 /// Where the file has another length than one of this part, where the desk fails or memory is refused, the answer is `Err(1)`,
 /// and the line that tells why was printed as far as the desk takes it.
-pub fn load_chip<D: Desk>(
-    alloc: Global,
-    part: &Part,
-    file: &str,
-    desk: &mut D,
-) -> Result<Chip, u8>
+pub fn load_chip<D: Desk>(alloc: Global, part: &Part, file: &str, desk: &mut D) -> Result<Chip, u8>
     ensures goes { Goes (chip_stage part.now file.now) (D.kept desk.old) (D.kept desk.new) (D.failures desk.old) (D.failures desk.new) result }
     ensures part { IfOk result (λ c. c.part ≡ part.now) }
     ensures rises { D.failures desk.old ≤ D.failures desk.new }
