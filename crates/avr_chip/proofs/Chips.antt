@@ -1,0 +1,94 @@
+-- The chip of a file.
+use Rattle.std.proofs.Common.{◌≡◌, refl, sym, ap, arith, ℕ, ◌≤◌, ◌==◌, length, Bool, true, false, nat_le, nat_lt, inl, inr, Option, option_map, Result, Ok, Err, if◌then◌else◌}
+use Rattle.std.proofs.lemmas.Bool.Decides.{nat_tests}
+use Rattle.avr_desk.specs.Files.{IsWhole, with_read}
+use Rattle.avr_desk.specs.Record.{Record}
+use Rattle.avr_desk.specs.declared.record.Opening.TheVariants.{Found}
+use Rattle.avr_desk.specs.declared.record.Reading.{Reading}
+use Rattle.avr_part.specs.ChipFile.{chip_file_size, chip_in, state_in}
+use Rattle.avr_part.specs.Part.{Part}
+use Rattle.avr_part.specs.PartFile.{GivesOrMemory}
+use Rattle.avr_part.specs.State.{State, fresh_state}
+use Rattle.avr_part.specs.declared.fault.PartFault.{PartFault}
+use Rattle.avr_part.specs.declared.fault.PartFault.TheVariants.{BadChipFile}
+use Rattle.avr_plan.proofs.Played.{went_settled, goes_unsettled}
+use Rattle.avr_plan.specs.Lines.{Bytes, IsTold, too_long_line}
+use Rattle.avr_plan.specs.Playing.{Goes, Went}
+use Rattle.avr_plan.specs.Stage.{Made, settled}
+use Rattle.avr_chip.proofs.Openings.{goes_opened}
+use Rattle.avr_chip.specs.Lines.{length_line}
+use Rattle.avr_chip.specs.Loading.{chip_or_line, judged_chip, chip_given, chip_stage}
+
+-- ---- a fresh chip
+
+pub went_fresh : (part : Part) (chip : State) (d : Option Record) → GivesOrMemory (Ok (fresh_state part)) (Ok chip)
+    → Went (settled (Ok (fresh_state part))) d d (Made chip)
+went_fresh part chip d (inl gives) = let same : fresh_state part ≡ chip = cc in went_settled (Ok (fresh_state part)) chip d (ap Ok same)
+went_fresh part chip d (inr memory) = cc
+
+-- ---- the chip of some bytes
+
+-- a chip is the one of these bytes, in either answer
+chip_is : (test : Bool) (good chip : State) (n : ℕ) → (if test then Ok good else Err (BadChipFile n)) ≡ Ok chip → (test ≡ true) × (chip ≡ good)
+chip_is true good chip n is = (refl, cc)
+chip_is false good chip n is = cc
+
+-- and a fault says that there is none
+none_is : (test : Bool) (good : State) (n : ℕ) (fault : PartFault) → (if test then Ok good else Err (BadChipFile n)) ≡ Err fault → test ≡ false
+none_is true good n fault is = cc
+none_is false good n fault is = refl
+
+right_length : (part : Part) (bytes : Bytes) (chip : State) → GivesOrMemory (chip_in part bytes) (Ok chip)
+    → ((length bytes == chip_file_size part) ≡ true) × (chip ≡ state_in part bytes)
+right_length part bytes chip (inl gives) = chip_is (length bytes == chip_file_size part) (state_in part bytes) chip (length bytes) (sym gives)
+right_length part bytes chip (inr memory) = cc
+
+pub went_chip : (part : Part) (file bytes : Bytes) (chip : State) (d : Option Record) → GivesOrMemory (chip_in part bytes) (Ok chip)
+    → Went (settled (chip_or_line part file bytes)) d d (Made chip)
+went_chip part file bytes chip d gives =
+    let right = right_length part bytes chip gives in
+    let given : chip_or_line part file bytes ≡ Ok chip = rw (right.0, right.1) refl in
+    went_settled (chip_or_line part file bytes) chip d given
+
+pub chip_of_part : (part : Part) (bytes : Bytes) (chip : State) → GivesOrMemory (chip_in part bytes) (Ok chip) → chip.part ≡ part
+chip_of_part part bytes chip gives = ap (λ (c : State). c.part) (right_length part bytes chip gives).1
+
+pub goes_wrong_length : (part : Part) (file bytes : Bytes) (n : ℕ) (old new : Option Record) (before now status : ℕ)
+    → GivesOrMemory (chip_in part bytes) (Err (BadChipFile n)) → status ≡ 1
+    → IsTold old new (length_line file (length bytes) (chip_file_size part)) before now
+    → Goes (settled (chip_or_line part file bytes)) old new before now (Err status)
+goes_wrong_length part file bytes n old new before now status (inl gives) one told =
+    let wrong = none_is (length bytes == chip_file_size part) (state_in part bytes) (length bytes) (BadChipFile n) (sym gives) in
+    let line = length_line file (length bytes) (chip_file_size part) in
+    let given : chip_or_line part file bytes ≡ Err line = rw wrong refl in
+    goes_unsettled (chip_or_line part file bytes) line old new before now status given one told
+goes_wrong_length part file bytes n old new before now status (inr memory) one told = cc
+
+-- ---- the chip of a file that was read
+
+-- to its end
+pub goes_ended : (part : Part) (file bytes : Bytes) (ended : Bool) (old mid new : Option Record) (before between now : ℕ) (result : Result State ℕ)
+    → mid ≡ option_map (with_read file bytes ended) old → IsWhole 4194304 (record { bytes = bytes; ended = ended }) → ended ≡ true → before ≤ between
+    → Goes (settled (chip_or_line part file bytes)) mid new between now result → Goes (chip_stage part file) old new before now result
+goes_ended part file bytes false old mid new before between now result kept whole is rose goes = cc
+goes_ended part file bytes true old mid new before between now result kept whole is rose goes =
+    let fits : nat_le (length bytes) 4194304 ≡ true = grind (arith, nat_tests, whole) in
+    let reading : Reading = record { name = file; bytes = bytes; ended = true } in
+    let next : Goes (chip_given part file (Found reading)) mid new between now result = rw fits goes in
+    goes_opened file (chip_given part file) (Found reading) old mid new before between now result kept rose next
+
+-- or past the limit
+pub goes_past : (part : Part) (file bytes : Bytes) (ended : Bool) (old mid new : Option Record) (before between now status : ℕ)
+    → mid ≡ option_map (with_read file bytes ended) old → IsWhole 4194304 (record { bytes = bytes; ended = ended }) → ended ≡ false → before ≤ between
+    → status ≡ 1 → IsTold mid new (too_long_line file 4194304) between now
+    → Goes (chip_stage part file) old new before now (Err status)
+goes_past part file bytes true old mid new before between now status kept whole is rose one told = cc
+goes_past part file bytes false old mid new before between now status kept whole is rose one told =
+    let more = whole.0 in
+    let past : nat_lt 4194304 (length bytes) ≡ true = grind (arith, nat_tests, more) in
+    let long : nat_le (length bytes) 4194304 ≡ false = grind (arith, nat_tests, more) in
+    let given : judged_chip part file bytes ≡ Err (too_long_line file 4194304) = rw long refl in
+    let goes = goes_unsettled (judged_chip part file bytes) (too_long_line file 4194304) mid new between now status given one told in
+    let reading : Reading = record { name = file; bytes = bytes; ended = false } in
+    let next : Goes (chip_given part file (Found reading)) mid new between now (Err status) = rw past goes in
+    goes_opened file (chip_given part file) (Found reading) old mid new before between now (Err status) kept rose next

@@ -1,0 +1,29 @@
+-- A chip that is loaded, as a function of what the opening of its file gives.
+use Rattle.std.specs.Prelude.{◌==◌, nat_le, length, Result, Ok, Err, if◌then◌else◌}
+use Rattle.avr_desk.specs.declared.record.Opening.{Opening}
+use Rattle.avr_desk.specs.declared.record.Opening.TheVariants.{Absent, Found}
+use Rattle.avr_message.specs.Lines.{Bytes}
+use Rattle.avr_part.specs.ChipFile.{chip_file_size, state_in}
+use Rattle.avr_part.specs.Part.{Part}
+use Rattle.avr_part.specs.State.{State, fresh_state}
+use Rattle.avr_plan.specs.Lines.{too_long_line}
+use Rattle.avr_plan.specs.Stage.{Stage, ◌>>=◌, settled, opened, judged}
+use Rattle.avr_chip.specs.Lines.{length_line}
+
+-- the chip of these bytes; another length than the part's is refused
+abbrev pub chip_or_line : Part → Bytes → Bytes → Result State Bytes
+chip_or_line part file bytes =
+    if length bytes == chip_file_size part then Ok (state_in part bytes) else Err (length_line file (length bytes) (chip_file_size part))
+
+-- a file past the limit is refused, whatever the part
+abbrev pub judged_chip : Part → Bytes → Bytes → Result State Bytes
+judged_chip part file bytes = if nat_le (length bytes) 4194304 then chip_or_line part file bytes else Err (too_long_line file 4194304)
+
+-- where there is no such file the chip is fresh
+abbrev pub chip_given : Part → Bytes → Opening → Stage State
+chip_given part file (Absent name) = settled (Ok (fresh_state part))
+chip_given part file (Found reading) = judged file 4194304 (judged_chip part file) (Found reading)
+
+-- the chip of this part that its file holds
+abbrev pub chip_stage : Part → Bytes → Stage State
+chip_stage part file = opened file >>= chip_given part file

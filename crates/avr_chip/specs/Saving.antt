@@ -1,0 +1,50 @@
+-- A chip file that is saved: what was done at the desk, and what stood in the way.
+use Rattle.std.specs.Prelude.{◌≡◌, ◌≤◌, ℕ, List, [], ◌∷◌, Option, option_map, Result, Ok, Err, ⊤}
+use Rattle.avr_desk.specs.Fault.{HasFailed}
+use Rattle.avr_desk.specs.Record.{Record}
+use Rattle.avr_message.specs.Lines.{Bytes}
+use Rattle.avr_message.specs.Said.{Saying, Creates, Writes, IsPrefixOf, Tells, after_all}
+use Rattle.avr_plan.specs.Lines.{memory_line}
+use Rattle.avr_chip.specs.Lines.{not_created_line, not_written_line}
+
+-- What stood in the way: memory was refused for the bytes; the file could not be created; or not be written behind these bytes.
+pub data Trouble : Type 0 where
+  NoMemory : Trouble
+  NotCreated : Trouble
+  NotWritten : Bytes → Trouble
+
+-- what was done before
+abbrev pub done_before : Bytes → Trouble → List Saying
+done_before file NoMemory = []
+done_before file NotCreated = []
+done_before file (NotWritten front) = Creates file ∷ Writes front ∷ []
+
+-- only a front of the file's bytes was written
+abbrev pub IsFront : Bytes → Trouble → Type 0
+IsFront bytes (NotWritten front) = IsPrefixOf front bytes
+IsFront bytes _ = Unit {0}
+
+-- the desk has failed, by its counts before and now, unless it was memory
+abbrev pub IsCounted : ℕ → ℕ → Trouble → Type 0
+IsCounted before now NoMemory = before ≤ now
+IsCounted before now _ = HasFailed before now
+
+abbrev pub trouble_line : Bytes → Trouble → Bytes
+trouble_line file NoMemory = memory_line
+trouble_line file NotCreated = not_created_line file
+trouble_line file (NotWritten front) = not_written_line file
+
+-- Something stood in the way, and then the line that tells it was printed, or the desk failed once more in that.
+pub record Unsaved (old new : Option Record) (file bytes : Bytes) (before now : ℕ) : Type 0 where
+  pub trouble : Trouble
+  pub between : Option Record
+  pub failures : ℕ
+  pub front : IsFront bytes trouble
+  pub counted : IsCounted before failures trouble
+  pub done : between ≡ option_map (after_all (done_before file trouble)) old
+  pub told : Tells between new (trouble_line file trouble) failures now
+
+-- The file was created and all its bytes were written; or the status is 1, and it was not saved.
+abbrev pub Saves : Option Record → Option Record → Bytes → Bytes → ℕ → ℕ → Result ⊤ ℕ → Type 0
+Saves old new file bytes before now (Ok done) = new ≡ option_map (after_all (Creates file ∷ Writes bytes ∷ [])) old
+Saves old new file bytes before now (Err status) = (status ≡ 1) × Unsaved old new file bytes before now

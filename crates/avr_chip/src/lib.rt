@@ -1,0 +1,17 @@
+//! The chip file of an emulated part, read from and written to a desk.
+//!
+//! A chip file holds flash, EEPROM, fuses and lock, byte after byte. The one idea: which chip is loaded is a function of what
+//! the opening of the file gives (nothing, where there is no such file), and what is saved is the file of the chip, whole.
+//!
+//! `let mut chip = load_chip(alloc, &part, "chip.bin", &mut desk)?;` .. `save_chip(alloc, &chip, "chip.bin", &mut desk)?;`
+#![tactic(auto)]
+
+mod loading;
+mod refusal;
+mod saving;
+
+pub use loading::load_chip;
+pub use saving::save_chip;
+
+#[cfg(test)]
+mod tests;

@@ -1,0 +1,82 @@
+//! A chip is loaded from its file.
+ghost use Rattle.std.specs.Prelude.{◌≡◌, ◌≤◌, IfOk, Ok, length};
+ghost use Rattle.avr_part.specs.ChipFile.{chip_file_size};
+ghost use Rattle.avr_part.specs.State.{fresh_state};
+ghost use Rattle.avr_plan.specs.Playing.{Goes};
+ghost use Rattle.avr_plan.specs.Stage.{settled};
+ghost use Rattle.avr_chip.specs.Loading.{chip_or_line, chip_stage};
+
+use crate::refusal::{refuse_file, refuse_length, refuse_memory, refuse_too_long};
+use avr_desk::{Desk, FileFault, read_file};
+use avr_part::{Chip, Mem, Part, PartFault};
+use std::alloc::Global;
+
+/// The most bytes that are read of a file.
+const LIMIT: usize = 4_194_304;
+
+/// The length of a chip file of this part.
+fn file_size(part: &Part) -> u32
+    ensures { result ≡ chip_file_size part.now }
+{
+    part.size_of(Mem::Flash) + part.size_of(Mem::Eeprom) + 4
+}
+
+/// A chip of this part as it comes new.
+fn fresh_chip<D: Desk>(alloc: Global, part: &Part, desk: &mut D) -> Result<Chip, u8>
+    ensures goes { Goes (settled (Ok (fresh_state part.now))) (D.kept desk.old) (D.kept desk.new) (D.failures desk.old) (D.failures desk.new) result }
+    ensures part { IfOk result (λ c. c.part ≡ part.now) }
+    ensures rises { D.failures desk.old ≤ D.failures desk.new }
+{
+    match Chip::fresh(alloc, part.copied()) {
+        Ok(chip) => Ok(chip),
+        Err(_) => Err(refuse_memory(desk)),
+    }
+}
+
+/// The chip of the bytes of its file.
+fn chip_of<D: Desk>(
+    alloc: Global,
+    part: &Part,
+    file: &str,
+    bytes: &[u8],
+    desk: &mut D,
+) -> Result<Chip, u8>
+    requires { length bytes.now ≤ 4194304 }
+    ensures goes { Goes (settled (chip_or_line part.now file.now bytes.now)) (D.kept desk.old) (D.kept desk.new) (D.failures desk.old) (D.failures desk.new) result }
+    ensures part { IfOk result (λ c. c.part ≡ part.now) }
+    ensures rises { D.failures desk.old ≤ D.failures desk.new }
+{
+    match Chip::from_bytes(alloc, part.copied(), bytes) {
+        Ok(chip) => Ok(chip),
+        Err(PartFault::BadChipFile(_)) => {
+            let found = bytes.len() as u32;
+            Err(refuse_length(desk, file, found, file_size(part)))
+        }
+        // the only other one is the want of memory
+        Err(_) => Err(refuse_memory(desk)),
+    }
+}
+
+/// Loads the chip of this part that its file holds; where there is no such file the chip is fresh.
+///
+/// The file is read to its end, or until more than 4,194,304 bytes came. The chip that is loaded has empty buffers.
+///
+/// Where the file has another length than one of this part, where the desk fails or memory is refused, the answer is `Err(1)`,
+/// and the line that tells why was printed as far as the desk takes it.
+pub fn load_chip<D: Desk>(alloc: Global, part: &Part, file: &str, desk: &mut D) -> Result<Chip, u8>
+    ensures goes { Goes (chip_stage part.now file.now) (D.kept desk.old) (D.kept desk.new) (D.failures desk.old) (D.failures desk.new) result }
+    ensures part { IfOk result (λ c. c.part ≡ part.now) }
+    ensures rises { D.failures desk.old ≤ D.failures desk.new }
+{
+    let contents = match read_file(alloc, desk, file, LIMIT) {
+        Ok(contents) => contents,
+        Err(FileFault::Absent) => return fresh_chip(alloc, part, desk),
+        Err(FileFault::NotOpened) => return Err(refuse_file(desk, file, ": cannot be opened")),
+        Err(FileFault::NotRead) => return Err(refuse_file(desk, file, ": cannot be read")),
+        Err(FileFault::Memory) => return Err(refuse_memory(desk)),
+    };
+    if !contents.ended {
+        return Err(refuse_too_long(desk, file, LIMIT as u32));
+    }
+    chip_of(alloc, part, file, contents.bytes.as_slice(), desk)
+}

@@ -1,0 +1,104 @@
+//! Chip files that are missing, whole, of another length, and at a desk that fails.
+use crate::{load_chip, save_chip};
+use avr_desk::{Bytes, FailingDesk, MemDesk};
+use avr_part::{Chip, Mem, Part, PartFault, Parts};
+use std::alloc::{AllocError, Global};
+use std::test::Fail;
+
+fn m328p() -> Result<Part, PartFault> {
+    Parts::none().find("m328p")
+}
+
+/// A file of `n` bytes that tell their places apart.
+fn file_of(alloc: Global, n: usize) -> Result<Vec<u8>, AllocError> {
+    let mut bytes = Vec::with_capacity(alloc, n)?;
+    for at in 0..n {
+        bytes.push((at % 251) as u8)?;
+    }
+    Ok(bytes)
+}
+
+/// A desk with this file.
+fn desk_with(alloc: Global, file: &[u8]) -> Result<MemDesk, AllocError> {
+    let mut desk = MemDesk::new(alloc, Bytes::new(alloc));
+    desk.put("chip.bin", file)?;
+    Ok(desk)
+}
+
+#[test]
+fn no_file_is_a_fresh_chip(rt: HostRuntime) -> Result<(), Fail> {
+    let alloc = rt.alloc();
+    let mut desk = MemDesk::new(alloc, Bytes::new(alloc));
+    let Ok(chip) = load_chip(alloc, &m328p()?, "chip.bin", &mut desk) else {
+        assert!(rt; false, "no chip");
+        return Ok(());
+    };
+    let saved = save_chip(alloc, &chip, "chip.bin", &mut desk);
+    assert!(rt; saved == Ok(()));
+    let fresh = vec![in alloc; 255; 33_796]?;
+    assert!(rt; desk.file("chip.bin") == Some(fresh.as_slice()));
+    assert!(rt; desk.messages().is_empty());
+    Ok(())
+}
+
+#[test]
+fn a_file_is_written_back(rt: HostRuntime) -> Result<(), Fail> {
+    let alloc = rt.alloc();
+    let file = file_of(alloc, 33_796)?;
+    let mut desk = desk_with(alloc, file.as_slice())?;
+    let Ok(chip) = load_chip(alloc, &m328p()?, "chip.bin", &mut desk) else {
+        assert!(rt; false, "no chip");
+        return Ok(());
+    };
+    assert!(rt; chip.byte(Mem::Eeprom, 0) == Some((32_768 % 251) as u8));
+    let saved = save_chip(alloc, &chip, "copy.bin", &mut desk);
+    assert!(rt; saved == Ok(()));
+    assert!(rt; desk.file("copy.bin") == Some(file.as_slice()));
+    Ok(())
+}
+
+/// Whether a file of so many bytes is refused with this line.
+fn refuses(alloc: Global, n: usize, line: &str) -> Result<bool, Fail> {
+    let mut desk = desk_with(alloc, file_of(alloc, n)?.as_slice())?;
+    let loaded = load_chip(alloc, &m328p()?, "chip.bin", &mut desk);
+    Ok(matches!(loaded, Err(1)) && desk.messages() == line.as_bytes())
+}
+
+#[test]
+fn lengths_that_are_refused(rt: HostRuntime) -> Result<(), Fail> {
+    let alloc = rt.alloc();
+    let line = "avrstk: error: chip.bin: 100 bytes, 33796 expected\n";
+    assert!(rt; refuses(alloc, 100, line)?);
+    let line = "avrstk: error: chip.bin: 4194304 bytes, 33796 expected\n";
+    assert!(rt; refuses(alloc, 4_194_304, line)?);
+    let line = "avrstk: error: chip.bin: longer than 4194304 bytes\n";
+    assert!(rt; refuses(alloc, 4_194_305, line)?);
+    Ok(())
+}
+
+/// Whether a chip is not loaded over a desk whose nth call fails, and this is what is said.
+fn fails_to_load(alloc: Global, n: u64, line: &str) -> Result<bool, Fail> {
+    let mut desk = FailingDesk::new(desk_with(alloc, b"")?, n);
+    let loaded = load_chip(alloc, &m328p()?, "chip.bin", &mut desk);
+    Ok(matches!(loaded, Err(1)) && desk.inner().messages() == line.as_bytes())
+}
+
+/// The same of a chip that is not saved.
+fn fails_to_save(alloc: Global, n: u64, line: &str) -> Result<bool, Fail> {
+    let chip = Chip::fresh(alloc, m328p()?)?;
+    let mut desk = FailingDesk::new(desk_with(alloc, b"")?, n);
+    let saved = save_chip(alloc, &chip, "chip.bin", &mut desk);
+    Ok(saved == Err(1) && desk.inner().messages() == line.as_bytes())
+}
+
+#[test]
+fn a_desk_that_fails(rt: HostRuntime) -> Result<(), Fail> {
+    let alloc = rt.alloc();
+    assert!(rt; fails_to_load(alloc, 1, "avrstk: error: chip.bin: cannot be opened\n")?);
+    assert!(rt; fails_to_load(alloc, 2, "avrstk: error: chip.bin: cannot be read\n")?);
+    // the call that prints the file's name
+    assert!(rt; fails_to_load(alloc, 4, "avrstk: error: ")?);
+    assert!(rt; fails_to_save(alloc, 1, "avrstk: error: chip.bin: cannot be created\n")?);
+    assert!(rt; fails_to_save(alloc, 2, "avrstk: error: chip.bin: cannot be written\n")?);
+    Ok(())
+}
