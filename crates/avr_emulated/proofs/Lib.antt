@@ -1,4 +1,4 @@
-pub mod GoodLineCalls
 pub mod GoodLineEnds
+pub mod GoodLineCalls
 pub mod GoodLine
 pub mod Wiring
