@@ -45,6 +45,7 @@ fn answer_piece<L: Link>(
 }
 
 /// Serves one read of the link, which is one too many where it brings no end.
+#[tactic(auto, using(crate::proofs::Turns::read_answered, crate::proofs::Turns::read_broken))]
 fn answer_next<L: Link>(emulator: &mut Emulator, link: &mut L) -> Served
     ensures serves { Serves emulator.old 1 result (L.talk link.old) (L.talk link.new) emulator.new }
     ensures counted { L.failures link.old ≤ L.failures link.new }
