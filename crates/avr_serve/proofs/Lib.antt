@@ -1,0 +1,4 @@
+pub mod Talking
+pub mod Answering
+pub mod Replying
+pub mod Turns

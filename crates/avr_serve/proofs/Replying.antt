@@ -1,0 +1,62 @@
+-- Answers to one piece, frame by frame, and the sending of each.
+use Rattle.std.proofs.Common.{◌≡◌, ℕ, ◌+◌, ◌<◌, List, [], ◌++◌, length, take, drop, refl, sym, ap, ◌∙◌, subst, arith, Option, length-drop}
+use Rattle.std.proofs.lemmas.List.{take-append-drop}
+use Rattle.std.proofs.Math.Seq.{take-add}
+use Rattle.stk_host.specs.Talk.{Talk, sent}
+use Rattle.stk_host.specs.Reach.{Says}
+use Rattle.stk_host.proofs.Talks.{sent_append, grows_none, grows_on, quiet_append}
+use Rattle.stk_emu.specs.Emulator.{Machine, Answers}
+use Rattle.avr_serve.specs.Serving.{AnswersAll, BreaksOff}
+use Rattle.avr_serve.specs.Replying.{SaysPart, Replies, RepliesPart}
+use Rattle.avr_serve.proofs.Answering.{all_nothing, all_fed, all_more, breaks_here, breaks_more}
+
+-- so many bytes of an answer were sent, and not all
+pub part_of : (bytes : List ℕ) (n : ℕ) (o q : Option Talk) → n < length bytes → Says (take n bytes) o q → SaysPart bytes o q
+part_of bytes n o q few says = record {
+  part = take n bytes;
+  unsent = drop n bytes;
+  bytes_are = sym (take-append-drop n bytes);
+  not_whole = rw length-drop (omega arith);
+  says = says;
+}
+
+says_both : (x y : List ℕ) (a b c : Option Talk) → Says x a b → Says y b c → Says (x ++ y) a c
+says_both x y a b c first then = record {
+  during = first.during ++ then.during;
+  grows = grows_on a b c first.during then.during first.grows then.grows;
+  quiet = quiet_append first.during then.during first.quiet then.quiet;
+  bytes_sent = sent_append first.during then.during ∙ (ap (λ bs. bs ++ sent then.during) first.bytes_sent ∙ ap (λ bs. x ++ bs) then.bytes_sent);
+}
+
+pub replies_none : (machine : Machine) (o : Option Talk) → Replies machine [] o o machine
+replies_none machine o = record {
+  out = [];
+  says = record { during = []; grows = grows_none o; quiet = tt; bytes_sent = refl };
+  answers = λ p text f. all_nothing p text machine f;
+}
+
+-- what is behind the first n bytes is fed, up to the first answer, which is sent
+pub replies_more : (piece part out : List ℕ) (n used : ℕ) (old mid now : Machine) (a b c : Option Talk) → Replies old (take n piece) a b mid → part ≡ drop n piece
+    → Answers mid (take used part) now out → Says out b c → Replies old (take (n + used) piece) a c now
+replies_more piece part out n used old mid now a b c r is one says = record {
+  out = r.out ++ out;
+  says = says_both r.out out a b c r.says says;
+  answers = λ p text f.
+      let first = r.answers p text f in
+      subst (λ bs. AnswersAll p text bs (r.out ++ out) now) (ap (λ bs. take n piece ++ take used bs) is ∙ sym (take-add n used piece))
+      (all_more p text (take n piece) r.out (take used part) out mid now first (all_fed p (text ++ take n piece) (take used part) out mid now one first.fed));
+}
+
+-- or of which only a part is sent
+pub replies_part : (piece part out : List ℕ) (n used : ℕ) (old mid now : Machine) (a b c : Option Talk) → Replies old (take n piece) a b mid → part ≡ drop n piece
+    → Answers mid (take used part) now out → SaysPart out b c → RepliesPart old piece a c now
+replies_part piece part out n used old mid now a b c r is one s = record {
+  out = r.out ++ s.part;
+  says = says_both r.out s.part a b c r.says s.says;
+  breaks = λ p text f.
+      let first = r.answers p text f in
+      subst (λ bs. BreaksOff p text bs (r.out ++ s.part) now)
+      (ap (λ bs. take n piece ++ bs) (take-append-drop used part ∙ is) ∙ take-append-drop n piece)
+      (breaks_more p text (take n piece) r.out (take used part ++ drop used part) s.part mid now first
+      (breaks_here p (text ++ take n piece) (take used part) (drop used part) out s.part s.unsent mid now one first.fed s.bytes_are s.not_whole));
+}

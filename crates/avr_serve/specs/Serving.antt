@@ -1,0 +1,90 @@
+-- An emulated programmer that answers what it hears on a link.
+use Rattle.std.specs.Prelude.{ℕ, List, [], ◌∷◌, ◌++◌, ◌+◌, ◌≡◌, ◌<◌, ◌≤◌, length, Option}
+use Rattle.stk_frame.specs.Cut.{frames}
+use Rattle.stk_host.specs.declared.link.Item.TheVariants.{Byte, Silence, End}
+use Rattle.stk_host.specs.Tape.{Tape}
+use Rattle.stk_host.specs.Talk.{Talk, Sent, Got, sent, heard, Grows, HasFailed}
+use Rattle.stk_host.specs.Play.{IsPrefixOf}
+use Rattle.stk_emu.specs.Programmer.{Programmer}
+use Rattle.stk_emu.specs.Device.{device, answers, answer_frame, after_all}
+use Rattle.stk_emu.specs.Emulator.{Machine, IsFed, emulate}
+use Rattle.avr_serve.specs.declared.serving.Served.{Served}
+use Rattle.avr_serve.specs.declared.serving.Served.TheVariants.{Ended, RecvFailed, SendFailed, TooManyReads}
+
+-- the bytes of a tape, its silences and ends left out
+abbrev pub bytes_of : Tape → List ℕ
+bytes_of [] = []
+bytes_of (Byte byte ∷ tape) = byte ∷ bytes_of tape
+bytes_of (Silence ∷ tape) = bytes_of tape
+bytes_of (End ∷ tape) = bytes_of tape
+
+-- no end is among its items
+abbrev pub HasNoEnd : Tape → Type 0
+HasNoEnd [] = Unit {0}
+HasNoEnd (Byte byte ∷ tape) = HasNoEnd tape
+HasNoEnd (Silence ∷ tape) = HasNoEnd tape
+HasNoEnd (End ∷ tape) = ⊥
+
+-- how many pieces were heard
+abbrev pub reads : Talk → ℕ
+reads [] = 0
+reads (Sent bytes ∷ talk) = reads talk
+reads (Got tape ∷ talk) = reads talk + 1
+
+-- What was heard, in at most so many reads, by how serving ended: the end was heard last where it ended with it, and never
+-- where it didn't.
+abbrev pub Hears : Served → ℕ → Talk → Type 0
+Hears Ended turns talk = (before : Tape) × HasNoEnd before × (heard talk ≡ before ++ End ∷ []) × (reads talk ≤ turns)
+Hears RecvFailed turns talk = HasNoEnd (heard talk) × (reads talk < turns)
+Hears SendFailed turns talk = HasNoEnd (heard talk) × (reads talk ≤ turns)
+Hears TooManyReads turns talk = HasNoEnd (heard talk) × (reads talk ≡ turns)
+
+-- At each piece heard, all answers to what was fed before it had been sent: by a programmer that was fed this text and
+-- had sent these answers when the talk began.
+abbrev pub AnswersInTurn : Programmer → List ℕ → List ℕ → Talk → Type 0
+AnswersInTurn p text answered [] = Unit {0}
+AnswersInTurn p text answered (Sent bytes ∷ talk) = AnswersInTurn p text (answered ++ bytes) talk
+AnswersInTurn p text answered (Got tape ∷ talk) = (answered ≡ emulate p text) × AnswersInTurn p (text ++ bytes_of tape) answered talk
+
+-- An emulator that had been fed a text was fed these bytes behind it, and these are exactly its answers to them.
+pub record AnswersAll (p : Programmer) (text bytes out : List ℕ) (now : Machine) : Type 0 where
+  pub fed : IsFed p (text ++ bytes) now
+  pub answered : emulate p (text ++ bytes) ≡ emulate p text ++ out
+
+-- Of these bytes it was fed a front, up to a frame whose answer was not sent whole: what was sent is all answers to the
+-- frames before that one, and a part of its own.
+pub record BreaksOff (p : Programmer) (text bytes out : List ℕ) (now : Machine) : Type 0 where
+  pub used : List ℕ
+  pub unused : List ℕ
+  pub bytes_are : bytes ≡ used ++ unused
+  pub fed : IsFed p (text ++ used) now
+  pub earlier : List (List ℕ)
+  pub last : List ℕ
+  pub frames_are : frames (text ++ used) ≡ earlier ++ last ∷ []
+  pub part : List ℕ
+  pub unsent : List ℕ
+  pub answer_is : answer_frame device last (after_all device earlier p) ≡ part ++ unsent
+  pub not_whole : 0 < length unsent
+  pub sent_is : emulate p text ++ out ≡ answers device earlier p ++ part
+
+-- What was sent, and what became of the emulator, by how serving ended: where a send failed only a front of all answers
+-- was sent.
+abbrev pub Leaves : Served → Programmer → List ℕ → Talk → Machine → Type 0
+Leaves SendFailed p text talk now =
+    IsPrefixOf (emulate p text ++ sent talk) (emulate p (text ++ bytes_of (heard talk))) × BreaksOff p text (bytes_of (heard talk)) (sent talk) now
+Leaves _ p text talk now = AnswersAll p text (bytes_of (heard talk)) (sent talk) now
+
+-- An emulator served a link that showed these talks before and after it, in at most so many reads, and this is how it ended:
+-- so it is whatever programmer it began with and whatever text it was fed before.
+pub record Serves (old : Machine) (turns : ℕ) (served : Served) (before after : Option Talk) (now : Machine) : Type 0 where
+  pub during : Talk
+  pub grows : Grows before during after
+  pub hears : Hears served turns during
+  pub in_turn : (p : Programmer) (text : List ℕ) → IsFed p text old → AnswersInTurn p text (emulate p text) during
+  pub leaves : (p : Programmer) (text : List ℕ) → IsFed p text old → Leaves served p text during now
+
+-- where the link is said to have failed, its count of failures rose or stands at its end
+abbrev pub FailsBy : Served → ℕ → ℕ → Type 0
+FailsBy RecvFailed before now = HasFailed before now
+FailsBy SendFailed before now = HasFailed before now
+FailsBy _ before now = Unit {0}

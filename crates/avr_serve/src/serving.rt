@@ -1,0 +1,84 @@
+//! Serving a link.
+#![tactic(auto)]
+
+ghost use Rattle.std.specs.Prelude.{◌≡◌, ◌<◌, ◌≤◌, ℕ, length, OnOk, OnErr};
+ghost use Rattle.stk_host.specs.Talk.{HasFailed};
+ghost use Rattle.avr_serve.specs.Serving.{Serves, FailsBy};
+ghost use Rattle.avr_serve.specs.Replying.{Replies, RepliesPart};
+
+use crate::send::send_all;
+use arrayvec::ArrayVec;
+use stk_emu::Emulator;
+use stk_host::{Heard, Link, LinkFault};
+
+/// How serving a link ended.
+#[derive(Clone, Copy, Debug, PartialEq, Eq)]
+pub enum Served {
+    /// The end was heard, and all answers were sent.
+    Ended,
+    /// The link failed at listening, when all answers were sent.
+    RecvFailed,
+    /// The link failed at sending an answer, or took none of its bytes.
+    SendFailed,
+    /// So many pieces were heard as were allowed, and no end; all answers were sent.
+    TooManyReads,
+}
+
+/// Feeds a piece to the emulator, and sends each answer before it feeds what follows.
+fn answer_piece<L: Link>(
+    emulator: &mut Emulator,
+    link: &mut L,
+    piece: &[u8],
+) -> Result<(), LinkFault>
+    ensures ok { OnOk result (Replies emulator.old piece.now (L.talk link.old) (L.talk link.new) emulator.new) }
+    ensures err { OnErr result (RepliesPart emulator.old piece.now (L.talk link.old) (L.talk link.new) emulator.new) }
+    ensures counted { L.failures link.old ≤ L.failures link.new }
+    ensures failed { OnErr result (HasFailed (L.failures link.old) (L.failures link.new)) }
+{
+    let mut answer = ArrayVec::new();
+    let mut used = 0;
+    while used < piece.len() {
+        used += emulator.feed(&piece[used..], &mut answer);
+        send_all(link, answer.as_slice())?;
+    }
+    Ok(())
+}
+
+/// Serves one read of the link, which is one too many where it brings no end.
+#[tactic(auto, using(crate::proofs::Turns::read_answered, crate::proofs::Turns::read_broken))]
+fn answer_next<L: Link>(emulator: &mut Emulator, link: &mut L) -> Served
+    ensures serves { Serves emulator.old 1 result (L.talk link.old) (L.talk link.new) emulator.new }
+    ensures counted { L.failures link.old ≤ L.failures link.new }
+    ensures failed { FailsBy result (L.failures link.old) (L.failures link.new) }
+{
+    // room for the longest frame
+    let mut buffer = [0; 281];
+    let Ok(heard) = link.recv(&mut buffer) else {
+        return Served::RecvFailed;
+    };
+    match heard {
+        Heard::Bytes(count) => match answer_piece(emulator, link, &buffer[..count]) {
+            Ok(()) => Served::TooManyReads,
+            Err(_) => Served::SendFailed,
+        },
+        Heard::Silence => Served::TooManyReads,
+        Heard::End => Served::Ended,
+    }
+}
+
+/// Serves a link in at most `turns` reads: feeds what is heard to the emulator, and sends all answers before the next read.
+///
+/// A silence counts for nothing but the read that it took. What the last read brings is still answered.
+pub fn answer_all<L: Link>(emulator: &mut Emulator, link: &mut L, turns: u32) -> Served
+    ensures serves { Serves emulator.old turns result (L.talk link.old) (L.talk link.new) emulator.new }
+    ensures counted { L.failures link.old ≤ L.failures link.new }
+    ensures failed { FailsBy result (L.failures link.old) (L.failures link.new) }
+{
+    for turn in 0..turns {
+        match answer_next(emulator, link) {
+            Served::TooManyReads => {}
+            served => return served,
+        }
+    }
+    Served::TooManyReads
+}
