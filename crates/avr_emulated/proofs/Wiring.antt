@@ -1,21 +1,32 @@
 -- A session that was played over a wire, as it went along the line of its fates.
-use Rattle.std.proofs.Common.{◌≡◌, ℕ, List, [], ◌++◌, length, refl, sym, ap, ◌∙◌, subst, ◌⊎◌, inl, inr, Option, Some}
-use Rattle.avr_message.specs.Said.{Saying, SaidPart}
-use Rattle.avr_plan.specs.Plan.{Plan}
+use Rattle.std.proofs.Common.{◌≡◌, ℕ, List, [], ◌∷◌, ◌++◌, All, length, refl, sym, ap, ◌∙◌, subst, ◌⊎◌, inl, inr, Option, Some, option_map, false}
+use Rattle.avr_message.specs.Said.{Saying, SaidPart, after_all}
+use Rattle.avr_part.specs.Part.{IsPart}
+use Rattle.avr_part.specs.Sound.{IsSound}
+use Rattle.avr_plan.specs.Plan.{Plan, IsFitted}
 use Rattle.avr_desk.specs.Record.{Record}
 use Rattle.stk_frame.specs.Cut.{frames}
 use Rattle.stk_host.specs.Play.{Plays, Breaks}
 use Rattle.stk_host.specs.Talk.{Talk, Stays, sent}
 use Rattle.avr_tool.specs.Runs.{Cause, Ran, BrokeOff, RunsTo}
 use Rattle.avr_tool.specs.Session.{session}
-use Rattle.stk_emu.specs.Along.{along, AsksBodies}
+use Rattle.stk_host.specs.Dialog.{sayings}
+use Rattle.stk_emu.specs.Along.{along, said_along, AsksBodies}
 use Rattle.stk_emu.specs.Device.{device}
 use Rattle.stk_emu.specs.Effect.{Memories, memories_of}
-use Rattle.stk_emu.specs.Leads.{Leads, GoesAlong}
+use Rattle.stk_emu.specs.Leads.{Leads, AreGood, GoesAlong}
 use Rattle.stk_emu.specs.Programmer.{Programmer, fresh_programmer}
+use Rattle.stk_emu.specs.Settled.{Idle, FitsPart}
 use Rattle.stk_emu.specs.Wired.{State, Keeps, ComesOf, IsFresh}
+use Rattle.stk_emu.proofs.Beginning.{fresh_idle, fresh_fits}
+use Rattle.stk_emu.proofs.SaidAlong.{whole_said}
 use Rattle.stk_emu.proofs.Turning.{whole_along, broken_along}
-use Rattle.avr_emulated.specs.Outcome.{IsTouched, IsDone}
+use Rattle.avr_emulated.specs.Course.{course}
+use Rattle.avr_emulated.specs.Outcome.{IsTouched, IsDone, Leaves, IsCourse, GoesWell}
+use Rattle.avr_emulated.proofs.AnyLine.{session_leaves}
+use Rattle.avr_emulated.proofs.AnyLineAsks.{session_asks}
+use Rattle.avr_emulated.proofs.GoodLine.{session_ends}
+use Rattle.avr_emulated.proofs.WrittenRuns.{run_written}
 
 some_is : {A : Type 0} (a b : A) → ◌≡◌ {A = Option A} (Some a) (Some b) → a ≡ b
 some_is a b e = cc
@@ -24,46 +35,94 @@ some_is a b e = cc
 all_passed : (old new during : Talk) → old ≡ [] → ◌≡◌ {A = Option Talk} (Some new) (Some (old ++ during)) → during ≡ new
 all_passed old new during silent e = sym (some_is new during (e ∙ ap (λ t. Some (t ++ during)) silent))
 
-module _ (plan : Plan) (w v : State) (fresh : IsFresh w) (stays : Stays ComesOf w v) (asks : AsksBodies (session plan)) where
+module _ (plan : Plan) (w v : State) (fresh : IsFresh w) (stays : Stays ComesOf w v) (is_sound : IsSound w.wire.programmer.chip)
+    (part_is : w.wire.programmer.chip.part ≡ plan.part) (fitted : All (IsFitted plan.part) plan.tasks) where
   abbrev begun : Programmer
   begun = fresh_programmer w.wire.programmer.chip
+
+  abbrev before : Memories
+  before = memories_of w.wire.programmer.chip
+
+  abbrev after : Memories
+  after = memories_of v.wire.programmer.chip
 
   -- how far the session went along the line
   abbrev count : ℕ
   count = length (frames (sent v.talk))
 
+  sound : IsPart plan.part
+  sound = subst IsPart part_is is_sound.part
+
+  sizes : FitsPart plan.part before
+  sizes = subst (λ part. FitsPart part before) part_is (fresh_fits w.wire.programmer.chip is_sound)
+
+  idle : Idle plan.part before begun
+  idle = subst (λ part. Idle part before begun) part_is (fresh_idle w.wire.programmer.chip is_sound)
+
+  asks : AsksBodies (session plan)
+  asks = session_asks plan sound fitted
+
   keeps : Keeps begun w.wire.fates v
   keeps = stays (record { programmer = begun; fates = w.wire.fates }) fresh.begins
 
-  pub ran_along : (old new : Option Record) (status next : ℕ) (left : List ℕ) → Ran (session plan) 1 [] (Some w.talk) (Some v.talk) old new status next left → GoesAlong (session plan) begun w.wire.fates v status left
-  ran_along old new status next left ran =
-      let passed = all_passed w.talk v.talk ran.during fresh.silent ran.grows in
-      let plays : Plays (session plan) 1 [] v.talk ran.events status next left = subst (λ talk. Plays (session plan) 1 [] talk ran.events status next left) passed ran.plays in
-      whole_along (session plan) 1 begun w.wire.fates v asks fresh.lawful keeps plays.in_turn ran.events status next left plays
+  leads : Leads device (session plan) begun w.wire.fates (λ q. IsTouched plan before (memories_of q.chip)) (λ status q. status ≡ 0 → IsDone plan before (memories_of q.chip))
+  leads = session_leaves plan sound fitted before sizes begun w.wire.fates idle
 
-  pub broke_along : (old new : Option Record) (StopsBy : Cause → Type 0) → BrokeOff (session plan) 1 [] (Some w.talk) (Some v.talk) old new StopsBy → v.wire.programmer ≡ (along device count (session plan) begun w.wire.fates).programmer
-  broke_along old new StopsBy broke =
-      let passed = all_passed w.talk v.talk broke.during fresh.silent broke.grows in
-      let breaks : Breaks SaidPart (session plan) 1 [] v.talk broke.shown = subst (λ talk. Breaks SaidPart (session plan) 1 [] talk broke.shown) passed broke.breaks in
-      broken_along (session plan) 1 begun w.wire.fates v asks fresh.lawful keeps breaks.in_turn SaidPart broke.shown breaks
+  -- a run that was played whole went along the line to its status
+  module _ (old new : Option Record) (status next : ℕ) (left : List ℕ) (ran : Ran (session plan) 1 [] (Some w.talk) (Some v.talk) old new status next left) where
+    plays : Plays (session plan) 1 [] v.talk ran.events status next left
+    plays = subst (λ talk. Plays (session plan) 1 [] talk ran.events status next left) (all_passed w.talk v.talk ran.during fresh.silent ran.grows) ran.plays
 
-  -- whatever the line did: what the session leaves at each moment, and where it ends with status 0
-  module _ (leads : Leads device (session plan) begun w.wire.fates (λ q. IsTouched plan (memories_of w.wire.programmer.chip) (memories_of q.chip)) (λ status q. status ≡ 0 → IsDone plan (memories_of w.wire.programmer.chip) (memories_of q.chip))) where
-    abbrev before : Memories
-    before = memories_of w.wire.programmer.chip
+    goes : GoesAlong (session plan) begun w.wire.fates v status left
+    goes = whole_along (session plan) 1 begun w.wire.fates v asks fresh.lawful keeps plays.in_turn ran.events status next left plays
 
-    touched_at : v.wire.programmer ≡ (along device count (session plan) begun w.wire.fates).programmer → IsTouched plan before (memories_of v.wire.programmer.chip)
-    touched_at stands = subst (λ (q : Programmer). IsTouched plan before (memories_of q.chip)) (sym stands) (leads.during count)
+    ran_touches : IsTouched plan before after
+    ran_touches = subst (λ (q : Programmer). IsTouched plan before (memories_of q.chip)) (sym goes.programmer) (leads.during count)
 
-    pub run_touches : (old new : Option Record) (StopsBy : Cause → Type 0) (status : ℕ) → RunsTo (session plan) (Some w.talk) (Some v.talk) old new StopsBy status → IsTouched plan before (memories_of v.wire.programmer.chip)
-    run_touches old new StopsBy status (inl ran) = touched_at (ran_along old new status ran.0 ran.1.0 ran.1.1).programmer
-    run_touches old new StopsBy status (inr broke) = touched_at (broke_along old new StopsBy broke.0)
+    ran_done : status ≡ 0 → IsDone plan before after
+    ran_done zero = subst (λ (q : Programmer). IsDone plan before (memories_of q.chip)) (sym goes.programmer) (leads.after count status goes.result zero)
 
-    pub run_is_done : (old new : Option Record) (StopsBy : Cause → Type 0) (status : ℕ) → RunsTo (session plan) (Some w.talk) (Some v.talk) old new StopsBy status → status ≡ 0 → IsDone plan before (memories_of v.wire.programmer.chip)
-    run_is_done old new StopsBy status (inl ran) zero =
-        let goes = ran_along old new status ran.0 ran.1.0 ran.1.1 in
-        subst (λ (q : Programmer). IsDone plan before (memories_of q.chip)) (sym goes.programmer) (leads.after count status goes.result zero)
-    run_is_done old new StopsBy status (inr broke) zero = absurd (one_no (sym broke.1 ∙ zero))
-      where
-        one_no : ◌≡◌ {A = ℕ} 1 0 → ⊥
-        one_no e = cc
+    ran_course : AreGood w.wire.fates → IsCourse plan before after old new status
+    ran_course good =
+        let e = (session_ends plan sound fitted before begun w.wire.fates sizes idle good).ends count status goes.result in
+        let says = whole_said (session plan) 1 begun w.wire.fates v ran.events status next left asks fresh.lawful keeps plays in
+        record {
+          said = ran.kept ∙ ap (λ said. option_map (after_all said) old) (says ∙ e.sayings);
+          status = e.result;
+          memories = ap (λ (q : Programmer). memories_of q.chip) goes.programmer ∙ e.after;
+        }
+
+  -- one that broke off stands on the line all the same
+  module _ (old new : Option Record) (StopsBy : Cause → Type 0) (broke : BrokeOff (session plan) 1 [] (Some w.talk) (Some v.talk) old new StopsBy) where
+    breaks : Breaks SaidPart (session plan) 1 [] v.talk broke.shown
+    breaks = subst (λ talk. Breaks SaidPart (session plan) 1 [] talk broke.shown) (all_passed w.talk v.talk broke.during fresh.silent broke.grows) broke.breaks
+
+    broke_touches : IsTouched plan before after
+    broke_touches =
+        subst (λ (q : Programmer). IsTouched plan before (memories_of q.chip))
+        (sym (broken_along (session plan) 1 begun w.wire.fates v asks fresh.lawful keeps breaks.in_turn SaidPart broke.shown breaks)) (leads.during count)
+
+  one_no : ◌≡◌ {A = ℕ} 1 0 → ⊥
+  one_no e = cc
+
+  touches : (old new : Option Record) (StopsBy : Cause → Type 0) (status : ℕ) → RunsTo (session plan) (Some w.talk) (Some v.talk) old new StopsBy status → IsTouched plan before after
+  touches old new StopsBy status (inl ran) = ran_touches old new status ran.0 ran.1.0 ran.1.1
+  touches old new StopsBy status (inr broke) = broke_touches old new StopsBy broke.0
+
+  is_done : (old new : Option Record) (StopsBy : Cause → Type 0) (status : ℕ) → RunsTo (session plan) (Some w.talk) (Some v.talk) old new StopsBy status → status ≡ 0 → IsDone plan before after
+  is_done old new StopsBy status (inl ran) zero = ran_done old new status ran.0 ran.1.0 ran.1.1 zero
+  is_done old new StopsBy status (inr broke) zero = absurd (one_no (sym broke.1 ∙ zero))
+
+  -- whatever the line did
+  pub wired_leaves : (old new : Option Record) (StopsBy : Cause → Type 0) (status : ℕ) → RunsTo (session plan) (Some w.talk) (Some v.talk) old new StopsBy status → Leaves plan before after status
+  wired_leaves old new StopsBy status runs = record {
+    touched = touches old new StopsBy status runs;
+    done = is_done old new StopsBy status runs;
+    written = λ wet verified zero. run_written plan before after fitted wet verified (is_done old new StopsBy status runs zero) sizes;
+  }
+
+  -- over a good line
+  pub wired_goes_well : (old new : Option Record) (StopsBy : Cause → Type 0) (status : ℕ) → RunsTo (session plan) (Some w.talk) (Some v.talk) old new StopsBy status → AreGood w.wire.fates
+      → GoesWell plan before after old new (Some v.talk) StopsBy status
+  wired_goes_well old new StopsBy status (inl ran) good = inl (ran_course old new status ran.0 ran.1.0 ran.1.1 good)
+  wired_goes_well old new StopsBy status (inr broke) good = inr (subst (λ talk. BrokeOff (session plan) 1 [] (Some talk) (Some v.talk) old new StopsBy) fresh.silent broke.0)

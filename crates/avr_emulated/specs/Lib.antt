@@ -3,3 +3,4 @@ pub mod Agrees
 pub mod Course
 pub mod Written
 pub mod Outcome
+pub mod Emulated
