@@ -34,62 +34,76 @@ use Rattle.avr_emulated.proofs.GoodLineCalls.{Stands, ends_opening, ends_erasing
 abbrev Follows : Part → Dialog Saying Standing → Course → Programmer → List Fate → Type 0
 Follows part d c p fates = Ends d c.standing c.says (Stands part c.memories) p fates
 
+-- over any good line, from a programmer that stands in programming mode with these memories
+abbrev Goes : Part → Dialog Saying Standing → Memories → Course → Type 0
+Goes part d m c = (p : Programmer) (fates : List Fate) → AreGood fates → Stands part m p → Follows part d c p fates
+
 -- an operation, and what is said of its outcome
-ends_reported : {A : Type 0} (operation : Dialog ⊥ (Result A HostFault)) (tells : Result A HostFault → List Saying) (outcome : Result A HostFault) (After : Programmer → Type 0) (p : Programmer) (fates : List Fate) → AreGood fates
-    → Ends operation outcome [] After p fates → Ends (reported operation tells) (standing outcome) (tells outcome) After p fates
+ends_reported : {A : Type 0} (operation : Dialog ⊥ (Result A HostFault)) (tells : Result A HostFault → List Saying) (outcome : Result A HostFault)
+    (After : Programmer → Type 0) (p : Programmer) (fates : List Fate) → AreGood fates → Ends operation outcome [] After p fates
+    → Ends (reported operation tells) (standing outcome) (tells outcome) After p fates
 ends_reported operation tells outcome After p fates good l =
-    ends_bind (λ o. says (tells o) (Done (standing o))) outcome (standing outcome) [] (tells outcome) After After (lifted operation) p fates good (ends_lifted operation outcome After p fates l)
+    ends_bind (λ o. says (tells o) (Done (standing o))) outcome (standing outcome) [] (tells outcome) After After (lifted operation) p fates good
+    (ends_lifted operation outcome After p fates l)
     (λ q fs g a. ends_says (tells outcome) (standing outcome) After q fs a)
 
 module _ (part : Part) (sound : IsPart part) (s : Switches) where
   -- after a fault nothing more is done or said
-  left_out : (c : Course) (d next : Dialog Saying Standing) (p : Programmer) (fates : List Fate) → AreGood fates → unless_fault next c.standing ≡ Done c.standing → Follows part d c p fates → Follows part (d >>= unless_fault next) c p fates
+  left_out : (c : Course) (d next : Dialog Saying Standing) (p : Programmer) (fates : List Fate) → AreGood fates → unless_fault next c.standing ≡ Done c.standing → Follows part d c p fates
+      → Follows part (d >>= unless_fault next) c p fates
   left_out c d next p fates good is first =
-      subst (λ said. Ends (d >>= unless_fault next) c.standing said (Stands part c.memories) p fates) (append-nil c.says)
-      (ends_bind (unless_fault next) c.standing c.standing c.says [] (Stands part c.memories) (Stands part c.memories) d p fates good first
-      (λ q fs g t. subst (λ (e : Dialog Saying Standing). Ends e c.standing [] (Stands part c.memories) q fs) (sym is) (ends_done c.standing (Stands part c.memories) q fs t)))
+      let After = Stands part c.memories in
+      subst (λ said. Ends (d >>= unless_fault next) c.standing said After p fates) (append-nil c.says)
+      (ends_bind (unless_fault next) c.standing c.standing c.says [] After After d p fates good first
+      (λ q fs g t. subst (λ (e : Dialog Saying Standing). Ends e c.standing [] After q fs) (sym is) (ends_done c.standing After q fs t)))
 
-  -- a part, and the next one unless a fault came
-  follows_from : (c : Course) (at : Standing) (more : Memories → Course) (d next : Dialog Saying Standing) (p : Programmer) (fates : List Fate) → AreGood fates → c.standing ≡ at → Follows part d c p fates
-      → ((q : Programmer) (fs : List Fate) → AreGood fs → Stands part c.memories q → Follows part next (more c.memories) q fs) → Follows part (d >>= unless_fault next) (then_from c at more) p fates
+  follows_from : (c : Course) (at : Standing) (more : Memories → Course) (d next : Dialog Saying Standing) (p : Programmer) (fates : List Fate) → AreGood fates → c.standing ≡ at
+      → Follows part d c p fates → Goes part next c.memories (more c.memories) → Follows part (d >>= unless_fault next) (then_from c at more) p fates
   follows_from c Fine more d next p fates good is first rest =
-      ends_bind (unless_fault next) Fine (more c.memories).standing c.says (more c.memories).says (Stands part c.memories) (Stands part (more c.memories).memories) d p fates good
+      let later = more c.memories in
+      ends_bind (unless_fault next) Fine later.standing c.says later.says (Stands part c.memories) (Stands part later.memories) d p fates good
       (subst (λ (at : Standing). Ends d at c.says (Stands part c.memories) p fates) is first) rest
   follows_from c Faulty more d next p fates good is first rest = left_out c d next p fates good (ap (unless_fault next) is ∙ ap (λ at. Done at) (sym is)) first
   follows_from c Over more d next p fates good is first rest = left_out c d next p fates good (ap (unless_fault next) is ∙ ap (λ at. Done at) (sym is)) first
 
-  follows_then : (c : Course) (more : Memories → Course) (d next : Dialog Saying Standing) (p : Programmer) (fates : List Fate) → AreGood fates → Follows part d c p fates
-      → ((q : Programmer) (fs : List Fate) → AreGood fs → Stands part c.memories q → Follows part next (more c.memories) q fs) → Follows part (d >>= unless_fault next) (then_from c c.standing more) p fates
+  -- a part, and the next one unless a fault came
+  follows_then : (c : Course) (more : Memories → Course) (d next : Dialog Saying Standing) (p : Programmer) (fates : List Fate) → AreGood fates
+      → Follows part d c p fates → Goes part next c.memories (more c.memories) → Follows part (d >>= unless_fault next) (then_from c c.standing more) p fates
   follows_then c more d next p fates good first rest = follows_from c c.standing more d next p fates good refl first rest
 
-  opening_follows : (m : Memories) (p : Programmer) (fates : List Fate) → FitsPart part m → Idle part m p → AreGood fates → Follows part (session.opening_part part s) (course.opening part s m) p fates
+  opening_follows : (m : Memories) (p : Programmer) (fates : List Fate) → FitsPart part m → Idle part m p → AreGood fates
+      → Follows part (session.opening_part part s) (course.opening part s m) p fates
   opening_follows m p fates sizes idle good =
-      ends_reported (host.opening part.signature s.force) (opening_says s.quiet part) (Ok part.signature) (Stands part m) p fates good (ends_opening part sound s.force m p fates sizes idle good)
+      ends_reported (host.opening part.signature s.force) (opening_says s.quiet part) (Ok part.signature) (Stands part m) p fates good
+      (ends_opening part sound s.force m p fates sizes idle good)
 
-  erasing_follows : (tasks : List Task) (m : Memories) (p : Programmer) (fates : List Fate) → Stands part m p → AreGood fates → Follows part (session.erasing_part part s tasks) (course.erasing part s tasks m) p fates
-  erasing_follows tasks m p fates t good = by_switches s.dry (is_erase_due s tasks)
+  erasing_goes : (tasks : List Task) (m : Memories) → Goes part (session.erasing_part part s tasks) m (course.erasing part s tasks m)
+  erasing_goes tasks m p fates good t = by_switches s.dry (is_erase_due s tasks)
     where
-      by_switches : (dry due : Bool)
-          → Follows part (if dry then says (left_out_erase s) (Done Fine) else if due then session.chip_erasing_part part s else Done Fine)
-          (if dry then course.fine (left_out_erase s) m else if due then course.reported (erased_says s.quiet part) (Ok tt) (effect part item.Erase m) else course.fine [] m) p fates
+      erased : Course
+      erased = course.reported (erased_says s.quiet part) (Ok tt) (effect part item.Erase m)
+
+      by_switches : (dry due : Bool) → Follows part (if dry then says (left_out_erase s) (Done Fine) else if due then session.chip_erasing_part part s else Done Fine)
+          (if dry then course.fine (left_out_erase s) m else if due then erased else course.fine [] m) p fates
       by_switches true due = ends_says (left_out_erase s) Fine (Stands part m) p fates t
-      by_switches false true = ends_reported host.erasing (erased_says s.quiet part) (Ok tt) (Stands part (effect part item.Erase m)) p fates good (ends_erasing part sound m p fates t good)
+      by_switches false true = ends_reported host.erasing (erased_says s.quiet part) (Ok tt) (Stands part erased.memories) p fates good (ends_erasing part sound m p fates t good)
       by_switches false false = ends_done Fine (Stands part m) p fates t
 
-  verifying_follows : (mem : Mem) (image : Image) (m : Memories) (p : Programmer) (fates : List Fate) → Stands part m p → AreGood fates → Follows part (session.verifying_part part s mem image) (course.verifying part s mem image m) p fates
-  verifying_follows mem image m p fates t good =
-      ends_reported (host.verifying part mem image) (verified_says s.quiet part mem image) (compared mem image (memory_in part mem m)) (Stands part m) p fates good (ends_verifying part sound mem image m p fates t good)
+  verifying_goes : (mem : Mem) (image : Image) (m : Memories) → Goes part (session.verifying_part part s mem image) m (course.verifying part s mem image m)
+  verifying_goes mem image m p fates good t =
+      ends_reported (host.verifying part mem image) (verified_says s.quiet part mem image) (compared mem image (memory_in part mem m)) (Stands part m) p fates good
+      (ends_verifying part sound mem image m p fates t good)
 
-  reading_back_follows : (mem : Mem) (image : Image) (m : Memories) (p : Programmer) (fates : List Fate) → Stands part m p → AreGood fates → Follows part (session.read_back_part part s mem image) (course.reading_back part s mem image m) p fates
-  reading_back_follows mem image m p fates t good = by_switch s.no_verify
+  reading_back_goes : (mem : Mem) (image : Image) (m : Memories) → Goes part (session.read_back_part part s mem image) m (course.reading_back part s mem image m)
+  reading_back_goes mem image m p fates good t = by_switch s.no_verify
     where
-      by_switch : (left : Bool) → Follows part (if left then Done Fine else session.verifying_part part s mem image) (if left then course.fine [] m else course.verifying part s mem image m) p fates
+      by_switch : (left : Bool) → Follows part (if left then Done Fine else session.verifying_part part s mem image)
+          (if left then course.fine [] m else course.verifying part s mem image m) p fates
       by_switch true = ends_done Fine (Stands part m) p fates t
-      by_switch false = verifying_follows mem image m p fates t good
+      by_switch false = verifying_goes mem image m p fates good t
 
-  writing_follows : (mem : Mem) (image : Image) (m : Memories) (p : Programmer) (fates : List Fate) → IsFitted part (Write mem image) → Stands part m p → AreGood fates
-      → Follows part (session.write_part part s mem image) (course.writing part s mem image m) p fates
-  writing_follows mem image m p fates fitted t good = by_switch s.dry
+  writing_goes : (mem : Mem) (image : Image) (m : Memories) → IsFitted part (Write mem image) → Goes part (session.write_part part s mem image) m (course.writing part s mem image m)
+  writing_goes mem image m fitted p fates good t = by_switch s.dry
     where
       written : Course
       written = course.reported (written_says s.quiet part mem image) (Ok tt) (effect part (item.Write mem image) m)
@@ -102,20 +116,22 @@ module _ (part : Part) (sound : IsPart part) (s : Switches) where
           follows_then written (course.reading_back part s mem image) (session.writing_part part s mem image) (session.read_back_part part s mem image) p fates good
           (ends_reported (host.writing part mem image) (written_says s.quiet part mem image) (Ok tt) (Stands part written.memories) p fates good
           (ends_writing part sound mem image m p fates (let size = fitted.0 in omega (arith, size)) fitted.1 t good))
-          (λ q fs g u. reading_back_follows mem image written.memories q fs u g)
+          (reading_back_goes mem image written.memories)
 
-  task_follows : (task : Task) (m : Memories) (p : Programmer) (fates : List Fate) → IsFitted part task → Stands part m p → AreGood fates → Follows part (session.task_part part s task) (course.task_course part s task m) p fates
-  task_follows (Write mem image) m p fates fitted t good = writing_follows mem image m p fates fitted t good
-  task_follows (Verify mem image) m p fates fitted t good = verifying_follows mem image m p fates t good
-  task_follows (Read mem format file) m p fates fitted t good =
-      ends_reported (host.reading part mem) (fault_or part (read_says s mem format file)) (Ok (memory_in part mem m)) (Stands part m) p fates good (ends_reading part sound mem m p fates t good)
+  task_goes : (task : Task) (m : Memories) → IsFitted part task → Goes part (session.task_part part s task) m (course.task_course part s task m)
+  task_goes (Write mem image) m fitted p fates good t = writing_goes mem image m fitted p fates good t
+  task_goes (Verify mem image) m fitted p fates good t = verifying_goes mem image m p fates good t
+  task_goes (Read mem format file) m fitted p fates good t =
+      ends_reported (host.reading part mem) (fault_or part (read_says s mem format file)) (Ok (memory_in part mem m)) (Stands part m) p fates good
+      (ends_reading part sound mem m p fates t good)
 
-  tasks_follow : (tasks : List Task) (m : Memories) (p : Programmer) (fates : List Fate) → All (IsFitted part) tasks → Stands part m p → AreGood fates → Follows part (session.tasks_part part s tasks) (course.tasks_course part s tasks m) p fates
-  tasks_follow [] m p fates fitted t good = ends_done Fine (Stands part m) p fates t
-  tasks_follow (task ∷ tasks) m p fates fitted t good =
-      follows_then (course.task_course part s task m) (course.tasks_course part s tasks) (session.task_part part s task) (session.tasks_part part s tasks) p fates good
-      (task_follows task m p fates (All-head (IsFitted part) task tasks fitted) t good)
-      (λ q fs g u. tasks_follow tasks (course.task_course part s task m).memories q fs (All-tail (IsFitted part) task tasks fitted) u g)
+  tasks_go : (tasks : List Task) (m : Memories) → All (IsFitted part) tasks → Goes part (session.tasks_part part s tasks) m (course.tasks_course part s tasks m)
+  tasks_go [] m fitted p fates good t = ends_done Fine (Stands part m) p fates t
+  tasks_go (task ∷ tasks) m fitted p fates good t =
+      let first = course.task_course part s task m in
+      follows_then first (course.tasks_course part s tasks) (session.task_part part s task) (session.tasks_part part s tasks) p fates good
+      (task_goes task m (All-head (IsFitted part) task tasks fitted) p fates good t)
+      (tasks_go tasks first.memories (All-tail (IsFitted part) task tasks fitted))
 
 -- how a session stands at its end
 abbrev at_end : Standing → Standing
@@ -128,7 +144,8 @@ status_is Faulty = refl
 status_is Over = refl
 
 module _ (plan : Plan) (sound : IsPart plan.part) (fitted : All (IsFitted plan.part) plan.tasks) where
-  working_follows : (m : Memories) (p : Programmer) (fates : List Fate) → FitsPart plan.part m → Idle plan.part m p → AreGood fates → Follows plan.part (session.working plan) (course.working plan m) p fates
+  working_follows : (m : Memories) (p : Programmer) (fates : List Fate) → FitsPart plan.part m → Idle plan.part m p → AreGood fates
+      → Follows plan.part (session.working plan) (course.working plan m) p fates
   working_follows m p fates sizes idle good =
       let part = plan.part in
       let s = plan.switches in
@@ -137,8 +154,8 @@ module _ (plan : Plan) (sound : IsPart plan.part) (fitted : All (IsFitted plan.p
       follows_then part sound s begun (course.tasks_course part s plan.tasks) (session.beginning plan) (session.tasks_part part s plan.tasks) p fates good
       (follows_then part sound s opened (course.erasing part s plan.tasks) (session.opening_part part s) (session.erasing_part part s plan.tasks) p fates good
       (opening_follows part sound s m p fates sizes idle good)
-      (λ q fs g t. erasing_follows part sound s plan.tasks m q fs t g))
-      (λ q fs g t. tasks_follow part sound s plan.tasks begun.memories q fs fitted t g)
+      (erasing_goes part sound s plan.tasks m))
+      (tasks_go part sound s plan.tasks begun.memories fitted)
 
   -- programming mode is left, unless the line has ended; of a fault after a fault nothing is said
   ending_ends : (at : Standing) (m : Memories) (p : Programmer) (fates : List Fate) → Idle plan.part m p → AreGood fates
@@ -160,7 +177,8 @@ module _ (plan : Plan) (sound : IsPart plan.part) (fitted : All (IsFitted plan.p
       let rest = Idle plan.part c.memories in
       let said = c.says ++ ending_says plan c.standing in
       let played : Ends (session.playing plan) (at_end c.standing) said rest p fates =
-      ends_bind (session.ending plan.part plan.switches) c.standing (at_end c.standing) c.says (ending_says plan c.standing) (Stands plan.part c.memories) rest (session.working plan) p fates good
+      ends_bind (session.ending plan.part plan.switches) c.standing (at_end c.standing) c.says (ending_says plan c.standing) (Stands plan.part c.memories) rest
+      (session.working plan) p fates good
       (working_follows m p fates sizes idle good)
       (λ q fs g t. ending_ends c.standing c.memories q fs (settled_idle plan.part c.memories q t.settled) g) in
       let told : Ends (session.session plan) (status_of (at_end c.standing)) (said ++ []) rest p fates =

@@ -48,8 +48,8 @@ nothing_said [] = refl
 nothing_said (saying ∷ sayings) = absurd saying
 
 -- a step whose commands have these data
-ends_step : (commands : List Command) (got : List ℕ) (Before After : Programmer → Type 0) (p : Programmer) (fates : List Fate) → Fits device commands Before After → Before p → gathered device commands [] p ≡ Data got → AreGood fates
-    → Ends (step commands) (Ok got) [] After p fates
+ends_step : (commands : List Command) (got : List ℕ) (Before After : Programmer → Type 0) (p : Programmer) (fates : List Fate)
+    → Fits device commands Before After → Before p → gathered device commands [] p ≡ Data got → AreGood fates → Ends (step commands) (Ok got) [] After p fates
 ends_step commands got Before After p fates fits before has good = record {
   ends = λ k o e.
       let is : o ≡ Ok got = step_good device k commands p fates got o good has e in record {
@@ -91,8 +91,9 @@ module _ (part : Part) (sound : IsPart part) where
   }
 
   -- an operation that leaves these memories
-  ends_operation : {A : Type 0} (steps : List (List Command)) (judge : List ℕ → Result A HostFault) (m after : Memories) (p : Programmer) (fates : List Fate) → AreSteps part steps → Stands part m p → AreGood fates
-      → struck_by part (length steps) steps m ≡ after → FitsPart part after → Ends (operation steps judge) (judge (all_given part steps m)) [] (Stands part after) p fates
+  ends_operation : {A : Type 0} (steps : List (List Command)) (judge : List ℕ → Result A HostFault) (m after : Memories) (p : Programmer) (fates : List Fate)
+      → AreSteps part steps → Stands part m p → AreGood fates → struck_by part (length steps) steps m ≡ after → FitsPart part after
+      → Ends (operation steps judge) (judge (all_given part steps m)) [] (Stands part after) p fates
   unfolding operation
   ends_operation steps judge m after p fates are s good leaves sizes =
       ends_wider (operation steps judge) (judge (all_given part steps m)) [] (Settled part (struck_by part (length steps) steps m)) (Stands part after) p fates
@@ -139,8 +140,8 @@ module _ (part : Part) (sound : IsPart part) where
   ends_erasing m p fates s good =
       ends_operation ((erase ∷ []) ∷ []) done m (effect part Erase m) p fates (item_are_steps part sound Erase tt) s good refl (effect_sizes part sound Erase m s.sizes)
 
-  pub ends_writing : (mem : Mem) (image : Image) (m : Memories) (p : Programmer) (fates : List Fate) → length image ≤ size_of mem part → is_writable mem ≡ true → Stands part m p → AreGood fates
-      → Ends (host.writing part mem image) (Ok tt) [] (Stands part (effect part (Write mem image) m)) p fates
+  pub ends_writing : (mem : Mem) (image : Image) (m : Memories) (p : Programmer) (fates : List Fate) → length image ≤ size_of mem part → is_writable mem ≡ true
+      → Stands part m p → AreGood fates → Ends (host.writing part mem image) (Ok tt) [] (Stands part (effect part (Write mem image) m)) p fates
   ends_writing mem image m p fates fits can s good =
       subst (λ d. Ends d (Ok tt) [] (Stands part (effect part (Write mem image) m)) p fates) (sym (chosen (is_writable mem) _ _ can))
       (ends_operation (write_steps part mem image) done m (effect part (Write mem image) m) p fates (item_are_steps part sound (Write mem image) fits) s good
@@ -154,7 +155,8 @@ module _ (part : Part) (sound : IsPart part) where
       (subst (λ bytes. Ends (play signature_steps []) (Ok bytes) [] (Settled part m) p fates) (read_gives part sound m s.sizes Signature)
       (ends_play signature_steps m p fates (read_are_steps part sound Signature) s good))
 
-  ends_beginning : (m : Memories) (p : Programmer) (fates : List Fate) → FitsPart part m → Idle part m p → AreGood fates → Ends host.beginning (Ok part.signature) [] (Stands part m) p fates
+  ends_beginning : (m : Memories) (p : Programmer) (fates : List Fate) → FitsPart part m → Idle part m p → AreGood fates
+      → Ends host.beginning (Ok part.signature) [] (Stands part m) p fates
   unfolding host.beginning
   ends_beginning m p fates sizes idle good =
       let read : List ℕ → Dialog ⊥ Outcome = λ nothing. play signature_steps [] in

@@ -34,12 +34,14 @@ say_no s d r e = cc
 pub ends_done : {E R : Type 0} (r : R) (After : Programmer → Type 0) (p : Programmer) (fates : List Fate) → After p → Ends {E = E} (Done r) r [] After p fates
 ends_done r After p fates a = record { ends = λ k got e. record { result = sym (done_is r got e); sayings = refl; after = a } }
 
-ends_say : {E R : Type 0} (s : E) (d : Dialog E R) (r : R) (said : List E) (After : Programmer → Type 0) (p : Programmer) (fates : List Fate) → Ends d r said After p fates → Ends (Say s d) r (s ∷ said) After p fates
+ends_say : {E R : Type 0} (s : E) (d : Dialog E R) (r : R) (said : List E) (After : Programmer → Type 0) (p : Programmer) (fates : List Fate)
+    → Ends d r said After p fates → Ends (Say s d) r (s ∷ said) After p fates
 ends_say s d r said After p fates l = record {
   ends = λ k got e. let c = l.ends k got e in record { result = c.result; sayings = ap (λ x. s ∷ x) c.sayings; after = c.after };
 }
 
-pub ends_says : {R : Type 0} (sayings : List Saying) (r : R) (After : Programmer → Type 0) (p : Programmer) (fates : List Fate) → After p → Ends (says sayings (Done r)) r sayings After p fates
+pub ends_says : {R : Type 0} (sayings : List Saying) (r : R) (After : Programmer → Type 0) (p : Programmer) (fates : List Fate) → After p
+    → Ends (says sayings (Done r)) r sayings After p fates
 ends_says [] r After p fates a = ends_done r After p fates a
 ends_says (saying ∷ sayings) r After p fates a = ends_say saying (says sayings (Done r)) r sayings After p fates (ends_says sayings r After p fates a)
 
@@ -56,7 +58,8 @@ lifted_done (Say s d) r e = absurd s
 lifted_done (Ask bytes go_on) r e = absurd (asks≢done bytes (λ reading. lifted (go_on reading)) r e)
 
 -- as a part of a dialog that says something
-pub ends_lifted : {E R : Type 0} (d : Dialog ⊥ R) (r : R) (After : Programmer → Type 0) (p : Programmer) (fates : List Fate) → Ends d r [] After p fates → Ends {E = E} (lifted d) r [] After p fates
+pub ends_lifted : {E R : Type 0} (d : Dialog ⊥ R) (r : R) (After : Programmer → Type 0) (p : Programmer) (fates : List Fate) → Ends d r [] After p fates
+    → Ends {E = E} (lifted d) r [] After p fates
 ends_lifted {E = E} {R = R} d r After p fates l = record {
   ends = λ k got e.
       let same = along_lifted {E = E} device k d p fates in
@@ -68,7 +71,8 @@ ends_lifted {E = E} {R = R} d r After p fates l = record {
 }
 
 module _ {E A B : Type 0} (next : A → Dialog E B) (a : A) (b : B) (x y : List E) (Between After : Programmer → Type 0) where
-  ends_on : (said : List E) (left : ℕ) (fates : List Fate) (q : Programmer) (d : Dialog E A) → ((c : A) → d ≡ Done c → Came c a said x (Between q)) → (Between q → Ends (next a) b y After q fates)
+  ends_on : (said : List E) (left : ℕ) (fates : List Fate) (q : Programmer) (d : Dialog E A)
+      → ((c : A) → d ≡ Done c → Came c a said x (Between q)) → (Between q → Ends (next a) b y After q fates)
       → (got : B) → (onward device next left fates q d).dialog ≡ Done got
       → Came got b (said ++ said_on device next left fates q d) (x ++ y) (After (onward device next left fates q d).programmer)
   ends_on said left fates q (Done c) first more got e =
