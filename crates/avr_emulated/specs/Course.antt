@@ -1,5 +1,5 @@
 -- The course of a run over a good line: no frames, no answers, only what is said and what becomes of the memories.
-use Rattle.std.specs.Prelude.{ℕ, Bool, List, [], ◌∷◌, ◌++◌, Result, Ok, Err, ⊤, if◌then◌else◌}
+use Rattle.std.specs.Prelude.{ℕ, List, [], ◌∷◌, ◌++◌, Result, Ok, if◌then◌else◌}
 use Rattle.avr_cli.specs.declared.chosen.Switches.{Switches}
 use Rattle.avr_message.specs.Said.{Saying}
 use Rattle.avr_part.specs.Part.{Part}
@@ -11,7 +11,7 @@ use Rattle.stk_host.specs.declared.fault.HostFault.{HostFault}
 use Rattle.stk_host.specs.Operations.{compared}
 use Rattle.stk_emu.specs.Effect.{Image, Memories, Erase, Write, effect, memory_in}
 use Rattle.avr_tool.specs.declared.standing.Standing.{Standing}
-use Rattle.avr_tool.specs.declared.standing.Standing.TheVariants.{Fine, Faulty, Over}
+use Rattle.avr_tool.specs.declared.standing.Standing.TheVariants.{Fine}
 use Rattle.avr_tool.specs.Session.{standing, fault_or, opening_says, is_erase_due, left_out_erase, left_out_write, erased_says, written_says, verified_says, closed_says, read_says}
 
 -- what is said, how the session stands after it, and the memories then
@@ -35,7 +35,7 @@ then_from first Fine next = record {
   standing = (next first.memories).standing;
   memories = (next first.memories).memories;
 }
-then_from first fault next = first
+then_from first _ next = first
 
 infixl 10 ◌then◌
 abbrev pub ◌then◌ : Course → (Memories → Course) → Course
@@ -83,11 +83,11 @@ working plan m =
 -- what is said at its end: a second fault is not told, and there is none
 abbrev pub ending_says : Plan → Standing → List Saying
 ending_says plan Fine = closed_says plan.switches.quiet plan.part (Ok tt)
-ending_says plan fault = []
+ending_says plan _ = []
 
 abbrev pub status_after : Standing → ℕ
 status_after Fine = 0
-status_after fault = 1
+status_after _ = 1
 
 -- all that is said, the status, and the memories at the end
 pub record Run : Type 0 where

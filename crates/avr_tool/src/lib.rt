@@ -29,6 +29,7 @@ mod runner;
 pub use refusal::{refuse, refuse_port};
 pub use runner::run;
 pub use session::drive;
+pub use standing::Standing;
 
 #[cfg(test)]
 mod tests;

@@ -7,7 +7,7 @@ use stk_host::HostFault;
 
 /// How a session stands.
 #[derive(Clone, Copy, Debug, PartialEq, Eq)]
-pub(crate) enum Standing {
+pub enum Standing {
     /// No fault has come.
     Fine,
     /// A fault was told; the line still serves.
