@@ -29,6 +29,7 @@ mod refusal;
 
 pub use bad_file::BadFile;
 pub use image_file::{ReadFault, read_image};
+pub use part_choice::{chosen_part, given_parts};
 pub use planned::Plan;
 pub use planning::plan;
 pub use task::Task;

@@ -31,7 +31,10 @@ fn file_parts<D: Desk>(alloc: Global, desk: &mut D, file: &str) -> Result<Parts,
 }
 
 /// The parts of the part file, if one is given.
-pub(crate) fn given_parts<D: Desk>(
+///
+/// Where the file can't be read or is no part file, the line that tells why was printed, as far as the desk prints it, and
+/// the answer is the status 1.
+pub fn given_parts<D: Desk>(
     alloc: Global,
     desk: &mut D,
     file: &Option<Text>,
@@ -45,8 +48,9 @@ pub(crate) fn given_parts<D: Desk>(
     }
 }
 
-/// The part of this id.
-pub(crate) fn chosen_part<D: Desk>(desk: &mut D, parts: &Parts, id: &str) -> Result<Part, u8>
+/// The part of this id, in the part file before the built-in parts. Where there is none the line that tells so was printed,
+/// as far as the desk prints it, and the answer is the status 1.
+pub fn chosen_part<D: Desk>(desk: &mut D, parts: &Parts, id: &str) -> Result<Part, u8>
     ensures goes { Goes (part_stage id.now parts.now) (D.kept desk.old) (D.kept desk.new) (D.failures desk.old) (D.failures desk.new) result }
     ensures rises { D.failures desk.old ≤ D.failures desk.new }
 {
