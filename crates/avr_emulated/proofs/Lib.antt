@@ -1,0 +1,5 @@
+pub mod AnyLineStanding
+pub mod AnyLineAsks
+pub mod AnyLineSteps
+pub mod AnyLineParts
+pub mod AnyLine
