@@ -1,3 +1,8 @@
+pub mod AnyLineStanding
+pub mod AnyLineAsks
+pub mod AnyLineSteps
+pub mod AnyLineParts
+pub mod AnyLine
 pub mod GoodLineEnds
 pub mod GoodLineCalls
 pub mod GoodLine

@@ -1,0 +1,136 @@
+-- A session from its opening to its end, over any line.
+use Rattle.std.proofs.Common.{◌≡◌, ℕ, List, [], ◌∷◌, refl, sym, ap, ◌∙◌, subst, arith, inl, inr, Ok, Err, Result}
+use Rattle.std.specs.Prelude.{All, ⊤}
+use Rattle.avr_cli.specs.declared.chosen.Switches.{Switches}
+use Rattle.avr_message.specs.Said.{Saying}
+use Rattle.avr_part.specs.Part.{Part, IsPart}
+use Rattle.avr_plan.specs.Plan.{Plan, IsFitted}
+use Rattle.avr_plan.specs.declared.task.Task.{Task}
+use Rattle.stk_host.specs.declared.fault.HostFault.{HostFault}
+use Rattle.stk_host.specs.Dialog.{Done}
+use Rattle.stk_host.specs.Operations.{closing}
+use Rattle.stk_emu.specs.declared.fate.Fate.{Fate}
+use Rattle.stk_emu.specs.Programmer.{Programmer}
+use Rattle.stk_emu.specs.Device.{device}
+use Rattle.stk_emu.specs.Effect.{Memories, Item, effects, memories_of}
+use Rattle.stk_emu.specs.Settled.{Idle, FitsPart}
+use Rattle.stk_emu.specs.Strokes.{struck_by, all_steps, AllFitItems}
+use Rattle.stk_emu.specs.Leads.{Leads}
+use Rattle.stk_emu.proofs.Obeying.{settled_idle}
+use Rattle.stk_emu.proofs.Counting.{items_counted}
+use Rattle.stk_emu.proofs.LeadsOn.{leads_done, leads_wider, leads_bind, leads_closing}
+use Rattle.avr_tool.specs.Session.{standing, reported, closed_says, opening_part, erasing_part, tasks_part, beginning, working, ending, playing, status_of, session}
+use Rattle.avr_emulated.specs.Items.{erasing_items, task_items, tasks_items, items}
+use Rattle.avr_emulated.specs.Agrees.{Agrees}
+use Rattle.avr_emulated.specs.Outcome.{IsTouched, IsDone}
+use Rattle.avr_emulated.proofs.AnyLineStanding.{Standing, fine, faulty, over, HasStopped, fault_stops}
+use Rattle.avr_emulated.proofs.AnyLineAsks.{first_of, rest_of}
+use Rattle.avr_emulated.proofs.AnyLineSteps.{Rests, rests_all, effects_sizes, fits_on}
+use Rattle.avr_emulated.proofs.AnyLineParts.{leads_reported, Comes, Came, Stopped, Goes, goes_then, goes_opening, goes_erasing, erasing_fits, task_fits, goes_tasks}
+
+-- after the end: as before it, in any mode
+data Ends (part : Part) (m : Memories) (all : List Item) (Check : Type 0) (s : Standing) (q : Programmer) : Type 0 where
+  Ended : s ≡ fine → Idle part (effects part all m) q → Check → Ends part m all Check s q
+  Broke : HasStopped s → Rests part (all_steps part all) m q → Ends part m all Check s q
+
+-- after a status
+abbrev Leaves : Part → Memories → List Item → Type 0 → ℕ → Programmer → Type 0
+Leaves part m all Check status q = status ≡ 0 → Idle part (effects part all m) q × Check
+
+module _ (part : Part) (sound : IsPart part) (m : Memories) (f : FitsPart part m) (all : List Item) (fits : AllFitItems part all) (Check : Type 0) where
+  closed : Check → (r : Result ⊤ HostFault) (q : Programmer) → Idle part (effects part all m) q → Ends part m all Check (standing r) q
+  closed check (Ok a) q idle = Ended refl idle check
+  closed check (Err fault) q idle = Broke (fault_stops ⊤ fault) (rests_all part sound all m q fits f idle)
+
+  -- to leave programming mode keeps the memories
+  leads_left : (before : Memories) (outcome_says : Result ⊤ HostFault → List Saying) (p : Programmer) (fates : List Fate) (During : Programmer → Type 0) (Then : Standing → Programmer → Type 0)
+      → ((q : Programmer) → Idle part before q → During q) → ((r : Result ⊤ HostFault) (q : Programmer) → Idle part before q → Then (standing r) q) → Idle part before p
+      → Leads device (reported closing outcome_says) p fates During Then
+  leads_left before outcome_says p fates During Then during after idle =
+      leads_reported closing outcome_says p fates During (λ result q. Idle part before q) Then (λ r q i. during q i) (λ r q i. after r q i)
+      (leads_wider device closing p fates (Idle part before) During (λ result q. Idle part before q) (λ result q. Idle part before q) (λ q i. during q i) (λ r q i. i) (leads_closing part before p fates idle))
+
+  at : (plan : Plan) (s t : Standing) (p : Programmer) (fates : List Fate) → s ≡ t → Leads device (ending part plan.switches t) p fates (Rests part (all_steps part all) m) (Ends part m all Check)
+      → Leads device (ending part plan.switches s) p fates (Rests part (all_steps part all) m) (Ends part m all Check)
+  at plan s t p fates e l = subst (λ x. Leads device (ending part plan.switches x) p fates (Rests part (all_steps part all) m) (Ends part m all Check)) (sym e) l
+
+  leads_ending : (plan : Plan) (s : Standing) (p : Programmer) (fates : List Fate) → Comes part m all Check s p
+      → Leads device (ending part plan.switches s) p fates (Rests part (all_steps part all) m) (Ends part m all Check)
+  leads_ending plan s p fates (Came e settled check) =
+      let after = effects part all m in
+      at plan s fine p fates e
+      (leads_left after (closed_says plan.switches.quiet part) p fates (Rests part (all_steps part all) m) (Ends part m all Check)
+      (λ q idle. rests_all part sound all m q fits f idle) (λ r q idle. closed check r q idle) (settled_idle part after p settled))
+  leads_ending plan s p fates (Stopped (inl e) rests) =
+      let steps = all_steps part all in
+      let some = struck_by part rests.count steps m in
+      at plan s faulty p fates e
+      (leads_bind device (Rests part steps m) (λ t q. Rests part steps m q) (Ends part m all Check) (λ closed. Done over)
+      (λ t q fs r. leads_done device over q fs (Rests part steps m) (Ends part m all Check) r (Broke (inr refl) r)) (reported closing (λ _. [])) p fates
+      (leads_left some (λ _. []) p fates (Rests part steps m) (λ t q. Rests part steps m q)
+      (λ q idle. record { count = rests.count; stands = idle }) (λ r q idle. record { count = rests.count; stands = idle }) rests.stands))
+  leads_ending plan s p fates (Stopped (inr e) rests) =
+      at plan s over p fates e (leads_done device over p fates (Rests part (all_steps part all) m) (Ends part m all Check) rests (Broke (inr refl) rests))
+
+  ends_rests : (s : Standing) (q : Programmer) → Ends part m all Check s q → Rests part (all_steps part all) m q
+  ends_rests s q (Ended e idle check) = rests_all part sound all m q fits f idle
+  ends_rests s q (Broke stopped rests) = rests
+
+  ends_leaves : (s : Standing) (q : Programmer) → Ends part m all Check s q → Leaves part m all Check (status_of s) q
+  ends_leaves s q (Ended e idle check) z = (idle, check)
+  ends_leaves s q (Broke (inl e) rests) z = absurd (let one : status_of s ≡ 1 = ap status_of e in omega (arith, one, z))
+  ends_leaves s q (Broke (inr e) rests) z = absurd (let one : status_of s ≡ 1 = ap status_of e in omega (arith, one, z))
+
+tasks_fit : (part : Part) (sound : IsPart part) (s : Switches) (tasks : List Task) → All (IsFitted part) tasks → AllFitItems part (tasks_items s tasks)
+tasks_fit part sound s [] fitted = tt
+tasks_fit part sound s (task ∷ tasks) fitted =
+    fits_on part (task_items s task) (tasks_items s tasks) (task_fits part sound s task (first_of (IsFitted part) task tasks fitted)) (tasks_fit part sound s tasks (rest_of (IsFitted part) task tasks fitted))
+
+module _ (plan : Plan) (sound : IsPart plan.part) (fitted : All (IsFitted plan.part) plan.tasks) (m : Memories) (f : FitsPart plan.part m) where
+  plan_fits : AllFitItems plan.part (items plan)
+  plan_fits =
+      fits_on plan.part (erasing_items plan.switches plan.tasks) (tasks_items plan.switches plan.tasks)
+      (erasing_fits plan.part sound plan.switches plan.tasks) (tasks_fit plan.part sound plan.switches plan.tasks fitted)
+
+  -- all of a session but its end
+  abbrev Checks : Type 0
+  Checks = (⊤ × ⊤) × Agrees plan m
+
+  goes_working : Goes plan.part (Idle plan.part m) m (items plan) Checks (working plan)
+  goes_working =
+      let part = plan.part in
+      let s = plan.switches in
+      let erased = erasing_items s plan.tasks in
+      let left = effects part erased m in
+      goes_then part sound (Idle part m) m erased (tasks_items s plan.tasks) (⊤ × ⊤) (Agrees plan m) (beginning plan) (tasks_part part s plan.tasks) (erasing_fits part sound s plan.tasks) f
+      (goes_then part sound (Idle part m) m [] erased ⊤ ⊤ (opening_part part s) (erasing_part part s plan.tasks) tt f
+      (goes_opening part sound s m f) (goes_erasing part sound s plan.tasks m f))
+      (goes_tasks part sound s plan.tasks left fitted (effects_sizes part sound erased m f))
+
+  -- a session
+  leads_session : (p : Programmer) (fates : List Fate) → Idle plan.part m p
+      → Leads device (session plan) p fates (Rests plan.part (all_steps plan.part (items plan)) m) (Leaves plan.part m (items plan) Checks)
+  unfolding session
+  leads_session p fates idle =
+      let part = plan.part in
+      let all = items plan in
+      let During : Programmer → Type 0 = Rests part (all_steps part all) m in
+      leads_bind device During (Ends part m all Checks) (Leaves part m all Checks) (λ standing. Done (status_of standing))
+      (λ s q fs ends. leads_done device (status_of s) q fs During (Leaves part m all Checks) (ends_rests part sound m f all plan_fits Checks s q ends) (ends_leaves part sound m f all plan_fits Checks s q ends))
+      (playing plan) p fates
+      (leads_bind device During (Comes part m all Checks) (Ends part m all Checks) (ending part plan.switches)
+      (λ s q fs came. leads_ending part sound m f all plan_fits Checks plan s q fs came) (working plan) p fates (goes_working p fates idle))
+
+  touched : (q : Programmer) → Rests plan.part (all_steps plan.part (items plan)) m q → IsTouched plan m (memories_of q.chip)
+  touched q r = record { count = r.count; memories = r.stands.memories ∙ items_counted plan.part (items plan) r.count m }
+
+  left : (status : ℕ) (q : Programmer) → Leaves plan.part m (items plan) Checks status q → status ≡ 0 → IsDone plan m (memories_of q.chip)
+  left status q leaves e = let after = leaves e in record { memories = after.0.memories; agrees = after.1.1 }
+
+  -- what a session leaves
+  pub session_leaves : (p : Programmer) (fates : List Fate) → Idle plan.part m p
+      → Leads device (session plan) p fates (λ q. IsTouched plan m (memories_of q.chip)) (λ status q. status ≡ 0 → IsDone plan m (memories_of q.chip))
+  session_leaves p fates idle =
+      leads_wider device (session plan) p fates (Rests plan.part (all_steps plan.part (items plan)) m) (λ q. IsTouched plan m (memories_of q.chip))
+      (Leaves plan.part m (items plan) Checks) (λ status q. status ≡ 0 → IsDone plan m (memories_of q.chip))
+      (λ q r. touched q r) (λ status q leaves. left status q leaves) (leads_session p fates idle)

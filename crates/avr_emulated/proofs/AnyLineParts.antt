@@ -1,0 +1,261 @@
+-- The parts of a session, by what they leave over any line.
+use Rattle.std.proofs.Common.{◌≡◌, ℕ, ◌≤◌, List, [], ◌∷◌, ◌++◌, length, refl, sym, ap, ◌∙◌, subst, arith, inl, inr, Ok, Err, Result, Bool, true, false, Option, Some, None}
+use Rattle.std.proofs.lemmas.List.{append-nil}
+use Rattle.std.specs.Prelude.{All, ⊤, ◌||◌, if◌then◌else◌}
+use Rattle.avr_cli.specs.declared.chosen.Switches.{Switches}
+use Rattle.avr_message.specs.Said.{Saying}
+use Rattle.avr_part.specs.Mem.{is_writable}
+use Rattle.avr_part.specs.declared.mem.Mem.{Mem}
+use Rattle.avr_part.specs.Part.{Part, IsPart, size_of}
+use Rattle.avr_plan.specs.Plan.{IsFitted}
+use Rattle.avr_plan.specs.declared.task.Task.{Task}
+use Rattle.avr_plan.specs.declared.task.Task.TheVariants as task
+use Rattle.stk_host.specs.declared.fault.HostFault.{HostFault}
+use Rattle.stk_host.specs.declared.fault.HostFault.TheVariants.{Differs, ReadOnly}
+use Rattle.stk_host.specs.Dialog.{Dialog, Done, ◌>>=◌, lifted}
+use Rattle.stk_host.specs.WriteSteps.{write_steps}
+use Rattle.stk_host.specs.ReadSteps.{read_steps}
+use Rattle.stk_host.specs.Operations.{Difference, opening, done, erasing, difference_from, differs, compared, operation}
+use Rattle.stk_emu.specs.declared.fate.Fate.{Fate}
+use Rattle.stk_emu.specs.Programmer.{Programmer}
+use Rattle.stk_emu.specs.Device.{device}
+use Rattle.stk_emu.specs.Effect.{Memories, Image, Item, Erase, Write, effect, effects, memory_in}
+use Rattle.stk_emu.specs.Settled.{Idle, Settled, FitsPart}
+use Rattle.stk_emu.specs.Strokes.{struck_by, steps_of, all_steps, AreSteps, AllFitItems}
+use Rattle.stk_emu.specs.Given.{all_given}
+use Rattle.stk_emu.specs.Leads.{Leads, Reached, AfterOperation, AfterOpening}
+use Rattle.stk_emu.proofs.Obeying.{settled_idle}
+use Rattle.stk_emu.proofs.PageStrokes.{effects_on}
+use Rattle.stk_emu.proofs.ItemStrokes.{write_are_steps, read_are_steps, item_are_steps, effect_sizes}
+use Rattle.stk_emu.proofs.PlayGiven.{read_gives}
+use Rattle.stk_emu.proofs.Comparing.{no_difference}
+use Rattle.stk_emu.proofs.LeadsOn.{leads_done, leads_say, leads_lifted, leads_wider, leads_bind, leads_operation, leads_opening}
+use Rattle.avr_tool.specs.Session.{says, standing, reported, unless_fault, fault_or, opening_says, erased_says, written_says, verified_says, read_says, opening_part, is_erase_due, left_out_erase, erasing_part, verifying_part, writing_part, read_back_part, left_out_write, write_part, task_part, tasks_part}
+use Rattle.avr_emulated.specs.Items.{erasing_items, task_items, tasks_items}
+use Rattle.avr_emulated.specs.Agrees.{Shows, Unless, TaskAgrees, TasksAgree}
+use Rattle.avr_emulated.proofs.AnyLineStanding.{Steps, Standing, fine, faulty, over, HasStopped, fault_stops}
+use Rattle.avr_emulated.proofs.AnyLineAsks.{first_of, rest_of}
+use Rattle.avr_emulated.proofs.AnyLineSteps.{Rests, reached_rests, rests_here, rests_before, rests_all, rests_behind, effects_sizes, all_struck, quiet_stays, read_quiet}
+
+leads_says : {R : Type 0} (sayings : List Saying) (d : Dialog Saying R) (p : Programmer) (fates : List Fate) (During : Programmer → Type 0) (After : R → Programmer → Type 0)
+    → Leads device d p fates During After → Leads device (says sayings d) p fates During After
+leads_says [] d p fates During After l = l
+leads_says (saying ∷ sayings) d p fates During After l = leads_say device saying (says sayings d) p fates During After (leads_says sayings d p fates During After l)
+
+-- what is said of an operation's outcome changes nothing
+pub leads_reported : {A : Type 0} (call : Dialog ⊥ (Result A HostFault)) (outcome_says : Result A HostFault → List Saying) (p : Programmer) (fates : List Fate)
+    (During : Programmer → Type 0) (After : Result A HostFault → Programmer → Type 0) (Then : Standing → Programmer → Type 0)
+    → ((r : Result A HostFault) (q : Programmer) → After r q → During q) → ((r : Result A HostFault) (q : Programmer) → After r q → Then (standing r) q)
+    → Leads device call p fates During After → Leads device (reported call outcome_says) p fates During Then
+leads_reported call outcome_says p fates During After Then during after l =
+    leads_bind device During After Then (λ outcome. says (outcome_says outcome) (Done (standing outcome)))
+    (λ r q fs a. leads_says (outcome_says r) (Done (standing r)) q fs During Then (leads_done device (standing r) q fs During Then (during r q a) (after r q a)))
+    (lifted call) p fates (leads_lifted device call p fates During After l)
+
+-- After a part of a session that does these items: where it is fine, it has done them all, and the check holds; after a
+-- fault the memories are those of some first steps.
+pub data Comes (part : Part) (m : Memories) (items : List Item) (Check : Type 0) (s : Standing) (q : Programmer) : Type 0 where
+  Came : s ≡ fine → Settled part (effects part items m) q → Check → Comes part m items Check s q
+  Stopped : HasStopped s → Rests part (all_steps part items) m q → Comes part m items Check s q
+
+-- and after an operation
+abbrev CameTo : {A : Type 0} → Part → Memories → List Item → Type 0 → Result A HostFault → Programmer → Type 0
+CameTo part m items Check (Ok a) q = Settled part (effects part items m) q × Check
+CameTo part m items Check (Err fault) q = Rests part (all_steps part items) m q
+
+-- a part of a session that does these items, from a programmer of these memories
+abbrev pub Goes : Part → (Programmer → Type 0) → Memories → List Item → Type 0 → Dialog Saying Standing → Type 0
+Goes part From m items Check d = (p : Programmer) (fates : List Fate) → From p → Leads device d p fates (Rests part (all_steps part items) m) (Comes part m items Check)
+
+come_standing : {A : Type 0} (part : Part) (m : Memories) (items : List Item) (Check : Type 0) (r : Result A HostFault) (q : Programmer) → CameTo part m items Check r q → Comes part m items Check (standing r) q
+come_standing {A = A} part m items Check (Ok a) q came = Came refl came.0 came.1
+come_standing {A = A} part m items Check (Err fault) q rests = Stopped (fault_stops A fault) rests
+
+ok_is : {A : Type 0} (a : A) (fault : HostFault) → ◌≡◌ {A = Result A HostFault} (Ok a) (Err fault) → ⊥
+ok_is a fault e = cc
+
+module _ (part : Part) (sound : IsPart part) where
+  came_rests : {A : Type 0} (m : Memories) (items : List Item) (Check : Type 0) (r : Result A HostFault) (q : Programmer) → AllFitItems part items → FitsPart part m → CameTo part m items Check r q → Rests part (all_steps part items) m q
+  came_rests m items Check (Ok a) q fits f came = rests_all part sound items m q fits f (settled_idle part (effects part items m) q came.0)
+  came_rests m items Check (Err fault) q fits f came = came
+
+  comes_wider : (m : Memories) (items : List Item) (Check Wider : Type 0) → (Check → Wider) → (s : Standing) (q : Programmer) → Comes part m items Check s q → Comes part m items Wider s q
+  comes_wider m items Check Wider follows s q (Came e settled check) = Came e settled (follows check)
+  comes_wider m items Check Wider follows s q (Stopped stopped rests) = Stopped stopped rests
+
+  -- another check that follows
+  goes_wider : (From : Programmer → Type 0) (m : Memories) (items : List Item) (Check Wider : Type 0) (d : Dialog Saying Standing) → (Check → Wider) → Goes part From m items Check d → Goes part From m items Wider d
+  goes_wider From m items Check Wider d follows goes p fates from =
+      leads_wider device d p fates (Rests part (all_steps part items) m) (Rests part (all_steps part items) m) (Comes part m items Check) (Comes part m items Wider)
+      (λ q r. r) (λ s q came. comes_wider m items Check Wider follows s q came) (goes p fates from)
+
+  -- nothing but what is said
+  goes_saying : (m : Memories) (sayings : List Saying) → Goes part (Settled part m) m [] ⊤ (says sayings (Done fine))
+  goes_saying m sayings p fates s =
+      leads_says sayings (Done fine) p fates (Rests part [] m) (Comes part m [] ⊤)
+      (leads_done device fine p fates (Rests part [] m) (Comes part m [] ⊤) (rests_here part [] m p (settled_idle part m p s)) (Came refl s tt))
+
+  -- an operation, by its steps, and what holds where it is judged to be good
+  goes_operation : {A : Type 0} (m : Memories) (items : List Item) (Check : Type 0) (steps : Steps) (judge : List ℕ → Result A HostFault) (outcome_says : Result A HostFault → List Saying)
+      → AllFitItems part items → FitsPart part m → AreSteps part steps
+      → ((q : Programmer) → Reached part steps m q → Rests part (all_steps part items) m q) → struck_by part (length steps) steps m ≡ effects part items m
+      → ((a : A) → judge (all_given part steps m) ≡ Ok a → Check)
+      → Goes part (Settled part m) m items Check (reported (operation steps judge) outcome_says)
+  goes_operation {A = A} m items Check steps judge outcome_says fits f are rests whole judged p fates s =
+      leads_reported (operation steps judge) outcome_says p fates (Rests part (all_steps part items) m) (CameTo part m items Check) (Comes part m items Check)
+      (λ r q came. came_rests m items Check r q fits f came) (λ r q came. come_standing part m items Check r q came)
+      (leads_wider device (operation steps judge) p fates (Reached part steps m) (Rests part (all_steps part items) m) (AfterOperation part steps m judge) (CameTo part m items Check)
+      (λ q r. rests q r) (λ r q after. came r q after) (leads_operation part sound steps m judge p fates are f s))
+    where
+      came : (r : Result A HostFault) (q : Programmer) → AfterOperation part steps m judge r q → CameTo part m items Check r q
+      came (Ok a) q (inl made) = (subst (λ z. Settled part z q) whole made.0, judged a (sym made.1))
+      came (Err fault) q (inl made) = rests q (record { count = length steps; stands = made.0 })
+      came (Ok a) q (inr broke) = absurd (ok_is a broke.0 broke.1)
+      came (Err fault) q (inr broke) = rests q broke.2
+
+  -- one part, and the next one unless there was a fault
+  pub goes_then : (From : Programmer → Type 0) (m : Memories) (xs ys : List Item) (Check More : Type 0) (d next : Dialog Saying Standing) → AllFitItems part xs → FitsPart part m
+      → Goes part From m xs Check d → Goes part (Settled part (effects part xs m)) (effects part xs m) ys More next → Goes part From m (xs ++ ys) (Check × More) (d >>= unless_fault next)
+  goes_then From m xs ys Check More d next fits f goes more p fates from =
+      leads_bind device (Rests part (all_steps part (xs ++ ys)) m) (Comes part m xs Check) (Comes part m (xs ++ ys) (Check × More)) (unless_fault next)
+      (λ s q fs came. on s q fs came) d p fates
+      (leads_wider device d p fates (Rests part (all_steps part xs) m) (Rests part (all_steps part (xs ++ ys)) m) (Comes part m xs Check) (Comes part m xs Check)
+      (λ q r. rests_before part xs ys m q r) (λ s q came. came) (goes p fates from))
+    where
+      comes : Check → (s : Standing) (q : Programmer) → Comes part (effects part xs m) ys More s q → Comes part m (xs ++ ys) (Check × More) s q
+      comes check s q (Came e settled more) = Came e (subst (λ z. Settled part z q) (sym (effects_on part xs ys m)) settled) (check, more)
+      comes check s q (Stopped stopped rests) = Stopped stopped (rests_behind part sound xs ys m q fits f rests)
+
+      at : (s t : Standing) (q : Programmer) (fs : List Fate) → s ≡ t → Leads device (unless_fault next t) q fs (Rests part (all_steps part (xs ++ ys)) m) (Comes part m (xs ++ ys) (Check × More))
+          → Leads device (unless_fault next s) q fs (Rests part (all_steps part (xs ++ ys)) m) (Comes part m (xs ++ ys) (Check × More))
+      at s t q fs e l = subst (λ x. Leads device (unless_fault next x) q fs (Rests part (all_steps part (xs ++ ys)) m) (Comes part m (xs ++ ys) (Check × More))) (sym e) l
+
+      on : (s : Standing) (q : Programmer) (fs : List Fate) → Comes part m xs Check s q → Leads device (unless_fault next s) q fs (Rests part (all_steps part (xs ++ ys)) m) (Comes part m (xs ++ ys) (Check × More))
+      on s q fs (Came e settled check) =
+          at s fine q fs e
+          (leads_wider device next q fs (Rests part (all_steps part ys) (effects part xs m)) (Rests part (all_steps part (xs ++ ys)) m) (Comes part (effects part xs m) ys More) (Comes part m (xs ++ ys) (Check × More))
+          (λ z r. rests_behind part sound xs ys m z fits f r) (λ t z after. comes check t z after) (more q fs settled))
+      on s q fs (Stopped (inl e) rests) =
+          let r = rests_before part xs ys m q rests in
+          at s faulty q fs e (leads_done device faulty q fs (Rests part (all_steps part (xs ++ ys)) m) (Comes part m (xs ++ ys) (Check × More)) r (Stopped (inl refl) r))
+      on s q fs (Stopped (inr e) rests) =
+          let r = rests_before part xs ys m q rests in
+          at s over q fs e (leads_done device over q fs (Rests part (all_steps part (xs ++ ys)) m) (Comes part m (xs ++ ys) (Check × More)) r (Stopped (inr refl) r))
+
+  -- a memory is read, and what it holds is judged
+  goes_reading : {A : Type 0} (m : Memories) (Check : Type 0) (mem : Mem) (judge : List ℕ → Result A HostFault) (outcome_says : Result A HostFault → List Saying)
+      → FitsPart part m → ((a : A) → judge (memory_in part mem m) ≡ Ok a → Check) → Goes part (Settled part m) m [] Check (reported (operation (read_steps part mem) judge) outcome_says)
+  goes_reading m Check mem judge outcome_says f judged =
+      let steps = read_steps part mem in
+      goes_operation m [] Check steps judge outcome_says tt f (read_are_steps part sound mem)
+      (λ q r. rests_here part [] m q (settled_idle part m q (subst (λ z. Settled part z q) (quiet_stays part r.count steps m (read_quiet part mem)) r.stands)))
+      (quiet_stays part (length steps) steps m (read_quiet part mem))
+      (λ a e. judged a (sym (ap judge (read_gives part sound m f mem)) ∙ e))
+
+  -- the steps of items
+  goes_items : (m : Memories) (items : List Item) (steps : Steps) (outcome_says : Result ⊤ HostFault → List Saying) → steps ≡ all_steps part items
+      → AllFitItems part items → FitsPart part m → AreSteps part steps → Goes part (Settled part m) m items ⊤ (reported (operation steps done) outcome_says)
+  goes_items m items steps outcome_says same fits f are =
+      goes_operation m items ⊤ steps done outcome_says fits f are
+      (λ q r. reached_rests part (all_steps part items) m q (subst (λ all. Reached part all m q) same r))
+      (ap (λ all. struck_by part (length all) all m) same ∙ all_struck part sound items m fits f)
+      (λ a e. tt)
+
+  module _ (s : Switches) where
+    -- an opening keeps the memories
+    opened : (m : Memories) (r : Result (List ℕ) HostFault) (q : Programmer) → AfterOpening part m r q → CameTo part m [] ⊤ r q
+    opened m (Ok found) q after = (after.0, tt)
+    opened m (Err fault) q after = rests_here part [] m q after
+
+    pub goes_opening : (m : Memories) → FitsPart part m → Goes part (Idle part m) m [] ⊤ (opening_part part s)
+    goes_opening m f p fates idle =
+        leads_reported (opening part.signature s.force) (opening_says s.quiet part) p fates (Rests part [] m) (CameTo part m [] ⊤) (Comes part m [] ⊤)
+        (λ r q came. came_rests m [] ⊤ r q tt f came) (λ r q came. come_standing part m [] ⊤ r q came)
+        (leads_wider device (opening part.signature s.force) p fates (Idle part m) (Rests part [] m) (AfterOpening part m) (CameTo part m [] ⊤)
+        (λ q i. rests_here part [] m q i) (λ r q after. opened m r q after) (leads_opening part sound part.signature s.force m p fates f idle))
+
+    goes_chip_erasing : (m : Memories) → FitsPart part m → Goes part (Settled part m) m (Erase ∷ []) ⊤ (reported erasing (erased_says s.quiet part))
+    goes_chip_erasing m f = goes_items m (Erase ∷ []) (steps_of part Erase) (erased_says s.quiet part) refl (tt, tt) f (item_are_steps part sound Erase tt)
+
+    pub goes_erasing : (tasks : List Task) (m : Memories) → FitsPart part m → Goes part (Settled part m) m (erasing_items s tasks) ⊤ (erasing_part part s tasks)
+    goes_erasing tasks m f = by_switch s.dry (is_erase_due s tasks)
+      where
+        by_switch : (dry due : Bool) → Goes part (Settled part m) m (if dry then [] else if due then Erase ∷ [] else []) ⊤
+            (if dry then says (left_out_erase s) (Done fine) else if due then reported erasing (erased_says s.quiet part) else Done fine)
+        by_switch true due = goes_saying m (left_out_erase s)
+        by_switch false true = goes_chip_erasing m f
+        by_switch false false = goes_saying m []
+
+    pub erasing_fits : (tasks : List Task) → AllFitItems part (erasing_items s tasks)
+    erasing_fits tasks = by_switch s.dry (is_erase_due s tasks)
+      where
+        by_switch : (dry due : Bool) → AllFitItems part (if dry then [] else if due then Erase ∷ [] else [])
+        by_switch true due = tt
+        by_switch false true = (tt, tt)
+        by_switch false false = tt
+
+    -- a comparison
+    ok_same : (mem : Mem) (d : Option Difference) (a : ⊤) → differs mem d ≡ Ok a → d ≡ None
+    ok_same mem None a e = refl
+    ok_same mem (Some d) a e = absurd (ok_is a (Differs mem d.addr d.want d.found) (sym e))
+
+    goes_verifying : (mem : Mem) (image : Image) (m : Memories) → FitsPart part m → Goes part (Settled part m) m [] (Shows part mem image m) (verifying_part part s mem image)
+    goes_verifying mem image m f =
+        goes_reading m (Shows part mem image m) mem (compared mem image) (verified_says s.quiet part mem image) f
+        (λ a e. no_difference 0 image (memory_in part mem m) (ok_same mem (difference_from 0 image (memory_in part mem m)) a e))
+
+    goes_read_back : (mem : Mem) (image : Image) (m : Memories) → FitsPart part m → Goes part (Settled part m) m [] (Unless s.no_verify (Shows part mem image m)) (read_back_part part s mem image)
+    goes_read_back mem image m f = by_switch s.no_verify
+      where
+        by_switch : (b : Bool) → Goes part (Settled part m) m [] (Unless b (Shows part mem image m)) (if b then Done fine else verifying_part part s mem image)
+        by_switch true = goes_saying m []
+        by_switch false = goes_verifying mem image m f
+
+    goes_writing : (mem : Mem) (image : Image) (m : Memories) → length image ≤ size_of mem part → is_writable mem ≡ true → FitsPart part m
+        → Goes part (Settled part m) m (Write mem image ∷ []) ⊤ (writing_part part s mem image)
+    goes_writing mem image m fits can f = by_kind (is_writable mem) can
+      where
+        by_kind : (b : Bool) → b ≡ true → Goes part (Settled part m) m (Write mem image ∷ []) ⊤ (reported (if b then operation (write_steps part mem image) done else Done (Err (ReadOnly mem))) (written_says s.quiet part mem image))
+        by_kind true e =
+            goes_items m (Write mem image ∷ []) (write_steps part mem image) (written_says s.quiet part mem image) (sym (append-nil (write_steps part mem image))) (fits, tt) f
+            (write_are_steps part sound mem image fits)
+        by_kind false e = absurd cc
+
+    goes_write : (mem : Mem) (image : Image) (m : Memories) → length image ≤ size_of mem part → is_writable mem ≡ true → FitsPart part m
+        → Goes part (Settled part m) m (task_items s (task.Write mem image)) (TaskAgrees part s (task.Write mem image) (effects part (task_items s (task.Write mem image)) m)) (write_part part s mem image)
+    goes_write mem image m fits can f = by_switch s.dry
+      where
+        by_switch : (dry : Bool) → Goes part (Settled part m) m (if dry then [] else Write mem image ∷ [])
+            (Unless (dry || s.no_verify) (Shows part mem image (effects part (if dry then [] else Write mem image ∷ []) m)))
+            (if dry then says (left_out_write s mem image) (Done fine) else writing_part part s mem image >>= unless_fault (read_back_part part s mem image))
+        by_switch true = goes_saying m (left_out_write s mem image)
+        by_switch false =
+            let left = effect part (Write mem image) m in
+            let Check = Unless s.no_verify (Shows part mem image left) in
+            goes_wider (Settled part m) m (Write mem image ∷ []) (⊤ × Check) Check (writing_part part s mem image >>= unless_fault (read_back_part part s mem image)) (λ both. both.1)
+            (goes_then (Settled part m) m (Write mem image ∷ []) [] ⊤ Check (writing_part part s mem image) (read_back_part part s mem image) (fits, tt) f
+            (goes_writing mem image m fits can f) (goes_read_back mem image left (effect_sizes part sound (Write mem image) m f)))
+
+    goes_task : (task : Task) (m : Memories) → IsFitted part task → FitsPart part m
+        → Goes part (Settled part m) m (task_items s task) (TaskAgrees part s task (effects part (task_items s task) m)) (task_part part s task)
+    goes_task (task.Write mem image) m fitted f = goes_write mem image m (let size = fitted.0 in omega (arith, size)) fitted.1 f
+    goes_task (task.Verify mem image) m fitted f = goes_verifying mem image m f
+    goes_task (task.Read mem format file) m fitted f = goes_reading m ⊤ mem Ok (fault_or part (read_says s mem format file)) f (λ a e. tt)
+
+    pub task_fits : (task : Task) → IsFitted part task → AllFitItems part (task_items s task)
+    task_fits (task.Write mem image) fitted = by_switch s.dry
+      where
+        by_switch : (dry : Bool) → AllFitItems part (if dry then [] else Write mem image ∷ [])
+        by_switch true = tt
+        by_switch false = ((let size = fitted.0 in omega (arith, size)), tt)
+    task_fits (task.Verify mem image) fitted = tt
+    task_fits (task.Read mem format file) fitted = tt
+
+    pub goes_tasks : (tasks : List Task) (m : Memories) → All (IsFitted part) tasks → FitsPart part m → Goes part (Settled part m) m (tasks_items s tasks) (TasksAgree part s tasks m) (tasks_part part s tasks)
+    goes_tasks [] m fitted f = goes_saying m []
+    goes_tasks (task ∷ tasks) m fitted f =
+        let first = task_items s task in
+        let left = effects part first m in
+        let fits = first_of (IsFitted part) task tasks fitted in
+        goes_then (Settled part m) m first (tasks_items s tasks) (TaskAgrees part s task left) (TasksAgree part s tasks left) (task_part part s task) (tasks_part part s tasks) (task_fits task fits) f
+        (goes_task task m fits f) (goes_tasks tasks left (rest_of (IsFitted part) task tasks fitted) (effects_sizes part sound first m f))
