@@ -1,0 +1,3 @@
+pub mod WrittenCourse
+pub mod WrittenImages
+pub mod WrittenRuns
