@@ -6,4 +6,7 @@ pub mod AnyLine
 pub mod GoodLineEnds
 pub mod GoodLineCalls
 pub mod GoodLine
+pub mod WrittenCourse
+pub mod WrittenImages
+pub mod WrittenRuns
 pub mod Wiring

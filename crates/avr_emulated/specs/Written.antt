@@ -33,7 +33,7 @@ abbrev pub byte_in : Part → Mem → ℕ → Memories → ℕ
 byte_in part mem addr m = slice_index (memory_in part mem m) addr
 
 -- Each memory holds the images written to it. Elsewhere flash is FF where the chip was erased, and EEPROM too, unless its
--- fuse keeps it; else they are as before. A fuse that wasn't written is as before.
+-- fuse keeps it; else they are as before. A fuse that wasn't written is as before, and a lock that wasn't is open after an erase.
 pub record IsWritten (plan : Plan) (before after : Memories) : Type 0 where
   pub images : (mem : Mem) → Shows plan.part mem (written_to plan.part mem plan.tasks) after
   pub rest_of_flash : (addr : ℕ) → addr < plan.part.flash_size → byte_at (written_to plan.part Flash plan.tasks) addr ≡ None
@@ -44,3 +44,4 @@ pub record IsWritten (plan : Plan) (before after : Memories) : Type 0 where
   pub lfuse : byte_at (written_to plan.part Lfuse plan.tasks) 0 ≡ None → after.lfuse ≡ before.lfuse
   pub hfuse : byte_at (written_to plan.part Hfuse plan.tasks) 0 ≡ None → after.hfuse ≡ before.hfuse
   pub efuse : byte_at (written_to plan.part Efuse plan.tasks) 0 ≡ None → after.efuse ≡ before.efuse
+  pub lock : byte_at (written_to plan.part Lock plan.tasks) 0 ≡ None → after.lock ≡ (if is_erase_due plan.switches plan.tasks then 255 else before.lock)

@@ -1,0 +1,90 @@
+-- What a verified run leaves in each memory, and that a further comparison agrees.
+use Rattle.std.proofs.Common.{◌≡◌, ℕ, ◌<◌, arith, refl, sym, ◌∙◌, subst, List, [], ◌∷◌, map, length, get_or, Bool, true, false}
+use Rattle.std.proofs.lemmas.Bool.{true≢false}
+use Rattle.std.proofs.lemmas.List.{get_or-replicate}
+use Rattle.std.specs.Prelude.{◌&&◌, not, if◌then◌else◌, All}
+use Rattle.avr_cli.specs.declared.chosen.Switches.{Switches}
+use Rattle.avr_part.specs.Memory.{blank}
+use Rattle.avr_part.specs.Part.{Part}
+use Rattle.avr_part.specs.declared.mem.Mem.{Mem}
+use Rattle.avr_part.specs.declared.mem.Mem.TheVariants.{Flash, Eeprom, Lfuse, Hfuse, Efuse, Lock}
+use Rattle.avr_plan.specs.Plan.{Plan, IsFitted}
+use Rattle.avr_plan.specs.declared.task.Task.TheVariants as task
+use Rattle.avr_tool.specs.Session.{is_erase_due}
+use Rattle.stk_emu.specs.Effect.{Image, Memories, Item, Erase, keeps_eeprom, effect, effects}
+use Rattle.stk_emu.specs.Settled.{FitsPart}
+use Rattle.stk_emu.proofs.PageStrokes.{effects_on}
+use Rattle.avr_emulated.specs.Agrees.{Shows, TasksAgree}
+use Rattle.avr_emulated.specs.Items.{erasing_items, tasks_items}
+use Rattle.avr_emulated.specs.Outcome.{IsDone}
+use Rattle.avr_emulated.specs.Written.{IsWritten, written_to}
+use Rattle.avr_emulated.proofs.WrittenImages.{Left, tasks_left}
+
+-- ---- after the erase
+
+abbrev erase_if : Bool → Bool → List Item
+erase_if dry due = if dry then [] else if due then Erase ∷ [] else []
+
+flash_erased : (part : Part) (dry due : Bool) (m : Memories) (addr : ℕ) → dry ≡ false → addr < length m.flash
+    → get_or (effects part (erase_if dry due) m).flash addr 0 ≡ (if due then 255 else get_or m.flash addr 0)
+flash_erased part true due m addr e l = absurd (true≢false e)
+flash_erased part false true m addr e l = get_or-replicate (length m.flash) addr 255 0 l
+flash_erased part false false m addr e l = refl
+
+eeprom_blanked : (keeps : Bool) (xs : List ℕ) (addr : ℕ) → addr < length xs
+    → get_or (if keeps then xs else blank xs) addr 0 ≡ (if not keeps then 255 else get_or xs addr 0)
+eeprom_blanked true xs addr l = refl
+eeprom_blanked false xs addr l = get_or-replicate (length xs) addr 255 0 l
+
+eeprom_erased : (part : Part) (dry due : Bool) (m : Memories) (addr : ℕ) → dry ≡ false → addr < length m.eeprom
+    → get_or (effects part (erase_if dry due) m).eeprom addr 0 ≡ (if due && not (keeps_eeprom part m) then 255 else get_or m.eeprom addr 0)
+eeprom_erased part true due m addr e l = absurd (true≢false e)
+eeprom_erased part false true m addr e l = eeprom_blanked (keeps_eeprom part m) m.eeprom addr l
+eeprom_erased part false false m addr e l = refl
+
+-- an erase keeps a fuse
+fuse_kept : (part : Part) (fuse : Memories → ℕ) (dry due : Bool) (m : Memories) → fuse (effect part Erase m) ≡ fuse m → fuse (effects part (erase_if dry due) m) ≡ fuse m
+fuse_kept part fuse true due m kept = refl
+fuse_kept part fuse false true m kept = kept
+fuse_kept part fuse false false m kept = refl
+
+lock_erased : (part : Part) (dry due : Bool) (m : Memories) → dry ≡ false → (effects part (erase_if dry due) m).lock ≡ (if due then 255 else m.lock)
+lock_erased part true due m e = absurd (true≢false e)
+lock_erased part false true m e = refl
+lock_erased part false false m e = refl
+
+-- ---- the whole run
+
+module _ (plan : Plan) (before after : Memories) (all : All (IsFitted plan.part) plan.tasks)
+    (wet : plan.switches.dry ≡ false) (verified : plan.switches.no_verify ≡ false) (run : IsDone plan before after) where
+  abbrev erased : Memories
+  erased = effects plan.part (erasing_items plan.switches plan.tasks) before
+
+  is_after : effects plan.part (tasks_items plan.switches plan.tasks) erased ≡ after
+  is_after = sym (run.memories ∙ effects_on plan.part (erasing_items plan.switches plan.tasks) (tasks_items plan.switches plan.tasks) before)
+
+  memory_left : (mem : Mem) → Left plan.part mem (written_to plan.part mem plan.tasks) erased after
+  memory_left mem =
+      subst (λ new. Left plan.part mem (written_to plan.part mem plan.tasks) erased new) is_after
+      (tasks_left plan.part plan.switches wet verified mem plan.tasks erased all run.agrees)
+
+  pub run_written : FitsPart plan.part before → IsWritten plan before after
+  run_written fits =
+      let part = plan.part in
+      let dry = plan.switches.dry in
+      let due = is_erase_due plan.switches plan.tasks in
+      record {
+        images = λ mem. (memory_left mem).shows;
+        rest_of_flash = λ addr l none. (memory_left Flash).rest addr none ∙ flash_erased part dry due before addr wet (omega (arith, l, fits.flash));
+        rest_of_eeprom = λ addr l none. (memory_left Eeprom).rest addr none ∙ eeprom_erased part dry due before addr wet (omega (arith, l, fits.eeprom));
+        lfuse = λ none. (memory_left Lfuse).rest 0 none ∙ fuse_kept part (λ m. m.lfuse) dry due before refl;
+        hfuse = λ none. (memory_left Hfuse).rest 0 none ∙ fuse_kept part (λ m. m.hfuse) dry due before refl;
+        efuse = λ none. (memory_left Efuse).rest 0 none ∙ fuse_kept part (λ m. m.efuse) dry due before refl;
+        lock = λ none. (memory_left Lock).rest 0 none ∙ lock_erased part dry due before wet;
+      }
+
+-- images that are shown agree once more
+pub shown_agree : (part : Part) (s : Switches) (image_of : Mem → Image) (m : Memories) (mems : List Mem) → ((mem : Mem) → Shows part mem (image_of mem) m)
+    → TasksAgree part s (map (λ mem. task.Verify mem (image_of mem)) mems) m
+shown_agree part s image_of m [] shown = tt
+shown_agree part s image_of m (mem ∷ mems) shown = (shown mem, shown_agree part s image_of m mems shown)
