@@ -88,7 +88,7 @@ module _ (plan : Plan) (w v : State) (fresh : IsFresh w) (stays : Stays ComesOf 
         let says = whole_said (session plan) 1 begun w.wire.fates v ran.events status next left asks fresh.lawful keeps plays in
         record {
           said = ran.kept ∙ ap (λ said. option_map (after_all said) old) (says ∙ e.sayings);
-          status = e.result;
+          status_is = e.result;
           memories = ap (λ (q : Programmer). memories_of q.chip) goes.programmer ∙ e.after;
         }
 
@@ -106,11 +106,11 @@ module _ (plan : Plan) (w v : State) (fresh : IsFresh w) (stays : Stays ComesOf 
   one_no e = cc
 
   touches : (old new : Option Record) (StopsBy : Cause → Type 0) (status : ℕ) → RunsTo (session plan) (Some w.talk) (Some v.talk) old new StopsBy status → IsTouched plan before after
-  touches old new StopsBy status (inl ran) = ran_touches old new status ran.0 ran.1.0 ran.1.1
+  touches old new StopsBy status (inl ran) = ran_touches old new status ran.0 ran.1 ran.2
   touches old new StopsBy status (inr broke) = broke_touches old new StopsBy broke.0
 
   is_done : (old new : Option Record) (StopsBy : Cause → Type 0) (status : ℕ) → RunsTo (session plan) (Some w.talk) (Some v.talk) old new StopsBy status → status ≡ 0 → IsDone plan before after
-  is_done old new StopsBy status (inl ran) zero = ran_done old new status ran.0 ran.1.0 ran.1.1 zero
+  is_done old new StopsBy status (inl ran) zero = ran_done old new status ran.0 ran.1 ran.2 zero
   is_done old new StopsBy status (inr broke) zero = absurd (one_no (sym broke.1 ∙ zero))
 
   -- whatever the line did
@@ -124,5 +124,5 @@ module _ (plan : Plan) (w v : State) (fresh : IsFresh w) (stays : Stays ComesOf 
   -- over a good line
   pub wired_goes_well : (old new : Option Record) (StopsBy : Cause → Type 0) (status : ℕ) → RunsTo (session plan) (Some w.talk) (Some v.talk) old new StopsBy status → AreGood w.wire.fates
       → GoesWell plan before after old new (Some v.talk) StopsBy status
-  wired_goes_well old new StopsBy status (inl ran) good = inl (ran_course old new status ran.0 ran.1.0 ran.1.1 good)
+  wired_goes_well old new StopsBy status (inl ran) good = inl (ran_course old new status ran.0 ran.1 ran.2 good)
   wired_goes_well old new StopsBy status (inr broke) good = inr (subst (λ talk. BrokeOff (session plan) 1 [] (Some talk) (Some v.talk) old new StopsBy) fresh.silent broke.0)

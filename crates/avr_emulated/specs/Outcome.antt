@@ -37,7 +37,7 @@ pub record Leaves (plan : Plan) (before after : Memories) (status : ℕ) : Type 
 -- A run that went as its course says: what was said at the desk, its status, and the memories.
 pub record IsCourse (plan : Plan) (before after : Memories) (old new : Option Record) (status : ℕ) : Type 0 where
   pub said : new ≡ option_map (after_all (course plan before).says) old
-  pub status : status ≡ (course plan before).status
+  pub status_is : status ≡ (course plan before).status
   pub memories : after ≡ (course plan before).memories
 
 -- over a good line: its course, unless a device failed or memory was refused
