@@ -28,12 +28,12 @@ went_fresh part chip d (inr memory) = cc
 
 -- ---- the chip of some bytes
 
--- a chip is the one of these bytes, in either answer
+-- a chip in place of a fault is the good one, and the test holds
 chip_is : (test : Bool) (good chip : State) (n : ℕ) → (if test then Ok good else Err (BadChipFile n)) ≡ Ok chip → (test ≡ true) × (chip ≡ good)
 chip_is true good chip n is = (refl, cc)
 chip_is false good chip n is = cc
 
--- and a fault says that there is none
+-- a fault in place of a chip says that it doesn't
 none_is : (test : Bool) (good : State) (n : ℕ) (fault : PartFault) → (if test then Ok good else Err (BadChipFile n)) ≡ Err fault → test ≡ false
 none_is true good n fault is = cc
 none_is false good n fault is = refl
