@@ -10,3 +10,4 @@ pub mod WrittenCourse
 pub mod WrittenImages
 pub mod WrittenRuns
 pub mod Wiring
+pub mod Emulating

@@ -3,8 +3,8 @@ use Rattle.avr_emulated.proofs.wired_run.drive_wired.Goals as goal
 
 pub returns-clause-leaves : goal.returns-clause-leaves
 returns-clause-leaves g c =
-    wired_leaves c.args.plan.now c.args.wire.now c.drive.new.link c.requires.fresh c.drive.ensures.comes c.part-_part.ensures.sound c.requires.part c.tasks-_tasks.ensures.fitted _ _ _ _ c.drive.ensures.runs
+    wired_leaves c.args.plan.now c.args.wire.now c.drive.new.link c.requires.fresh c.drive.ensures.comes (rw c.chip.ensures at c.part-part.ensures.sound) c.requires.part c.tasks-tasks.ensures.fitted _ _ _ _ c.drive.ensures.runs
 
 pub returns-clause-good : goal.returns-clause-good
 returns-clause-good g c =
-    wired_goes_well c.args.plan.now c.args.wire.now c.drive.new.link c.requires.fresh c.drive.ensures.comes c.part-_part.ensures.sound c.requires.part c.tasks-_tasks.ensures.fitted _ _ _ _ c.drive.ensures.runs
+    wired_goes_well c.args.plan.now c.args.wire.now c.drive.new.link c.requires.fresh c.drive.ensures.comes (rw c.chip.ensures at c.part-part.ensures.sound) c.requires.part c.tasks-tasks.ensures.fitted _ _ _ _ c.drive.ensures.runs

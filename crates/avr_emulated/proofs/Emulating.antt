@@ -1,0 +1,57 @@
+-- A run over the emulated programmer, from its stages.
+use Rattle.std.proofs.Common.{◌≡◌, ℕ, List, [], ◌∷◌, sym, ap, ◌∙◌, subst, Option, Some, Ok}
+use Rattle.avr_chip.specs.Loading.{chip_stage}
+use Rattle.avr_cli.specs.declared.chosen.Settings.{Settings}
+use Rattle.avr_desk.specs.Record.{Record}
+use Rattle.avr_message.specs.Lines.{Bytes}
+use Rattle.avr_part.specs.ChipFile.{chip_file}
+use Rattle.avr_part.specs.State as chips
+use Rattle.avr_plan.specs.Plan.{Plan}
+use Rattle.avr_plan.specs.Planning.{planned}
+use Rattle.avr_plan.specs.Playing.{Went}
+use Rattle.avr_plan.specs.Stage.{Made}
+use Rattle.avr_tool.specs.Runs.{Stops, RunsTo}
+use Rattle.avr_tool.specs.Session.{session}
+use Rattle.stk_host.specs.Talk.{sent}
+use Rattle.stk_emu.specs.Effect.{memories_of}
+use Rattle.stk_emu.specs.Leads.{AreGood}
+use Rattle.stk_emu.specs.Programmer.{fresh_programmer}
+use Rattle.stk_emu.specs.Wire.{fresh}
+use Rattle.stk_emu.specs.Wired.{State}
+use Rattle.avr_emulated.specs.Emulated.{IsSaved, PlaysEmulated}
+use Rattle.avr_emulated.specs.Outcome.{Leaves, GoesWell}
+
+module _ (settings : Settings) (file : Bytes) (plan : Plan) (chip : chips.State) (w v : State) (silent : w.talk ≡ []) (unfailed : w.failures ≡ 0) (begun : w.wire ≡ fresh (fresh_programmer chip) []) where
+  its_chip : w.wire.programmer.chip ≡ chip
+  its_chip = ap (λ x. x.programmer.chip) begun
+
+  good : AreGood w.wire.fates
+  good = subst AreGood (sym (ap (λ x. x.fates) begun)) tt
+
+  pub plays_emulated : (old planned_desk loaded_desk played_desk new : Option Record) (loaded played now ran status : ℕ)
+      → Went (planned settings) old planned_desk (Made plan) → Went (chip_stage plan.part file) planned_desk loaded_desk (Made chip)
+      → RunsTo (session plan) (Some w.talk) (Some v.talk) loaded_desk played_desk (Stops w.failures v.failures loaded played) ran
+      → Leaves plan (memories_of w.wire.programmer.chip) (memories_of v.wire.programmer.chip) ran
+      → (AreGood w.wire.fates → GoesWell plan (memories_of w.wire.programmer.chip) (memories_of v.wire.programmer.chip) loaded_desk played_desk (Some v.talk) (Stops w.failures v.failures loaded played) ran)
+      → IsSaved (sent v.talk) played_desk new file (chip_file v.wire.programmer.chip) played now ran status → PlaysEmulated settings file old new now status
+  plays_emulated old planned_desk loaded_desk played_desk new loaded played now ran status made is_loaded runs leaves goes_well saved = record {
+    plan = plan;
+    chip = chip;
+    planned_desk = planned_desk;
+    loaded_desk = loaded_desk;
+    played_desk = played_desk;
+    loaded_failures = loaded;
+    played_failures = played;
+    wire_failures = v.failures;
+    made = made;
+    loaded = is_loaded;
+    talk = v.talk;
+    left = v.wire.programmer.chip;
+    ran = ran;
+    runs = subst (λ talk. RunsTo (session plan) (Some talk) (Some v.talk) loaded_desk played_desk (Stops 0 v.failures loaded played) ran) silent
+        (subst (λ n. RunsTo (session plan) (Some w.talk) (Some v.talk) loaded_desk played_desk (Stops n v.failures loaded played) ran) unfailed runs);
+    leaves = subst (λ (c : chips.State). Leaves plan (memories_of c) (memories_of v.wire.programmer.chip) ran) its_chip leaves;
+    goes_well = subst (λ n. GoesWell plan (memories_of chip) (memories_of v.wire.programmer.chip) loaded_desk played_desk (Some v.talk) (Stops n v.failures loaded played) ran) unfailed
+        (subst (λ (c : chips.State). GoesWell plan (memories_of c) (memories_of v.wire.programmer.chip) loaded_desk played_desk (Some v.talk) (Stops w.failures v.failures loaded played) ran) its_chip (goes_well good));
+    saved = saved;
+  }
