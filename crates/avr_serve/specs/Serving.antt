@@ -51,8 +51,8 @@ pub record AnswersAll (p : Programmer) (text bytes out : List ℕ) (now : Machin
   pub fed : IsFed p (text ++ bytes) now
   pub answered : emulate p (text ++ bytes) ≡ emulate p text ++ out
 
--- Of these bytes it was fed a front, up to a frame whose answer was not sent whole: what was sent is all answers to the
--- frames before that one, and a part of its own.
+-- It was fed a front of these bytes, and the answer to the last frame that ends in it was not sent whole: what was sent is
+-- all answers to the frames before, and a part of this one.
 pub record BreaksOff (p : Programmer) (text bytes out : List ℕ) (now : Machine) : Type 0 where
   pub used : List ℕ
   pub unused : List ℕ
