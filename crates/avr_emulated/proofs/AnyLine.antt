@@ -93,19 +93,23 @@ module _ (plan : Plan) (sound : IsPart plan.part) (fitted : All (IsFitted plan.p
       (erasing_fits plan.part sound plan.switches plan.tasks) (tasks_fit plan.part sound plan.switches plan.tasks fitted)
 
   -- all of a session but its end
-  abbrev Checks : Type 0
+  abbrev pub Checks : Type 0
   Checks = (⊤ × ⊤) × Agrees plan m
 
-  goes_working : Goes plan.part (Idle plan.part m) m (items plan) Checks (working plan)
+  pub goes_beginning : Goes plan.part (Idle plan.part m) m (erasing_items plan.switches plan.tasks) (⊤ × ⊤) (beginning plan)
+  goes_beginning =
+      let part = plan.part in
+      let s = plan.switches in
+      goes_then part sound (Idle part m) m [] (erasing_items s plan.tasks) ⊤ ⊤ (opening_part part s) (erasing_part part s plan.tasks) tt f
+      (goes_opening part sound s m f) (goes_erasing part sound s plan.tasks m f)
+
+  pub goes_working : Goes plan.part (Idle plan.part m) m (items plan) Checks (working plan)
   goes_working =
       let part = plan.part in
       let s = plan.switches in
       let erased = erasing_items s plan.tasks in
-      let left = effects part erased m in
-      goes_then part sound (Idle part m) m erased (tasks_items s plan.tasks) (⊤ × ⊤) (Agrees plan m) (beginning plan) (tasks_part part s plan.tasks) (erasing_fits part sound s plan.tasks) f
-      (goes_then part sound (Idle part m) m [] erased ⊤ ⊤ (opening_part part s) (erasing_part part s plan.tasks) tt f
-      (goes_opening part sound s m f) (goes_erasing part sound s plan.tasks m f))
-      (goes_tasks part sound s plan.tasks left fitted (effects_sizes part sound erased m f))
+      goes_then part sound (Idle part m) m erased (tasks_items s plan.tasks) (⊤ × ⊤) (Agrees plan m) (beginning plan) (tasks_part part s plan.tasks) (erasing_fits part sound s plan.tasks) f goes_beginning
+      (goes_tasks part sound s plan.tasks (effects part erased m) fitted (effects_sizes part sound erased m f))
 
   -- a session
   leads_session : (p : Programmer) (fates : List Fate) → Idle plan.part m p

@@ -90,7 +90,7 @@ module _ (part : Part) (sound : IsPart part) where
       (λ q r. r) (λ s q came. comes_wider m items Check Wider follows s q came) (goes p fates from)
 
   -- nothing but what is said
-  goes_saying : (m : Memories) (sayings : List Saying) → Goes part (Settled part m) m [] ⊤ (says sayings (Done fine))
+  pub goes_saying : (m : Memories) (sayings : List Saying) → Goes part (Settled part m) m [] ⊤ (says sayings (Done fine))
   goes_saying m sayings p fates s =
       leads_says sayings (Done fine) p fates (Rests part [] m) (Comes part m [] ⊤)
       (leads_done device fine p fates (Rests part [] m) (Comes part m [] ⊤) (rests_here part [] m p (settled_idle part m p s)) (Came refl s tt))
@@ -143,7 +143,7 @@ module _ (part : Part) (sound : IsPart part) where
           at s over q fs e (leads_done device over q fs (Rests part (all_steps part (xs ++ ys)) m) (Comes part m (xs ++ ys) (Check × More)) r (Stopped (inr refl) r))
 
   -- a memory is read, and what it holds is judged
-  goes_reading : {A : Type 0} (m : Memories) (Check : Type 0) (mem : Mem) (judge : List ℕ → Result A HostFault) (outcome_says : Result A HostFault → List Saying)
+  pub goes_reading : {A : Type 0} (m : Memories) (Check : Type 0) (mem : Mem) (judge : List ℕ → Result A HostFault) (outcome_says : Result A HostFault → List Saying)
       → FitsPart part m → ((a : A) → judge (memory_in part mem m) ≡ Ok a → Check) → Goes part (Settled part m) m [] Check (reported (operation (read_steps part mem) judge) outcome_says)
   goes_reading m Check mem judge outcome_says f judged =
       let steps = read_steps part mem in
@@ -199,19 +199,19 @@ module _ (part : Part) (sound : IsPart part) where
     ok_same mem None a e = refl
     ok_same mem (Some d) a e = absurd (ok_is a (Differs mem d.addr d.want d.found) (sym e))
 
-    goes_verifying : (mem : Mem) (image : Image) (m : Memories) → FitsPart part m → Goes part (Settled part m) m [] (Shows part mem image m) (verifying_part part s mem image)
+    pub goes_verifying : (mem : Mem) (image : Image) (m : Memories) → FitsPart part m → Goes part (Settled part m) m [] (Shows part mem image m) (verifying_part part s mem image)
     goes_verifying mem image m f =
         goes_reading m (Shows part mem image m) mem (compared mem image) (verified_says s.quiet part mem image) f
         (λ a e. no_difference 0 image (memory_in part mem m) (ok_same mem (difference_from 0 image (memory_in part mem m)) a e))
 
-    goes_read_back : (mem : Mem) (image : Image) (m : Memories) → FitsPart part m → Goes part (Settled part m) m [] (Unless s.no_verify (Shows part mem image m)) (read_back_part part s mem image)
+    pub goes_read_back : (mem : Mem) (image : Image) (m : Memories) → FitsPart part m → Goes part (Settled part m) m [] (Unless s.no_verify (Shows part mem image m)) (read_back_part part s mem image)
     goes_read_back mem image m f = by_switch s.no_verify
       where
         by_switch : (b : Bool) → Goes part (Settled part m) m [] (Unless b (Shows part mem image m)) (if b then Done fine else verifying_part part s mem image)
         by_switch true = goes_saying m []
         by_switch false = goes_verifying mem image m f
 
-    goes_writing : (mem : Mem) (image : Image) (m : Memories) → length image ≤ size_of mem part → is_writable mem ≡ true → FitsPart part m
+    pub goes_writing : (mem : Mem) (image : Image) (m : Memories) → length image ≤ size_of mem part → is_writable mem ≡ true → FitsPart part m
         → Goes part (Settled part m) m (Write mem image ∷ []) ⊤ (writing_part part s mem image)
     goes_writing mem image m fits can f = by_kind (is_writable mem) can
       where
@@ -236,7 +236,7 @@ module _ (part : Part) (sound : IsPart part) where
             (goes_then (Settled part m) m (Write mem image ∷ []) [] ⊤ Check (writing_part part s mem image) (read_back_part part s mem image) (fits, tt) f
             (goes_writing mem image m fits can f) (goes_read_back mem image left (effect_sizes part sound (Write mem image) m f)))
 
-    goes_task : (task : Task) (m : Memories) → IsFitted part task → FitsPart part m
+    pub goes_task : (task : Task) (m : Memories) → IsFitted part task → FitsPart part m
         → Goes part (Settled part m) m (task_items s task) (TaskAgrees part s task (effects part (task_items s task) m)) (task_part part s task)
     goes_task (task.Write mem image) m fitted f = goes_write mem image m (let size = fitted.0 in omega (arith, size)) fitted.1 f
     goes_task (task.Verify mem image) m fitted f = goes_verifying mem image m f
