@@ -40,7 +40,8 @@ pub record Makes (part : Part) (m : Memories) (items : List Item) (d : Dialog Sa
   pub complete : (k : ℕ) → (along device k d p fates).dialog ≡ Done fine → made k p fates ≡ length (all_steps part items)
 
 -- a count in other words
-pub tallies_same : {E R : Type 0} (d : Dialog E R) (made other : Count Programmer) (At : ℕ → Programmer → Type 0) (p : Programmer) (fates : List Fate) → ((k : ℕ) → made k p fates ≡ other k p fates)
+pub tallies_same : {E R : Type 0} (d : Dialog E R) (made other : Count Programmer) (At : ℕ → Programmer → Type 0) (p : Programmer) (fates : List Fate)
+    → ((k : ℕ) → made k p fates ≡ other k p fates)
     → Tallies device d made At p fates → Tallies device d other At p fates
 tallies_same d made other At p fates same t = record {
   count = t.count;
@@ -50,7 +51,8 @@ tallies_same d made other At p fates same t = record {
   stands = λ k. t.stands k;
 }
 
-pub makes_same : (part : Part) (m : Memories) (items : List Item) (d : Dialog Saying Standing) (made other : Count Programmer) (p : Programmer) (fates : List Fate) → ((k : ℕ) → made k p fates ≡ other k p fates)
+pub makes_same : (part : Part) (m : Memories) (items : List Item) (d : Dialog Saying Standing) (made other : Count Programmer) (p : Programmer) (fates : List Fate)
+    → ((k : ℕ) → made k p fates ≡ other k p fates)
     → Makes part m items d made p fates → Makes part m items d other p fates
 makes_same part m items d made other p fates same makes = record {
   tally = tallies_same d made other (Struck part items m) p fates same makes.tally;
@@ -97,7 +99,8 @@ steps_most (commands ∷ steps) k p fates =
 
 module _ (part : Part) (sound : IsPart part) where
   -- the steps of items
-  pub makes_items : (m : Memories) (items : List Item) (steps : Steps) (judge : List ℕ → Result ⊤ HostFault) (outcome_says : Result ⊤ HostFault → List Saying) (p : Programmer) (fates : List Fate)
+  pub makes_items : (m : Memories) (items : List Item) (steps : Steps) (judge : List ℕ → Result ⊤ HostFault) (outcome_says : Result ⊤ HostFault → List Saying) (p : Programmer)
+      (fates : List Fate)
       → steps ≡ all_steps part items → AreSteps part steps → Settled part m p → Makes part m items (reported (operation steps judge) outcome_says) (steps_done device steps) p fates
   makes_items m items steps judge outcome_says p fates same are s = record { tally = tally; complete = λ k e. complete k e }
     where
@@ -116,7 +119,9 @@ module _ (part : Part) (sound : IsPart part) where
           let size : length steps ≡ length (all_steps part items) = ap length same in
           record {
             few = omega (arith, size);
-            stands = subst (λ z. Idle part z q) (sym (struck_min part (played.count k) steps m) ∙ ap (λ all. struck_by part n all m) same) (settled_idle part (struck_by part (played.count k) steps m) q settled);
+            stands =
+                subst (λ z. Idle part z q) (sym (struck_min part (played.count k) steps m) ∙ ap (λ all. struck_by part n all m) same)
+                (settled_idle part (struck_by part (played.count k) steps m) q settled);
           }
 
       tally : Tallies device (reported (operation steps judge) outcome_says) (steps_done device steps) (Struck part items m) p fates
@@ -158,7 +163,8 @@ module _ (part : Part) (sound : IsPart part) where
             ∙ (ap (λ n. struck_by part n (steps ++ all_steps part ys) m) (sym (front_is j steps s.few)) ∙ struck_front part j steps (all_steps part ys) m))) s.stands;
       }
 
-  struck_next : (xs ys : List Item) (m : Memories) (made j : ℕ) (q : Programmer) → AllFitItems part xs → FitsPart part m → made ≡ length (all_steps part xs) → Struck part ys (effects part xs m) j q
+  struck_next : (xs ys : List Item) (m : Memories) (made j : ℕ) (q : Programmer) → AllFitItems part xs → FitsPart part m → made ≡ length (all_steps part xs)
+      → Struck part ys (effects part xs m) j q
       → Struck part (xs ++ ys) m (made + j) q
   struck_next xs ys m made j q fits f whole s =
       let size = size_on xs ys in
@@ -174,7 +180,8 @@ module _ (part : Part) (sound : IsPart part) where
       }
 
   -- one part, and the next one unless there was a fault
-  module _ (m : Memories) (xs ys : List Item) (Check : Type 0) (d next : Dialog Saying Standing) (made later : Count Programmer) (p : Programmer) (fates : List Fate) (fits : AllFitItems part xs) (f : FitsPart part m)
+  module _ (m : Memories) (xs ys : List Item) (Check : Type 0) (d next : Dialog Saying Standing) (made later : Count Programmer) (p : Programmer) (fates : List Fate)
+      (fits : AllFitItems part xs) (f : FitsPart part m)
       (leads : Leads device d p fates (Rests part (all_steps part xs) m) (Comes part m xs Check)) (first : Makes part m xs d made p fates)
       (more : (q : Programmer) (fs : List Fate) → Settled part (effects part xs m) q → Makes part (effects part xs m) ys next later q fs) where
     abbrev after : Standing → Count Programmer
@@ -257,7 +264,8 @@ module _ (part : Part) (sound : IsPart part) where
 
     abbrev Ends : ℕ → Dialog Saying Standing → Type 0
     Ends k x = let s = along device k d p fates in
-        (onward device (unless_fault next) s.left s.fates s.programmer x).dialog ≡ Done fine → with_next x (made k p fates) (λ a. after a s.left s.programmer s.fates) ≡ length (all_steps part (xs ++ ys))
+        (onward device (unless_fault next) s.left s.fates s.programmer x).dialog ≡ Done fine
+        → with_next x (made k p fates) (λ a. after a s.left s.programmer s.fates) ≡ length (all_steps part (xs ++ ys))
 
     complete_fine : (k : ℕ) (s : Standing) → (along device k d p fates).dialog ≡ Done s → Comes part m xs Check s (along device k d p fates).programmer → Ends k (Done s)
     complete_fine k s e (Came is settled check) =

@@ -70,7 +70,8 @@ module _ (part : Part) (sound : IsPart part) (s : Switches) where
   makes_writing mem image m fits can = by_kind (is_writable mem) can
     where
       by_kind : (b : Bool) → b ≡ true
-          → Strikes part (Settled part m) m (Write mem image ∷ []) (steps_done device (write_steps part mem image)) (reported (if b then operation (write_steps part mem image) done else Done (Err (ReadOnly mem))) (written_says s.quiet part mem image))
+          → Strikes part (Settled part m) m (Write mem image ∷ []) (steps_done device (write_steps part mem image))
+          (reported (if b then operation (write_steps part mem image) done else Done (Err (ReadOnly mem))) (written_says s.quiet part mem image))
       by_kind true e p fates settled =
           makes_items part sound m (Write mem image ∷ []) (write_steps part mem image) done (written_says s.quiet part mem image) p fates (sym (append-nil (write_steps part mem image)))
           (write_are_steps part sound mem image fits) settled
@@ -82,7 +83,8 @@ module _ (part : Part) (sound : IsPart part) (s : Switches) where
     where
       by_switch : (dry : Bool) → Strikes part (Settled part m) m (if dry then [] else Write mem image ∷ []) (if dry then none_made else steps_done device (write_steps part mem image))
           (if dry then says (left_out_write s mem image) (Done fine) else writing_part part s mem image >>= unless_fault (read_back_part part s mem image))
-      by_switch true p fates settled = makes_none part m (says (left_out_write s mem image) (Done fine)) p fates (Comes part m [] ⊤) (goes_saying part sound m (left_out_write s mem image) p fates settled)
+      by_switch true p fates settled =
+          makes_none part m (says (left_out_write s mem image) (Done fine)) p fates (Comes part m [] ⊤) (goes_saying part sound m (left_out_write s mem image) p fates settled)
       by_switch false p fates settled =
           let item = Write mem image in
           let left = effects part (item ∷ []) m in
@@ -94,9 +96,11 @@ module _ (part : Part) (sound : IsPart part) (s : Switches) where
           (λ k.
           let z = along device k d p fates in
           nothing_after z.dialog (writes k p fates) (λ a. after a z.left z.programmer z.fates) (λ a. either_none (status_of a == 0) z.left z.programmer z.fates))
-          (makes_then part sound m (item ∷ []) [] ⊤ d next writes none_made p fates (fits, tt) f (goes_writing part sound s mem image m fits can f p fates settled) (makes_writing mem image m fits can p fates settled)
+          (makes_then part sound m (item ∷ []) [] ⊤ d next writes none_made p fates (fits, tt) f (goes_writing part sound s mem image m fits can f p fates settled)
+          (makes_writing mem image m fits can p fates settled)
           (λ q fs there.
-          makes_none part left next q fs (Comes part left [] (Unless s.no_verify (Shows part mem image left))) (goes_read_back part sound s mem image left (effects_sizes part sound (item ∷ []) m f) q fs there)))
+          makes_none part left next q fs (Comes part left [] (Unless s.no_verify (Shows part mem image left)))
+          (goes_read_back part sound s mem image left (effects_sizes part sound (item ∷ []) m f) q fs there)))
 
   makes_task : (task : Task) (m : Memories) → IsFitted part task → FitsPart part m → Strikes part (Settled part m) m (task_items s task) (task_made part s task) (task_part part s task)
   makes_task (task.Write mem image) m fitted f = makes_write mem image m (let size = fitted.0 in omega (arith, size)) fitted.1 f
@@ -105,13 +109,15 @@ module _ (part : Part) (sound : IsPart part) (s : Switches) where
   makes_task (task.Read mem format file) m fitted f = λ p fates settled.
       makes_none part m (reading_part part s mem format file) p fates (Comes part m [] ⊤) (goes_task part sound s (task.Read mem format file) m fitted f p fates settled)
 
-  makes_tasks : (tasks : List Task) (m : Memories) → All (IsFitted part) tasks → FitsPart part m → Strikes part (Settled part m) m (tasks_items s tasks) (tasks_made part s tasks) (tasks_part part s tasks)
+  makes_tasks : (tasks : List Task) (m : Memories) → All (IsFitted part) tasks → FitsPart part m
+      → Strikes part (Settled part m) m (tasks_items s tasks) (tasks_made part s tasks) (tasks_part part s tasks)
   makes_tasks [] m fitted f p fates settled = makes_none part m (Done fine) p fates (Comes part m [] ⊤) (goes_saying part sound m [] p fates settled)
   makes_tasks (task ∷ tasks) m fitted f p fates settled =
       let first = task_items s task in
       let left = effects part first m in
       let fits = first_of (IsFitted part) task tasks fitted in
-      makes_then part sound m first (tasks_items s tasks) (TaskAgrees part s task left) (task_part part s task) (tasks_part part s tasks) (task_made part s task) (tasks_made part s tasks) p fates
+      makes_then part sound m first (tasks_items s tasks) (TaskAgrees part s task left) (task_part part s task) (tasks_part part s tasks) (task_made part s task)
+      (tasks_made part s tasks) p fates
       (task_fits part sound s task fits) f (goes_task part sound s task m fits f p fates settled) (makes_task task m fits f p fates settled)
       (λ q fs there. makes_tasks tasks left (rest_of (IsFitted part) task tasks fitted) (effects_sizes part sound first m f) q fs there)
 
@@ -122,7 +128,8 @@ ending_keeps part s before standing p fates stands idle = by_standing stands
   where
     closes : (outcome_says : Result ⊤ HostFault → List Saying) → Leads device (reported closing outcome_says) p fates (Idle part before) (λ t q. Idle part before q)
     closes outcome_says =
-        leads_reported closing outcome_says p fates (Idle part before) (λ r q. Idle part before q) (λ t q. Idle part before q) (λ r q i. i) (λ r q i. i) (leads_closing part before p fates idle)
+        leads_reported closing outcome_says p fates (Idle part before) (λ r q. Idle part before q) (λ t q. Idle part before q) (λ r q i. i) (λ r q i. i)
+        (leads_closing part before p fates idle)
 
     by_standing : Stands standing → Leads device (ending part s standing) p fates (Idle part before) (λ t q. Idle part before q)
     by_standing (inl e) = subst (λ x. Leads device (ending part s x) p fates (Idle part before) (λ t q. Idle part before q)) (sym e) (closes (closed_says s.quiet part))
@@ -131,13 +138,15 @@ ending_keeps part s before standing p fates stands idle = by_standing stands
         (leads_bind device (Idle part before) (λ t q. Idle part before q) (λ t q. Idle part before q) (λ closed. Done over)
         (λ t q fs i. leads_done device over q fs (Idle part before) (λ u r. Idle part before r) i i) (reported closing (λ _. [])) p fates (closes (λ _. [])))
     by_standing (inr (inr e)) =
-        subst (λ x. Leads device (ending part s x) p fates (Idle part before) (λ t q. Idle part before q)) (sym e) (leads_done device over p fates (Idle part before) (λ u r. Idle part before r) idle idle)
+        subst (λ x. Leads device (ending part s x) p fates (Idle part before) (λ t q. Idle part before q)) (sym e)
+        (leads_done device over p fates (Idle part before) (λ u r. Idle part before r) idle idle)
 
 comes_stands : (part : Part) (m : Memories) (all : List Item) (Check : Type 0) (s : Standing) (q : Programmer) → Comes part m all Check s q → Stands s
 comes_stands part m all Check s q (Came e settled check) = inl e
 comes_stands part m all Check s q (Stopped stopped rests) = inr stopped
 
-module _ (plan : Plan) (sound : IsPart plan.part) (fitted : All (IsFitted plan.part) plan.tasks) (m : Memories) (f : FitsPart plan.part m) (p : Programmer) (fates : List Fate) (idle : Idle plan.part m p) where
+module _ (plan : Plan) (sound : IsPart plan.part) (fitted : All (IsFitted plan.part) plan.tasks) (m : Memories) (f : FitsPart plan.part m) (p : Programmer) (fates : List Fate)
+    (idle : Idle plan.part m p) where
   makes_beginning : Makes plan.part m (erasing_items plan.switches plan.tasks) (beginning plan) (beginning_made plan) p fates
   makes_beginning =
       let part = plan.part in

@@ -64,10 +64,12 @@ module _ (part : Part) where
   effects_sizes sound (item ∷ items) m f = effects_sizes sound items (effect part item m) (effect_sizes part sound item m f)
 
   -- all steps of items do what they do
-  pub all_struck : (sound : IsPart part) (items : List Item) (m : Memories) → AllFitItems part items → FitsPart part m → struck_by part (length (all_steps part items)) (all_steps part items) m ≡ effects part items m
+  pub all_struck : (sound : IsPart part) (items : List Item) (m : Memories) → AllFitItems part items → FitsPart part m
+      → struck_by part (length (all_steps part items)) (all_steps part items) m ≡ effects part items m
   all_struck sound items m fits f = struck_all part (all_steps part items) m ∙ items_do part sound items m fits f
 
-  pub rests_all : (sound : IsPart part) (items : List Item) (m : Memories) (q : Programmer) → AllFitItems part items → FitsPart part m → Idle part (effects part items m) q → Rests part (all_steps part items) m q
+  pub rests_all : (sound : IsPart part) (items : List Item) (m : Memories) (q : Programmer) → AllFitItems part items → FitsPart part m → Idle part (effects part items m) q
+      → Rests part (all_steps part items) m q
   rests_all sound items m q fits f idle = record { count = length (all_steps part items); stands = subst (λ z. Idle part z q) (sym (all_struck sound items m fits f)) idle }
 
   -- all of the first steps and some of more

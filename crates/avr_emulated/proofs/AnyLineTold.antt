@@ -57,7 +57,8 @@ module _ {P : Type 0} (m : Device P) where
     on_fine : (left : ℕ) (fates : List Fate) (p : P) (d : Dialog ⊥ (Result A HostFault)) → (onward m telling left fates p (lifted d)).dialog ≡ Done fine → (a : A) × (d ≡ Done (Ok a))
     on_fine left fates p (Done (Ok a)) e = (a, refl)
     on_fine left fates p (Done (Err fault)) e =
-        absurd (stopped≢fine (standing {A = A} (Err fault)) (fault_stops A fault) (done_same _ _ (sym (says_dialog left (outcome_says (Err fault)) (standing {A = A} (Err fault)) p fates) ∙ e)))
+        absurd (stopped≢fine (standing {A = A} (Err fault)) (fault_stops A fault)
+        (done_same _ _ (sym (says_dialog left (outcome_says (Err fault)) (standing {A = A} (Err fault)) p fates) ∙ e)))
     on_fine left fates p (Say s d) e = absurd s
     on_fine left fates p (Ask bytes go_on) e = absurd (asks≢done _ _ _ e)
 
@@ -85,6 +86,7 @@ module _ {P : Type 0} (m : Device P) where
     judged_ok (Ask bytes go_on) a e = absurd (asks≢done _ _ _ e)
 
     -- where it succeeds they came to data
-    pub operation_ok : (k : ℕ) (p : P) (fates : List Fate) (a : A) → (along m k (operation steps judge) p fates).dialog ≡ Done (Ok a) → (got : List ℕ) × ((along m k (play steps []) p fates).dialog ≡ Done (Ok got))
+    pub operation_ok : (k : ℕ) (p : P) (fates : List Fate) (a : A) → (along m k (operation steps judge) p fates).dialog ≡ Done (Ok a)
+        → (got : List ℕ) × ((along m k (play steps []) p fates).dialog ≡ Done (Ok got))
     unfolding operation
     operation_ok k p fates a e = judged_ok (along m k (play steps []) p fates).dialog a (sym (ap (λ z. z.dialog) (along_told m k (play steps []) (judged_by judge) p fates)) ∙ e)
