@@ -43,14 +43,17 @@ module _ (part : Part) (sound : IsPart part) (m : Memories) (f : FitsPart part m
   closed check (Err fault) q idle = Broke (fault_stops ⊤ fault) (rests_all part sound all m q fits f idle)
 
   -- to leave programming mode keeps the memories
-  leads_left : (before : Memories) (outcome_says : Result ⊤ HostFault → List Saying) (p : Programmer) (fates : List Fate) (During : Programmer → Type 0) (Then : Standing → Programmer → Type 0)
+  leads_left : (before : Memories) (outcome_says : Result ⊤ HostFault → List Saying) (p : Programmer) (fates : List Fate) (During : Programmer → Type 0)
+      (Then : Standing → Programmer → Type 0)
       → ((q : Programmer) → Idle part before q → During q) → ((r : Result ⊤ HostFault) (q : Programmer) → Idle part before q → Then (standing r) q) → Idle part before p
       → Leads device (reported closing outcome_says) p fates During Then
   leads_left before outcome_says p fates During Then during after idle =
       leads_reported closing outcome_says p fates During (λ result q. Idle part before q) Then (λ r q i. during q i) (λ r q i. after r q i)
-      (leads_wider device closing p fates (Idle part before) During (λ result q. Idle part before q) (λ result q. Idle part before q) (λ q i. during q i) (λ r q i. i) (leads_closing part before p fates idle))
+      (leads_wider device closing p fates (Idle part before) During (λ result q. Idle part before q) (λ result q. Idle part before q) (λ q i. during q i) (λ r q i. i)
+      (leads_closing part before p fates idle))
 
-  at : (plan : Plan) (s t : Standing) (p : Programmer) (fates : List Fate) → s ≡ t → Leads device (ending part plan.switches t) p fates (Rests part (all_steps part all) m) (Ends part m all Check)
+  at : (plan : Plan) (s t : Standing) (p : Programmer) (fates : List Fate) → s ≡ t
+      → Leads device (ending part plan.switches t) p fates (Rests part (all_steps part all) m) (Ends part m all Check)
       → Leads device (ending part plan.switches s) p fates (Rests part (all_steps part all) m) (Ends part m all Check)
   at plan s t p fates e l = subst (λ x. Leads device (ending part plan.switches x) p fates (Rests part (all_steps part all) m) (Ends part m all Check)) (sym e) l
 
@@ -84,7 +87,8 @@ module _ (part : Part) (sound : IsPart part) (m : Memories) (f : FitsPart part m
 tasks_fit : (part : Part) (sound : IsPart part) (s : Switches) (tasks : List Task) → All (IsFitted part) tasks → AllFitItems part (tasks_items s tasks)
 tasks_fit part sound s [] fitted = tt
 tasks_fit part sound s (task ∷ tasks) fitted =
-    fits_on part (task_items s task) (tasks_items s tasks) (task_fits part sound s task (first_of (IsFitted part) task tasks fitted)) (tasks_fit part sound s tasks (rest_of (IsFitted part) task tasks fitted))
+    fits_on part (task_items s task) (tasks_items s tasks) (task_fits part sound s task (first_of (IsFitted part) task tasks fitted))
+    (tasks_fit part sound s tasks (rest_of (IsFitted part) task tasks fitted))
 
 module _ (plan : Plan) (sound : IsPart plan.part) (fitted : All (IsFitted plan.part) plan.tasks) (m : Memories) (f : FitsPart plan.part m) where
   plan_fits : AllFitItems plan.part (items plan)
@@ -93,19 +97,24 @@ module _ (plan : Plan) (sound : IsPart plan.part) (fitted : All (IsFitted plan.p
       (erasing_fits plan.part sound plan.switches plan.tasks) (tasks_fit plan.part sound plan.switches plan.tasks fitted)
 
   -- all of a session but its end
-  abbrev Checks : Type 0
+  abbrev pub Checks : Type 0
   Checks = (⊤ × ⊤) × Agrees plan m
 
-  goes_working : Goes plan.part (Idle plan.part m) m (items plan) Checks (working plan)
+  pub goes_beginning : Goes plan.part (Idle plan.part m) m (erasing_items plan.switches plan.tasks) (⊤ × ⊤) (beginning plan)
+  goes_beginning =
+      let part = plan.part in
+      let s = plan.switches in
+      goes_then part sound (Idle part m) m [] (erasing_items s plan.tasks) ⊤ ⊤ (opening_part part s) (erasing_part part s plan.tasks) tt f
+      (goes_opening part sound s m f) (goes_erasing part sound s plan.tasks m f)
+
+  pub goes_working : Goes plan.part (Idle plan.part m) m (items plan) Checks (working plan)
   goes_working =
       let part = plan.part in
       let s = plan.switches in
       let erased = erasing_items s plan.tasks in
-      let left = effects part erased m in
-      goes_then part sound (Idle part m) m erased (tasks_items s plan.tasks) (⊤ × ⊤) (Agrees plan m) (beginning plan) (tasks_part part s plan.tasks) (erasing_fits part sound s plan.tasks) f
-      (goes_then part sound (Idle part m) m [] erased ⊤ ⊤ (opening_part part s) (erasing_part part s plan.tasks) tt f
-      (goes_opening part sound s m f) (goes_erasing part sound s plan.tasks m f))
-      (goes_tasks part sound s plan.tasks left fitted (effects_sizes part sound erased m f))
+      goes_then part sound (Idle part m) m erased (tasks_items s plan.tasks) (⊤ × ⊤) (Agrees plan m) (beginning plan) (tasks_part part s plan.tasks)
+      (erasing_fits part sound s plan.tasks) f goes_beginning
+      (goes_tasks part sound s plan.tasks (effects part erased m) fitted (effects_sizes part sound erased m f))
 
   -- a session
   leads_session : (p : Programmer) (fates : List Fate) → Idle plan.part m p
@@ -116,7 +125,8 @@ module _ (plan : Plan) (sound : IsPart plan.part) (fitted : All (IsFitted plan.p
       let all = items plan in
       let During : Programmer → Type 0 = Rests part (all_steps part all) m in
       leads_bind device During (Ends part m all Checks) (Leaves part m all Checks) (λ standing. Done (status_of standing))
-      (λ s q fs ends. leads_done device (status_of s) q fs During (Leaves part m all Checks) (ends_rests part sound m f all plan_fits Checks s q ends) (ends_leaves part sound m f all plan_fits Checks s q ends))
+      (λ s q fs ends. leads_done device (status_of s) q fs During (Leaves part m all Checks) (ends_rests part sound m f all plan_fits Checks s q ends)
+      (ends_leaves part sound m f all plan_fits Checks s q ends))
       (playing plan) p fates
       (leads_bind device During (Comes part m all Checks) (Ends part m all Checks) (ending part plan.switches)
       (λ s q fs came. leads_ending part sound m f all plan_fits Checks plan s q fs came) (working plan) p fates (goes_working p fates idle))

@@ -37,7 +37,8 @@ AsksFor Result (Done r) = Result r
 AsksFor Result (Say e dialog) = AsksFor Result dialog
 AsksFor Result (Ask bytes go_on) = IsBody bytes × ((reading : Reading) → AsksFor Result (go_on reading))
 
-asks_for_bind : {E A B : Type 0} (First : A → Type 0) (Then : B → Type 0) (d : Dialog E A) (next : A → Dialog E B) → AsksFor First d → ((a : A) → First a → AsksFor Then (next a)) → AsksFor Then (d >>= next)
+asks_for_bind : {E A B : Type 0} (First : A → Type 0) (Then : B → Type 0) (d : Dialog E A) (next : A → Dialog E B) → AsksFor First d → ((a : A) → First a → AsksFor Then (next a))
+    → AsksFor Then (d >>= next)
 asks_for_bind First Then (Done a) next f g = g a f
 asks_for_bind First Then (Say s d) next f g = asks_for_bind First Then d next f g
 asks_for_bind First Then (Ask bytes go_on) next f g = (f.0, λ reading. asks_for_bind First Then (go_on reading) next (f.1 reading) g)
@@ -133,7 +134,8 @@ asks_working plan sound fitted =
     let part = plan.part in
     let s = plan.switches in
     asks_then (beginning plan) (tasks_part part s plan.tasks)
-    (asks_then (opening_part part s) (erasing_part part s plan.tasks) (asks_reported (opening part.signature s.force) (opening_says s.quiet part) (asks_opening part.signature s.force)) (asks_erasing part sound s plan.tasks))
+    (asks_then (opening_part part s) (erasing_part part s plan.tasks) (asks_reported (opening part.signature s.force) (opening_says s.quiet part) (asks_opening part.signature s.force))
+    (asks_erasing part sound s plan.tasks))
     (asks_tasks part sound s plan.tasks fitted)
 
 -- every question of a session
@@ -142,5 +144,6 @@ unfolding session
 session_asks plan sound fitted =
     asks_bind (playing plan) (λ standing. Done (status_of standing))
     (bodies_only Stands (playing plan)
-    (asks_for_bind Stands Stands (working plan) (ending plan.part plan.switches) (asks_working plan sound fitted) (λ standing stands. asks_ending plan.part sound plan.switches standing stands)))
+    (asks_for_bind Stands Stands (working plan) (ending plan.part plan.switches) (asks_working plan sound fitted)
+    (λ standing stands. asks_ending plan.part sound plan.switches standing stands)))
     (λ standing. tt)

@@ -67,7 +67,8 @@ CameTo part m items Check (Err fault) q = Rests part (all_steps part items) m q
 abbrev pub Goes : Part → (Programmer → Type 0) → Memories → List Item → Type 0 → Dialog Saying Standing → Type 0
 Goes part From m items Check d = (p : Programmer) (fates : List Fate) → From p → Leads device d p fates (Rests part (all_steps part items) m) (Comes part m items Check)
 
-come_standing : {A : Type 0} (part : Part) (m : Memories) (items : List Item) (Check : Type 0) (r : Result A HostFault) (q : Programmer) → CameTo part m items Check r q → Comes part m items Check (standing r) q
+come_standing : {A : Type 0} (part : Part) (m : Memories) (items : List Item) (Check : Type 0) (r : Result A HostFault) (q : Programmer) → CameTo part m items Check r q
+    → Comes part m items Check (standing r) q
 come_standing {A = A} part m items Check (Ok a) q came = Came refl came.0 came.1
 come_standing {A = A} part m items Check (Err fault) q rests = Stopped (fault_stops A fault) rests
 
@@ -75,7 +76,8 @@ ok_is : {A : Type 0} (a : A) (fault : HostFault) → ◌≡◌ {A = Result A Hos
 ok_is a fault e = cc
 
 module _ (part : Part) (sound : IsPart part) where
-  came_rests : {A : Type 0} (m : Memories) (items : List Item) (Check : Type 0) (r : Result A HostFault) (q : Programmer) → AllFitItems part items → FitsPart part m → CameTo part m items Check r q → Rests part (all_steps part items) m q
+  came_rests : {A : Type 0} (m : Memories) (items : List Item) (Check : Type 0) (r : Result A HostFault) (q : Programmer) → AllFitItems part items → FitsPart part m
+      → CameTo part m items Check r q → Rests part (all_steps part items) m q
   came_rests m items Check (Ok a) q fits f came = rests_all part sound items m q fits f (settled_idle part (effects part items m) q came.0)
   came_rests m items Check (Err fault) q fits f came = came
 
@@ -84,13 +86,14 @@ module _ (part : Part) (sound : IsPart part) where
   comes_wider m items Check Wider follows s q (Stopped stopped rests) = Stopped stopped rests
 
   -- another check that follows
-  goes_wider : (From : Programmer → Type 0) (m : Memories) (items : List Item) (Check Wider : Type 0) (d : Dialog Saying Standing) → (Check → Wider) → Goes part From m items Check d → Goes part From m items Wider d
+  goes_wider : (From : Programmer → Type 0) (m : Memories) (items : List Item) (Check Wider : Type 0) (d : Dialog Saying Standing) → (Check → Wider) → Goes part From m items Check d
+      → Goes part From m items Wider d
   goes_wider From m items Check Wider d follows goes p fates from =
       leads_wider device d p fates (Rests part (all_steps part items) m) (Rests part (all_steps part items) m) (Comes part m items Check) (Comes part m items Wider)
       (λ q r. r) (λ s q came. comes_wider m items Check Wider follows s q came) (goes p fates from)
 
   -- nothing but what is said
-  goes_saying : (m : Memories) (sayings : List Saying) → Goes part (Settled part m) m [] ⊤ (says sayings (Done fine))
+  pub goes_saying : (m : Memories) (sayings : List Saying) → Goes part (Settled part m) m [] ⊤ (says sayings (Done fine))
   goes_saying m sayings p fates s =
       leads_says sayings (Done fine) p fates (Rests part [] m) (Comes part m [] ⊤)
       (leads_done device fine p fates (Rests part [] m) (Comes part m [] ⊤) (rests_here part [] m p (settled_idle part m p s)) (Came refl s tt))
@@ -126,14 +129,17 @@ module _ (part : Part) (sound : IsPart part) where
       comes check s q (Came e settled more) = Came e (subst (λ z. Settled part z q) (sym (effects_on part xs ys m)) settled) (check, more)
       comes check s q (Stopped stopped rests) = Stopped stopped (rests_behind part sound xs ys m q fits f rests)
 
-      at : (s t : Standing) (q : Programmer) (fs : List Fate) → s ≡ t → Leads device (unless_fault next t) q fs (Rests part (all_steps part (xs ++ ys)) m) (Comes part m (xs ++ ys) (Check × More))
+      at : (s t : Standing) (q : Programmer) (fs : List Fate) → s ≡ t
+          → Leads device (unless_fault next t) q fs (Rests part (all_steps part (xs ++ ys)) m) (Comes part m (xs ++ ys) (Check × More))
           → Leads device (unless_fault next s) q fs (Rests part (all_steps part (xs ++ ys)) m) (Comes part m (xs ++ ys) (Check × More))
       at s t q fs e l = subst (λ x. Leads device (unless_fault next x) q fs (Rests part (all_steps part (xs ++ ys)) m) (Comes part m (xs ++ ys) (Check × More))) (sym e) l
 
-      on : (s : Standing) (q : Programmer) (fs : List Fate) → Comes part m xs Check s q → Leads device (unless_fault next s) q fs (Rests part (all_steps part (xs ++ ys)) m) (Comes part m (xs ++ ys) (Check × More))
+      on : (s : Standing) (q : Programmer) (fs : List Fate) → Comes part m xs Check s q
+          → Leads device (unless_fault next s) q fs (Rests part (all_steps part (xs ++ ys)) m) (Comes part m (xs ++ ys) (Check × More))
       on s q fs (Came e settled check) =
           at s fine q fs e
-          (leads_wider device next q fs (Rests part (all_steps part ys) (effects part xs m)) (Rests part (all_steps part (xs ++ ys)) m) (Comes part (effects part xs m) ys More) (Comes part m (xs ++ ys) (Check × More))
+          (leads_wider device next q fs (Rests part (all_steps part ys) (effects part xs m)) (Rests part (all_steps part (xs ++ ys)) m) (Comes part (effects part xs m) ys More)
+          (Comes part m (xs ++ ys) (Check × More))
           (λ z r. rests_behind part sound xs ys m z fits f r) (λ t z after. comes check t z after) (more q fs settled))
       on s q fs (Stopped (inl e) rests) =
           let r = rests_before part xs ys m q rests in
@@ -143,7 +149,7 @@ module _ (part : Part) (sound : IsPart part) where
           at s over q fs e (leads_done device over q fs (Rests part (all_steps part (xs ++ ys)) m) (Comes part m (xs ++ ys) (Check × More)) r (Stopped (inr refl) r))
 
   -- a memory is read, and what it holds is judged
-  goes_reading : {A : Type 0} (m : Memories) (Check : Type 0) (mem : Mem) (judge : List ℕ → Result A HostFault) (outcome_says : Result A HostFault → List Saying)
+  pub goes_reading : {A : Type 0} (m : Memories) (Check : Type 0) (mem : Mem) (judge : List ℕ → Result A HostFault) (outcome_says : Result A HostFault → List Saying)
       → FitsPart part m → ((a : A) → judge (memory_in part mem m) ≡ Ok a → Check) → Goes part (Settled part m) m [] Check (reported (operation (read_steps part mem) judge) outcome_says)
   goes_reading m Check mem judge outcome_says f judged =
       let steps = read_steps part mem in
@@ -199,30 +205,34 @@ module _ (part : Part) (sound : IsPart part) where
     ok_same mem None a e = refl
     ok_same mem (Some d) a e = absurd (ok_is a (Differs mem d.addr d.want d.found) (sym e))
 
-    goes_verifying : (mem : Mem) (image : Image) (m : Memories) → FitsPart part m → Goes part (Settled part m) m [] (Shows part mem image m) (verifying_part part s mem image)
+    pub goes_verifying : (mem : Mem) (image : Image) (m : Memories) → FitsPart part m → Goes part (Settled part m) m [] (Shows part mem image m) (verifying_part part s mem image)
     goes_verifying mem image m f =
         goes_reading m (Shows part mem image m) mem (compared mem image) (verified_says s.quiet part mem image) f
         (λ a e. no_difference 0 image (memory_in part mem m) (ok_same mem (difference_from 0 image (memory_in part mem m)) a e))
 
-    goes_read_back : (mem : Mem) (image : Image) (m : Memories) → FitsPart part m → Goes part (Settled part m) m [] (Unless s.no_verify (Shows part mem image m)) (read_back_part part s mem image)
+    pub goes_read_back : (mem : Mem) (image : Image) (m : Memories) → FitsPart part m
+        → Goes part (Settled part m) m [] (Unless s.no_verify (Shows part mem image m)) (read_back_part part s mem image)
     goes_read_back mem image m f = by_switch s.no_verify
       where
         by_switch : (b : Bool) → Goes part (Settled part m) m [] (Unless b (Shows part mem image m)) (if b then Done fine else verifying_part part s mem image)
         by_switch true = goes_saying m []
         by_switch false = goes_verifying mem image m f
 
-    goes_writing : (mem : Mem) (image : Image) (m : Memories) → length image ≤ size_of mem part → is_writable mem ≡ true → FitsPart part m
+    pub goes_writing : (mem : Mem) (image : Image) (m : Memories) → length image ≤ size_of mem part → is_writable mem ≡ true → FitsPart part m
         → Goes part (Settled part m) m (Write mem image ∷ []) ⊤ (writing_part part s mem image)
     goes_writing mem image m fits can f = by_kind (is_writable mem) can
       where
-        by_kind : (b : Bool) → b ≡ true → Goes part (Settled part m) m (Write mem image ∷ []) ⊤ (reported (if b then operation (write_steps part mem image) done else Done (Err (ReadOnly mem))) (written_says s.quiet part mem image))
+        by_kind : (b : Bool) → b ≡ true
+            → Goes part (Settled part m) m (Write mem image ∷ []) ⊤
+            (reported (if b then operation (write_steps part mem image) done else Done (Err (ReadOnly mem))) (written_says s.quiet part mem image))
         by_kind true e =
             goes_items m (Write mem image ∷ []) (write_steps part mem image) (written_says s.quiet part mem image) (sym (append-nil (write_steps part mem image))) (fits, tt) f
             (write_are_steps part sound mem image fits)
         by_kind false e = absurd cc
 
     goes_write : (mem : Mem) (image : Image) (m : Memories) → length image ≤ size_of mem part → is_writable mem ≡ true → FitsPart part m
-        → Goes part (Settled part m) m (task_items s (task.Write mem image)) (TaskAgrees part s (task.Write mem image) (effects part (task_items s (task.Write mem image)) m)) (write_part part s mem image)
+        → Goes part (Settled part m) m (task_items s (task.Write mem image)) (TaskAgrees part s (task.Write mem image) (effects part (task_items s (task.Write mem image)) m))
+        (write_part part s mem image)
     goes_write mem image m fits can f = by_switch s.dry
       where
         by_switch : (dry : Bool) → Goes part (Settled part m) m (if dry then [] else Write mem image ∷ [])
@@ -236,7 +246,7 @@ module _ (part : Part) (sound : IsPart part) where
             (goes_then (Settled part m) m (Write mem image ∷ []) [] ⊤ Check (writing_part part s mem image) (read_back_part part s mem image) (fits, tt) f
             (goes_writing mem image m fits can f) (goes_read_back mem image left (effect_sizes part sound (Write mem image) m f)))
 
-    goes_task : (task : Task) (m : Memories) → IsFitted part task → FitsPart part m
+    pub goes_task : (task : Task) (m : Memories) → IsFitted part task → FitsPart part m
         → Goes part (Settled part m) m (task_items s task) (TaskAgrees part s task (effects part (task_items s task) m)) (task_part part s task)
     goes_task (task.Write mem image) m fitted f = goes_write mem image m (let size = fitted.0 in omega (arith, size)) fitted.1 f
     goes_task (task.Verify mem image) m fitted f = goes_verifying mem image m f
@@ -251,11 +261,13 @@ module _ (part : Part) (sound : IsPart part) where
     task_fits (task.Verify mem image) fitted = tt
     task_fits (task.Read mem format file) fitted = tt
 
-    pub goes_tasks : (tasks : List Task) (m : Memories) → All (IsFitted part) tasks → FitsPart part m → Goes part (Settled part m) m (tasks_items s tasks) (TasksAgree part s tasks m) (tasks_part part s tasks)
+    pub goes_tasks : (tasks : List Task) (m : Memories) → All (IsFitted part) tasks → FitsPart part m
+        → Goes part (Settled part m) m (tasks_items s tasks) (TasksAgree part s tasks m) (tasks_part part s tasks)
     goes_tasks [] m fitted f = goes_saying m []
     goes_tasks (task ∷ tasks) m fitted f =
         let first = task_items s task in
         let left = effects part first m in
         let fits = first_of (IsFitted part) task tasks fitted in
-        goes_then (Settled part m) m first (tasks_items s tasks) (TaskAgrees part s task left) (TasksAgree part s tasks left) (task_part part s task) (tasks_part part s tasks) (task_fits task fits) f
+        goes_then (Settled part m) m first (tasks_items s tasks) (TaskAgrees part s task left) (TasksAgree part s tasks left) (task_part part s task) (tasks_part part s tasks)
+        (task_fits task fits) f
         (goes_task task m fits f) (goes_tasks tasks left (rest_of (IsFitted part) task tasks fitted) (effects_sizes part sound first m f))

@@ -20,26 +20,26 @@ pub record Rests (part : Part) (steps : Steps) (m : Memories) (q : Programmer) :
   pub stands : Idle part (struck_by part count steps m) q
 
 -- so many of the first steps, in front of others
-abbrev front : ℕ → Steps → ℕ
+abbrev pub front : ℕ → Steps → ℕ
 front zero steps = zero
 front (suc count) [] = zero
 front (suc count) (commands ∷ steps) = suc (front count steps)
 
 -- all of these, and so many more
-abbrev behind : Steps → ℕ → ℕ
+abbrev pub behind : Steps → ℕ → ℕ
 behind [] count = count
 behind (commands ∷ steps) count = suc (behind steps count)
 
-struck_front : (part : Part) (count : ℕ) (xs ys : Steps) (m : Memories) → struck_by part (front count xs) (xs ++ ys) m ≡ struck_by part count xs m
+pub struck_front : (part : Part) (count : ℕ) (xs ys : Steps) (m : Memories) → struck_by part (front count xs) (xs ++ ys) m ≡ struck_by part count xs m
 struck_front part zero xs ys m = refl
 struck_front part (suc count) [] ys m = refl
 struck_front part (suc count) (commands ∷ xs) ys m = struck_front part count xs ys (struck part commands m)
 
-struck_behind : (part : Part) (count : ℕ) (xs ys : Steps) (m : Memories) → struck_by part (behind xs count) (xs ++ ys) m ≡ struck_by part count ys (struck_by part (length xs) xs m)
+pub struck_behind : (part : Part) (count : ℕ) (xs ys : Steps) (m : Memories) → struck_by part (behind xs count) (xs ++ ys) m ≡ struck_by part count ys (struck_by part (length xs) xs m)
 struck_behind part count [] ys m = refl
 struck_behind part count (commands ∷ xs) ys m = struck_behind part count xs ys (struck part commands m)
 
-all_on : (part : Part) (xs ys : List Item) → all_steps part (xs ++ ys) ≡ all_steps part xs ++ all_steps part ys
+pub all_on : (part : Part) (xs ys : List Item) → all_steps part (xs ++ ys) ≡ all_steps part xs ++ all_steps part ys
 all_on part [] ys = refl
 all_on part (item ∷ xs) ys = ap (λ steps. steps_of part item ++ steps) (all_on part xs ys) ∙ sym (append_assoc (steps_of part item) (all_steps part xs) (all_steps part ys))
 
@@ -64,10 +64,12 @@ module _ (part : Part) where
   effects_sizes sound (item ∷ items) m f = effects_sizes sound items (effect part item m) (effect_sizes part sound item m f)
 
   -- all steps of items do what they do
-  pub all_struck : (sound : IsPart part) (items : List Item) (m : Memories) → AllFitItems part items → FitsPart part m → struck_by part (length (all_steps part items)) (all_steps part items) m ≡ effects part items m
+  pub all_struck : (sound : IsPart part) (items : List Item) (m : Memories) → AllFitItems part items → FitsPart part m
+      → struck_by part (length (all_steps part items)) (all_steps part items) m ≡ effects part items m
   all_struck sound items m fits f = struck_all part (all_steps part items) m ∙ items_do part sound items m fits f
 
-  pub rests_all : (sound : IsPart part) (items : List Item) (m : Memories) (q : Programmer) → AllFitItems part items → FitsPart part m → Idle part (effects part items m) q → Rests part (all_steps part items) m q
+  pub rests_all : (sound : IsPart part) (items : List Item) (m : Memories) (q : Programmer) → AllFitItems part items → FitsPart part m → Idle part (effects part items m) q
+      → Rests part (all_steps part items) m q
   rests_all sound items m q fits f idle = record { count = length (all_steps part items); stands = subst (λ z. Idle part z q) (sym (all_struck sound items m fits f)) idle }
 
   -- all of the first steps and some of more

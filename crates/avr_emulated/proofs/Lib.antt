@@ -3,6 +3,9 @@ pub mod AnyLineAsks
 pub mod AnyLineSteps
 pub mod AnyLineParts
 pub mod AnyLine
+pub mod AnyLineTold
+pub mod AnyLineMakes
+pub mod AnyLineOrder
 pub mod GoodLineEnds
 pub mod GoodLineCalls
 pub mod GoodLine

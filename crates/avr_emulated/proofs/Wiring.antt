@@ -22,9 +22,10 @@ use Rattle.stk_emu.proofs.Beginning.{fresh_idle, fresh_fits}
 use Rattle.stk_emu.proofs.SaidAlong.{whole_said}
 use Rattle.stk_emu.proofs.Turning.{whole_along, broken_along}
 use Rattle.avr_emulated.specs.Course.{course}
-use Rattle.avr_emulated.specs.Outcome.{IsTouched, IsDone, Leaves, IsCourse, GoesWell}
+use Rattle.avr_emulated.specs.Outcome.{IsTouched, MakesStrokes, IsDone, Leaves, IsCourse, GoesWell}
 use Rattle.avr_emulated.proofs.AnyLine.{session_leaves}
 use Rattle.avr_emulated.proofs.AnyLineAsks.{session_asks}
+use Rattle.avr_emulated.proofs.AnyLineOrder.{session_makes}
 use Rattle.avr_emulated.proofs.GoodLine.{session_ends}
 use Rattle.avr_emulated.proofs.WrittenRuns.{run_written}
 
@@ -76,9 +77,6 @@ module _ (plan : Plan) (w v : State) (fresh : IsFresh w) (stays : Stays ComesOf 
     goes : GoesAlong (session plan) begun w.wire.fates v status left
     goes = whole_along (session plan) 1 begun w.wire.fates v asks fresh.lawful keeps plays.in_turn ran.events status next left plays
 
-    ran_touches : IsTouched plan before after
-    ran_touches = subst (λ (q : Programmer). IsTouched plan before (memories_of q.chip)) (sym goes.programmer) (leads.during count)
-
     ran_done : status ≡ 0 → IsDone plan before after
     ran_done zero = subst (λ (q : Programmer). IsDone plan before (memories_of q.chip)) (sym goes.programmer) (leads.after count status goes.result zero)
 
@@ -97,17 +95,16 @@ module _ (plan : Plan) (w v : State) (fresh : IsFresh w) (stays : Stays ComesOf 
     breaks : Breaks SaidPart (session plan) 1 [] v.talk broke.shown
     breaks = subst (λ talk. Breaks SaidPart (session plan) 1 [] talk broke.shown) (all_passed w.talk v.talk broke.during fresh.silent broke.grows) broke.breaks
 
-    broke_touches : IsTouched plan before after
-    broke_touches =
-        subst (λ (q : Programmer). IsTouched plan before (memories_of q.chip))
-        (sym (broken_along (session plan) 1 begun w.wire.fates v asks fresh.lawful keeps breaks.in_turn SaidPart broke.shown breaks)) (leads.during count)
+    broke_stands : v.wire.programmer ≡ (along device count (session plan) begun w.wire.fates).programmer
+    broke_stands = broken_along (session plan) 1 begun w.wire.fates v asks fresh.lawful keeps breaks.in_turn SaidPart broke.shown breaks
 
   one_no : ◌≡◌ {A = ℕ} 1 0 → ⊥
   one_no e = cc
 
-  touches : (old new : Option Record) (StopsBy : Cause → Type 0) (status : ℕ) → RunsTo (session plan) (Some w.talk) (Some v.talk) old new StopsBy status → IsTouched plan before after
-  touches old new StopsBy status (inl ran) = ran_touches old new status ran.0 ran.1 ran.2
-  touches old new StopsBy status (inr broke) = broke_touches old new StopsBy broke.0
+  on_line : (old new : Option Record) (StopsBy : Cause → Type 0) (status : ℕ) → RunsTo (session plan) (Some w.talk) (Some v.talk) old new StopsBy status
+      → v.wire.programmer ≡ (along device count (session plan) begun w.wire.fates).programmer
+  on_line old new StopsBy status (inl ran) = (goes old new status ran.0 ran.1 ran.2).programmer
+  on_line old new StopsBy status (inr broke) = broke_stands old new StopsBy broke.0
 
   is_done : (old new : Option Record) (StopsBy : Cause → Type 0) (status : ℕ) → RunsTo (session plan) (Some w.talk) (Some v.talk) old new StopsBy status → status ≡ 0 → IsDone plan before after
   is_done old new StopsBy status (inl ran) zero = ran_done old new status ran.0 ran.1 ran.2 zero
@@ -116,10 +113,21 @@ module _ (plan : Plan) (w v : State) (fresh : IsFresh w) (stays : Stays ComesOf 
   -- whatever the line did
   pub wired_leaves : (old new : Option Record) (StopsBy : Cause → Type 0) (status : ℕ) → RunsTo (session plan) (Some w.talk) (Some v.talk) old new StopsBy status → Leaves plan before after status
   wired_leaves old new StopsBy status runs = record {
-    touched = touches old new StopsBy status runs;
+    touched = subst (λ (q : Programmer). IsTouched plan before (memories_of q.chip)) (sym (on_line old new StopsBy status runs)) (leads.during count);
     done = is_done old new StopsBy status runs;
     written = λ wet verified zero. run_written plan before after fitted wet verified (is_done old new StopsBy status runs zero) sizes;
   }
+
+  -- so many strokes, by the frames that went out
+  pub wired_makes : (old new : Option Record) (StopsBy : Cause → Type 0) (status : ℕ) → RunsTo (session plan) (Some w.talk) (Some v.talk) old new StopsBy status → MakesStrokes plan begun w.wire.fates count before after
+  wired_makes old new StopsBy status runs =
+      let makes = session_makes plan sound fitted before begun w.wire.fates sizes idle in
+      record {
+        count = makes.count count;
+        at_least = makes.at_least count;
+        at_most = makes.at_most count;
+        memories = ap (λ (q : Programmer). memories_of q.chip) (on_line old new StopsBy status runs) ∙ makes.stands count;
+      }
 
   -- over a good line
   pub wired_goes_well : (old new : Option Record) (StopsBy : Cause → Type 0) (status : ℕ) → RunsTo (session plan) (Some w.talk) (Some v.talk) old new StopsBy status → AreGood w.wire.fates

@@ -2,5 +2,6 @@ pub mod Items
 pub mod Agrees
 pub mod Course
 pub mod Written
+pub mod Made
 pub mod Outcome
 pub mod Emulated

@@ -1,16 +1,19 @@
 -- What a run leaves in a chip, whatever the line did.
-use Rattle.std.specs.Prelude.{ℕ, ◌≡◌, ◌⊎◌, false, List, [], Option, Some, option_map, take}
+use Rattle.std.specs.Prelude.{ℕ, suc, ◌≡◌, ◌≤◌, ◌-◌, ◌⊎◌, false, List, [], Option, Some, option_map, take}
 use Rattle.avr_desk.specs.Record.{Record}
 use Rattle.avr_message.specs.Said.{after_all}
 use Rattle.avr_plan.specs.Plan.{Plan}
 use Rattle.avr_tool.specs.Runs.{Cause, BrokeOff}
 use Rattle.avr_tool.specs.Session.{session}
 use Rattle.stk_host.specs.Talk.{Talk}
+use Rattle.stk_emu.specs.declared.fate.Fate.{Fate}
 use Rattle.stk_emu.specs.Effect.{Item, Memories, effects}
+use Rattle.stk_emu.specs.Programmer.{Programmer}
 use Rattle.stk_emu.specs.Strokes.{all_steps, strokes_of}
 use Rattle.avr_emulated.specs.Items.{items}
 use Rattle.avr_emulated.specs.Agrees.{Agrees}
 use Rattle.avr_emulated.specs.Course.{course}
+use Rattle.avr_emulated.specs.Made.{made_by}
 use Rattle.avr_emulated.specs.Written.{IsWritten}
 
 -- what the steps of a plan write, one after another: its erase, and the parts of its writes
@@ -20,6 +23,14 @@ strokes plan = strokes_of (all_steps plan.part (items plan))
 -- Memories before a run and after it: those of the first so many strokes.
 pub record IsTouched (plan : Plan) (before after : Memories) : Type 0 where
   pub count : ℕ
+  pub memories : after ≡ effects plan.part (take count (strokes plan)) before
+
+-- The same, sharper, after so many frames over a line of these fates: at least as many strokes as have come to data by then,
+-- and at most one more than had before the last frame, whose answer may not have come.
+pub record MakesStrokes (plan : Plan) (p : Programmer) (fates : List Fate) (frames : ℕ) (before after : Memories) : Type 0 where
+  pub count : ℕ
+  pub at_least : made_by plan frames p fates ≤ count
+  pub at_most : count ≤ suc (made_by plan (frames - 1) p fates)
   pub memories : after ≡ effects plan.part (take count (strokes plan)) before
 
 -- After a run of status 0: all that the plan writes was written, and all that it compares agreed.

@@ -1,11 +1,14 @@
 //! A run over a wire to the emulated programmer.
-ghost use Rattle.std.specs.Prelude.{◌≡◌, Some};
+ghost use Rattle.std.specs.Prelude.{◌≡◌, Some, length};
 ghost use Rattle.avr_tool.specs.Runs.{RunsTo, Stops};
 ghost use Rattle.avr_tool.specs.Session.{session};
 ghost use Rattle.stk_emu.specs.Effect.{memories_of};
 ghost use Rattle.stk_emu.specs.Leads.{AreGood};
+ghost use Rattle.stk_emu.specs.Programmer.{fresh_programmer};
 ghost use Rattle.stk_emu.specs.Wired.{IsFresh};
-ghost use Rattle.avr_emulated.specs.Outcome.{Leaves, GoesWell};
+ghost use Rattle.stk_frame.specs.Cut.{frames};
+ghost use Rattle.stk_host.specs.Talk.{sent};
+ghost use Rattle.avr_emulated.specs.Outcome.{Leaves, MakesStrokes, GoesWell};
 
 use avr_desk::Desk;
 use avr_plan::Plan;
@@ -24,6 +27,9 @@ pub fn drive_wired<D: Desk>(alloc: Global, plan: &Plan, desk: &mut D, wire: &mut
         (Stops wire.old.failures wire.new.failures (D.failures desk.old) (D.failures desk.new)) result }
     // Whatever the line loses, delays and spoils, this is what the run leaves in the chip.
     ensures leaves { Leaves plan.now (memories_of wire.old.wire.programmer.chip) (memories_of wire.new.wire.programmer.chip) result }
+    // Of its strokes the first ones were made: by the frames that went out, all that have come to data and perhaps one more.
+    ensures in_order { MakesStrokes plan.now (fresh_programmer wire.old.wire.programmer.chip) wire.old.wire.fates (length (frames (sent wire.new.talk)))
+        (memories_of wire.old.wire.programmer.chip) (memories_of wire.new.wire.programmer.chip) }
     // Over a good line it goes as its course says.
     ensures good { AreGood wire.old.wire.fates → GoesWell plan.now (memories_of wire.old.wire.programmer.chip) (memories_of wire.new.wire.programmer.chip)
         (D.kept desk.old) (D.kept desk.new) (Some wire.new.talk) (Stops wire.old.failures wire.new.failures (D.failures desk.old) (D.failures desk.new)) result }

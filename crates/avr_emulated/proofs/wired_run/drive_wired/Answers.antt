@@ -1,4 +1,4 @@
-use Rattle.avr_emulated.proofs.Wiring.{wired_leaves, wired_goes_well}
+use Rattle.avr_emulated.proofs.Wiring.{wired_leaves, wired_makes, wired_goes_well}
 use Rattle.avr_emulated.proofs.wired_run.drive_wired.Goals as goal
 
 pub returns-clause-leaves : goal.returns-clause-leaves
@@ -8,3 +8,7 @@ returns-clause-leaves g c =
 pub returns-clause-good : goal.returns-clause-good
 returns-clause-good g c =
     wired_goes_well c.args.plan.now c.args.wire.now c.drive.new.link c.requires.fresh c.drive.ensures.comes (rw c.chip.ensures at c.part-part.ensures.sound) c.requires.part c.tasks-tasks.ensures.fitted _ _ _ _ c.drive.ensures.runs
+
+pub returns-clause-in_order : goal.returns-clause-in_order
+returns-clause-in_order g c =
+    wired_makes c.args.plan.now c.args.wire.now c.drive.new.link c.requires.fresh c.drive.ensures.comes (rw c.chip.ensures at c.part-part.ensures.sound) c.requires.part c.tasks-tasks.ensures.fitted _ _ _ _ c.drive.ensures.runs

@@ -1,0 +1,290 @@
+-- The parts of a session, by the strokes that they make one after another.
+use Rattle.std.proofs.Common.{◌≡◌, ℕ, zero, suc, ◌+◌, ◌-◌, ◌≤◌, List, [], ◌∷◌, ◌++◌, length, refl, sym, ap, ◌∙◌, subst, arith, inl, inr, Ok, Err, Result}
+use Rattle.std.proofs.lemmas.List.{length-append}
+use Rattle.std.specs.Prelude.{◌==◌, ⊤, if◌then◌else◌, min}
+use Rattle.avr_message.specs.Said.{Saying}
+use Rattle.avr_part.specs.Part.{Part, IsPart}
+use Rattle.stk_host.specs.declared.fault.HostFault.{HostFault}
+use Rattle.stk_host.specs.Dialog.{Dialog, Done, Say, Ask, ◌>>=◌}
+use Rattle.stk_host.specs.Steps.{Outcome, step, play}
+use Rattle.stk_host.specs.Operations.{operation}
+use Rattle.stk_emu.specs.declared.fate.Fate.{Fate}
+use Rattle.stk_emu.specs.Programmer.{Programmer}
+use Rattle.stk_emu.specs.Device.{device}
+use Rattle.stk_emu.specs.Along.{along}
+use Rattle.stk_emu.specs.Climbs.{counted, steps_done}
+use Rattle.stk_emu.specs.Effect.{Memories, Item, effects}
+use Rattle.stk_emu.specs.Settled.{Idle, Settled, FitsPart}
+use Rattle.stk_emu.specs.Strokes.{struck, struck_by, all_steps, AreSteps, AllFitItems}
+use Rattle.stk_emu.specs.Leads.{Leads}
+use Rattle.stk_emu.specs.Tallies.{Count, with_next, then_count, Tallies, GoesOn}
+use Rattle.stk_emu.proofs.Attempts.{along_bind, onward, asks≢done}
+use Rattle.stk_emu.proofs.Climbing.{along_before}
+use Rattle.stk_emu.proofs.Obeying.{settled_idle}
+use Rattle.stk_emu.proofs.Tallying.{tallies_wider, tallies_bind, steps_all, tallies_play}
+use Rattle.avr_tool.specs.Session.{reported, unless_fault, status_of}
+use Rattle.avr_emulated.specs.Made.{none_made}
+use Rattle.avr_emulated.proofs.AnyLineStanding.{Steps, Standing, fine, faulty, over}
+use Rattle.avr_emulated.proofs.AnyLineSteps.{Rests, front, behind, struck_front, struck_behind, all_on, all_struck}
+use Rattle.avr_emulated.proofs.AnyLineParts.{Comes, Came, Stopped}
+use Rattle.avr_emulated.proofs.AnyLineTold.{done_same, says≢done, stopped≢fine, none_left, reported_programmer, reported_fine, operation_programmer, operation_ok}
+
+-- the memories of so many first steps of these items
+pub record Struck (part : Part) (items : List Item) (m : Memories) (j : ℕ) (q : Programmer) : Type 0 where
+  pub few : j ≤ length (all_steps part items)
+  pub stands : Idle part (struck_by part j (all_steps part items) m) q
+
+-- a part that makes the strokes of these items in their order, and where it is fine all have come to data
+pub record Makes (part : Part) (m : Memories) (items : List Item) (d : Dialog Saying Standing) (made : Count Programmer) (p : Programmer) (fates : List Fate) : Type 0 where
+  pub tally : Tallies device d made (Struck part items m) p fates
+  pub complete : (k : ℕ) → (along device k d p fates).dialog ≡ Done fine → made k p fates ≡ length (all_steps part items)
+
+-- a count in other words
+pub tallies_same : {E R : Type 0} (d : Dialog E R) (made other : Count Programmer) (At : ℕ → Programmer → Type 0) (p : Programmer) (fates : List Fate)
+    → ((k : ℕ) → made k p fates ≡ other k p fates)
+    → Tallies device d made At p fates → Tallies device d other At p fates
+tallies_same d made other At p fates same t = record {
+  count = t.count;
+  none = t.none;
+  at_least = λ k. subst (λ n. n ≤ t.count k) (same k) (t.at_least k);
+  at_most = λ k. subst (λ n. t.count k ≤ suc n) (same (k - 1)) (t.at_most k);
+  stands = λ k. t.stands k;
+}
+
+pub makes_same : (part : Part) (m : Memories) (items : List Item) (d : Dialog Saying Standing) (made other : Count Programmer) (p : Programmer) (fates : List Fate)
+    → ((k : ℕ) → made k p fates ≡ other k p fates)
+    → Makes part m items d made p fates → Makes part m items d other p fates
+makes_same part m items d made other p fates same makes = record {
+  tally = tallies_same d made other (Struck part items m) p fates same makes.tally;
+  complete = λ k e. sym (same k) ∙ makes.complete k e;
+}
+
+struck_none : (part : Part) (count : ℕ) (m : Memories) → struck_by part count [] m ≡ m
+struck_none part zero m = refl
+struck_none part (suc count) m = refl
+
+-- nothing is made where the memories stay
+pub makes_none : (part : Part) (m : Memories) (d : Dialog Saying Standing) (p : Programmer) (fates : List Fate) (After : Standing → Programmer → Type 0)
+    → Leads device d p fates (Rests part [] m) After → Makes part m [] d none_made p fates
+makes_none part m d p fates After l = record {
+  tally = record {
+    count = λ k. 0;
+    none = refl;
+    at_least = λ k. omega arith;
+    at_most = λ k. omega arith;
+    stands = λ k. let r = l.during k in record { few = omega arith; stands = subst (λ z. Idle part z (along device k d p fates).programmer) (struck_none part r.count m) r.stands };
+  };
+  complete = λ k e. refl;
+}
+
+-- counted past the last step nothing is struck
+struck_min : (part : Part) (count : ℕ) (steps : Steps) (m : Memories) → struck_by part (min count (length steps)) steps m ≡ struck_by part count steps m
+struck_min part zero steps m = ap (λ n. struck_by part n steps m) (let e : min 0 (length steps) ≡ 0 = omega arith in e)
+struck_min part (suc count) [] m = ap (λ n. struck_by part n [] m) (let e : min (suc count) 0 ≡ 0 = omega arith in e)
+struck_min part (suc count) (commands ∷ steps) m =
+    ap (λ n. struck_by part n (commands ∷ steps) m) (let e : min (suc count) (suc (length steps)) ≡ suc (min count (length steps)) = omega arith in e)
+    ∙ struck_min part count steps (struck part commands m)
+
+counted_most : (d : Dialog ⊥ Outcome) (n total : ℕ) → n ≤ total → counted d n ≤ suc total
+counted_most (Done (Ok bytes)) n total l = omega (arith, l)
+counted_most (Done (Err fault)) n total l = omega arith
+counted_most (Say s d) n total l = absurd s
+counted_most (Ask bytes go_on) n total l = omega arith
+
+steps_most : (steps : Steps) (k : ℕ) (p : Programmer) (fates : List Fate) → steps_done device steps k p fates ≤ length steps
+steps_most [] k p fates = omega arith
+steps_most (commands ∷ steps) k p fates =
+    let s = along device k (step commands) p fates in
+    counted_most s.dialog (steps_done device steps s.left s.programmer s.fates) (length steps) (steps_most steps s.left s.programmer s.fates)
+
+module _ (part : Part) (sound : IsPart part) where
+  -- the steps of items
+  pub makes_items : (m : Memories) (items : List Item) (steps : Steps) (judge : List ℕ → Result ⊤ HostFault) (outcome_says : Result ⊤ HostFault → List Saying) (p : Programmer)
+      (fates : List Fate)
+      → steps ≡ all_steps part items → AreSteps part steps → Settled part m p → Makes part m items (reported (operation steps judge) outcome_says) (steps_done device steps) p fates
+  makes_items m items steps judge outcome_says p fates same are s = record { tally = tally; complete = λ k e. complete k e }
+    where
+      d : Dialog Saying Standing
+      d = reported (operation steps judge) outcome_says
+
+      played : Tallies device (play steps []) (steps_done device steps) (λ j. Settled part (struck_by part j steps m)) p fates
+      played = (tallies_play part steps m [] p fates sound are s).0
+
+      moved : (k : ℕ) → (along device k (play steps []) p fates).programmer ≡ (along device k (reported (operation steps judge) outcome_says) p fates).programmer
+      moved k = sym (reported_programmer device (operation steps judge) outcome_says k p fates ∙ operation_programmer device steps judge k p fates)
+
+      stands : (k : ℕ) (q : Programmer) → Settled part (struck_by part (played.count k) steps m) q → Struck part items m (min (played.count k) (length steps)) q
+      stands k q settled =
+          let n = min (played.count k) (length steps) in
+          let size : length steps ≡ length (all_steps part items) = ap length same in
+          record {
+            few = omega (arith, size);
+            stands =
+                subst (λ z. Idle part z q) (sym (struck_min part (played.count k) steps m) ∙ ap (λ all. struck_by part n all m) same)
+                (settled_idle part (struck_by part (played.count k) steps m) q settled);
+          }
+
+      tally : Tallies device (reported (operation steps judge) outcome_says) (steps_done device steps) (Struck part items m) p fates
+      tally = record {
+        count = λ k. min (played.count k) (length steps);
+        none = let e = played.none in omega (arith, e);
+        at_least = λ k. let l = played.at_least k in let most = steps_most steps k p fates in omega (arith, l, most);
+        at_most = λ k. let l = played.at_most k in omega (arith, l);
+        stands = λ k. subst (Struck part items m (min (played.count k) (length steps))) (moved k) (stands k (along device k (play steps []) p fates).programmer (played.stands k));
+      }
+
+      complete : (k : ℕ) → (along device k (reported (operation steps judge) outcome_says) p fates).dialog ≡ Done fine → steps_done device steps k p fates ≡ length (all_steps part items)
+      complete k e =
+          let ok = reported_fine device (operation steps judge) outcome_says k p fates e in
+          let got = operation_ok device steps judge k p fates ok.0 ok.1 in
+          steps_all device steps k [] p fates got.0 got.1 ∙ ap length same
+
+  front_is : (count : ℕ) (steps : Steps) → count ≤ length steps → front count steps ≡ count
+  front_is zero steps l = refl
+  front_is (suc count) [] l = absurd (omega (arith, l))
+  front_is (suc count) (commands ∷ steps) l = ap suc (front_is count steps (omega (arith, l)))
+
+  behind_is : (steps : Steps) (count : ℕ) → behind steps count ≡ length steps + count
+  behind_is [] count = omega arith
+  behind_is (commands ∷ steps) count = let e = behind_is steps count in omega (arith, e)
+
+  size_on : (xs ys : List Item) → length (all_steps part (xs ++ ys)) ≡ length (all_steps part xs) + length (all_steps part ys)
+  size_on xs ys = ap length (all_on part xs ys) ∙ length-append (all_steps part xs) (all_steps part ys)
+
+  struck_first : (xs ys : List Item) (m : Memories) (j : ℕ) (q : Programmer) → Struck part xs m j q → Struck part (xs ++ ys) m j q
+  struck_first xs ys m j q s =
+      let size = size_on xs ys in
+      let few = s.few in
+      let steps = all_steps part xs in
+      record {
+        few = omega (arith, size, few);
+        stands = subst (λ z. Idle part z q)
+            (sym (ap (λ all. struck_by part j all m) (all_on part xs ys)
+            ∙ (ap (λ n. struck_by part n (steps ++ all_steps part ys) m) (sym (front_is j steps s.few)) ∙ struck_front part j steps (all_steps part ys) m))) s.stands;
+      }
+
+  struck_next : (xs ys : List Item) (m : Memories) (made j : ℕ) (q : Programmer) → AllFitItems part xs → FitsPart part m → made ≡ length (all_steps part xs)
+      → Struck part ys (effects part xs m) j q
+      → Struck part (xs ++ ys) m (made + j) q
+  struck_next xs ys m made j q fits f whole s =
+      let size = size_on xs ys in
+      let few = s.few in
+      let steps = all_steps part xs in
+      let past : made + j ≡ behind steps j = let e = behind_is steps j in omega (arith, e, whole) in
+      record {
+        few = omega (arith, size, few, whole);
+        stands = subst (λ z. Idle part z q)
+            (sym (ap (λ all. struck_by part (made + j) all m) (all_on part xs ys)
+            ∙ (ap (λ n. struck_by part n (steps ++ all_steps part ys) m) past
+            ∙ (struck_behind part j steps (all_steps part ys) m ∙ ap (struck_by part j (all_steps part ys)) (all_struck part sound xs m fits f))))) s.stands;
+      }
+
+  -- one part, and the next one unless there was a fault
+  module _ (m : Memories) (xs ys : List Item) (Check : Type 0) (d next : Dialog Saying Standing) (made later : Count Programmer) (p : Programmer) (fates : List Fate)
+      (fits : AllFitItems part xs) (f : FitsPart part m)
+      (leads : Leads device d p fates (Rests part (all_steps part xs) m) (Comes part m xs Check)) (first : Makes part m xs d made p fates)
+      (more : (q : Programmer) (fs : List Fate) → Settled part (effects part xs m) q → Makes part (effects part xs m) ys next later q fs) where
+    abbrev after : Standing → Count Programmer
+    after standing = if status_of standing == 0 then later else none_made
+
+    abbrev At : ℕ → Programmer → Type 0
+    At = Struck part (xs ++ ys) m
+
+    -- where it is fine it has made all of its strokes, before the last question of what follows
+    whole : (k : ℕ) → (along device k d p fates).dialog ≡ Done fine → first.tally.count k ≡ length (all_steps part xs)
+    whole k e =
+        let few = (first.tally.stands k).few in
+        let l = first.tally.at_least k in
+        let all = first.complete k e in
+        omega (arith, few, l, all)
+
+    sharp : (k l : ℕ) → (along device k d p fates).dialog ≡ Done fine → (along device k d p fates).left ≡ suc l → first.tally.count k ≤ made (k - 1) p fates
+    sharp zero l e n = absurd (let z = none_left device d p fates in omega (arith, z, n))
+    sharp (suc k) l e n =
+        let back : suc k - 1 ≡ k = omega arith in
+        let all : made k p fates ≡ length (all_steps part xs) = first.complete k (ap (λ z. z.dialog) (along_before device k l d p fates fine e n)) in
+        let made_all = whole (suc k) e in
+        subst (λ i. first.tally.count (suc k) ≤ made i p fates) (sym back) (omega (arith, all, made_all))
+
+    abbrev nothing_more : (n : ℕ) (s : Standing) (q : Programmer) (fs : List Fate) → At n q → Tallies {E = Saying} device (Done s) none_made (λ j. At (n + j)) q fs
+    nothing_more n s q fs at = record {
+      count = λ k. 0;
+      none = refl;
+      at_least = λ k. omega arith;
+      at_most = λ k. omega arith;
+      stands = λ k. subst (λ i. At i q) (let e : n ≡ n + 0 = omega arith in e) at;
+    }
+
+    abbrev GoesFrom : ℕ → Standing → Type 0
+    GoesFrom k s = GoesOn device d (unless_fault next) made after At p fates k (first.tally.count k) s
+
+    -- the next one goes on
+    goes_fine : (k : ℕ) → (along device k d p fates).dialog ≡ Done fine → Settled part (effects part xs m) (along device k d p fates).programmer → GoesFrom k fine
+    goes_fine k e settled =
+        let s = along device k d p fates in
+        record {
+          rest = tallies_wider device next later (Struck part ys (effects part xs m)) (λ j. At (first.tally.count k + j)) s.programmer s.fates
+              (λ j q struck. struck_next xs ys m (first.tally.count k) j q fits f (whole k e) struck) (more s.programmer s.fates settled).tally;
+          sharp = inl (λ l n. sharp k l e n);
+        }
+
+    goes_faulty : (k : ℕ) → GoesFrom k faulty
+    goes_faulty k =
+        let s = along device k d p fates in
+        record {
+          rest = nothing_more (first.tally.count k) faulty s.programmer s.fates (struck_first xs ys m (first.tally.count k) s.programmer (first.tally.stands k));
+          sharp = inr (λ l. refl);
+        }
+
+    goes_over : (k : ℕ) → GoesFrom k over
+    goes_over k =
+        let s = along device k d p fates in
+        record {
+          rest = nothing_more (first.tally.count k) over s.programmer s.fates (struck_first xs ys m (first.tally.count k) s.programmer (first.tally.stands k));
+          sharp = inr (λ l. refl);
+        }
+
+    goes_on : (k : ℕ) (s : Standing) → (along device k d p fates).dialog ≡ Done s → Comes part m xs Check s (along device k d p fates).programmer → GoesFrom k s
+    goes_on k s e (Came is settled check) = subst (GoesFrom k) (sym is) (goes_fine k (e ∙ ap (λ z. Done z) is) settled)
+    goes_on k s e (Stopped (inl is) rests) = subst (GoesFrom k) (sym is) (goes_faulty k)
+    goes_on k s e (Stopped (inr is) rests) = subst (GoesFrom k) (sym is) (goes_over k)
+
+    -- its strokes, as the first ones of both
+    abbrev among : Tallies device d made At p fates
+    among = record {
+      count = first.tally.count;
+      none = first.tally.none;
+      at_least = first.tally.at_least;
+      at_most = first.tally.at_most;
+      stands = λ k. struck_first xs ys m (first.tally.count k) (along device k d p fates).programmer (first.tally.stands k);
+    }
+
+    tally : Tallies device (d >>= unless_fault next) (then_count device d made after) At p fates
+    tally = tallies_bind device d (unless_fault next) made after At p fates among (λ k s e. goes_on k s e (leads.after k s e))
+
+    abbrev Ends : ℕ → Dialog Saying Standing → Type 0
+    Ends k x = let s = along device k d p fates in
+        (onward device (unless_fault next) s.left s.fates s.programmer x).dialog ≡ Done fine
+        → with_next x (made k p fates) (λ a. after a s.left s.programmer s.fates) ≡ length (all_steps part (xs ++ ys))
+
+    complete_fine : (k : ℕ) (s : Standing) → (along device k d p fates).dialog ≡ Done s → Comes part m xs Check s (along device k d p fates).programmer → Ends k (Done s)
+    complete_fine k s e (Came is settled check) =
+        subst (λ z. Ends k (Done z)) (sym is) (λ done.
+        let t = along device k d p fates in
+        let all = first.complete k (e ∙ ap (λ z. Done z) is) in
+        let rest = (more t.programmer t.fates settled).complete t.left done in
+        let size = size_on xs ys in
+        omega (arith, all, rest, size))
+    complete_fine k s e (Stopped (inl is) rests) = subst (λ z. Ends k (Done z)) (sym is) (λ done. absurd (stopped≢fine faulty (inl refl) (done_same _ _ done)))
+    complete_fine k s e (Stopped (inr is) rests) = subst (λ z. Ends k (Done z)) (sym is) (λ done. absurd (stopped≢fine over (inr refl) (done_same _ _ done)))
+
+    complete_from : (k : ℕ) (x : Dialog Saying Standing) → (along device k d p fates).dialog ≡ x → Ends k x
+    complete_from k (Done s) e = complete_fine k s e (leads.after k s e)
+    complete_from k (Say s dialog) e = λ done. absurd (says≢done _ _ _ done)
+    complete_from k (Ask bytes go_on) e = λ done. absurd (asks≢done _ _ _ done)
+
+    pub makes_then : Makes part m (xs ++ ys) (d >>= unless_fault next) (then_count device d made after) p fates
+    makes_then = record {
+      tally = tally;
+      complete = λ k e. complete_from k (along device k d p fates).dialog refl (sym (ap (λ z. z.dialog) (along_bind device k d (unless_fault next) p fates)) ∙ e);
+    }
