@@ -121,7 +121,7 @@ module _ (plan : Plan) (w v : State) (fresh : IsFresh w) (stays : Stays ComesOf 
   -- so many strokes, by the frames that went out
   pub wired_makes : (old new : Option Record) (StopsBy : Cause → Type 0) (status : ℕ) → RunsTo (session plan) (Some w.talk) (Some v.talk) old new StopsBy status → MakesStrokes plan begun w.wire.fates count before after
   wired_makes old new StopsBy status runs =
-      let makes = session_makes plan sound fitted before begun w.wire.fates sizes idle in
+      let makes = session_makes plan sound fitted before sizes begun w.wire.fates idle in
       record {
         count = makes.count count;
         at_least = makes.at_least count;
