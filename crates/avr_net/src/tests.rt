@@ -43,7 +43,10 @@ fn a_port_that_nobody_serves(rt: HostRuntime) -> Result<(), Fail> {
     let address = format!(in alloc; "127.0.0.1:{port}")?;
     let settings = settings_for(alloc, &["avrstk", "-P", "net:127.0.0.1:1", "-p", "m328p"])?;
     let mut desk = MemDesk::new(alloc, Bytes::new(alloc));
-    assert_eq!(rt; run_net(&rt, alloc, &settings, address.as_str(), &mut desk), 1);
+    assert_eq!(rt;
+        run_net(&rt, alloc, &settings, address.as_str(), &mut desk),
+        1
+    );
     let line = format!(in alloc; "avrstk: error: port net:127.0.0.1:{port} cannot be opened\n")?;
     assert!(rt; desk.messages() == line.as_bytes());
     Ok(())
@@ -66,7 +69,10 @@ fn a_programmer_that_never_answers(rt: HostRuntime) -> Result<(), Fail> {
     let address = format!(in alloc; "127.0.0.1:{port}")?;
     let settings = settings_for(alloc, &["avrstk", "-P", "net:127.0.0.1:1", "-p", "m328p"])?;
     let mut desk = MemDesk::new(alloc, Bytes::new(alloc));
-    assert_eq!(rt; run_net(&rt, alloc, &settings, address.as_str(), &mut desk), 1);
+    assert_eq!(rt;
+        run_net(&rt, alloc, &settings, address.as_str(), &mut desk),
+        1
+    );
     assert!(rt; desk.messages() == b"avrstk: error: no answer\n".as_slice());
     let heard = heard_to_the_end(alloc, &mut accept(&listener)?)?;
     assert_eq!(rt; heard.as_slice(), UNANSWERED.as_slice());
