@@ -25,7 +25,7 @@ pub record PlaysOverNet (settings : Settings) (old new : Option Record) (before 
   pub rises : before ≤ planned_failures
   pub runs : RunsTo (session plan) None None planned_desk new (Stops 0 link_failures planned_failures now) status
 
--- The plan was made, but the port could not be opened: that was told, nothing more was done, and the status is 1.
+-- The plan was made, but the port could not be opened: that was told, nothing else was done at the desk, and the status is 1.
 pub record LacksPort (settings : Settings) (address : Bytes) (old new : Option Record) (before now status : ℕ) : Type 0 where
   pub plan : Plan
   pub planned_desk : Option Record
@@ -35,7 +35,7 @@ pub record LacksPort (settings : Settings) (address : Bytes) (old new : Option R
   pub told : Tells planned_desk new (unopened_line address) planned_failures now
   pub status_is : status ≡ 1
 
--- the one or the other, or there is no plan: then the port was left alone
+-- the one or the other, or there is no plan (that the port was left alone then, no clause says)
 abbrev pub RunsOverNet : Settings → Bytes → Option Record → Option Record → ℕ → ℕ → ℕ → Type 0
 RunsOverNet settings address old new before now status =
     PlaysOverNet settings old new before now status
