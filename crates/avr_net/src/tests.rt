@@ -1,0 +1,157 @@
+//! Both ends of a port of this machine, in one thread.
+use crate::{accept, listen, run_net};
+use avr_cli::{Settings, read_words, settings};
+use avr_desk::{Bytes, MemDesk};
+use std::alloc::Global;
+use std::io;
+use std::io::{ErrorKind, Read, Write};
+use std::net::{Net, OpenListener, SocketAddr, TcpListener, TcpStream};
+use std::test::Fail;
+use stk_host::{Heard, Link, StreamLink};
+
+/// The settings of a run on a part without updates: it asks for the part's signature.
+fn settings_for(alloc: Global, part: &str) -> Result<Settings, Fail> {
+    let mut words: Vec<String> = Vec::new(alloc);
+    for word in ["avrstk", "-P", "net:127.0.0.1:1", "-p", part] {
+        words.push(String::from_str(alloc, word)?)?;
+    }
+    let matches = read_words(alloc, words.as_slice())?;
+    Ok(settings(alloc, &matches)?)
+}
+
+/// A run that is over.
+#[derive(Drop)]
+struct Over {
+    desk: MemDesk,
+    status: u8,
+}
+
+/// Runs over a port of this machine.
+fn run_at<R: Net>(rt: &R, alloc: Global, part: &str, port: u16) -> Result<Over, Fail> {
+    let settings = settings_for(alloc, part)?;
+    let address = format!(in alloc; "127.0.0.1:{port}")?;
+    let mut desk = MemDesk::new(alloc, Bytes::new(alloc));
+    let status = run_net(rt, alloc, &settings, address.as_str(), &mut desk);
+    Ok(Over { desk, status })
+}
+
+/// All that is heard on a link up to its end.
+fn heard_to_the_end<R: Read + Drop, W: Write + Drop>(
+    alloc: Global,
+    link: &mut StreamLink<R, W>,
+) -> Result<Vec<u8>, Fail> {
+    let mut bytes = Vec::new(alloc);
+    let mut buffer = [0; 64];
+    for _ in 0..100 {
+        match link.recv(&mut buffer)? {
+            Heard::Bytes(count) => bytes.extend_from_slice(&buffer[..count])?,
+            Heard::Silence => {}
+            Heard::End => return Ok(bytes),
+        }
+    }
+    Ok(bytes)
+}
+
+/// No contract says that nobody was called: the port is opened behind the plan.
+#[test]
+fn a_refused_plan_leaves_the_port_alone(rt: HostRuntime) -> Result<(), Fail> {
+    let listener = listen(&rt, 0)?;
+    listener.set_nonblocking(true)?;
+    let over = run_at(&rt, rt.alloc(), "m329p", listener.local_addr()?.port())?;
+    assert_eq!(rt; over.status, 1);
+    assert!(rt; over.desk.messages() == b"avrstk: error: no part m329p\n".as_slice());
+    match accept(&listener) {
+        Ok(_) => assert!(rt; false, "somebody called"),
+        Err(error) => assert_eq!(rt; error.kind(), ErrorKind::WouldBlock),
+    }
+    Ok(())
+}
+
+#[test]
+fn a_port_that_nobody_serves(rt: HostRuntime) -> Result<(), Fail> {
+    let listener = listen(&rt, 0)?;
+    let port = listener.local_addr()?.port();
+    drop(listener);
+    let over = run_at(&rt, rt.alloc(), "m328p", port)?;
+    assert_eq!(rt; over.status, 1);
+    let line = format!(in rt.alloc();
+        "avrstk: error: port net:127.0.0.1:{port} cannot be opened\n"
+    )?;
+    assert!(rt; over.desk.messages() == line.as_bytes());
+    Ok(())
+}
+
+/// SIGN_ON and LEAVE_PROGMODE_ISP, four times each, numbered from 1.
+const UNANSWERED: [u8; 64] = [
+    0x1B, 0x01, 0x00, 0x01, 0x0E, 0x01, 0x14, 0x1B, 0x02, 0x00, 0x01, 0x0E, 0x01, 0x17, 0x1B, 0x03,
+    0x00, 0x01, 0x0E, 0x01, 0x16, 0x1B, 0x04, 0x00, 0x01, 0x0E, 0x01, 0x11, 0x1B, 0x05, 0x00, 0x03,
+    0x0E, 0x11, 0x01, 0x01, 0x02, 0x1B, 0x06, 0x00, 0x03, 0x0E, 0x11, 0x01, 0x01, 0x01, 0x1B, 0x07,
+    0x00, 0x03, 0x0E, 0x11, 0x01, 0x01, 0x00, 0x1B, 0x08, 0x00, 0x03, 0x0E, 0x11, 0x01, 0x01, 0x0F,
+];
+
+/// The connection is accepted only when the run is over: each attempt ends in a silence of one second.
+#[test]
+fn a_programmer_that_never_answers(rt: HostRuntime) -> Result<(), Fail> {
+    let listener = listen(&rt, 0)?;
+    let over = run_at(&rt, rt.alloc(), "m328p", listener.local_addr()?.port())?;
+    assert_eq!(rt; over.status, 1);
+    assert!(rt; over.desk.messages() == b"avrstk: error: no answer\n".as_slice());
+    let heard = heard_to_the_end(rt.alloc(), &mut accept(&listener)?)?;
+    assert_eq!(rt; heard.as_slice(), UNANSWERED.as_slice());
+    Ok(())
+}
+
+/// A network with one connection, which is made already.
+#[derive(Drop)]
+struct Connected {
+    stream: TcpStream,
+}
+
+impl Net for Connected {
+    type Stream = TcpStream;
+
+    type Listener = TcpListener;
+
+    fn bind(&self, _addr: SocketAddr) -> io::Result<TcpListener> {
+        Err(io::Error::from(ErrorKind::Unsupported))
+    }
+
+    fn connect(&self, _addr: SocketAddr) -> io::Result<TcpStream> {
+        self.stream.try_clone()
+    }
+}
+
+/// SIGN_ON, ENTER_PROGMODE_ISP, three of READ_SIGNATURE_ISP and LEAVE_PROGMODE_ISP, numbered from 1.
+const FRAMES: [u8; 70] = [
+    0x1B, 0x01, 0x00, 0x01, 0x0E, 0x01, 0x14, 0x1B, 0x02, 0x00, 0x0C, 0x0E, 0x10, 0xC8, 0x64, 0x19,
+    0x20, 0x00, 0x53, 0x03, 0xAC, 0x53, 0x00, 0x00, 0x31, 0x1B, 0x03, 0x00, 0x06, 0x0E, 0x1B, 0x04,
+    0x30, 0x00, 0x00, 0x00, 0x3F, 0x1B, 0x04, 0x00, 0x06, 0x0E, 0x1B, 0x04, 0x30, 0x00, 0x01, 0x00,
+    0x39, 0x1B, 0x05, 0x00, 0x06, 0x0E, 0x1B, 0x04, 0x30, 0x00, 0x02, 0x00, 0x3B, 0x1B, 0x06, 0x00,
+    0x03, 0x0E, 0x11, 0x01, 0x01, 0x01,
+];
+
+/// What a programmer with an ATmega328P answers to them.
+const ANSWERS: [u8; 63] = [
+    0x1B, 0x01, 0x00, 0x0B, 0x0E, 0x01, 0x00, 0x08, 0x53, 0x54, 0x4B, 0x35, 0x30, 0x30, 0x5F, 0x32,
+    0x02, 0x1B, 0x02, 0x00, 0x02, 0x0E, 0x10, 0x00, 0x05, 0x1B, 0x03, 0x00, 0x04, 0x0E, 0x1B, 0x00,
+    0x1E, 0x00, 0x17, 0x1B, 0x04, 0x00, 0x04, 0x0E, 0x1B, 0x00, 0x95, 0x00, 0x9B, 0x1B, 0x05, 0x00,
+    0x04, 0x0E, 0x1B, 0x00, 0x0F, 0x00, 0x00, 0x1B, 0x06, 0x00, 0x02, 0x0E, 0x11, 0x00, 0x00,
+];
+
+/// All answers lie there before the first frame comes.
+#[test]
+fn a_programmer_that_answers(rt: HostRuntime) -> Result<(), Fail> {
+    let listener = listen(&rt, 0)?;
+    let stream = TcpStream::connect(&rt, listener.local_addr()?)?;
+    let net = Connected { stream };
+    let mut programmer = accept(&listener)?;
+    assert_eq!(rt; programmer.send(ANSWERS.as_slice())?, ANSWERS.len());
+    let over = run_at(&net, rt.alloc(), "m328p", 1)?;
+    drop(net);
+    assert_eq!(rt; over.status, 0);
+    let lines = b"avrstk: device signature = 1E 95 0F\navrstk: done\n";
+    assert!(rt; over.desk.messages() == lines.as_slice());
+    let heard = heard_to_the_end(rt.alloc(), &mut programmer)?;
+    assert_eq!(rt; heard.as_slice(), FRAMES.as_slice());
+    Ok(())
+}
