@@ -4,6 +4,7 @@
 use avr_cli::{Port, Settings, read_words, settings};
 use avr_desk::SystemDesk;
 use avr_emulated::run_emulated;
+use avr_net::run_net;
 use avr_tool::{refuse, refuse_port, run};
 use clap::Error;
 use std::process::ExitCode;
@@ -52,7 +53,7 @@ fn refused(rt: &HostRuntime, error: &Error) -> io::Result<u8> {
     if error.use_stderr() { Ok(1) } else { Ok(0) }
 }
 
-/// Runs over the port of the settings: `stdio:` has its frames on standard input and output, `emu:` is the emulator.
+/// Runs over the port of the settings: `stdio:` has its frames on standard input and output, `emu:` is the emulator, and `net:` a connection.
 fn run_settings(rt: &HostRuntime, settings: &Settings) -> u8 {
     let mut desk = SystemDesk::new(rt, rt.stdout(), rt.stderr());
     match &settings.port {
@@ -61,7 +62,7 @@ fn run_settings(rt: &HostRuntime, settings: &Settings) -> u8 {
             run(rt.alloc(), settings, &mut desk, &mut link)
         }
         Port::Emulated(file) => run_emulated(rt.alloc(), settings, file.as_str(), &mut desk),
-        Port::Network(address) => refuse_port(address.as_str(), &mut desk),
+        Port::Network(address) => run_net(rt, rt.alloc(), settings, address.as_str(), &mut desk),
         Port::Served { port, .. } => refuse_port(port.as_str(), &mut desk),
     }
 }
