@@ -2,3 +2,4 @@ pub mod Talking
 pub mod Answering
 pub mod Replying
 pub mod Turns
+pub mod Running

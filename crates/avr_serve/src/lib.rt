@@ -7,9 +7,14 @@
 //!     let served = answer_all(&mut emulator, &mut link, 1_000_000);
 #![tactic(auto)]
 
+// the answers to what is heard
 mod send;
 mod serving;
+// from settings to status
+mod ending;
+mod run;
 #[cfg(test)]
 mod tests;
 
+pub use run::{serve, serve_for};
 pub use serving::{Served, answer_all};
