@@ -1,5 +1,5 @@
+pub mod Running
 pub mod Talking
 pub mod Answering
 pub mod Replying
 pub mod Turns
-pub mod Running

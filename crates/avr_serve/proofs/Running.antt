@@ -1,5 +1,5 @@
 -- A fresh emulator that served, from settings to status.
-use Rattle.std.proofs.Common.{◌≡◌, ◌≤◌, ℕ, List, [], refl, ap₂, subst, inl, inr, Option, Result, Ok, Err}
+use Rattle.std.proofs.Common.{◌≡◌, ◌≤◌, ℕ, List, [], refl, ap₂, subst, Option, Result, Ok, Err}
 use Rattle.avr_chip.specs.Loading.{chip_stage}
 use Rattle.avr_cli.specs.declared.chosen.Settings.{Settings}
 use Rattle.avr_desk.specs.Record.{Record}
@@ -16,7 +16,7 @@ use Rattle.stk_emu.specs.Programmer.{fresh_programmer}
 use Rattle.stk_emu.specs.Emulator.{Machine, IsFed}
 use Rattle.avr_serve.specs.declared.serving.Served.{Served}
 use Rattle.avr_serve.specs.Serving.{Serves, FailsBy}
-use Rattle.avr_serve.specs.ServedRun.{settings_part, fresh_machine, TellsEnd, IsSaved, ServesChip, LacksChip, RunsServed}
+use Rattle.avr_serve.specs.ServedRun.{settings_part, fresh_machine, TellsEnd, IsSaved, ServesChip, LacksChip}
 
 pub goes_without_parts : (s : Settings) (old new : Option Record) (before now status : ℕ) → Goes (parts_stage s.parts) old new before now (Err status)
     → Goes (settings_part s) old new before now (Err status)
@@ -29,13 +29,19 @@ goes_with_parts s id old mid new before between now parts result same rises went
     (subst (λ (i : Bytes). Goes (part_stage i parts) mid new between now result) same goes)
 
 -- the part was found, and its chip refused
-pub runs_without_chip : (s : Settings) (file : Bytes) (turns : ℕ) (talk : Option Talk) (failures : ℕ) (old mid new : Option Record) (before between now status : ℕ) (part : Part) → before ≤ between
-    → Went (settings_part s) old mid (Made part) → Goes (chip_stage part file) mid new between now (Err status) → RunsServed s file turns talk talk failures failures old new before now status
-runs_without_chip s file turns talk failures old mid new before between now status part rises chosen refused = inr (record {
-  refused = inl (record { part = part; part_desk = mid; part_failures = between; chosen = chosen; rises = rises; refused = refused });
+pub lacks_chip : (s : Settings) (file : Bytes) (talk : Option Talk) (failures : ℕ) (old mid new : Option Record) (before between now status : ℕ) (part : Part)
+    → Went (settings_part s) old mid (Made part) → Goes (chip_stage part file) mid new between now (Err status) → before ≤ between
+    → LacksChip s file talk talk failures failures old new before now status
+lacks_chip s file talk failures old mid new before between now status part chosen refused rises = record {
+  part = part;
+  part_desk = mid;
+  part_failures = between;
+  chosen = chosen;
+  refused = refused;
+  rises = rises;
   silent = refl;
   unfailed = refl;
-})
+}
 
 is_fresh : (chip : chips.State) (machine : Machine) → machine.held ≡ [] → machine.programmer ≡ fresh_programmer chip → machine ≡ fresh_machine chip
 is_fresh chip machine held programmer = ap₂ (λ h p. record { held = h; programmer = p }) held programmer

@@ -73,22 +73,25 @@ pub record ServesPart (settings : Settings) (file : Bytes) (turns : ℕ) (talk t
   pub rises : before ≤ loaded_failures
   pub serves : ServesChip chip file turns talk talked link_before link_now loaded_desk new loaded_failures now status
 
--- there is a part, but no chip
-pub record LacksChip (settings : Settings) (file : Bytes) (old new : Option Record) (before now status : ℕ) : Type 0 where
+-- There is a part, but no chip, which was told: nothing was heard or sent.
+pub record LacksChip (settings : Settings) (file : Bytes) (talk talked : Option Talk) (link_before link_now : ℕ) (old new : Option Record) (before now status : ℕ) : Type 0 where
   pub part : Part
   pub part_desk : Option Record
   pub part_failures : ℕ
   pub chosen : Went (settings_part settings) old part_desk (Made part)
-  pub rises : before ≤ part_failures
   pub refused : Goes (chip_stage part file) part_desk new part_failures now (Err status)
+  pub rises : before ≤ part_failures
+  pub silent : talked ≡ talk
+  pub unfailed : link_now ≡ link_before
 
--- There is no part or no chip, which was told: nothing was heard or sent.
-pub record ServesNothing (settings : Settings) (file : Bytes) (talk talked : Option Talk) (link_before link_now : ℕ) (old new : Option Record) (before now status : ℕ) : Type 0 where
-  pub refused : LacksChip settings file old new before now status ⊎ Goes (settings_part settings) old new before now (Err status)
+-- There is no part, which was told: nothing was heard or sent.
+pub record LacksPart (settings : Settings) (talk talked : Option Talk) (link_before link_now : ℕ) (old new : Option Record) (before now status : ℕ) : Type 0 where
+  pub refused : Goes (settings_part settings) old new before now (Err status)
   pub silent : talked ≡ talk
   pub unfailed : link_now ≡ link_before
 
 abbrev pub RunsServed : Settings → Bytes → ℕ → Option Talk → Option Talk → ℕ → ℕ → Option Record → Option Record → ℕ → ℕ → ℕ → Type 0
 RunsServed settings file turns talk talked link_before link_now old new before now status =
     ServesPart settings file turns talk talked link_before link_now old new before now status
-    ⊎ ServesNothing settings file talk talked link_before link_now old new before now status
+    ⊎ (LacksChip settings file talk talked link_before link_now old new before now status
+    ⊎ LacksPart settings talk talked link_before link_now old new before now status)
