@@ -68,7 +68,8 @@ fn too_many_reads_are_told_and_the_chip_is_saved(rt: HostRuntime) -> Result<(), 
     let mut desk = empty_desk(alloc);
     let status = serve_for(alloc, &settings, "chip.bin", &mut desk, &mut link, 3);
     assert_eq!(rt; status, 1);
-    assert_eq!(rt; desk.messages(), b"avrstk: error: too many reads\n".as_slice());
+    let line = "avrstk: error: too many reads\n";
+    assert_eq!(rt; desk.messages(), line.as_bytes());
     assert_eq!(rt; saved_size(&desk), Some(33_796));
     Ok(())
 }

@@ -1,6 +1,4 @@
-use Rattle.avr_part.specs.ChipFile.{chip_file}
 use Rattle.avr_serve.proofs.Running.{serves_chip}
-use Rattle.avr_serve.specs.ServedRun.{IsSaved}
 use Rattle.avr_serve.proofs.run.serve_chip.Goals as goal
 
 pub returns-clause-serves : goal.returns-clause-serves
