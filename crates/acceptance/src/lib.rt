@@ -15,6 +15,8 @@ mod emulated;
 #[cfg(test)]
 mod examples;
 #[cfg(test)]
+mod failing;
+#[cfg(test)]
 mod flash;
 #[cfg(test)]
 mod programming;

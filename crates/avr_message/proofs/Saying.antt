@@ -1,13 +1,13 @@
 -- What was done at a desk, whole or in part.
-use Rattle.std.proofs.Common.{◌≡◌, ◌∙◌, sym, subst, option_map, OnOk, OnErr, IfErr, inl, inr, ap, List, [], ◌∷◌, ◌++◌, ℕ, take, drop, refl, Option, Some, None, Ok, Err, Result, append_assoc, append-nil}
+use Rattle.std.proofs.Common.{◌≡◌, ◌∙◌, sym, subst, option_map, IfErr, inl, inr, ap, List, [], ◌∷◌, ◌++◌, ℕ, take, drop, refl, Option, Some, None, Ok, Err, Result, append_assoc, append-nil}
 use Rattle.std.proofs.lemmas.List.{take-append-drop}
-use Rattle.avr_desk.specs.Record.{Record, after_err, after_write, after_out}
+use Rattle.avr_desk.specs.Record.{Record}
 use Rattle.avr_desk.specs.Fault.{Counts}
 use Rattle.avr_desk.specs.declared.fault.DeskFault.{DeskFault}
 use Rattle.avr_desk.specs.declared.fault.DeskFault.TheVariants.{NotFound, Failed}
 use Rattle.avr_desk.specs.Stream.{SendsPart}
 use Rattle.avr_desk.specs.declared.stream.Stream.TheVariants.{Messages, File, Output}
-use Rattle.avr_message.specs.Said.{Saying, Line, Writes, Outs, Says, SaysFront, SaidPart, IsBegun, IsPrinted, Tells, after, after_all}
+use Rattle.avr_message.specs.Said.{Saying, Line, Writes, Outs, Says, SaysFront, IsBegun, IsPrinted, Tells, after, after_all}
 
 -- one thing after another
 pub kept_on : (f g h : Record → Record) (a b c : Option Record) → ((r : Record) → h r ≡ g (f r)) → b ≡ option_map f a → c ≡ option_map g b → c ≡ option_map h a

@@ -1,5 +1,5 @@
 -- What a comparison without a difference says, and which comparisons have none.
-use Rattle.std.proofs.Common.{◌≡◌, ℕ, zero, suc, ◌+◌, ◌<◌, ◌≤◌, List, [], ◌∷◌, length, get_or, replicate, refl, sym, ap, ◌∙◌, subst, arith, inl, inr, Bool, true, false, Option, Some, None, unwrap_or, bit_and}
+use Rattle.std.proofs.Common.{◌≡◌, ℕ, zero, suc, ◌+◌, ◌<◌, List, [], ◌∷◌, length, get_or, replicate, refl, sym, ap, ◌∙◌, arith, inl, inr, Option, Some, None, unwrap_or, bit_and}
 use Rattle.std.proofs.lemmas.Bool.{cases_Bool, eqb-true, eq-eqb}
 use Rattle.std.proofs.lemmas.List.{length-replicate, get_or-replicate}
 use Rattle.std.proofs.Math.Nat.{mod-eq_of_lt}
@@ -11,7 +11,7 @@ use Rattle.stk_frame.proofs.Cut.{chosen, refused}
 use Rattle.stk_host.specs.Operations.{Difference, difference_from}
 use Rattle.stk_emu.specs.Effect.{Image, laid, and_in, and_with}
 use Rattle.stk_emu.specs.Given.{Holds}
-use Rattle.stk_emu.proofs.Images.{get_laid, length-laid, get_and_in, length-and_in}
+use Rattle.stk_emu.proofs.Images.{get_laid, length-laid, get_and_in}
 
 none_some : (b : ℕ) → ◌≡◌ {A = Option ℕ} None (Some b) → ⊥
 none_some b e = cc

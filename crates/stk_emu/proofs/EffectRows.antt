@@ -1,5 +1,5 @@
 -- Worked rows of an erase and of writes, on small memories.
-use Rattle.std.proofs.Common.{◌≡◌, ℕ, List, [], ◌∷◌, Some, None, refl}
+use Rattle.std.proofs.Common.{◌≡◌, ℕ, [], ◌∷◌, Some, None, refl}
 use Rattle.avr_part.specs.BuiltIn.{m328p}
 use Rattle.avr_part.specs.declared.mem.Mem.TheVariants.{Flash, Eeprom, Lock}
 use Rattle.stk_emu.specs.Effect.{Memories, Erase, Write, effect}

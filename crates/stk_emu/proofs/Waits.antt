@@ -1,8 +1,7 @@
 -- Items that wait.
-use Rattle.std.proofs.Common.{◌≡◌, ℕ, zero, suc, ◌+◌, ◌<◌, ◌≤◌, List, [], ◌∷◌, ◌++◌, length, get_or, take, drop, refl, ap, sym, ◌∙◌, arith, Option, Some, None, length-append, append_assoc}
+use Rattle.std.proofs.Common.{◌≡◌, ℕ, zero, suc, ◌+◌, ◌<◌, ◌≤◌, List, [], ◌∷◌, ◌++◌, length, get_or, take, drop, refl, ap, sym, ◌∙◌, arith, Option, Some, None, append_assoc}
 use Rattle.std.proofs.Math.ListN.{set}
 use Rattle.std.proofs.lemmas.List.{take_more, take_more_set, map_push, map-append, drop-map, drop-append-le, length-map}
-use Rattle.stk_host.specs.declared.link.Item.{Item}
 use Rattle.stk_host.specs.declared.link.Item.TheVariants.{Byte, Silence}
 use Rattle.stk_host.specs.Tape.{Tape, on_tape}
 use Rattle.stk_emu.specs.Waiting.{item_of, tape_in, IsQuiet}
