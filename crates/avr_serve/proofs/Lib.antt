@@ -1,3 +1,4 @@
+pub mod Running
 pub mod Talking
 pub mod Answering
 pub mod Replying

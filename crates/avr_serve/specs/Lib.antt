@@ -1,2 +1,3 @@
 pub mod Serving
 pub mod Replying
+pub mod ServedRun

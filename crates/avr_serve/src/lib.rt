@@ -5,11 +5,22 @@
 //!
 //!     let mut emulator = Emulator::new(chip);
 //!     let served = answer_all(&mut emulator, &mut link, 1_000_000);
+//!
+//! The whole of it, from settings to status, with the chip loaded from a file and saved to it:
+//!
+//!     let status = serve(alloc, &settings, "chip.bin", &mut desk, &mut link);
 #![tactic(auto)]
 
+// the answers to what is heard
 mod send;
 mod serving;
+// from settings to status
+mod ending;
+mod run;
+#[cfg(test)]
+mod run_tests;
 #[cfg(test)]
 mod tests;
 
+pub use run::{serve, serve_for};
 pub use serving::{Served, answer_all};

@@ -53,27 +53,25 @@ fn silences_use_up_the_turns(rt: HostRuntime) -> Result<(), Fail> {
     Ok(())
 }
 
-/// How serving ends where one call of the link fails, in pieces of five bytes, and how many bytes have been sent.
-const ENDS: [(Served, usize); 9] = [
-    (Served::RecvFailed, 0),
-    (Served::RecvFailed, 0),
-    (Served::SendFailed, 0),
-    (Served::SendFailed, 5),
-    (Served::RecvFailed, 8),
-    (Served::SendFailed, 8),
-    (Served::SendFailed, 13),
-    (Served::RecvFailed, 16),
-    (Served::Ended, 16),
+/// Which call of the link fails, in pieces of five bytes, how serving ends then, and how many bytes have been sent.
+const ENDS: [(u64, Served, usize); 9] = [
+    (1, Served::RecvFailed, 0),
+    (2, Served::RecvFailed, 0),
+    (3, Served::SendFailed, 0),
+    (4, Served::SendFailed, 5),
+    (5, Served::RecvFailed, 8),
+    (6, Served::SendFailed, 8),
+    (7, Served::SendFailed, 13),
+    (8, Served::RecvFailed, 16),
+    (0, Served::Ended, 16),
 ];
 
 #[test]
 fn every_call_of_the_link_fails_in_turn(rt: HostRuntime) -> Result<(), Fail> {
-    let mut call = 0;
-    for (end, count) in &ENDS {
-        call += 1u64;
+    for (call, end, count) in &ENDS {
         let mut items = Vec::new(rt.alloc());
         add_bytes(&mut items, &FRAMES)?;
-        let mut link = FailingLink::new(TapeLink::new(rt.alloc(), items, 281), call, 5);
+        let mut link = FailingLink::new(TapeLink::new(rt.alloc(), items, 281), *call, 5);
         let served = answer_all(&mut emulator(rt.alloc())?, &mut link, 100);
         assert_eq!(rt; served, *end, "call {call}");
         assert_eq!(rt; link.inner().sent().len(), *count, "call {call}");

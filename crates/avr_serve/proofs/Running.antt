@@ -1,0 +1,73 @@
+-- A fresh emulator that served, from settings to status.
+use Rattle.std.proofs.Common.{◌≡◌, ◌≤◌, ℕ, List, [], refl, ap₂, subst, Option, Result, Err}
+use Rattle.avr_chip.specs.Loading.{chip_stage}
+use Rattle.avr_cli.specs.declared.chosen.Settings.{Settings}
+use Rattle.avr_desk.specs.Record.{Record}
+use Rattle.avr_message.specs.Lines.{Bytes}
+use Rattle.avr_part.specs.ChipFile.{chip_file}
+use Rattle.avr_part.specs.Part.{Part}
+use Rattle.avr_part.specs.State as chips
+use Rattle.avr_plan.specs.Planning.{parts_stage, part_stage}
+use Rattle.avr_plan.specs.Playing.{Goes, Went}
+use Rattle.avr_plan.specs.Stage.{Made}
+use Rattle.avr_plan.proofs.Played.{goes_on, goes_no_further}
+use Rattle.stk_host.specs.Talk.{Talk}
+use Rattle.stk_emu.specs.Programmer.{fresh_programmer}
+use Rattle.stk_emu.specs.Emulator.{Machine, IsFed}
+use Rattle.avr_serve.specs.declared.serving.Served.{Served}
+use Rattle.avr_serve.specs.Serving.{Serves, FailsBy}
+use Rattle.avr_serve.specs.ServedRun.{settings_part, fresh_machine, TellsEnd, IsSaved, ServesChip, LacksChip}
+
+pub goes_without_parts : (s : Settings) (old new : Option Record) (before now status : ℕ) → Goes (parts_stage s.parts) old new before now (Err status)
+    → Goes (settings_part s) old new before now (Err status)
+goes_without_parts s old new before now status goes = goes_no_further (parts_stage s.parts) (λ parts. part_stage s.part parts) old new before now status goes
+
+pub goes_with_parts : (s : Settings) (id : Bytes) (old mid new : Option Record) (before between now : ℕ) (parts : List Part) (result : Result Part ℕ)
+    → id ≡ s.part → before ≤ between
+    → Went (parts_stage s.parts) old mid (Made parts) → Goes (part_stage id parts) mid new between now result → Goes (settings_part s) old new before now result
+goes_with_parts s id old mid new before between now parts result same rises went goes =
+    goes_on (parts_stage s.parts) (λ parts. part_stage s.part parts) old mid new parts before between now result went rises
+    (subst (λ (i : Bytes). Goes (part_stage i parts) mid new between now result) same goes)
+
+-- the part was found, and its chip refused
+pub lacks_chip : (s : Settings) (file : Bytes) (talk : Option Talk) (failures : ℕ) (old mid new : Option Record) (before between now status : ℕ) (part : Part)
+    → Went (settings_part s) old mid (Made part) → Goes (chip_stage part file) mid new between now (Err status) → before ≤ between
+    → LacksChip s file talk talk failures failures old new before now status
+lacks_chip s file talk failures old mid new before between now status part chosen refused rises = record {
+  part = part;
+  part_desk = mid;
+  part_failures = between;
+  chosen = chosen;
+  refused = refused;
+  rises = rises;
+  silent = refl;
+  unfailed = refl;
+}
+
+is_fresh : (chip : chips.State) (machine : Machine) → machine.held ≡ [] → machine.programmer ≡ fresh_programmer chip → machine ≡ fresh_machine chip
+is_fresh chip machine held programmer = ap₂ (λ h p. record { held = h; programmer = p }) held programmer
+
+-- an emulator that was fed nothing served, and that was told and saved
+pub serves_chip : (chip : chips.State) (machine left : Machine) (file : Bytes) (turns : ℕ) (served : Served) (talk talked : Option Talk) (link_before link_now : ℕ)
+    (old mid new : Option Record) (before between now status : ℕ)
+    → machine.held ≡ [] → machine.programmer ≡ fresh_programmer chip → IsFed (fresh_programmer chip) [] machine
+    → Serves machine turns served talk talked left → FailsBy served link_before link_now → TellsEnd served old mid before between → before ≤ between
+    → IsSaved served mid new file (chip_file left.programmer.chip) between now status
+    → ServesChip chip file turns talk talked link_before link_now old new before now status
+serves_chip chip machine left file turns served talk talked link_before link_now old mid new before between now status held programmer fed serves fails told rises saved =
+    let is = is_fresh chip machine held programmer in
+    let own = subst (λ (m : Machine). Serves m turns served talk talked left) is serves in
+    let none = subst (λ (m : Machine). IsFed (fresh_programmer chip) [] m) is fed in
+    record {
+      served = served;
+      left = left;
+      told_desk = mid;
+      told_failures = between;
+      serves = own;
+      in_turn = own.in_turn (fresh_programmer chip) [] none;
+      leaves = own.leaves (fresh_programmer chip) [] none;
+      fails = fails;
+      told = told;
+      rises = rises;
+      saved = saved;
+    }

@@ -1,0 +1,98 @@
+//! Serving an emulated programmer, from settings to status.
+ghost use Rattle.std.specs.Prelude.{◌≤◌};
+ghost use Rattle.avr_plan.specs.Playing.{Goes};
+ghost use Rattle.avr_serve.specs.ServedRun.{RunsServed, ServesChip, settings_part};
+
+use crate::ending::{save_served, tell_end};
+use crate::serving::answer_all;
+use avr_chip::load_chip;
+use avr_cli::Settings;
+use avr_desk::Desk;
+use avr_part::{Chip, Part};
+use avr_plan::{chosen_part, given_parts};
+use std::alloc::Global;
+use stk_emu::Emulator;
+use stk_host::Link;
+
+/// How many reads [`serve`] allows.
+const TURNS: u32 = 16_777_216;
+
+/// The part of the settings.
+fn find_part<D: Desk>(alloc: Global, desk: &mut D, settings: &Settings) -> Result<Part, u8>
+    ensures goes { Goes (settings_part settings.now) (D.kept desk.old) (D.kept desk.new) (D.failures desk.old) (D.failures desk.new) result }
+    ensures rises { D.failures desk.old ≤ D.failures desk.new }
+{
+    let parts = match given_parts(alloc, desk, &settings.parts) {
+        Ok(parts) => parts,
+        Err(status) => return Err(status),
+    };
+    chosen_part(desk, &parts, settings.part.as_str())
+}
+
+/// Serves a chip, tells how that ended, and saves the chip.
+fn serve_chip<D: Desk, L: Link>(
+    alloc: Global,
+    chip: Chip,
+    file: &str,
+    desk: &mut D,
+    link: &mut L,
+    turns: u32,
+) -> u8
+    ensures serves { ServesChip chip file.now turns (L.talk link.old) (L.talk link.new) (L.failures link.old) (L.failures link.new)
+        (D.kept desk.old) (D.kept desk.new) (D.failures desk.old) (D.failures desk.new) result }
+    ensures rises { D.failures desk.old ≤ D.failures desk.new }
+    ensures counted { L.failures link.old ≤ L.failures link.new }
+{
+    let mut emulator = Emulator::new(chip);
+    let served = answer_all(&mut emulator, link, turns);
+    tell_end(desk, served);
+    save_served(alloc, emulator.chip(), file, desk, served)
+}
+
+/// Serves the emulated programmer of the settings' part over a link, in at most `turns` reads.
+///
+/// The chip is loaded from the file of this name, and is fresh where there is no such file. What is sent are the answers of
+/// a fresh programmer with this chip to what is heard, and all of them are sent before the next read. However that ends, its
+/// line is printed, but for an end that was heard, and the chip is saved to the file.
+///
+/// The status is 0 where an end was heard and the chip was saved, else 1. Where the part or the chip file is refused, nothing
+/// is heard or sent, and no file is written.
+pub fn serve_for<D: Desk, L: Link>(
+    alloc: Global,
+    settings: &Settings,
+    chip_file: &str,
+    desk: &mut D,
+    link: &mut L,
+    turns: u32,
+) -> u8
+    ensures runs { RunsServed settings.now chip_file.now turns (L.talk link.old) (L.talk link.new) (L.failures link.old) (L.failures link.new)
+        (D.kept desk.old) (D.kept desk.new) (D.failures desk.old) (D.failures desk.new) result }
+    ensures rises { D.failures desk.old ≤ D.failures desk.new }
+    ensures counted { L.failures link.old ≤ L.failures link.new }
+{
+    let part = match find_part(alloc, desk, settings) {
+        Ok(part) => part,
+        Err(status) => return status,
+    };
+    let chip = match load_chip(alloc, &part, chip_file, desk) {
+        Ok(chip) => chip,
+        Err(status) => return status,
+    };
+    serve_chip(alloc, chip, chip_file, desk, link, turns)
+}
+
+/// Serves as [`serve_for`] does, in at most 16,777,216 reads.
+pub fn serve<D: Desk, L: Link>(
+    alloc: Global,
+    settings: &Settings,
+    chip_file: &str,
+    desk: &mut D,
+    link: &mut L,
+) -> u8
+    ensures runs { RunsServed settings.now chip_file.now 16777216 (L.talk link.old) (L.talk link.new) (L.failures link.old) (L.failures link.new)
+        (D.kept desk.old) (D.kept desk.new) (D.failures desk.old) (D.failures desk.new) result }
+    ensures rises { D.failures desk.old ≤ D.failures desk.new }
+    ensures counted { L.failures link.old ≤ L.failures link.new }
+{
+    serve_for(alloc, settings, chip_file, desk, link, TURNS)
+}

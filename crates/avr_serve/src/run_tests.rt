@@ -1,0 +1,106 @@
+//! From settings to status: how serving ends, what is told of it, and the chip file.
+#![tactic(auto)]
+
+use super::*;
+use avr_cli::{Settings, read_words, settings};
+use avr_desk::{Bytes, MemDesk};
+use std::alloc::{AllocError, Global};
+use std::test::Fail;
+use stk_host::{FailingLink, Item, TapeLink};
+
+/// A frame with a command that no programmer knows.
+const FRAME: [u8; 7] = [0x1B, 0x09, 0x00, 0x01, 0x0E, 0x05, 0x18];
+
+/// What any programmer answers to it.
+const ANSWER: [u8; 8] = [0x1B, 0x09, 0x00, 0x02, 0x0E, 0x05, 0xC9, 0xD2];
+
+/// The frame, a silence before its last byte, and an end.
+fn frame_and_end(alloc: Global) -> Result<Vec<Item>, AllocError> {
+    let mut items = Vec::new(alloc);
+    for byte in &FRAME[..6] {
+        items.push(Item::Byte(*byte))?;
+    }
+    items.push(Item::Silence)?;
+    items.push(Item::Byte(FRAME[6]))?;
+    items.push(Item::End)?;
+    Ok(items)
+}
+
+fn settings_to_serve(alloc: Global) -> Result<Settings, Fail> {
+    let mut words: Vec<String> = Vec::new(alloc);
+    for word in [
+        "avrstk", "--serve", "5000", "--chip", "chip.bin", "-p", "m328p",
+    ] {
+        words.push(String::from_str(alloc, word)?)?;
+    }
+    let matches = read_words(alloc, words.as_slice())?;
+    Ok(settings(alloc, &matches)?)
+}
+
+fn empty_desk(alloc: Global) -> MemDesk {
+    MemDesk::new(alloc, Bytes::new(alloc))
+}
+
+fn saved_size(desk: &MemDesk) -> Option<usize> {
+    desk.file("chip.bin").map(|file| file.len())
+}
+
+#[test]
+fn an_end_that_is_heard_saves_the_chip(rt: HostRuntime) -> Result<(), Fail> {
+    let alloc = rt.alloc();
+    let settings = settings_to_serve(alloc)?;
+    let mut link = TapeLink::new(alloc, frame_and_end(alloc)?, 281);
+    let mut desk = empty_desk(alloc);
+    let status = serve_for(alloc, &settings, "chip.bin", &mut desk, &mut link, 100);
+    assert_eq!(rt; status, 0);
+    assert_eq!(rt; link.sent(), ANSWER.as_slice());
+    assert_eq!(rt; saved_size(&desk), Some(33_796));
+    assert!(rt; desk.messages().is_empty());
+    Ok(())
+}
+
+#[test]
+fn too_many_reads_are_told_and_the_chip_is_saved(rt: HostRuntime) -> Result<(), Fail> {
+    let alloc = rt.alloc();
+    let settings = settings_to_serve(alloc)?;
+    let items = vec![in alloc; Item::Silence; 5]?;
+    let mut link = TapeLink::new(alloc, items, 281);
+    let mut desk = empty_desk(alloc);
+    let status = serve_for(alloc, &settings, "chip.bin", &mut desk, &mut link, 3);
+    assert_eq!(rt; status, 1);
+    let line = "avrstk: error: too many reads\n";
+    assert_eq!(rt; desk.messages(), line.as_bytes());
+    assert_eq!(rt; saved_size(&desk), Some(33_796));
+    Ok(())
+}
+
+#[test]
+fn a_link_that_fails_is_told_and_the_chip_is_saved(rt: HostRuntime) -> Result<(), Fail> {
+    let alloc = rt.alloc();
+    let settings = settings_to_serve(alloc)?;
+    let mut link = FailingLink::new(TapeLink::new(alloc, Vec::new(alloc), 281), 1, 5);
+    let mut desk = empty_desk(alloc);
+    let status = serve(alloc, &settings, "chip.bin", &mut desk, &mut link);
+    assert_eq!(rt; status, 1);
+    let line = "avrstk: error: link cannot be read\n";
+    assert_eq!(rt; desk.messages(), line.as_bytes());
+    assert_eq!(rt; saved_size(&desk), Some(33_796));
+    Ok(())
+}
+
+#[test]
+fn a_chip_file_of_another_length_is_not_served(rt: HostRuntime) -> Result<(), Fail> {
+    let alloc = rt.alloc();
+    let settings = settings_to_serve(alloc)?;
+    let mut link = TapeLink::new(alloc, frame_and_end(alloc)?, 281);
+    let mut desk = empty_desk(alloc);
+    let short = [7; 100];
+    desk.put("chip.bin", &short)?;
+    let status = serve(alloc, &settings, "chip.bin", &mut desk, &mut link);
+    assert_eq!(rt; status, 1);
+    let line = "avrstk: error: chip.bin: 100 bytes, 33796 expected\n";
+    assert_eq!(rt; desk.messages(), line.as_bytes());
+    assert!(rt; link.sent().is_empty());
+    assert!(rt; desk.file("chip.bin") == Some(&short[..]));
+    Ok(())
+}
