@@ -22,7 +22,8 @@ pub goes_without_parts : (s : Settings) (old new : Option Record) (before now st
     → Goes (settings_part s) old new before now (Err status)
 goes_without_parts s old new before now status goes = goes_no_further (parts_stage s.parts) (λ parts. part_stage s.part parts) old new before now status goes
 
-pub goes_with_parts : (s : Settings) (id : Bytes) (old mid new : Option Record) (before between now : ℕ) (parts : List Part) (result : Result Part ℕ) → id ≡ s.part → before ≤ between
+pub goes_with_parts : (s : Settings) (id : Bytes) (old mid new : Option Record) (before between now : ℕ) (parts : List Part) (result : Result Part ℕ)
+    → id ≡ s.part → before ≤ between
     → Went (parts_stage s.parts) old mid (Made parts) → Goes (part_stage id parts) mid new between now result → Goes (settings_part s) old new before now result
 goes_with_parts s id old mid new before between now parts result same rises went goes =
     goes_on (parts_stage s.parts) (λ parts. part_stage s.part parts) old mid new parts before between now result went rises

@@ -46,9 +46,11 @@ abbrev pub IsSaved : Served → Option Record → Option Record → Bytes → By
 IsSaved served old new file bytes before now status =
     (Saves old new file bytes before now (Ok tt) × (status ≡ status_of served)) ⊎ ((fault : ℕ) × Saves old new file bytes before now (Err fault) × (status ≡ 1))
 
--- A fresh emulator with this chip served a link in at most so many reads: its answers to what was heard were sent, each before
--- the next read. How that ended was told, and whatever it was, the chip was saved as the frames that came had left it.
-pub record ServesChip (chip : chips.State) (file : Bytes) (turns : ℕ) (talk talked : Option Talk) (link_before link_now : ℕ) (old new : Option Record) (before now status : ℕ) : Type 0 where
+-- A fresh emulator with this chip served a link in at most so many reads: what was sent are its answers to what was heard, all
+-- of them before the next read, unless a send failed. How that ended was told, and whatever it was, the chip was saved as it is
+-- after the frames that came.
+pub record ServesChip (chip : chips.State) (file : Bytes) (turns : ℕ) (talk talked : Option Talk) (link_before link_now : ℕ)
+    (old new : Option Record) (before now status : ℕ) : Type 0 where
   pub served : Served
   pub left : Machine
   pub told_desk : Option Record
@@ -62,7 +64,8 @@ pub record ServesChip (chip : chips.State) (file : Bytes) (turns : ℕ) (talk ta
   pub saved : IsSaved served told_desk new file (chip_file left.programmer.chip) told_failures now status
 
 -- The part of the settings was found, its chip was loaded, and it was served.
-pub record ServesPart (settings : Settings) (file : Bytes) (turns : ℕ) (talk talked : Option Talk) (link_before link_now : ℕ) (old new : Option Record) (before now status : ℕ) : Type 0 where
+pub record ServesPart (settings : Settings) (file : Bytes) (turns : ℕ) (talk talked : Option Talk) (link_before link_now : ℕ)
+    (old new : Option Record) (before now status : ℕ) : Type 0 where
   pub part : Part
   pub chip : chips.State
   pub part_desk : Option Record
