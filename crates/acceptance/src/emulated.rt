@@ -8,7 +8,9 @@ use std::test::Fail;
 
 /// Where the fuses of an ATmega328P stand in its chip file, behind 32,768 bytes of flash and 1,024 of EEPROM.
 const LFUSE: usize = 33_792;
+
 const LOCK: usize = 33_795;
+
 const CHIP_FILE: usize = 33_796;
 
 /// A run with the chip file `chip.bin`: the words behind the program's name and port, what goes to standard output, the
@@ -23,7 +25,7 @@ struct Row {
 
 fn settings_for(alloc: Global, words: &[&str]) -> Result<Settings, Fail> {
     let mut all: Vec<String> = Vec::new(alloc);
-    for word in ["avrstk", "-P", "emu:chip.bin", "-p", "m328p"] {
+    for word in ["avrstk", "-P", "emu:chip.bin"] {
         all.push(String::from_str(alloc, word)?)?;
     }
     for word in words {
@@ -37,16 +39,21 @@ fn no_files(alloc: Global) -> MemDesk {
     MemDesk::new(alloc, Bytes::new(alloc))
 }
 
-/// The chip file of an erased part in which these bytes stand.
-fn chip_file(alloc: Global, places: &[(usize, u8)]) -> Result<Vec<u8>, Fail> {
+/// A chip file of FF, so long, in which these bytes stand.
+fn blank_file(alloc: Global, size: usize, places: &[(usize, u8)]) -> Result<Vec<u8>, Fail> {
     let mut bytes = Vec::new(alloc);
-    bytes.resize(CHIP_FILE, 0xFF)?;
+    bytes.resize(size, 0xFF)?;
     for (place, byte) in places {
         if let Some(at) = bytes.get_mut(*place) {
             *at = *byte;
         }
     }
     Ok(bytes)
+}
+
+/// The chip file of an erased ATmega328P in which these bytes stand.
+fn chip_file(alloc: Global, places: &[(usize, u8)]) -> Result<Vec<u8>, Fail> {
+    blank_file(alloc, CHIP_FILE, places)
 }
 
 /// A desk with such a chip file.
@@ -92,7 +99,7 @@ fn look_at_chip(
 fn a_fuse_is_written_to_a_new_chip(rt: HostRuntime) -> Result<(), Fail> {
     let mut desk = no_files(rt.alloc());
     let row = Row {
-        words: &["-U", "lfuse:w:0xE2:m", "-U", "lfuse:r:-:h"],
+        words: &["-p", "m328p", "-U", "lfuse:w:0xE2:m", "-U", "lfuse:r:-:h"],
         output: "0xe2\n",
         messages: &[
             "device signature = 1E 95 0F",
@@ -111,7 +118,7 @@ fn a_fuse_is_written_to_a_new_chip(rt: HostRuntime) -> Result<(), Fail> {
 fn a_locked_chip_is_erased_and_written(rt: HostRuntime) -> Result<(), Fail> {
     let mut desk = desk_with(rt.alloc(), &[(0, 0x0F), (LOCK, 0xFE)])?;
     let row = Row {
-        words: &["-e", "-U", "lfuse:w:0x62:m"],
+        words: &["-p", "m328p", "-e", "-U", "lfuse:w:0x62:m"],
         output: "",
         messages: &[
             "device signature = 1E 95 0F",
@@ -131,7 +138,7 @@ fn a_locked_chip_is_erased_and_written(rt: HostRuntime) -> Result<(), Fail> {
 fn flash_that_was_not_erased_differs(rt: HostRuntime) -> Result<(), Fail> {
     let mut desk = desk_with(rt.alloc(), &[(0, 0x0F)])?;
     let row = Row {
-        words: &["-D", "-U", "flash:w:0xF0:m"],
+        words: &["-p", "m328p", "-D", "-U", "flash:w:0xF0:m"],
         output: "",
         messages: &[
             "device signature = 1E 95 0F",
@@ -149,13 +156,9 @@ fn flash_that_was_not_erased_differs(rt: HostRuntime) -> Result<(), Fail> {
 fn flash_is_read_without_its_end(rt: HostRuntime) -> Result<(), Fail> {
     let mut desk = desk_with(rt.alloc(), &[(0, 1), (1, 2), (2, 3)])?;
     let row = Row {
-        words: &["-U", "flash:r:-:i"],
+        words: &["-p", "m328p", "-U", "flash:r:-:i"],
         output: ":04000000010203FFF7\n:00000001FF\n",
-        messages: &[
-            "device signature = 1E 95 0F",
-            "flash: 4 bytes read",
-            "done",
-        ],
+        messages: &["device signature = 1E 95 0F", "flash: 4 bytes read", "done"],
         status: 0,
     };
     run_row(&rt, rt.alloc(), &mut desk, &row)
@@ -165,7 +168,7 @@ fn flash_is_read_without_its_end(rt: HostRuntime) -> Result<(), Fail> {
 fn all_of_an_erased_flash_is_read(rt: HostRuntime) -> Result<(), Fail> {
     let mut desk = no_files(rt.alloc());
     let row = Row {
-        words: &["-A", "-U", "flash:r:f.bin"],
+        words: &["-p", "m328p", "-A", "-U", "flash:r:f.bin"],
         output: "",
         messages: &[
             "device signature = 1E 95 0F",
@@ -185,7 +188,7 @@ fn a_chip_file_of_another_length_is_refused(rt: HostRuntime) -> Result<(), Fail>
     let mut desk = no_files(rt.alloc());
     desk.put("chip.bin", &[0; 100])?;
     let row = Row {
-        words: &[],
+        words: &["-p", "m328p"],
         output: "",
         messages: &["error: chip.bin: 100 bytes, 33796 expected"],
         status: 1,
@@ -200,7 +203,7 @@ fn a_chip_file_of_another_length_is_refused(rt: HostRuntime) -> Result<(), Fail>
 fn a_refused_plan_leaves_no_chip(rt: HostRuntime) -> Result<(), Fail> {
     let mut desk = no_files(rt.alloc());
     let row = Row {
-        words: &["-U", "flash:w:a.hex"],
+        words: &["-p", "m328p", "-U", "flash:w:a.hex"],
         output: "",
         messages: &["error: a.hex: cannot be opened"],
         status: 1,
@@ -208,4 +211,77 @@ fn a_refused_plan_leaves_no_chip(rt: HostRuntime) -> Result<(), Fail> {
     run_row(&rt, rt.alloc(), &mut desk, &row)?;
     assert!(&rt; desk.file("chip.bin").is_none());
     Ok(())
+}
+
+/// Lock bits keep a fuse from being written, and without a read back nobody sees it.
+#[test]
+fn a_lock_keeps_the_fuses(rt: HostRuntime) -> Result<(), Fail> {
+    let mut desk = no_files(rt.alloc());
+    let row = Row {
+        words: &[
+            "-p",
+            "m328p",
+            "-V",
+            "-U",
+            "lock:w:0xFE:m",
+            "-U",
+            "lfuse:w:0x62:m",
+        ],
+        output: "",
+        messages: &[
+            "device signature = 1E 95 0F",
+            "lock: 1 bytes written",
+            "lfuse: 1 bytes written",
+            "done",
+        ],
+        status: 0,
+    };
+    run_row(&rt, rt.alloc(), &mut desk, &row)?;
+    look_at_chip(&rt, rt.alloc(), &desk, &[(LOCK, 0xFE)])
+}
+
+/// Two bytes at 20000 of an ATmega2560, whose record file needs the address of the upper half.
+#[test]
+fn large_flash_is_read_as_records(rt: HostRuntime) -> Result<(), Fail> {
+    let mut desk = no_files(rt.alloc());
+    let chip = blank_file(rt.alloc(), 266_244, &[(0x20000, 0x55)])?;
+    desk.put("chip.bin", chip.as_slice())?;
+    let row = Row {
+        words: &[
+            "-p",
+            "m2560",
+            "-U",
+            "flash:r:f.hex:i",
+            "-U",
+            "flash:r:f.srec:s",
+        ],
+        output: "",
+        messages: &[
+            "device signature = 1E 98 01",
+            "flash: 131074 bytes read",
+            "flash: 131074 bytes read",
+            "done",
+        ],
+        status: 0,
+    };
+    run_row(&rt, rt.alloc(), &mut desk, &row)?;
+    let ihex = desk.file("f.hex").unwrap_or(&[]);
+    assert!(&rt; ihex.ends_with(b":020000040002F8\n:0200000055FFAA\n:00000001FF\n"));
+    let srec = desk.file("f.srec").unwrap_or(&[]);
+    assert!(&rt; srec.starts_with(b"S2") && srec.ends_with(b"\nS804000000FB\n"));
+    Ok(())
+}
+
+/// The same record is past the end of a smaller flash.
+#[test]
+fn a_record_past_the_end_is_refused(rt: HostRuntime) -> Result<(), Fail> {
+    let mut desk = no_files(rt.alloc());
+    desk.put("a.hex", b":020000040002F8\n:0100000055AA\n:00000001FF\n")?;
+    let row = Row {
+        words: &["-p", "m328p", "-U", "flash:w:a.hex"],
+        output: "",
+        messages: &["error: a.hex: line 2: address 00020000 out of range"],
+        status: 1,
+    };
+    run_row(&rt, rt.alloc(), &mut desk, &row)
 }
