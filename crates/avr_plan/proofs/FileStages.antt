@@ -1,25 +1,23 @@
 -- Files that a stage of planning reads.
-use Rattle.std.proofs.Common.{◌≡◌, ◌∙◌, sym, ap, refl, arith, ℕ, ◌≤◌, ◌<◌, ◌-◌, ◌^◌, ◌⊎◌, List, [], ◌∷◌, ◌++◌, length, take, drop, Bool, true, false, nat_lt, ◌||◌, Option, option_map, Result, Ok, Err, inl, inr, subst, append-nil, MatchBool}
+use Rattle.std.proofs.Common.{◌≡◌, ◌∙◌, sym, refl, arith, ℕ, ◌≤◌, ◌⊎◌, List, [], ◌∷◌, length, take, drop, Bool, true, false, nat_lt, ◌||◌, Option, option_map, Result, Ok, Err, inl, inr, subst, append-nil}
 use Rattle.std.proofs.lemmas.Bool.{cases_lt}
 use Rattle.std.proofs.lemmas.Bool.Decides.{nat_tests}
 use Rattle.std.proofs.lemmas.List.{take-append-drop}
 use Rattle.avr_desk.specs.Fault.{HasFailed}
 use Rattle.avr_desk.specs.Files.{IsWhole, ReadsFile, FaultCounts}
-use Rattle.avr_desk.specs.Record.{Record, with_open, with_absent}
-use Rattle.avr_desk.specs.declared.files.Contents.{Contents}
+use Rattle.avr_desk.specs.Record.{Record, with_absent}
 use Rattle.avr_desk.specs.declared.files.FileFault.{FileFault}
 use Rattle.avr_desk.specs.declared.files.FileFault.TheVariants as file_fault
-use Rattle.avr_desk.specs.declared.record.Open.TheVariants.{ToRead}
 use Rattle.avr_desk.specs.declared.record.Opening.{Opening}
 use Rattle.avr_desk.specs.declared.record.Opening.TheVariants.{Absent, Found}
 use Rattle.avr_desk.specs.declared.record.Reading.{Reading}
-use Rattle.avr_message.proofs.Saying.{kept_none, kept_append}
+use Rattle.avr_message.proofs.Saying.{kept_append}
 use Rattle.avr_message.specs.Said.{Saying, Opens, Line, IsPrefixOf, Tells, after_all}
-use Rattle.avr_plan.proofs.Played.{goes_on, goes_refused, went_went}
+use Rattle.avr_plan.proofs.Played.{goes_on, goes_refused}
 use Rattle.avr_plan.specs.ImageReading.{FileBreaks, IsCounted}
 use Rattle.avr_plan.specs.Lines.{Bytes, IsTold, file_fault_line, memory_line, not_opened_line, not_read_line}
-use Rattle.avr_plan.specs.Playing.{Went, Break, NotOpened, NotRead, NoMemoryFor, last_done, OpensNext, IsBreak, HasCause, Rest, BrokeOff, Goes, part_read}
-use Rattle.avr_plan.specs.Stage.{Stage, Answer, Made, Refused, ◌>>=◌, settled, unread, opened, judged, file_stage, is_whole, next_opening}
+use Rattle.avr_plan.specs.Playing.{Went, NotOpened, NotRead, NoMemoryFor, OpensNext, HasCause, Goes, part_read}
+use Rattle.avr_plan.specs.Stage.{Made, settled, opened, judged, file_stage, next_opening}
 
 -- ---- a file that was read whole, or is not there
 

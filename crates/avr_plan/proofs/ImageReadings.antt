@@ -1,5 +1,5 @@
 -- An image file that is read in pieces.
-use Rattle.std.proofs.Common.{◌≡◌, ◌∙◌, sym, ap, ap₂, refl, arith, ℕ, ◌+◌, ◌-◌, ◌≤◌, ◌<◌, List, [], ◌∷◌, ◌++◌, length, take, Bool, true, false, nat_le, not, ◌==◌, ◌&&◌, ◌||◌, Option, Some, None, option_map, Result, Ok, Err, inl, inr, append_assoc, append-nil, subst, length-append}
+use Rattle.std.proofs.Common.{◌≡◌, ◌∙◌, sym, ap, ap₂, refl, arith, ℕ, ◌+◌, ◌≤◌, ◌<◌, [], ◌++◌, length, take, Bool, true, false, nat_le, not, ◌==◌, ◌&&◌, ◌||◌, Option, Some, None, option_map, Ok, Err, append_assoc, append-nil, subst, length-append}
 use Rattle.std.proofs.Math.Seq.{take-append-add}
 use Rattle.std.proofs.lemmas.Bool.Decides.{nat_tests}
 use Rattle.std.proofs.lemmas.List.{take-take, length-take-le, take-append-le}
@@ -13,12 +13,10 @@ use Rattle.avr_desk.specs.declared.record.Open.TheVariants.{Closed, ToRead, ToWr
 use Rattle.avr_desk.specs.declared.files.FileFault.TheVariants.{Absent, NotOpened, NotRead, Memory}
 use Rattle.avr_records.specs.Detect.{detected}
 use Rattle.avr_records.specs.declared.kind.Found.{Found}
-use Rattle.avr_plan.specs.ImageFile.{Bytes, Given, whole_file, long_file, file_within, image_within, kind_of}
-use Rattle.avr_plan.specs.ImageReading.{Going, Outcome, ReadsRest, RestIsRead, ReadsFront, ReadsOpenImage, OpenIsRead, ReadsImage, ImageIsRead, IsGiven, BreaksOff}
+use Rattle.avr_plan.specs.ImageFile.{Bytes, Given, whole_file, long_file, file_within, kind_of}
+use Rattle.avr_plan.specs.ImageReading.{Going, Outcome, ReadsRest, RestIsRead, ReadsOpenImage, OpenIsRead, ReadsImage, ImageIsRead, IsGiven}
 use Rattle.avr_plan.specs.Intake.{Takes}
 use Rattle.avr_plan.specs.declared.bad_file.BadFile.{BadFile}
-use Rattle.avr_plan.specs.declared.image_file.Front.{Front}
-use Rattle.avr_plan.specs.declared.image_file.ReadFault.{ReadFault}
 use Rattle.avr_plan.specs.declared.image_file.ReadFault.TheVariants.{File, Image}
 use Rattle.avr_plan.specs.declared.intake.Intake.{Intake}
 

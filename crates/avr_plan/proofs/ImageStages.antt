@@ -1,12 +1,11 @@
 -- The image of an update.
-use Rattle.std.proofs.Common.{◌≡◌, ◌∙◌, sym, ap, refl, arith, ℕ, ◌≤◌, List, [], ◌∷◌, ◌++◌, Option, option_map, Result, Ok, Err, subst}
+use Rattle.std.proofs.Common.{◌≡◌, sym, ap, ℕ, ◌≤◌, List, Option, Ok, Err}
 use Rattle.avr_cli.specs.declared.chosen.Switches.{Switches}
 use Rattle.avr_cli.specs.declared.update.Format.{Format}
 use Rattle.avr_desk.specs.Record.{Record}
 use Rattle.avr_records.specs.declared.kind.Ending.{Ending}
 use Rattle.avr_plan.proofs.FileStages.{goes_whole, went_whole, goes_file_fault}
 use Rattle.avr_plan.proofs.Played.{goes_on, goes_no_further, goes_unsettled, went_went, went_nowhere, went_settled}
-use Rattle.avr_plan.specs.ImageFile.{Given, image_within}
 use Rattle.avr_plan.specs.ImageReading.{ReadsImage, ImageIsRead, IsCountedRead}
 use Rattle.avr_plan.specs.Lines.{Bytes, IsTold, bad_file_line, read_fault_line}
 use Rattle.avr_plan.specs.Planning.{file_image_stage, judged_image, image_or_line, warned}

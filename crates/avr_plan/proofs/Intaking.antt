@@ -1,5 +1,5 @@
 -- What the bytes of a file that came so far say of the whole.
-use Rattle.std.proofs.Common.{◌≡◌, ◌∙◌, sym, ap, refl, arith, ℕ, List, [], ◌∷◌, ◌++◌, length, Bool, true, false, nat_le, Option, Some, None, Result, Ok, Err, inl, inr, append_assoc, append-nil, subst, length-append}
+use Rattle.std.proofs.Common.{◌≡◌, ◌∙◌, sym, ap, refl, arith, ℕ, [], ◌++◌, length, false, nat_le, Option, Some, None, Err, inl, inr, append_assoc, append-nil, subst, length-append}
 use Rattle.std.proofs.lemmas.Bool.{cases_Bool}
 use Rattle.std.proofs.lemmas.Bool.Decides.{nat_tests}
 use Rattle.avr_image.specs.Raw as raw_file
@@ -7,9 +7,8 @@ use Rattle.avr_image.specs.declared.fault.ImageFault.{ImageFault}
 use Rattle.avr_image.specs.declared.fault.ImageFault.TheVariants.{OutOfRange}
 use Rattle.avr_records.proofs.Feeding.{reads-sound}
 use Rattle.avr_records.specs.Closed.{closed_fault, unless_fault}
-use Rattle.avr_records.specs.Reader.{State, Stands, memory_size}
+use Rattle.avr_records.specs.Reader.{State, memory_size}
 use Rattle.avr_records.specs.declared.kind.Found.{Found}
-use Rattle.avr_records.specs.declared.kind.Found.TheVariants as file
 use Rattle.avr_records.specs.declared.kind.Kind.{Kind}
 use Rattle.avr_records.specs.declared.kind.Kind.TheVariants as records
 use Rattle.avr_records.specs.declared.fault.RecordFault.{RecordFault}
@@ -17,7 +16,7 @@ use Rattle.avr_plan.proofs.FirstFaults.{closed_fault-more, closed_fault-whole}
 use Rattle.avr_plan.specs.ImageFile.{Bytes, whole_file, long_file, of_records, of_raw, or_too_long}
 use Rattle.avr_plan.specs.Intake.{Decides, TakesRecords, TakesRaw, found_as, in_long_file}
 use Rattle.avr_plan.specs.declared.bad_file.BadFile.{BadFile}
-use Rattle.avr_plan.specs.declared.bad_file.BadFile.TheVariants.{Record, Raw, Elf, TooLong}
+use Rattle.avr_plan.specs.declared.bad_file.BadFile.TheVariants.{Record, Raw, TooLong}
 
 is-fault : (o : Option RecordFault) (fault : RecordFault) → Err fault ≡ unless_fault o → o ≡ Some fault
 is-fault None fault is = cc

@@ -1,5 +1,5 @@
 -- The parts of a part file.
-use Rattle.std.proofs.Common.{◌≡◌, ◌∙◌, sym, ap, refl, arith, ℕ, ◌≤◌, List, length, Bool, true, false, nat_le, Option, option_map, Result, Ok, Err, inl, inr, subst, ◌⊎◌}
+use Rattle.std.proofs.Common.{◌≡◌, ◌∙◌, sym, ap, refl, arith, ℕ, ◌≤◌, List, length, Bool, true, false, nat_le, Option, option_map, Ok, Err, inl, inr, subst}
 use Rattle.std.proofs.lemmas.Bool.Decides.{nat_tests}
 use Rattle.avr_desk.specs.Files.{IsWhole, with_read}
 use Rattle.avr_desk.specs.Record.{Record}
@@ -10,7 +10,7 @@ use Rattle.avr_part.specs.declared.fault.PartFault.TheVariants.{Memory}
 use Rattle.avr_plan.proofs.FileStages.{goes_whole, went_whole}
 use Rattle.avr_plan.proofs.Played.{went_settled, goes_unsettled, goes_without_memory}
 use Rattle.avr_plan.specs.Lines.{Bytes, IsTold, part_file_line, too_long_line}
-use Rattle.avr_plan.specs.Planning.{parts_stage, judged_parts, parts_or_line}
+use Rattle.avr_plan.specs.Planning.{judged_parts, parts_or_line}
 use Rattle.avr_plan.specs.Playing.{Goes, Went}
 use Rattle.avr_plan.specs.Stage.{Made, settled, file_stage}
 

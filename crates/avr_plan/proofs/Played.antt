@@ -1,5 +1,5 @@
 -- Stages of planning that were played, one after the other.
-use Rattle.std.proofs.Common.{◌≡◌, ◌∙◌, sym, subst, option_map, inl, inr, ap, List, [], ◌∷◌, ◌++◌, ℕ, ◌≤◌, take, drop, refl, arith, Option, Some, None, Ok, Err, Result, append_assoc, append-nil, ◌⊎◌, ◌<◌, ◌-◌, ◌^◌}
+use Rattle.std.proofs.Common.{◌≡◌, ◌∙◌, sym, subst, option_map, inl, inr, ap, List, [], ◌∷◌, ◌++◌, ℕ, ◌≤◌, take, drop, refl, arith, Option, Ok, Err, Result, append_assoc, append-nil, ◌⊎◌}
 use Rattle.std.proofs.lemmas.List.{take-append-drop}
 use Rattle.avr_desk.specs.Record.{Record}
 use Rattle.avr_desk.specs.Fault.{HasFailed, Counts}
@@ -8,7 +8,7 @@ use Rattle.avr_desk.specs.declared.fault.DeskFault.TheVariants.{NotFound, Failed
 use Rattle.avr_desk.specs.Stream.{SendsPart}
 use Rattle.avr_desk.specs.declared.stream.Stream.TheVariants.{Messages}
 use Rattle.avr_desk.specs.declared.record.Opening.{Opening}
-use Rattle.avr_message.specs.Said.{Saying, Opens, Line, IsBegun, IsPrefixOf, Tells, after_all}
+use Rattle.avr_message.specs.Said.{Saying, Line, IsBegun, IsPrefixOf, after_all}
 use Rattle.avr_message.proofs.Saying.{kept_none, kept_append}
 use Rattle.avr_plan.specs.Lines.{memory_line, IsTold}
 use Rattle.avr_plan.specs.Playing.{Went, Break, InLine, NotOpened, NotRead, NoMemory, NoMemoryFor, last_done, OpensNext, IsBreak, HasCause, Rest, BrokeOff, Goes}

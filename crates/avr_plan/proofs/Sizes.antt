@@ -1,5 +1,5 @@
 -- The size of an image that was read.
-use Rattle.std.proofs.Common.{◌≡◌, ◌∙◌, sym, ap, refl, arith, ℕ, ◌+◌, ◌≤◌, ◌<◌, List, [], ◌∷◌, length, map, flat_map, nat_le, Option, Some, None, Result, Ok, Err, inl, inr}
+use Rattle.std.proofs.Common.{◌≡◌, ◌∙◌, sym, ap, arith, ℕ, ◌+◌, ◌≤◌, List, [], ◌∷◌, length, map, flat_map, nat_le, Option, Some, None, Result, Ok, Err, inl, inr}
 use Rattle.std.proofs.Math.ListN.{length-set}
 use Rattle.std.proofs.lemmas.Bool.{cases_Bool, cases_lt}
 use Rattle.std.proofs.lemmas.Bool.Decides.{nat_tests}
@@ -8,7 +8,7 @@ use Rattle.avr_cli.specs.declared.update.Format.{Format}
 use Rattle.avr_image.proofs.Immediate.{values_are, no_values}
 use Rattle.avr_image.proofs.Laying.{length-laid_over, length-from_zero}
 use Rattle.avr_image.specs.Image.{empty, from_zero, laid, with_byte}
-use Rattle.avr_image.specs.Placing.{with_pieces, with_piece, with_value, then_on}
+use Rattle.avr_image.specs.Placing.{with_pieces, with_value, then_on}
 use Rattle.avr_image.specs.Raw as raw_file
 use Rattle.avr_image.specs.Values.{values, judged, pieces}
 use Rattle.avr_image.specs.declared.fault.ImageFault.{ImageFault}
@@ -18,10 +18,9 @@ use Rattle.avr_records.specs.declared.kind.Ending.{Ending}
 use Rattle.avr_records.specs.declared.kind.Ending.TheVariants.{Ended}
 use Rattle.avr_records.specs.declared.kind.Found.{Found}
 use Rattle.avr_records.specs.declared.kind.Found.TheVariants as file
-use Rattle.avr_records.specs.declared.kind.Kind.{Kind}
 use Rattle.avr_records.specs.declared.kind.Kind.TheVariants as records
 use Rattle.avr_records.specs.declared.fault.RecordFault.{RecordFault}
-use Rattle.avr_plan.specs.ImageFile.{Bytes, Given, whole_file, file_within, image_within, kind_of, of_records, of_raw}
+use Rattle.avr_plan.specs.ImageFile.{Bytes, whole_file, image_within, kind_of, of_records, of_raw}
 
 abbrev Image : Type 0
 Image = List (Option ℕ)

@@ -1,5 +1,5 @@
 -- The image of values.
-use Rattle.std.proofs.Common.{◌≡◌, sym, ap, ℕ, List, Option, Result, Ok, Err, inl, inr, subst, ◌⊎◌}
+use Rattle.std.proofs.Common.{◌≡◌, sym, ap, ℕ, List, Option, Ok, Err, inl, inr, subst}
 use Rattle.avr_cli.specs.declared.chosen.Switches.{Switches}
 use Rattle.avr_cli.specs.declared.update.Format.TheVariants.{Immediate}
 use Rattle.avr_desk.specs.Record.{Record}

@@ -1,5 +1,5 @@
 -- What passes at a desk as an image file is read.
-use Rattle.std.specs.Prelude.{◌≡◌, ◌≤◌, ◌+◌, ℕ, List, ◌++◌, length, Option, option_map, Bool, true, false, Result, Ok, Err, MatchBool}
+use Rattle.std.specs.Prelude.{◌≡◌, ◌≤◌, ◌+◌, ℕ, List, ◌++◌, length, Option, option_map, Bool, false, Result, Ok, Err, MatchBool}
 use Rattle.avr_cli.specs.declared.update.Format.{Format}
 use Rattle.avr_desk.specs.Fault.{HasFailed}
 use Rattle.avr_desk.specs.Files.{after_reading, with_read, IsWhole}
@@ -10,7 +10,6 @@ use Rattle.avr_records.specs.declared.kind.Ending.{Ending}
 use Rattle.avr_records.specs.declared.kind.Found.{Found}
 use Rattle.avr_plan.specs.ImageFile.{Bytes, Given, file_within, image_within}
 use Rattle.avr_plan.specs.Intake.{Takes}
-use Rattle.avr_plan.specs.declared.bad_file.BadFile.{BadFile}
 use Rattle.avr_plan.specs.declared.intake.Intake.{Intake}
 use Rattle.avr_plan.specs.declared.image_file.Front.{Front}
 use Rattle.avr_plan.specs.declared.image_file.ReadFault.{ReadFault}

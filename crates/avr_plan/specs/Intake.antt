@@ -1,5 +1,5 @@
 -- What is made of the bytes of a file as they come, and the bytes that may have come.
-use Rattle.std.specs.Prelude.{◌≡◌, ℕ, List, length, ◌++◌, Option, Some, None, Result, Err}
+use Rattle.std.specs.Prelude.{◌≡◌, ℕ, length, ◌++◌, Err}
 use Rattle.avr_image.specs.Raw as raw_file
 use Rattle.avr_records.specs.Reader.{State, Stands, memory_size}
 use Rattle.avr_records.specs.declared.kind.Found.{Found}

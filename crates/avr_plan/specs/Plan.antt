@@ -1,10 +1,10 @@
 -- What a run is to do, once everything that it needs was read and judged.
-use Rattle.std.specs.Prelude.{◌≡◌, ℕ, true, List, length, All}
+use Rattle.std.specs.Prelude.{◌≡◌, true, List, length}
 use Rattle.avr_cli.specs.declared.chosen.Switches.{Switches}
 use Rattle.avr_part.specs.Mem.{is_writable}
 use Rattle.avr_part.specs.Part.{Part, size_of}
 use Rattle.avr_plan.specs.declared.task.Task.{Task}
-use Rattle.avr_plan.specs.declared.task.Task.TheVariants.{Write, Verify, Read}
+use Rattle.avr_plan.specs.declared.task.Task.TheVariants.{Write, Verify}
 
 pub record Plan : Type 0 where
   pub part : Part

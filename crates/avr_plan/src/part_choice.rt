@@ -34,11 +34,7 @@ fn file_parts<D: Desk>(alloc: Global, desk: &mut D, file: &str) -> Result<Parts,
 ///
 /// Where the file can't be read or is no part file, the line that tells why was printed, as far as the desk prints it, and
 /// the answer is the status 1.
-pub fn given_parts<D: Desk>(
-    alloc: Global,
-    desk: &mut D,
-    file: &Option<Text>,
-) -> Result<Parts, u8>
+pub fn given_parts<D: Desk>(alloc: Global, desk: &mut D, file: &Option<Text>) -> Result<Parts, u8>
     ensures goes { Goes (parts_stage file.now) (D.kept desk.old) (D.kept desk.new) (D.failures desk.old) (D.failures desk.new) result }
     ensures rises { D.failures desk.old ≤ D.failures desk.new }
 {

@@ -1,4 +1,4 @@
-use Rattle.std.proofs.Common.{◌≡◌, ◌≤◌, ◌-◌, ◌+◌, length, option_map, false}
+use Rattle.std.proofs.Common.{◌≤◌, ◌+◌}
 use Rattle.avr_plan.specs.ImageReading.{Going}
 use Rattle.avr_plan.specs.Intake.{counted}
 use Rattle.avr_plan.proofs.image_file.read_rest.Given as goal

@@ -1,4 +1,4 @@
-use Rattle.std.proofs.Common.{◌∙◌, sym, ap, subst, arith, refl, [], ◌∷◌, ◌++◌, ◌+◌, List, drop, Ok, Err, All}
+use Rattle.std.proofs.Common.{◌∙◌, sym, ap, subst, arith, [], ◌∷◌, ◌++◌, ◌+◌, List, drop, Ok, Err, All}
 use Rattle.std.proofs.lemmas.List.{drop_more, drop_all}
 use Rattle.std.proofs.lemmas.List.Elements.{All-append}
 use Rattle.avr_cli.specs.declared.update.Update.{Update}

@@ -1,4 +1,3 @@
-use Rattle.std.proofs.Common.{◌≡◌}
 use Rattle.avr_plan.proofs.ImageStages.{went_image, goes_unwarned, goes_without_image}
 use Rattle.avr_plan.proofs.Sizes.{image-size}
 use Rattle.avr_plan.proofs.update_image.file_image.Goals as goal

@@ -1,4 +1,3 @@
-use Rattle.std.proofs.Common.{sym}
 use Rattle.avr_plan.proofs.TaskStages.{goes_of_values, goes_of_file}
 use Rattle.avr_plan.proofs.update_image.update_image.Goals as goal
 
