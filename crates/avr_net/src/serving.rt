@@ -68,6 +68,27 @@ where
     serve_chip(alloc, chip, file, desk, &mut link, READS)
 }
 
+/// Opens the port and serves a chip there, to the first caller.
+fn serve_at<R: Net, D: Desk>(
+    rt: &R,
+    alloc: Global,
+    chip: Chip,
+    port: &str,
+    file: &str,
+    desk: &mut D,
+) -> u8
+    ensures serves { ServesOn chip port.now file.now (D.kept desk.old) (D.kept desk.new) (D.failures desk.old) (D.failures desk.new) result }
+{
+    let Some(number) = port_number(port) else {
+        return refuse_unserved(desk, port);
+    };
+    let listener = match listen(rt, number) {
+        Ok(listener) => listener,
+        Err(_) => return refuse_unserved(desk, port),
+    };
+    serve_on(alloc, chip, port, file, &listener, desk)
+}
+
 /// Serves the emulated programmer of the settings' part at a port of 127.0.0.1, to the first caller.
 ///
 /// The part and the chip file are judged before the port is opened: where they are refused, that is told at once and nobody is
@@ -93,12 +114,5 @@ pub fn serve_net<R: Net, D: Desk>(
         Ok(chip) => chip,
         Err(status) => return status,
     };
-    let Some(number) = port_number(port) else {
-        return refuse_unserved(desk, port);
-    };
-    let listener = match listen(rt, number) {
-        Ok(listener) => listener,
-        Err(_) => return refuse_unserved(desk, port),
-    };
-    serve_on(alloc, chip, port, file, &listener, desk)
+    serve_at(rt, alloc, chip, port, file, desk)
 }
