@@ -4,8 +4,8 @@
 use avr_cli::{Port, Settings, read_words, settings};
 use avr_desk::SystemDesk;
 use avr_emulated::run_emulated;
-use avr_net::run_net;
-use avr_tool::{refuse, refuse_port, run};
+use avr_net::{run_net, serve_net};
+use avr_tool::{refuse, run};
 use clap::Error;
 use std::process::ExitCode;
 use std::{env, io};
@@ -53,7 +53,8 @@ fn refused(rt: &HostRuntime, error: &Error) -> io::Result<u8> {
     if error.use_stderr() { Ok(1) } else { Ok(0) }
 }
 
-/// Runs over the port of the settings: `stdio:` has its frames on standard input and output, `emu:` is the emulator, and `net:` a connection.
+/// Runs over the port of the settings: `stdio:` has its frames on standard input and output, `emu:` is the emulator, `net:`
+/// a connection; or serves the emulator.
 fn run_settings(rt: &HostRuntime, settings: &Settings) -> u8 {
     let mut desk = SystemDesk::new(rt, rt.stdout(), rt.stderr());
     match &settings.port {
@@ -63,6 +64,13 @@ fn run_settings(rt: &HostRuntime, settings: &Settings) -> u8 {
         }
         Port::Emulated(file) => run_emulated(rt.alloc(), settings, file.as_str(), &mut desk),
         Port::Network(address) => run_net(rt, rt.alloc(), settings, address.as_str(), &mut desk),
-        Port::Served { port, .. } => refuse_port(port.as_str(), &mut desk),
+        Port::Served { port, chip } => serve_net(
+            rt,
+            rt.alloc(),
+            settings,
+            port.as_str(),
+            chip.as_str(),
+            &mut desk,
+        ),
     }
 }
