@@ -15,10 +15,13 @@ use stk_emu::Emulator;
 use stk_host::Link;
 
 /// How many reads [`serve`] allows.
-const TURNS: u32 = 16_777_216;
+pub const READS: u32 = 16_777_216;
 
-/// The part of the settings.
-fn find_part<D: Desk>(alloc: Global, desk: &mut D, settings: &Settings) -> Result<Part, u8>
+/// The part of the settings: looked up in their part file, where they have one, before the built-in parts.
+///
+/// Where that file or the name of the part is refused, where the desk fails or memory is refused, the answer is `Err(1)`,
+/// and the line that tells why was printed as far as the desk takes it.
+pub fn find_part<D: Desk>(alloc: Global, desk: &mut D, settings: &Settings) -> Result<Part, u8>
     ensures goes { Goes (settings_part settings.now) (D.kept desk.old) (D.kept desk.new) (D.failures desk.old) (D.failures desk.new) result }
     ensures rises { D.failures desk.old ≤ D.failures desk.new }
 {
@@ -29,8 +32,14 @@ fn find_part<D: Desk>(alloc: Global, desk: &mut D, settings: &Settings) -> Resul
     chosen_part(desk, &parts, settings.part.as_str())
 }
 
-/// Serves a chip, tells how that ended, and saves the chip.
-fn serve_chip<D: Desk, L: Link>(
+/// Serves a chip over a link, in at most `turns` reads, tells how that ended, and saves the chip to the file of this name.
+///
+/// What is sent are the answers of a fresh programmer with this chip to what is heard, and all of them are sent before the next
+/// read. An end that was heard has no line, any other its own; whichever it is, the chip is saved as the frames that came had
+/// left it.
+///
+/// The status is 0 where an end was heard and the chip was saved, else 1.
+pub fn serve_chip<D: Desk, L: Link>(
     alloc: Global,
     chip: Chip,
     file: &str,
@@ -94,5 +103,5 @@ pub fn serve<D: Desk, L: Link>(
     ensures rises { D.failures desk.old ≤ D.failures desk.new }
     ensures counted { L.failures link.old ≤ L.failures link.new }
 {
-    serve_for(alloc, settings, chip_file, desk, link, TURNS)
+    serve_for(alloc, settings, chip_file, desk, link, READS)
 }
