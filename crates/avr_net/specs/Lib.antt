@@ -1,1 +1,2 @@
 pub mod OverNet
+pub mod ServedNet

@@ -1,11 +1,12 @@
 //! Both ends of a port of this machine, in one thread.
-use crate::{accept, listen, run_net};
+use crate::{accept, listen, run_net, serve_net, serve_on};
 use avr_cli::{Settings, read_words, settings};
 use avr_desk::{Bytes, MemDesk};
+use avr_part::{Chip, Parts};
 use std::alloc::Global;
 use std::io;
 use std::io::{ErrorKind, Read, Write};
-use std::net::{Net, OpenListener, SocketAddr, TcpListener, TcpStream};
+use std::net::{Net, OpenListener, Shutdown, SocketAddr, TcpListener, TcpStream};
 use std::test::Fail;
 use stk_host::{Heard, Link, StreamLink};
 
@@ -153,5 +154,47 @@ fn a_programmer_that_answers(rt: HostRuntime) -> Result<(), Fail> {
     assert!(rt; over.desk.messages() == lines.as_slice());
     let heard = heard_to_the_end(rt.alloc(), &mut programmer)?;
     assert_eq!(rt; heard.as_slice(), FRAMES.as_slice());
+    Ok(())
+}
+
+/// A frame with a command that no programmer knows.
+const FRAME: [u8; 7] = [0x1B, 0x09, 0x00, 0x01, 0x0E, 0x05, 0x18];
+
+/// What any programmer answers to it.
+const ANSWER: [u8; 8] = [0x1B, 0x09, 0x00, 0x02, 0x0E, 0x05, 0xC9, 0xD2];
+
+/// The caller has sent all and shut down its writing side before it is accepted.
+#[test]
+fn a_caller_is_answered_and_the_chip_is_saved(rt: HostRuntime) -> Result<(), Fail> {
+    let alloc = rt.alloc();
+    let listener = listen(&rt, 0)?;
+    let mut caller = TcpStream::connect(&rt, listener.local_addr()?)?;
+    caller.write_all(FRAME.as_slice())?;
+    caller.shutdown(Shutdown::Write)?;
+    let chip = Chip::fresh(alloc, Parts::none().find("m328p")?)?;
+    let mut desk = MemDesk::new(alloc, Bytes::new(alloc));
+    let status = serve_on(alloc, chip, "5000", "chip.bin", &listener, &mut desk);
+    assert_eq!(rt; status, 0);
+    assert!(rt; desk.messages().is_empty());
+    assert_eq!(rt; desk.file("chip.bin").map(|file| file.len()), Some(33_796));
+    let mut heard = Vec::new(alloc);
+    caller.read_to_end(&mut heard)?;
+    assert_eq!(rt; heard.as_slice(), ANSWER.as_slice());
+    Ok(())
+}
+
+#[test]
+fn a_port_that_is_taken(rt: HostRuntime) -> Result<(), Fail> {
+    let alloc = rt.alloc();
+    let listener = listen(&rt, 0)?;
+    let number = listener.local_addr()?.port();
+    let port = format!(in alloc; "{number}")?;
+    let settings = settings_for(alloc, "m328p")?;
+    let mut desk = MemDesk::new(alloc, Bytes::new(alloc));
+    let status = serve_net(&rt, alloc, &settings, port.as_str(), "chip.bin", &mut desk);
+    assert_eq!(rt; status, 1);
+    let line = format!(in alloc; "avrstk: error: port {number} cannot be opened\n")?;
+    assert!(rt; desk.messages() == line.as_bytes());
+    assert!(rt; desk.file("chip.bin").is_none());
     Ok(())
 }

@@ -1,0 +1,118 @@
+//! Serving an emulated programmer at a port of this machine, from settings to status.
+ghost use Rattle.std.specs.Prelude.{◌≡◌, IfErr};
+ghost use Rattle.avr_desk.specs.Fault.{Counts};
+ghost use Rattle.avr_message.specs.Said.{IsPrinted, Tells};
+ghost use Rattle.avr_net.specs.ServedNet.{ServesNet, ServesOn, unserved_line};
+
+use crate::ports::{accept, listen};
+use avr_chip::load_chip;
+use avr_cli::{Settings, port_number};
+use avr_desk::{Desk, DeskFault};
+use avr_message::{Piece, print_error};
+use avr_part::Chip;
+use avr_serve::{READS, find_part, serve_chip};
+use std::alloc::Global;
+use std::io::{Read, Write};
+use std::net::{Net, OpenListener, OpenStream};
+
+/// The status where the port cannot be opened.
+const UNSERVED: u8 = 1;
+
+/// Prints that a port cannot be opened.
+#[tactic(auto, unfolding(crate::specs::ServedNet::unserved_line))]
+fn print_unserved<D: Desk>(desk: &mut D, port: &str) -> Result<(), DeskFault>
+    ensures printed { IsPrinted (D.kept desk.old) (D.kept desk.new) (unserved_line port.now) result }
+    ensures counts { Counts (D.failures desk.old) (D.failures desk.new) result }
+    ensures fault { IfErr result (λ e. e ≡ DeskFault.Failed) }
+{
+    print_error(
+        desk,
+        &[
+            Piece::Text("port "),
+            Piece::Text(port),
+            Piece::Text(" cannot be opened"),
+        ],
+    )
+}
+
+/// Prints that a port cannot be opened, and answers the status, 1.
+fn refuse_unserved<D: Desk>(desk: &mut D, port: &str) -> u8
+    ensures status { result ≡ 1 }
+    ensures told { Tells (D.kept desk.old) (D.kept desk.new) (unserved_line port.now) (D.failures desk.old) (D.failures desk.new) }
+{
+    let _ = print_unserved(desk, port);
+    UNSERVED
+}
+
+/// Accepts one connection and serves a chip over it, in at most [`READS`] reads.
+///
+/// How that ends is what [`serve_chip`] says: the chip is saved to the file of this name, and the status is 0 where the caller
+/// ended it and the chip was saved, else 1. Where no connection can be accepted that is told of `port`, the text of `--serve`,
+/// the status is 1, and no file is written.
+pub fn serve_on<L: OpenListener, D: Desk>(
+    alloc: Global,
+    chip: Chip,
+    port: &str,
+    file: &str,
+    listener: &L,
+    desk: &mut D,
+) -> u8
+where
+    L::Stream: Read + Write + OpenStream,
+    ensures serves { ServesOn chip port.now file.now (D.kept desk.old) (D.kept desk.new) (D.failures desk.old) (D.failures desk.new) result }
+{
+    let mut link = match accept(listener) {
+        Ok(link) => link,
+        Err(_) => return refuse_unserved(desk, port),
+    };
+    serve_chip(alloc, chip, file, desk, &mut link, READS)
+}
+
+/// Opens the port and serves a chip there, to the first caller.
+fn serve_at<R: Net, D: Desk>(
+    rt: &R,
+    alloc: Global,
+    chip: Chip,
+    port: &str,
+    file: &str,
+    desk: &mut D,
+) -> u8
+    ensures serves { ServesOn chip port.now file.now (D.kept desk.old) (D.kept desk.new) (D.failures desk.old) (D.failures desk.new) result }
+{
+    let Some(number) = port_number(port) else {
+        return refuse_unserved(desk, port);
+    };
+    let listener = match listen(rt, number) {
+        Ok(listener) => listener,
+        Err(_) => return refuse_unserved(desk, port),
+    };
+    serve_on(alloc, chip, port, file, &listener, desk)
+}
+
+/// Serves the emulated programmer of the settings' part at a port of 127.0.0.1, to the first caller.
+///
+/// The part and the chip file are judged before the port is opened: where they are refused, that is told at once and nobody is
+/// waited for. The chip is loaded from the file of this name, fresh where there is no such file, and saved to it when the
+/// caller is gone. `port` is the text of `--serve`; a port that cannot be opened is told, and no file is written.
+///
+/// The status is 0 where the caller ended it and the chip was saved, else 1.
+pub fn serve_net<R: Net, D: Desk>(
+    rt: &R,
+    alloc: Global,
+    settings: &Settings,
+    port: &str,
+    file: &str,
+    desk: &mut D,
+) -> u8
+    ensures serves { ServesNet settings.now port.now file.now (D.kept desk.old) (D.kept desk.new) (D.failures desk.old) (D.failures desk.new) result }
+{
+    let part = match find_part(alloc, desk, settings) {
+        Ok(part) => part,
+        Err(status) => return status,
+    };
+    let chip = match load_chip(alloc, &part, file, desk) {
+        Ok(chip) => chip,
+        Err(status) => return status,
+    };
+    serve_at(rt, alloc, chip, port, file, desk)
+}
