@@ -1,6 +1,6 @@
 -- A session that was played over a wire, as it went along the line of its fates.
-use Rattle.std.proofs.Common.{◌≡◌, ℕ, List, [], ◌∷◌, ◌++◌, All, length, refl, sym, ap, ◌∙◌, subst, ◌⊎◌, inl, inr, Option, Some, option_map, false}
-use Rattle.avr_message.specs.Said.{Saying, SaidPart, after_all}
+use Rattle.std.proofs.Common.{◌≡◌, ℕ, List, [], ◌++◌, All, length, sym, ap, ◌∙◌, subst, inl, inr, Option, Some, option_map}
+use Rattle.avr_message.specs.Said.{SaidPart, after_all}
 use Rattle.avr_part.specs.Part.{IsPart}
 use Rattle.avr_part.specs.Sound.{IsSound}
 use Rattle.avr_plan.specs.Plan.{Plan, IsFitted}
@@ -10,8 +10,7 @@ use Rattle.stk_host.specs.Play.{Plays, Breaks}
 use Rattle.stk_host.specs.Talk.{Talk, Stays, sent}
 use Rattle.avr_tool.specs.Runs.{Cause, Ran, BrokeOff, RunsTo}
 use Rattle.avr_tool.specs.Session.{session}
-use Rattle.stk_host.specs.Dialog.{sayings}
-use Rattle.stk_emu.specs.Along.{along, said_along, AsksBodies}
+use Rattle.stk_emu.specs.Along.{along, AsksBodies}
 use Rattle.stk_emu.specs.Device.{device}
 use Rattle.stk_emu.specs.Effect.{Memories, memories_of}
 use Rattle.stk_emu.specs.Leads.{Leads, AreGood, GoesAlong}
@@ -21,7 +20,6 @@ use Rattle.stk_emu.specs.Wired.{State, Keeps, ComesOf, IsFresh}
 use Rattle.stk_emu.proofs.Beginning.{fresh_idle, fresh_fits}
 use Rattle.stk_emu.proofs.SaidAlong.{whole_said}
 use Rattle.stk_emu.proofs.Turning.{whole_along, broken_along}
-use Rattle.avr_emulated.specs.Course.{course}
 use Rattle.avr_emulated.specs.Outcome.{IsTouched, MakesStrokes, IsDone, Leaves, IsCourse, GoesWell}
 use Rattle.avr_emulated.proofs.AnyLine.{session_leaves}
 use Rattle.avr_emulated.proofs.AnyLineAsks.{session_asks}

@@ -12,13 +12,7 @@ use std::alloc::Global;
 use stk_emu::Wired;
 
 /// Saves the chip of a wire if anything was sent over it, and answers the status of a run of this one.
-fn save_if_sent<D: Desk>(
-    alloc: Global,
-    wire: &Wired,
-    file: &str,
-    desk: &mut D,
-    status: u8,
-) -> u8
+fn save_if_sent<D: Desk>(alloc: Global, wire: &Wired, file: &str, desk: &mut D, status: u8) -> u8
     ensures saved { IsSaved (sent wire.now.talk) (D.kept desk.old) (D.kept desk.new) file.now (chip_file wire.now.wire.programmer.chip)
         (D.failures desk.old) (D.failures desk.new) status result }
 {

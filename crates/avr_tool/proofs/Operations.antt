@@ -1,23 +1,22 @@
 -- An operation of the host and its report, as a part of a session.
-use Rattle.std.proofs.Common.{◌≡◌, ℕ, ◌≤◌, List, [], ◌∷◌, ◌++◌, length, refl, sym, ap, ◌∙◌, subst, Option, option_map, Some, None, Result, Ok, Err, inl, inr, ◌⊎◌}
-use Rattle.avr_desk.specs.Record.{Record, after_err}
+use Rattle.std.proofs.Common.{◌≡◌, ℕ, ◌≤◌, List, [], length, refl, sym, subst, Option, Result, Ok, Err, inl, inr, ◌⊎◌}
+use Rattle.avr_desk.specs.Record.{Record}
 use Rattle.avr_part.specs.Part.{Part}
 use Rattle.stk_host.specs.declared.fault.HostFault.{HostFault}
 use Rattle.stk_host.specs.declared.fault.HostFault.TheVariants.{NoAnswer, LinkEnded, SendFailed, Babble, Refused, BadAnswer, WrongSignature, Differs, ReadOnly, Memory, RecvFailed}
 use Rattle.stk_host.specs.Talk as link
 use Rattle.stk_host.specs.Talk.{Talk}
-use Rattle.stk_host.specs.Dialog.{Dialog, Done, ◌>>=◌, lifted}
+use Rattle.stk_host.specs.Dialog.{Dialog, Done}
 use Rattle.stk_host.specs.Play.{NoPart, PlaysOver, BreaksOver}
 use Rattle.stk_host.specs.Calls.{EndsCall, EndsOrLacks, IsBroken}
 use Rattle.stk_host.proofs.Talks.{grows_none}
 use Rattle.stk_host.proofs.Leading.{breaks_here}
-use Rattle.avr_message.specs.Said.{Saying, Line}
-use Rattle.avr_tool.specs.declared.standing.Standing.{Standing}
+use Rattle.avr_message.specs.Said.{Saying}
 use Rattle.avr_tool.specs.declared.standing.Stopped.{Stopped}
 use Rattle.avr_tool.specs.Concluding.{after_outcome, concluded}
 use Rattle.avr_tool.specs.Lines.{fault_line}
 use Rattle.avr_tool.specs.Session.{says, standing, reported, fault_or}
-use Rattle.avr_tool.specs.Runs.{Cause, OfSending, OfListening, OfMemory, cause_line, Stops, DeskStops, PrintStops, PrintsSome, SaidSome, Reports, BrokeOff, Runs}
+use Rattle.avr_tool.specs.Runs.{Cause, OfSending, OfListening, OfMemory, cause_line, Stops, PrintStops, PrintsSome, Reports, BrokeOff, Runs}
 use Rattle.avr_tool.proofs.Reporting.{told_some}
 use Rattle.avr_tool.proofs.Running.{came_lifted, came_said, came_on, ran_from, broke_on, broke_saying, broke_operation, broke_here}
 

@@ -1,8 +1,7 @@
 -- Parts of a session, one after another.
-use Rattle.std.proofs.Common.{◌≡◌, ℕ, ◌≤◌, arith, List, [], ◌∷◌, ◌++◌, length, refl, sym, ap, ◌∙◌, subst, Option, option_map, Some, None, Result, Ok, Err, Bool, true, false, inl, inr, OnErr, get_or, take, drop, ◌<◌, ◌-◌}
+use Rattle.std.proofs.Common.{◌≡◌, ℕ, ◌≤◌, arith, List, [], ◌∷◌, length, refl, sym, ap, ◌∙◌, subst, Option, None, Result, Ok, Err, inl, inr, OnErr, get_or, take, drop, ◌<◌, ◌-◌}
 use Rattle.std.proofs.lemmas.Grind.{common_steps}
 use Rattle.avr_desk.specs.Record.{Record}
-use Rattle.avr_desk.specs.Fault as desk
 use Rattle.avr_part.specs.Part.{Part}
 use Rattle.stk_host.specs.declared.fault.HostFault.{HostFault}
 use Rattle.stk_host.specs.declared.fault.HostFault.TheVariants.{NoAnswer, LinkEnded, SendFailed, Babble, Refused, BadAnswer, WrongSignature, Differs, ReadOnly, Memory, RecvFailed}
@@ -11,7 +10,7 @@ use Rattle.stk_host.specs.Talk as link
 use Rattle.stk_host.specs.Talk.{Talk}
 use Rattle.stk_host.specs.Calls.{IsBroken, given}
 use Rattle.stk_host.specs.Dialog.{Dialog, Done, ◌>>=◌}
-use Rattle.avr_message.specs.Said.{Saying, Line}
+use Rattle.avr_message.specs.Said.{Saying}
 use Rattle.avr_plan.specs.Plan.{Plan}
 use Rattle.avr_plan.specs.declared.task.Task.{Task}
 use Rattle.avr_tool.specs.declared.standing.Standing.{Standing}
@@ -20,7 +19,7 @@ use Rattle.avr_tool.specs.declared.standing.Stopped.{Stopped}
 use Rattle.avr_tool.specs.Concluding.{Serves, after_outcome, concluded, fine_if_said}
 use Rattle.avr_tool.specs.Lines.{fault_line}
 use Rattle.avr_tool.specs.Session.{says, standing, reported, unless_fault, fault_or, opening_says, playing, session, status_of}
-use Rattle.avr_tool.specs.Runs.{Cause, OfSending, OfListening, OfFile, OfPrinting, OfMemory, cause_line, Stops, DeskStops, PrintStops, PrintsSome, SaidSome, Reports, BrokeOff, Ran, Runs, RunsTo}
+use Rattle.avr_tool.specs.Runs.{Cause, OfSending, OfListening, OfFile, OfPrinting, OfMemory, cause_line, Stops, DeskStops, PrintStops, PrintsSome, Reports, BrokeOff, Ran, Runs, RunsTo}
 use Rattle.avr_tool.specs.Parts.{Performs, LeavesOut}
 use Rattle.avr_tool.proofs.Reporting.{failed_later, failed_before, told_some, kept_nothing, print_is_desk}
 use Rattle.avr_message.proofs.Saying.{kept_none}

@@ -7,7 +7,7 @@ use Rattle.avr_desk.specs.Fault.{Counts, HasFailed}
 use Rattle.avr_desk.specs.declared.fault.DeskFault.{DeskFault}
 use Rattle.avr_desk.specs.declared.fault.DeskFault.TheVariants.{NotFound, Failed}
 use Rattle.avr_message.specs.Said.{Saying, Opens, Line, Creates, Writes, Outs, SaysFront, IsBegun, IsPrefixOf, IsPrinted, after_all}
-use Rattle.avr_message.proofs.Saying.{line_part, front_behind, front_of, kept_append, kept_on, kept_none}
+use Rattle.avr_message.proofs.Saying.{line_part, front_behind, front_of, kept_append, kept_none}
 use Rattle.avr_tool.specs.Runs.{cause_line, Cause, OfSending, OfListening, OfFile, OfPrinting, OfMemory, Trouble, SaidSome, Reports, PrintStops, DeskStops, PrintsSome}
 use Rattle.avr_tool.specs.declared.standing.Stopped.{Stopped}
 use Rattle.avr_tool.specs.Concluding.{stopped_of}

@@ -1,9 +1,9 @@
 -- How a call over a link and a desk goes on in its dialog.
-use Rattle.std.proofs.Common.{◌≡◌, ℕ, ◌≤◌, List, [], ◌∷◌, ◌++◌, length, map, refl, sym, ap, ◌∙◌, subst, Option, option_map, Some, None, Result, Ok, Err}
+use Rattle.std.proofs.Common.{◌≡◌, ℕ, ◌≤◌, List, [], ◌∷◌, ◌++◌, length, map, refl, sym, ap, ◌∙◌, subst, Option, option_map}
 use Rattle.avr_desk.specs.Record.{Record, after_err}
 use Rattle.stk_host.specs.Tape.{on_tape}
 use Rattle.stk_host.specs.Talk.{Talk, Grows}
-use Rattle.stk_host.specs.Dialog.{Dialog, Done, Say, ◌>>=◌, lifted, Event, Frame, Said, played, bytes_sent, sayings}
+use Rattle.stk_host.specs.Dialog.{Dialog, Done, ◌>>=◌, lifted, Event, Said, played, bytes_sent, sayings}
 use Rattle.stk_host.specs.Play as play
 use Rattle.stk_host.specs.Play.{Plays, Breaks, IsFront, PlaysOver, BreaksOver}
 use Rattle.stk_host.specs.Reach.{Leads}
@@ -14,7 +14,6 @@ use Rattle.avr_message.specs.Said.{Saying, SaidPart, IsBegun, IsPrefixOf, after_
 use Rattle.avr_message.proofs.Saying.{kept_on, kept_none, after_append}
 use Rattle.avr_tool.specs.Session.{says}
 use Rattle.avr_tool.specs.Runs.{Cause, cause_line, Ran, BrokeOff, SaidSome, PrintsSome}
-use Rattle.avr_tool.proofs.Reporting.{nothing_printed, kept_nothing}
 
 -- a call has come so far: what is left of its dialog, and what was sent and said
 pub record Came {R : Type 0} (dialog : Dialog Saying R) (seq : ℕ) (unread : List ℕ) (old new : Option Talk) (old_desk new_desk : Option Record) (rest : Dialog Saying R) (next : ℕ) (left : List ℕ) : Type 0 where

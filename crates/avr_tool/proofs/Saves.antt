@@ -1,5 +1,5 @@
 -- Files that are created and written.
-use Rattle.std.proofs.Common.{◌≡◌, ◌≤◌, ℕ, List, [], ◌∷◌, ◌++◌, Option, option_map, Result, Ok, Err, IfErr, ◌∙◌, ap, subst, sym, refl, Some, None}
+use Rattle.std.proofs.Common.{◌≡◌, ◌≤◌, ℕ, List, [], ◌∷◌, ◌++◌, Option, option_map, Result, Ok, Err, IfErr, ◌∙◌, subst, sym, refl, Some, None}
 use Rattle.avr_desk.specs.Record.{Record, after_create}
 use Rattle.avr_desk.specs.Fault.{Counts, HasFailed}
 use Rattle.avr_desk.specs.Stream.{SendsPart}
@@ -8,8 +8,8 @@ use Rattle.avr_desk.specs.declared.stream.Stream.TheVariants.{File, Output, Mess
 use Rattle.avr_desk.specs.declared.fault.DeskFault.{DeskFault}
 use Rattle.avr_desk.specs.declared.fault.DeskFault.TheVariants.{NotFound, Failed}
 use Rattle.avr_message.specs.Said.{Saying, Creates, SaysFront, after_all}
-use Rattle.avr_message.proofs.Saying.{line_part, write_part, out_part, none_said, kept_none}
-use Rattle.avr_tool.specs.Runs.{Reports, SaidSome, PrintStops, DeskStops}
+use Rattle.avr_message.proofs.Saying.{line_part, write_part, out_part, none_said}
+use Rattle.avr_tool.specs.Runs.{Reports, PrintStops, DeskStops}
 use Rattle.avr_tool.specs.Saving.{sent_says}
 use Rattle.avr_tool.specs.declared.standing.Stopped.{Stopped}
 use Rattle.avr_message.proofs.Saying.{kept_append, front_behind, front_of}

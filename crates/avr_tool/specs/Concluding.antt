@@ -4,7 +4,7 @@ use Rattle.avr_desk.specs.declared.fault.DeskFault.{DeskFault}
 use Rattle.stk_host.specs.declared.fault.HostFault.{HostFault}
 use Rattle.stk_host.specs.declared.fault.HostFault.TheVariants.{SendFailed, RecvFailed, Memory}
 use Rattle.avr_tool.specs.declared.standing.Standing.{Standing}
-use Rattle.avr_tool.specs.declared.standing.Standing.TheVariants.{Fine, Faulty, Over}
+use Rattle.avr_tool.specs.declared.standing.Standing.TheVariants.{Fine, Faulty}
 use Rattle.avr_tool.specs.declared.standing.Stopped.{Stopped}
 use Rattle.avr_tool.specs.Session.{standing}
 

@@ -30,7 +30,3 @@ refusal_pieces Memory = codes "out of memory" ∷ []
 -- the line of a fault
 unfoldable pub refusal_line : SettingsFault → Bytes
 refusal_line fault = error (refusal_pieces fault)
-
--- a port that a later version serves
-unfoldable pub unserved_line : Bytes → Bytes
-unserved_line port = error (codes "port " ∷ port ∷ codes " is not served yet" ∷ [])

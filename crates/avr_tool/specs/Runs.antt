@@ -1,9 +1,7 @@
 -- What a call over a link and a desk comes to: its dialog played whole, or broken off.
-use Rattle.std.specs.Prelude.{ℕ, List, [], ◌∷◌, ◌++◌, ◌≡◌, ◌≤◌, ◌⊎◌, length, Option, option_map, Result, Ok, Err, codes, ⊤}
+use Rattle.std.specs.Prelude.{ℕ, List, [], ◌∷◌, ◌≡◌, ◌≤◌, ◌⊎◌, length, Option, option_map, Result, Ok, Err, codes, ⊤}
 use Rattle.avr_desk.specs.Record.{Record, after_err}
 use Rattle.avr_desk.specs.Fault as desk
-use Rattle.stk_host.specs.declared.fault.HostFault.{HostFault}
-use Rattle.stk_host.specs.declared.fault.HostFault.TheVariants.{SendFailed, RecvFailed}
 use Rattle.stk_host.specs.Talk as link
 use Rattle.stk_host.specs.Talk.{Talk, Grows}
 use Rattle.stk_host.specs.Dialog.{Dialog, Event, sayings}

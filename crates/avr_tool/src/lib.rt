@@ -26,7 +26,7 @@ mod session;
 // from settings to status
 mod runner;
 
-pub use refusal::{refuse, refuse_port};
+pub use refusal::refuse;
 pub use runner::run;
 pub use session::drive;
 pub use standing::Standing;

@@ -3,7 +3,7 @@ ghost use Rattle.std.specs.Prelude.{◌≡◌, ◌∷◌, [], codes, decimal, If
 ghost use Rattle.avr_desk.specs.Fault.{Counts};
 ghost use Rattle.avr_message.specs.Lines.{error};
 ghost use Rattle.avr_message.specs.Said.{IsPrinted, Tells};
-ghost use Rattle.avr_tool.specs.Refusal.{update_pieces, port_pieces, refusal_line, unserved_line};
+ghost use Rattle.avr_tool.specs.Refusal.{update_pieces, port_pieces, refusal_line};
 
 use avr_cli::{SettingsFault, Text, UpdateFault};
 use avr_desk::{Desk, DeskFault};
@@ -110,31 +110,5 @@ pub fn refuse<D: Desk>(fault: &SettingsFault, desk: &mut D) -> u8
     ensures told { Tells (D.kept desk.old) (D.kept desk.new) (refusal_line fault.now) (D.failures desk.old) (D.failures desk.new) }
 {
     let _ = print_refusal(desk, fault);
-    REFUSED
-}
-
-/// Prints that a port is not served yet.
-#[tactic(auto, unfolding(crate::specs::Refusal::unserved_line))]
-fn print_unserved<D: Desk>(desk: &mut D, port: &str) -> Result<(), DeskFault>
-    ensures printed { IsPrinted (D.kept desk.old) (D.kept desk.new) (unserved_line port.now) result }
-    ensures counts { Counts (D.failures desk.old) (D.failures desk.new) result }
-    ensures fault { IfErr result (λ e. e ≡ DeskFault.Failed) }
-{
-    print_error(
-        desk,
-        &[
-            Piece::Text("port "),
-            Piece::Text(port),
-            Piece::Text(" is not served yet"),
-        ],
-    )
-}
-
-/// Prints that a port is not served yet, and answers the status, 1.
-pub fn refuse_port<D: Desk>(port: &str, desk: &mut D) -> u8
-    ensures status { result ≡ 1 }
-    ensures told { Tells (D.kept desk.old) (D.kept desk.new) (unserved_line port.now) (D.failures desk.old) (D.failures desk.new) }
-{
-    let _ = print_unserved(desk, port);
     REFUSED
 }

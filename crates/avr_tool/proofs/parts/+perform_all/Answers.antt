@@ -1,4 +1,4 @@
-use Rattle.std.proofs.Common.{◌≡◌, ◌∙◌, sym, Ok, Err, drop}
+use Rattle.std.proofs.Common.{drop}
 use Rattle.avr_tool.specs.Session.{tasks_part}
 use Rattle.avr_tool.proofs.Performing.{nothing_performs, performs_then, performs_last, first_task, no_task, tasks_behind}
 use Rattle.avr_tool.proofs.parts.+perform_all.Goals as goal

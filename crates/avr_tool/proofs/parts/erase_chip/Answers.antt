@@ -1,13 +1,13 @@
 use Rattle.std.proofs.Common.{codes, [], ◌∷◌}
 use Rattle.avr_tool.specs.Lines.{informs}
-use Rattle.avr_tool.specs.Session.{fault_or, bytes_say, opening_says}
+use Rattle.avr_tool.specs.Session.{fault_or}
 use Rattle.avr_tool.specs.Runs.{PrintStops}
 use Rattle.avr_tool.proofs.Reporting.{print_is_desk}
-use Rattle.avr_tool.proofs.Operations.{call_ended, lack_ended, told_of}
-use Rattle.avr_tool.proofs.Performing.{operation_performs, opening_told}
+use Rattle.avr_tool.proofs.Operations.{call_ended, told_of}
+use Rattle.avr_tool.proofs.Performing.{operation_performs}
 use Rattle.avr_tool.proofs.parts.erase_chip.Goals as goal
 
 pub returns-clause-performs : goal.returns-clause-performs
 returns-clause-performs g c = operation_performs (fault_or c.args.part.now (λ _. informs c.args.switches.quiet (codes "chip erased" ∷ []))) c.erase-erased.result c.report_erased-reported.result c.conclude.result (PrintStops _ _) (print_is_desk _ _) c.conclude.ensures
-      (call_ended _ _ _ _ _ c.erase-erased.result _ _ (c.erase-erased.ensures.played c.requires.sound)) (c.erase-erased.ensures.bound c.requires.sound) c.report_erased-reported.ensures.reports
-      (told_of _ _ c.args.part.now _ _ _ c.erase-erased.result c.report_erased-reported.result c.report_erased-reported.ensures.reports) (c.erase-erased.ensures.failed c.requires.sound) (c.erase-erased.ensures.lasts c.requires.sound) c.erase-erased.ensures.part c.erase-erased.ensures.counted c.report_erased-reported.ensures.counted
+    (call_ended _ _ _ _ _ c.erase-erased.result _ _ (c.erase-erased.ensures.played c.requires.sound)) (c.erase-erased.ensures.bound c.requires.sound) c.report_erased-reported.ensures.reports
+    (told_of _ _ c.args.part.now _ _ _ c.erase-erased.result c.report_erased-reported.result c.report_erased-reported.ensures.reports) (c.erase-erased.ensures.failed c.requires.sound) (c.erase-erased.ensures.lasts c.requires.sound) c.erase-erased.ensures.part c.erase-erased.ensures.counted c.report_erased-reported.ensures.counted

@@ -1,13 +1,11 @@
-use Rattle.std.proofs.Common.{codes, [], ◌∷◌}
-use Rattle.avr_tool.specs.Lines.{informs}
-use Rattle.avr_tool.specs.Session.{fault_or, bytes_say, opening_says}
+use Rattle.avr_tool.specs.Session.{opening_says}
 use Rattle.avr_tool.specs.Runs.{PrintStops}
 use Rattle.avr_tool.proofs.Reporting.{print_is_desk}
-use Rattle.avr_tool.proofs.Operations.{call_ended, lack_ended, told_of}
+use Rattle.avr_tool.proofs.Operations.{call_ended}
 use Rattle.avr_tool.proofs.Performing.{operation_performs, opening_told}
 use Rattle.avr_tool.proofs.parts.open_session.Goals as goal
 
 pub returns-clause-performs : goal.returns-clause-performs
 returns-clause-performs g c = operation_performs (opening_says c.args.switches.quiet c.args.part.now) c.open-opened.result c.report_opening-reported.result c.conclude.result (PrintStops _ _) (print_is_desk _ _) c.conclude.ensures
-      (call_ended _ _ _ _ _ c.open-opened.result _ _ (rw c.requires.signature at (c.open-opened.ensures.played c.requires.sound))) (c.open-opened.ensures.bound c.requires.sound) c.report_opening-reported.ensures.reports
-      (opening_told _ _ c.args.switches.quiet c.args.part.now _ _ c.open-opened.result c.report_opening-reported.result c.report_opening-reported.ensures.reports) (c.open-opened.ensures.failed c.requires.sound) (c.open-opened.ensures.lasts c.requires.sound) c.open-opened.ensures.part c.open-opened.ensures.counted c.report_opening-reported.ensures.counted
+    (call_ended _ _ _ _ _ c.open-opened.result _ _ (rw c.requires.signature at (c.open-opened.ensures.played c.requires.sound))) (c.open-opened.ensures.bound c.requires.sound) c.report_opening-reported.ensures.reports
+    (opening_told _ _ c.args.switches.quiet c.args.part.now _ _ c.open-opened.result c.report_opening-reported.result c.report_opening-reported.ensures.reports) (c.open-opened.ensures.failed c.requires.sound) (c.open-opened.ensures.lasts c.requires.sound) c.open-opened.ensures.part c.open-opened.ensures.counted c.report_opening-reported.ensures.counted

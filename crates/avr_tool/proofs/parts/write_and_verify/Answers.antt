@@ -1,4 +1,3 @@
-use Rattle.std.proofs.Common.{◌≡◌, ◌∙◌, sym, Ok, Err}
 use Rattle.avr_tool.specs.Session.{left_out_write, read_back_part}
 use Rattle.avr_tool.proofs.Performing.{left_out_performs, performs_then, performs_last}
 use Rattle.avr_tool.proofs.parts.write_and_verify.Goals as goal

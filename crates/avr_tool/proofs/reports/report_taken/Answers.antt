@@ -1,7 +1,3 @@
-use Rattle.std.proofs.Common.{[], ◌∷◌}
-use Rattle.stk_host.specs.declared.fault.HostFault.TheVariants.{WrongSignature}
-use Rattle.avr_message.specs.Said.{Line}
-use Rattle.avr_tool.specs.Lines.{fault_line}
 use Rattle.avr_tool.specs.Session.{signature_says, warns_of_signature}
 use Rattle.avr_tool.proofs.Reporting.{reports_then, reports_until}
 use Rattle.avr_tool.proofs.reports.report_taken.Goals as goal

@@ -3,12 +3,12 @@ use Rattle.avr_tool.proofs.runner.run.Goals as goal
 
 pub returns-in-Ok-clause-runs : goal.returns-in-Ok-clause-runs
 returns-in-Ok-clause-runs g c = inl (record {
-    plan = c.in-Ok.plan;
-    between = g.D.Desk.kept c.plan.new.desk;
-    count = g.D.Desk.failures c.plan.new.desk;
-    made = rw c.in-Ok.is at c.plan.ensures.goes;
-    runs = c.drive.ensures.runs;
-  })
+  plan = c.in-Ok.plan;
+  between = g.D.Desk.kept c.plan.new.desk;
+  count = g.D.Desk.failures c.plan.new.desk;
+  made = rw c.in-Ok.is at c.plan.ensures.goes;
+  runs = c.drive.ensures.runs;
+})
 
 pub returns-in-Err-clause-runs : goal.returns-in-Err-clause-runs
 returns-in-Err-clause-runs g c =

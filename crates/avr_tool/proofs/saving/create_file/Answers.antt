@@ -1,6 +1,5 @@
 use Rattle.std.proofs.Common.{[], ◌∷◌}
-use Rattle.avr_message.specs.Said.{Creates, Writes}
-use Rattle.avr_message.proofs.Saying.{none_said}
+use Rattle.avr_message.specs.Said.{Writes}
 use Rattle.avr_tool.specs.FileText.{file_text}
 use Rattle.avr_tool.specs.Runs.{NotCreated, cause_line}
 use Rattle.avr_tool.proofs.Reporting.{file_stops}

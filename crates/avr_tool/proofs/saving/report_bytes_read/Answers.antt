@@ -1,7 +1,6 @@
 use Rattle.std.proofs.Common.{length, codes}
 use Rattle.avr_tool.specs.FileText.{file_text}
 use Rattle.avr_tool.specs.Session.{saved, bytes_say}
-use Rattle.avr_tool.specs.Runs.{DeskStops, PrintStops}
 use Rattle.avr_tool.proofs.Saves.{reports_then, reports_until}
 use Rattle.avr_tool.proofs.saving.report_bytes_read.Goals as goal
 

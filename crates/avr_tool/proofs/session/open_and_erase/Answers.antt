@@ -1,4 +1,3 @@
-use Rattle.std.proofs.Common.{◌≡◌, Ok, Err}
 use Rattle.avr_tool.specs.Session.{erasing_part}
 use Rattle.avr_tool.proofs.Performing.{performs_then, performs_last}
 use Rattle.avr_tool.proofs.session.open_and_erase.Goals as goal

@@ -1,4 +1,3 @@
-use Rattle.std.proofs.Common.{◌≡◌, Ok, Err}
 use Rattle.avr_tool.specs.Session.{tasks_part}
 use Rattle.avr_tool.proofs.Performing.{performs_then, performs_last}
 use Rattle.avr_tool.proofs.session.work.Goals as goal
