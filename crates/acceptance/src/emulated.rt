@@ -182,6 +182,68 @@ fn all_of_an_erased_flash_is_read(rt: HostRuntime) -> Result<(), Fail> {
     Ok(())
 }
 
+#[test]
+fn an_erased_flash_is_an_empty_file(rt: HostRuntime) -> Result<(), Fail> {
+    let mut desk = no_files(rt.alloc());
+    let row = Row {
+        words: &["-p", "m328p", "-U", "flash:r:f.bin"],
+        output: "",
+        messages: &["device signature = 1E 95 0F", "flash: 0 bytes read", "done"],
+        status: 0,
+    };
+    run_row(&rt, rt.alloc(), &mut desk, &row)?;
+    assert!(&rt; desk.file("f.bin").map(|bytes| bytes.len()) == Some(0));
+    Ok(())
+}
+
+/// A part of one's own, and options that have no effect.
+#[test]
+fn a_part_file_is_read(rt: HostRuntime) -> Result<(), Fail> {
+    let mut desk = no_files(rt.alloc());
+    desk.put(
+        "p.toml",
+        b"[parts.x1]
+signature = \"1E950F\"
+flash_size = 32768
+flash_page = 128
+eeprom_size = 1024
+eeprom_page = 4
+eesave_bit = 3
+",
+    )?;
+    let row = Row {
+        words: &["-b", "115200", "-v", "--parts", "p.toml", "-p", "x1"],
+        output: "",
+        messages: &["device signature = 1E 95 0F", "done"],
+        status: 0,
+    };
+    run_row(&rt, rt.alloc(), &mut desk, &row)
+}
+
+#[test]
+fn a_part_that_lacks_a_field_is_refused(rt: HostRuntime) -> Result<(), Fail> {
+    let mut desk = no_files(rt.alloc());
+    desk.put(
+        "p.toml",
+        b"[parts.x1]
+signature = \"1E950F\"
+flash_size = 32768
+flash_page = 128
+eeprom_size = 1024
+eesave_bit = 3
+",
+    )?;
+    let row = Row {
+        words: &["--parts", "p.toml", "-p", "x1"],
+        output: "",
+        messages: &["error: p.toml: eeprom_page is missing"],
+        status: 1,
+    };
+    run_row(&rt, rt.alloc(), &mut desk, &row)?;
+    assert!(&rt; desk.file("chip.bin").is_none());
+    Ok(())
+}
+
 /// A chip file of another length is refused, and stays as it is.
 #[test]
 fn a_chip_file_of_another_length_is_refused(rt: HostRuntime) -> Result<(), Fail> {

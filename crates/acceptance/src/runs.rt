@@ -287,3 +287,31 @@ fn gaps_of_an_eeprom_image(rt: HostRuntime) -> Result<(), Fail> {
     assert!(rt; over.wire.sent() == frames.as_slice());
     Ok(())
 }
+
+/// An empty file as flash: five frames that open, the erase, 256 of the read back, and LEAVE with sequence number 07.
+#[test]
+fn frames_of_an_empty_flash(rt: HostRuntime) -> Result<(), Fail> {
+    let alloc = rt.alloc();
+    let row = Row {
+        words: &["-p", "m328p", "-q", "-U", "flash:w:a.bin"],
+        file: ("a.bin", b""),
+        output: "",
+        messages: &[],
+        status: 0,
+    };
+    let over = run_on(alloc, fresh_wire(alloc)?, &row)?;
+    look(&rt, alloc, &over, &row)?;
+    let first = hex::decode(
+        alloc,
+        "1B0100010E01141B02000C0E10C8641920005303AC530000311B0300060E1B04300000003F1B0400060E1B0430000100391B0500060E1B04300002003B1B0600070E120900AC80000023",
+    )?;
+    assert!(rt; over.wire.sent().starts_with(first.as_slice()));
+    assert!(rt;
+        over.wire
+            .sent()
+            .ends_with(&[0x1B, 0x07, 0x00, 0x03, 0x0E, 0x11, 0x01, 0x01, 0x00])
+    );
+    // LOAD_ADDRESS has 11 bytes and READ_FLASH 10
+    assert!(rt; over.wire.sent().len() == first.len() + 128 * (11 + 10) + 9);
+    Ok(())
+}
