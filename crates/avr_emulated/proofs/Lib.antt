@@ -6,6 +6,7 @@ pub mod AnyLine
 pub mod AnyLineTold
 pub mod AnyLineMakes
 pub mod AnyLineOrder
+pub mod RunBound
 pub mod GoodLineEnds
 pub mod GoodLineCalls
 pub mod GoodLine

@@ -1,4 +1,5 @@
 pub mod Items
+pub mod Bound
 pub mod Agrees
 pub mod Course
 pub mod Written

@@ -1,7 +1,8 @@
-//! What a run leaves in a chip, whatever the line does, and in which order. No code.
+//! What a run leaves in a chip, whatever the line does, and in which order; and how much it sends. No code.
 #![tactic(auto)]
 
-ghost use Rattle.std.specs.Prelude.{◌≡◌, ℕ, List, All, take};
+ghost use Rattle.std.specs.Prelude.{◌≡◌, ◌*◌, ℕ, List, All, take};
+ghost use Rattle.avr_message.specs.Said.{SaidPart};
 ghost use Rattle.avr_part.specs.Part.{IsPart};
 ghost use Rattle.avr_plan.specs.Plan.{Plan, IsFitted};
 ghost use Rattle.avr_tool.specs.Session.{session};
@@ -13,6 +14,8 @@ ghost use Rattle.stk_emu.specs.Programmer.{Programmer};
 ghost use Rattle.stk_emu.specs.Settled.{Idle, FitsPart};
 ghost use Rattle.stk_emu.specs.Tallies.{Tallies};
 ghost use Rattle.stk_emu.specs.declared.fate.Fate.{Fate};
+ghost use Rattle.stk_host.specs.Bound.{SendsAtMost, commands_in};
+ghost use Rattle.avr_emulated.specs.Bound.{run_steps};
 ghost use Rattle.avr_emulated.specs.Made.{made_by};
 ghost use Rattle.avr_emulated.specs.Outcome.{strokes, IsTouched, IsDone};
 
@@ -31,4 +34,10 @@ pub fn a_run_makes_its_strokes_in_order()
     ensures { (plan : Plan) (m : Memories) (p : Programmer) (fates : List Fate)
         → IsPart plan.part → All (IsFitted plan.part) plan.tasks → FitsPart plan.part m → Idle plan.part m p
         → Tallies device (session plan) (made_by plan) (λ j q. memories_of q.chip ≡ effects plan.part (take j (strokes plan)) m) p fates }
+{}
+
+/// Whatever the line does, a run sends each command of the steps of its plan at most four times: so many frames at most go
+/// out, also where it breaks off.
+pub fn a_run_sends_at_most_four_times_its_commands()
+    ensures { (plan : Plan) → SendsAtMost SaidPart (4 * commands_in (run_steps plan)) (session plan) }
 {}

@@ -1,0 +1,173 @@
+-- A session asks at most four times the commands of its plan's steps.
+use Rattle.std.proofs.Common.{◌≡◌, ℕ, ◌+◌, ◌*◌, List, [], ◌∷◌, ◌++◌, length, append_assoc, refl, ◌∙◌, subst, arith, Bool, true, false, Ok, Err, Result}
+use Rattle.std.specs.Prelude.{if◌then◌else◌}
+use Rattle.avr_cli.specs.declared.chosen.Switches.{Switches}
+use Rattle.avr_message.specs.Said.{Saying, SaidPart}
+use Rattle.avr_part.specs.Mem.{is_writable}
+use Rattle.avr_part.specs.declared.mem.Mem.{Mem}
+use Rattle.avr_part.specs.Part.{Part}
+use Rattle.avr_plan.specs.Plan.{Plan}
+use Rattle.avr_plan.specs.declared.task.Task.{Task}
+use Rattle.avr_plan.specs.declared.task.Task.TheVariants.{Write, Verify, Read}
+use Rattle.stk_frame.specs.declared.command.Command.{Command}
+use Rattle.stk_frame.specs.declared.command.Command.TheVariants.{SignOn}
+use Rattle.stk_frame.specs.HostCommands.{enter, leave}
+use Rattle.stk_host.specs.declared.fault.HostFault.{HostFault}
+use Rattle.stk_host.specs.declared.fault.HostFault.TheVariants.{ReadOnly}
+use Rattle.stk_host.specs.Dialog.{Dialog, Done, ◌>>=◌, lifted}
+use Rattle.stk_host.specs.Steps.{if_done, step, play}
+use Rattle.stk_host.specs.WriteSteps.{write_steps}
+use Rattle.stk_host.specs.ReadSteps.{signature_steps, read_steps}
+use Rattle.stk_host.specs.Operations.{beginning, signature_judged, opening, ended, closing, judged_by, operation, done, erasing, writing, reading, compared, verifying}
+use Rattle.stk_host.specs.Bound.{AsksAtMost, SendsAtMost, commands_in, opening_steps, erasing_steps, closing_steps}
+use Rattle.stk_host.proofs.Bounds.{asks_bind, asks_lifted, step_most, then_most, play_most, judged_most, sends_asked}
+use Rattle.stk_emu.specs.Effect.{Image}
+use Rattle.avr_tool.specs.declared.standing.Standing.{Standing}
+use Rattle.avr_tool.specs.declared.standing.Standing.TheVariants.{Fine, Faulty, Over}
+use Rattle.avr_tool.specs.Session.{says, standing, reported, unless_fault, fault_or, opening_says, erased_says, written_says, verified_says, closed_says, read_says, opening_part, is_erase_due, left_out_erase, erasing_part, verifying_part, writing_part, read_back_part, left_out_write, write_part, task_part, tasks_part, working, ending, playing, status_of, session}
+use Rattle.avr_emulated.specs.Bound.{due_erase_steps, read_back_steps, task_steps, tasks_steps, run_steps}
+
+-- dialogs, one after another
+
+commands_append : (xs ys : List (List Command)) → commands_in (xs ++ ys) ≡ commands_in xs + commands_in ys
+commands_append [] ys = refl
+commands_append (commands ∷ xs) ys =
+    let e : length commands + commands_in (xs ++ ys) ≡ length commands + commands_in xs + commands_in ys = omega (arith, commands_append xs ys) in
+    e
+
+-- a dialog over these steps, and then one over those
+most_on : {E A B : Type 0} (xs ys : List (List Command)) (d : Dialog E A) (go_on : A → Dialog E B) → AsksAtMost (4 * commands_in xs) d
+    → ((a : A) → AsksAtMost (4 * commands_in ys) (go_on a)) → AsksAtMost (4 * commands_in (xs ++ ys)) (d >>= go_on)
+most_on xs ys d go_on f g =
+    let e : 4 * commands_in xs + 4 * commands_in ys ≡ 4 * commands_in (xs ++ ys) = omega (arith, commands_append xs ys) in
+    subst (λ n. AsksAtMost n (d >>= go_on)) e (asks_bind (4 * commands_in xs) (4 * commands_in ys) d go_on f g)
+
+-- what follows asks nothing
+most_alone : {E A B : Type 0} (n : ℕ) (d : Dialog E A) (go_on : A → Dialog E B) → AsksAtMost n d → ((a : A) → AsksAtMost 0 (go_on a)) → AsksAtMost n (d >>= go_on)
+most_alone n d go_on f g =
+    let e : n + 0 ≡ n = omega arith in
+    subst (λ z. AsksAtMost z (d >>= go_on)) e (asks_bind n 0 d go_on f g)
+
+-- the operations of the host
+
+operation_most : {A : Type 0} (steps : List (List Command)) (judge : List ℕ → Result A HostFault) → AsksAtMost (4 * commands_in steps) (operation steps judge)
+unfolding operation
+operation_most steps judge = judged_most (4 * commands_in steps) (play steps []) (judged_by judge) (play_most steps [])
+
+opening_most : (signature : List ℕ) (force : Bool) → AsksAtMost (4 * commands_in opening_steps) (opening signature force)
+unfolding opening beginning
+opening_most signature force =
+    judged_most (4 * commands_in opening_steps) beginning (signature_judged signature force)
+    (then_most (SignOn ∷ []) ((enter ∷ []) ∷ signature_steps) (λ name. step (enter ∷ []) >>= if_done (λ nothing. play signature_steps []))
+    (λ name. then_most (enter ∷ []) signature_steps (λ nothing. play signature_steps []) (λ nothing. play_most signature_steps [])))
+
+closing_most : AsksAtMost (4 * commands_in closing_steps) closing
+unfolding closing
+closing_most = judged_most (4 * commands_in closing_steps) (step (leave ∷ [])) ended (step_most (leave ∷ []))
+
+-- a memory that can't be written is asked nothing
+writing_most : (part : Part) (mem : Mem) (image : Image) → AsksAtMost (4 * commands_in (write_steps part mem image)) (writing part mem image)
+writing_most part mem image = by_kind (is_writable mem)
+  where
+    by_kind : (b : Bool) → AsksAtMost (4 * commands_in (write_steps part mem image)) (if b then operation (write_steps part mem image) done else Done (Err (ReadOnly mem)))
+    by_kind true = operation_most (write_steps part mem image) done
+    by_kind false = tt
+
+-- the parts of a session
+
+says_most : (n : ℕ) (sayings : List Saying) (s : Standing) → AsksAtMost n (says sayings (Done s))
+says_most n [] s = tt
+says_most n (saying ∷ sayings) s = says_most n sayings s
+
+reported_most : {A : Type 0} (n : ℕ) (call : Dialog ⊥ (Result A HostFault)) (outcome_says : Result A HostFault → List Saying) → AsksAtMost n call → AsksAtMost n (reported call outcome_says)
+reported_most n call outcome_says asks =
+    most_alone n (lifted call) (λ outcome. says (outcome_says outcome) (Done (standing outcome))) (asks_lifted Saying n call asks)
+    (λ outcome. says_most 0 (outcome_says outcome) (standing outcome))
+
+-- after a fault nothing more is asked
+then_part_most : (xs ys : List (List Command)) (d next : Dialog Saying Standing) → AsksAtMost (4 * commands_in xs) d → AsksAtMost (4 * commands_in ys) next
+    → AsksAtMost (4 * commands_in (xs ++ ys)) (d >>= unless_fault next)
+then_part_most xs ys d next asks more = most_on xs ys d (unless_fault next) asks after
+  where
+    after : (s : Standing) → AsksAtMost (4 * commands_in ys) (unless_fault next s)
+    after Fine = more
+    after Faulty = tt
+    after Over = tt
+
+module _ (part : Part) (s : Switches) where
+  opening_part_most : AsksAtMost (4 * commands_in opening_steps) (opening_part part s)
+  opening_part_most =
+      reported_most (4 * commands_in opening_steps) (opening part.signature s.force) (opening_says s.quiet part) (opening_most part.signature s.force)
+
+  erasing_part_most : (tasks : List Task) → AsksAtMost (4 * commands_in (due_erase_steps s tasks)) (erasing_part part s tasks)
+  erasing_part_most tasks = by_switch s.dry (is_erase_due s tasks)
+    where
+      by_switch : (dry due : Bool) → AsksAtMost (4 * commands_in (if dry then [] else if due then erasing_steps else []))
+          (if dry then says (left_out_erase s) (Done Fine) else if due then reported erasing (erased_says s.quiet part) else Done Fine)
+      by_switch true due = says_most 0 (left_out_erase s) Fine
+      by_switch false true = reported_most (4 * commands_in erasing_steps) erasing (erased_says s.quiet part) (operation_most erasing_steps done)
+      by_switch false false = tt
+
+  verifying_part_most : (mem : Mem) (image : Image) → AsksAtMost (4 * commands_in (read_steps part mem)) (verifying_part part s mem image)
+  verifying_part_most mem image =
+      reported_most (4 * commands_in (read_steps part mem)) (verifying part mem image) (verified_says s.quiet part mem image) (operation_most (read_steps part mem) (compared mem image))
+
+  read_back_most : (mem : Mem) (image : Image) → AsksAtMost (4 * commands_in (read_back_steps part s mem)) (read_back_part part s mem image)
+  read_back_most mem image = by_switch s.no_verify
+    where
+      by_switch : (b : Bool) → AsksAtMost (4 * commands_in (if b then [] else read_steps part mem)) (if b then Done Fine else verifying_part part s mem image)
+      by_switch true = tt
+      by_switch false = verifying_part_most mem image
+
+  write_part_most : (mem : Mem) (image : Image) → AsksAtMost (4 * commands_in (task_steps part s (Write mem image))) (write_part part s mem image)
+  write_part_most mem image = by_switch s.dry
+    where
+      by_switch : (b : Bool) → AsksAtMost (4 * commands_in (if b then [] else write_steps part mem image ++ read_back_steps part s mem))
+          (if b then says (left_out_write s mem image) (Done Fine) else writing_part part s mem image >>= unless_fault (read_back_part part s mem image))
+      by_switch true = says_most 0 (left_out_write s mem image) Fine
+      by_switch false =
+          then_part_most (write_steps part mem image) (read_back_steps part s mem) (writing_part part s mem image) (read_back_part part s mem image)
+          (reported_most (4 * commands_in (write_steps part mem image)) (writing part mem image) (written_says s.quiet part mem image) (writing_most part mem image)) (read_back_most mem image)
+
+  task_part_most : (task : Task) → AsksAtMost (4 * commands_in (task_steps part s task)) (task_part part s task)
+  task_part_most (Write mem image) = write_part_most mem image
+  task_part_most (Verify mem image) = verifying_part_most mem image
+  task_part_most (Read mem format file) =
+      reported_most (4 * commands_in (read_steps part mem)) (reading part mem) (fault_or part (read_says s mem format file)) (operation_most (read_steps part mem) Ok)
+
+  tasks_part_most : (tasks : List Task) → AsksAtMost (4 * commands_in (tasks_steps part s tasks)) (tasks_part part s tasks)
+  tasks_part_most [] = tt
+  tasks_part_most (task ∷ tasks) =
+      then_part_most (task_steps part s task) (tasks_steps part s tasks) (task_part part s task) (tasks_part part s tasks) (task_part_most task) (tasks_part_most tasks)
+
+  ending_most : (standing : Standing) → AsksAtMost (4 * commands_in closing_steps) (ending part s standing)
+  ending_most Fine = reported_most (4 * commands_in closing_steps) closing (closed_says s.quiet part) closing_most
+  ending_most Faulty =
+      most_alone (4 * commands_in closing_steps) (reported closing (λ _. [])) (λ closed. Done Over) (reported_most (4 * commands_in closing_steps) closing (λ _. []) closing_most) (λ closed. tt)
+  ending_most Over = tt
+
+-- the session
+
+-- lists joined from the left are those joined from the right
+regrouped : {A : Type 0} (a b c d : List A) → ((a ++ b) ++ c) ++ d ≡ a ++ (b ++ (c ++ d))
+regrouped a b c d = append_assoc (a ++ b) c d ∙ append_assoc a b (c ++ d)
+
+playing_most : (plan : Plan) → AsksAtMost (4 * commands_in (run_steps plan)) (playing plan)
+playing_most plan =
+    let part = plan.part in
+    let s = plan.switches in
+    let erase = due_erase_steps s plan.tasks in
+    let tasks = tasks_steps part s plan.tasks in
+    subst (λ steps. AsksAtMost (4 * commands_in steps) (playing plan)) (regrouped opening_steps erase tasks closing_steps)
+    (most_on ((opening_steps ++ erase) ++ tasks) closing_steps (working plan) (ending part s)
+    (then_part_most (opening_steps ++ erase) tasks (opening_part part s >>= unless_fault (erasing_part part s plan.tasks)) (tasks_part part s plan.tasks)
+    (then_part_most opening_steps erase (opening_part part s) (erasing_part part s plan.tasks) (opening_part_most part s) (erasing_part_most part s plan.tasks))
+    (tasks_part_most part s plan.tasks))
+    (ending_most part s))
+
+session_most : (plan : Plan) → AsksAtMost (4 * commands_in (run_steps plan)) (session plan)
+unfolding session
+session_most plan = most_alone (4 * commands_in (run_steps plan)) (playing plan) (λ standing. Done (status_of standing)) (playing_most plan) (λ standing. tt)
+
+pub session_sends : (plan : Plan) → SendsAtMost SaidPart (4 * commands_in (run_steps plan)) (session plan)
+session_sends plan = sends_asked SaidPart (4 * commands_in (run_steps plan)) (session plan) (session_most plan)

@@ -1,0 +1,35 @@
+-- All the steps that a run of a plan may take.
+use Rattle.std.specs.Prelude.{List, [], ◌∷◌, ◌++◌, if◌then◌else◌}
+use Rattle.avr_cli.specs.declared.chosen.Switches.{Switches}
+use Rattle.avr_part.specs.declared.mem.Mem.{Mem}
+use Rattle.avr_part.specs.Part.{Part}
+use Rattle.avr_plan.specs.Plan.{Plan}
+use Rattle.avr_plan.specs.declared.task.Task.{Task}
+use Rattle.avr_plan.specs.declared.task.Task.TheVariants as task
+use Rattle.avr_tool.specs.Session.{is_erase_due}
+use Rattle.stk_frame.specs.declared.command.Command.{Command}
+use Rattle.stk_host.specs.Bound.{opening_steps, erasing_steps, closing_steps}
+use Rattle.stk_host.specs.ReadSteps.{read_steps}
+use Rattle.stk_host.specs.WriteSteps.{write_steps}
+
+-- an erase, where it is due
+abbrev pub due_erase_steps : Switches → List Task → List (List Command)
+due_erase_steps s tasks = if s.dry then [] else if is_erase_due s tasks then erasing_steps else []
+
+-- what was written is read back, unless that isn't wanted
+abbrev pub read_back_steps : Part → Switches → Mem → List (List Command)
+read_back_steps part s mem = if s.no_verify then [] else read_steps part mem
+
+-- a write, unless nothing is to be written; a comparison reads its memory
+abbrev pub task_steps : Part → Switches → Task → List (List Command)
+task_steps part s (task.Write mem image) = if s.dry then [] else write_steps part mem image ++ read_back_steps part s mem
+task_steps part s (task.Verify mem image) = read_steps part mem
+task_steps part s (task.Read mem format file) = read_steps part mem
+
+abbrev pub tasks_steps : Part → Switches → List Task → List (List Command)
+tasks_steps part s [] = []
+tasks_steps part s (first ∷ tasks) = task_steps part s first ++ tasks_steps part s tasks
+
+-- the opening, the erase, if due, the tasks in their order, and the closing
+abbrev pub run_steps : Plan → List (List Command)
+run_steps plan = opening_steps ++ (due_erase_steps plan.switches plan.tasks ++ (tasks_steps plan.part plan.switches plan.tasks ++ closing_steps))
