@@ -36,8 +36,8 @@ pub fn a_run_makes_its_strokes_in_order()
         → Tallies device (session plan) (made_by plan) (λ j q. memories_of q.chip ≡ effects plan.part (take j (strokes plan)) m) p fates }
 {}
 
-/// Whatever the line does, a run sends each command of the steps of its plan at most four times: so many frames at most go
-/// out, also where it breaks off.
+/// Whatever the line does, a run sends at most four times as many frames as there are commands in all the steps that its plan
+/// may take, also where it breaks off.
 pub fn a_run_sends_at_most_four_times_its_commands()
     ensures { (plan : Plan) → SendsAtMost SaidPart (4 * commands_in (run_steps plan)) (session plan) }
 {}

@@ -12,7 +12,10 @@ mod any_line;
 mod good_line;
 mod written;
 
-pub use any_line::{a_run_leaves_its_strokes, a_run_makes_its_strokes_in_order, a_run_sends_at_most_four_times_its_commands};
+pub use any_line::{
+    a_run_leaves_its_strokes, a_run_makes_its_strokes_in_order,
+    a_run_sends_at_most_four_times_its_commands,
+};
 pub use good_line::a_run_over_a_good_line_has_its_course;
 pub use run::run_emulated;
 pub use wired_run::drive_wired;
