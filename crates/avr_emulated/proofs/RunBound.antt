@@ -1,5 +1,5 @@
 -- A session asks at most four times the commands of its plan's steps.
-use Rattle.std.proofs.Common.{◌≡◌, ℕ, ◌+◌, ◌*◌, List, [], ◌∷◌, ◌++◌, length, append_assoc, ◌∙◌, subst, arith, Bool, true, false, Ok, Err, Result}
+use Rattle.std.proofs.Common.{◌≡◌, ℕ, ◌+◌, ◌*◌, List, [], ◌∷◌, ◌++◌, append_assoc, ◌∙◌, subst, arith, Bool, true, false, Ok, Err, Result}
 use Rattle.std.specs.Prelude.{if◌then◌else◌}
 use Rattle.avr_cli.specs.declared.chosen.Switches.{Switches}
 use Rattle.avr_message.specs.Said.{Saying, SaidPart}
@@ -31,9 +31,7 @@ use Rattle.avr_emulated.specs.Bound.{due_erase_steps, read_back_steps, task_step
 
 commands_append : (xs ys : List (List Command)) → commands_in (xs ++ ys) ≡ commands_in xs + commands_in ys
 commands_append [] ys = omega arith
-commands_append (commands ∷ xs) ys =
-    let e : length commands + commands_in (xs ++ ys) ≡ length commands + commands_in xs + commands_in ys = omega (arith, commands_append xs ys) in
-    e
+commands_append (commands ∷ xs) ys = omega (arith, commands_append xs ys)
 
 -- a dialog over these steps, and then one over those
 most_on : {E A B : Type 0} (xs ys : List (List Command)) (d : Dialog E A) (go_on : A → Dialog E B) → AsksAtMost (4 * commands_in xs) d
