@@ -2,7 +2,8 @@
 use Rattle.std.proofs.Common.{◌≡◌, ℕ, ◌<◌, arith, refl, sym, ◌∙◌, subst, List, [], ◌∷◌, map, length, get_or, Bool, true, false}
 use Rattle.std.proofs.lemmas.Bool.{true≢false}
 use Rattle.std.proofs.lemmas.List.{get_or-replicate}
-use Rattle.std.specs.Prelude.{◌&&◌, not, if◌then◌else◌, All}
+use Rattle.std.specs.List.{list_any}
+use Rattle.std.specs.Prelude.{◌&&◌, ◌||◌, not, if◌then◌else◌, All}
 use Rattle.avr_cli.specs.declared.chosen.Switches.{Switches}
 use Rattle.avr_part.specs.Memory.{blank}
 use Rattle.avr_part.specs.Part.{Part}
@@ -10,14 +11,16 @@ use Rattle.avr_part.specs.declared.mem.Mem.{Mem}
 use Rattle.avr_part.specs.declared.mem.Mem.TheVariants.{Flash, Eeprom, Lfuse, Hfuse, Efuse, Lock}
 use Rattle.avr_plan.specs.Plan.{Plan, IsFitted}
 use Rattle.avr_plan.specs.declared.task.Task.TheVariants as task
-use Rattle.avr_tool.specs.Session.{is_erase_due}
+use Rattle.avr_tool.specs.Session.{is_erase_due, writes_flash}
 use Rattle.stk_emu.specs.Effect.{Image, Memories, Item, Erase, keeps_eeprom, effect, effects}
 use Rattle.stk_emu.specs.Settled.{FitsPart}
 use Rattle.stk_emu.proofs.PageStrokes.{effects_on}
 use Rattle.avr_emulated.specs.Agrees.{Shows, TasksAgree}
+use Rattle.avr_emulated.specs.Course.{course}
 use Rattle.avr_emulated.specs.Items.{erasing_items, tasks_items}
 use Rattle.avr_emulated.specs.Outcome.{IsDone}
 use Rattle.avr_emulated.specs.Written.{IsWritten, written_to}
+use Rattle.avr_emulated.proofs.WrittenCourse.{course_status}
 use Rattle.avr_emulated.proofs.WrittenImages.{Left, tasks_left}
 
 -- ---- after the erase
@@ -84,7 +87,28 @@ module _ (plan : Plan) (before after : Memories) (all : All (IsFitted plan.part)
       }
 
 -- images that are shown agree once more
-pub shown_agree : (part : Part) (s : Switches) (image_of : Mem → Image) (m : Memories) (mems : List Mem) → ((mem : Mem) → Shows part mem (image_of mem) m)
+shown_agree : (part : Part) (s : Switches) (image_of : Mem → Image) (m : Memories) (mems : List Mem) → ((mem : Mem) → Shows part mem (image_of mem) m)
     → TasksAgree part s (map (λ mem. task.Verify mem (image_of mem)) mems) m
 shown_agree part s image_of m [] shown = tt
 shown_agree part s image_of m (mem ∷ mems) shown = (shown mem, shown_agree part s image_of m mems shown)
+
+-- comparisons alone erase nothing
+none_writes : (image_of : Mem → Image) (mems : List Mem) → list_any writes_flash (map (λ mem. task.Verify mem (image_of mem)) mems) ≡ false
+none_writes image_of [] = refl
+none_writes image_of (mem ∷ mems) = none_writes image_of mems
+
+no_erase : (dry erase any keep : Bool) → erase ≡ false → any ≡ false → erase_if dry (erase || (any && keep)) ≡ []
+no_erase true erase any keep e n = refl
+no_erase false true any keep e n = absurd (true≢false e)
+no_erase false false true keep e n = absurd (true≢false n)
+no_erase false false false keep e n = refl
+
+-- so a run that compares what is shown, and nothing else, has status 0
+pub shown_succeeds : (part : Part) (s : Switches) (image_of : Mem → Image) (m : Memories) (mems : List Mem) → s.erase ≡ false → ((mem : Mem) → Shows part mem (image_of mem) m)
+    → (course (record { part = part; tasks = map (λ mem. task.Verify mem (image_of mem)) mems; switches = s }) m).status ≡ 0
+shown_succeeds part s image_of m mems kept shown =
+    let tasks = map (λ mem. task.Verify mem (image_of mem)) mems in
+    (course_status (record { part = part; tasks = tasks; switches = s }) m).1
+    (subst (λ items. TasksAgree part s tasks (effects part items m))
+    (sym (no_erase s.dry s.erase (list_any writes_flash tasks) (not s.keep_flash) kept (none_writes image_of mems)))
+    (shown_agree part s image_of m mems shown))

@@ -9,7 +9,7 @@ ghost use Rattle.avr_plan.specs.Plan.{Plan, IsFitted};
 ghost use Rattle.avr_plan.specs.declared.task.Task.{Task};
 ghost use Rattle.stk_emu.specs.Effect.{Memories, effects};
 ghost use Rattle.stk_emu.specs.Settled.{FitsPart};
-ghost use Rattle.avr_emulated.specs.Agrees.{Agrees, TasksAgree};
+ghost use Rattle.avr_emulated.specs.Agrees.{Agrees};
 ghost use Rattle.avr_emulated.specs.Course.{course};
 ghost use Rattle.avr_emulated.specs.Items.{items};
 ghost use Rattle.avr_emulated.specs.Outcome.{IsDone};
@@ -22,13 +22,13 @@ pub fn a_course_succeeds_where_it_agrees()
 {}
 
 /// After a verified run of status 0 each memory holds the images that were written to it, laid over each other, and nothing else
-/// changed but what an erase erased; and a further comparison with these images agrees.
+/// changed but what an erase erased; and a further run that compares memories with these images succeeds over a good line.
 pub fn a_verified_run_leaves_its_images()
     ensures images { (plan : Plan) (before after : Memories)
         → IsPart plan.part → All (IsFitted plan.part) plan.tasks → FitsPart plan.part before
         → plan.switches.dry ≡ false → plan.switches.no_verify ≡ false → IsDone plan before after → IsWritten plan before after }
     ensures again { (plan : Plan) (before after : Memories) (s : Switches) (mems : List Mem)
         → IsPart plan.part → All (IsFitted plan.part) plan.tasks → FitsPart plan.part before
-        → plan.switches.dry ≡ false → plan.switches.no_verify ≡ false → IsDone plan before after
-        → TasksAgree plan.part s (map (λ mem. Task.Verify mem (written_to plan.part mem plan.tasks)) mems) after }
+        → plan.switches.dry ≡ false → plan.switches.no_verify ≡ false → IsDone plan before after → s.erase ≡ false
+        → (course (record { part = plan.part; tasks = map (λ mem. Task.Verify mem (written_to plan.part mem plan.tasks)) mems; switches = s }) after).status ≡ 0 }
 {}

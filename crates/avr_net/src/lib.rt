@@ -20,4 +20,6 @@ pub use run::run_net;
 pub use serving::{serve_net, serve_on};
 
 #[cfg(test)]
+mod loopback;
+#[cfg(test)]
 mod tests;

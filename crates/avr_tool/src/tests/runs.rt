@@ -97,7 +97,7 @@ fn look(rt: &impl Abort, alloc: Global, row: &Row, cut: usize) -> Result<(), Fai
 
 fn look_at_all(rt: &impl Abort, alloc: Global, rows: &[Row]) -> Result<(), Fail> {
     for row in rows {
-        for cut in [1usize, 5, 281] {
+        for cut in [1usize, 2, 3, 5, 280, 281] {
             look(rt, alloc, row, cut)?;
         }
     }
