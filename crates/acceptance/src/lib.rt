@@ -11,6 +11,8 @@
 #![tactic(auto)]
 
 #[cfg(test)]
+mod bad_line;
+#[cfg(test)]
 mod emulated;
 #[cfg(test)]
 mod examples;

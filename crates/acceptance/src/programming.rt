@@ -16,7 +16,7 @@ fn m328p() -> Result<Part, Fail> {
 }
 
 /// One fate more.
-fn add(fates: &mut Vec<Fate>, fate: Fate) -> Result<(), AllocError>
+pub(crate) fn add(fates: &mut Vec<Fate>, fate: Fate) -> Result<(), AllocError>
     requires lawful { IsLawfulFate fate }
     requires before { AreLawful fates.old.items }
     ensures { OnOk result (AreLawful fates.new.items) }
@@ -26,7 +26,7 @@ fn add(fates: &mut Vec<Fate>, fate: Fate) -> Result<(), AllocError>
 }
 
 /// So many good fates, and then another.
-fn fates(alloc: Global, good: usize, last: Fate) -> Result<Vec<Fate>, AllocError>
+pub(crate) fn fates(alloc: Global, good: usize, last: Fate) -> Result<Vec<Fate>, AllocError>
     requires { IsLawfulFate last }
     ensures { IfOk result (λ v. AreLawful v.items) }
 {
@@ -136,7 +136,7 @@ fn a_page_whose_answer_is_lost_is_written_again(rt: HostRuntime) -> Result<(), F
 }
 
 /// All bytes of an ATmega328P's EEPROM, each the low byte of its address.
-fn pattern(alloc: Global) -> Result<Vec<u8>, AllocError> {
+pub(crate) fn pattern(alloc: Global) -> Result<Vec<u8>, AllocError> {
     let mut bytes = Vec::new(alloc);
     for n in 0..1_024u32 {
         bytes.push((n % 256) as u8)?;
