@@ -5,7 +5,8 @@
     tests/faults.py                                     needs a C compiler, for tests/refuse.c
 
 For every run below the nth request is refused, for n from 1 upwards until a run meets no refusal. What was sent and said
-has to be a front of what the sound run sends and says, and then a front of the line of that fault, with status 1.
+has to be a front of what the sound run sends and says, and then a front of the line of that fault, with status 1; or all
+that the sound run sends and says, with its status, where what was refused wasn't needed.
 """
 
 import os
