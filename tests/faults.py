@@ -1,98 +1,148 @@
 #!/usr/bin/env python3
-"""Lets each request for memory, and each write, of the real program fail in turn.
+"""Lets each call that the built program makes of the system fail in turn: requests for memory, reads, writes, openings, and
+what it asks of sockets.
 
-    (cd crates/avrstk && rt run < stdin > /dev/null)    builds crates/avrstk/out/avrstk
-    tests/faults.py                                     needs a C compiler, for tests/refuse.c
+    tests/faults.py        needs crates/avrstk/out/avrstk, as rt ci leaves it, and a C compiler (tests/refuse.c)
 
-For every run below the nth request is refused, for n from 1 upwards until a run meets no refusal. What was sent and said
-has to be a front of what the sound run sends and says, and then a front of the line of that fault, with status 1; or all
-that the sound run sends and says, with its status, where what was refused wasn't needed.
+For every run below and every kind of call the nth is refused, for n from 1 upwards until a run meets no refusal. What was
+sent and said has to be a front of what the sound run sends and says, and then a front of the line of that fault, with
+status 1; or all that the sound run sends and says, with its status, where what was refused wasn't needed. A read or a
+write that a signal breaks off, or that moves one byte alone, has to change nothing.
 """
 
-import os
 import subprocess
-import sys
-import tempfile
-from pathlib import Path
+import time
+from collections import Counter
 
-TOP = Path(__file__).resolve().parent.parent
-PROGRAM = TOP / "crates/avrstk/out/avrstk"
-ANSWERS = TOP / "crates/avrstk/stdin"
+from line import BadLine
+from program import ANSWERS, CHIP_FILE, TOP, Room
 
-# the words behind the program's name, and the file on standard input
+EMULATED = ["-p", "m328p", "-P", "emu:chip.bin"]
+
+# the words behind the program's name, and what stands on standard input
 RUNS = {
     "a session opened and closed": (["-p", "m328p", "-P", "stdio:"], ANSWERS),
-    "a fuse written and read": (["-p", "m328p", "-P", "emu:chip.bin", "-U", "lfuse:w:0xE2:m", "-U", "lfuse:r:-:h"], None),
-    "an empty file as flash": (["-p", "m328p", "-P", "emu:chip.bin", "-U", "flash:w:empty.bin"], None),
-    "an EEPROM of 1,024 bytes": (["-p", "m328p", "-P", "emu:chip.bin", "-V", "-U", "eeprom:w:e.bin:r"], None),
-    "a firmware, read back into a file": (["-p", "m328p", "-P", "emu:chip.bin", "-U", "flash:w:blink.hex", "-U", "flash:r:out.hex:i"], None),
-    "a part file": (["-p", "m328p", "-P", "emu:chip.bin", "--parts", "parts.toml"], None),
+    "an empty file as flash": ([*EMULATED, "-U", "flash:w:empty.bin"], b""),
+    "a fuse written and read": ([*EMULATED, "-U", "lfuse:w:0xE2:m", "-U", "lfuse:r:-:h"], b""),
+    "the whole EEPROM": ([*EMULATED, "-V", "-U", "eeprom:w:whole.bin:r"], b""),
+    "a firmware, and read back": ([*EMULATED, "-U", "flash:w:blink.hex", "-U", "flash:r:out.hex:i"], b""),
+    "a firmware of 256 kB": (["-p", "m2560", "-P", "emu:chip.bin", "-U", "flash:w:large.bin:r"], b""),
+    "an image on standard input": ([*EMULATED, "-U", "flash:w:-:r"], bytes(range(1, 251)) * 20),
+    "a part file": ([*EMULATED, "--parts", "parts.toml"], b""),
 }
 
-# the lines that a fault of this kind may have
+# The lines that a refused call of each kind may have, behind a file's name where one is named. (A device that lacks memory
+# fails like any other.)
 LINES = {
-    "REFUSE_GROWTH": ["out of memory", "link cannot be written", "link cannot be read"],
-    "REFUSE_WRITE": ["link cannot be written", "-: cannot be written", "out.hex: cannot be written", "chip.bin: cannot be written"],
+    "growth": ["out of memory", "link cannot be written", "link cannot be read"],
+    "read": ["link cannot be read", ": cannot be read"],
+    "write": ["link cannot be written", ": cannot be written"],
+    "open": [": cannot be opened", ": cannot be created"],
+    "socket": [" cannot be opened"],
 }
 
-
-def run(shim, folder, words, answers, kind=None, number=0):
-    for name in ["chip.bin", "out.hex", "refused"]:
-        (folder / name).unlink(missing_ok=True)
-    environment = dict(os.environ)
-    if kind:
-        environment |= {"LD_PRELOAD": str(shim), kind: str(number), "REFUSED": str(folder / "refused")}
-    given = answers.read_bytes() if answers else b""
-    return subprocess.run([str(PROGRAM), *words], cwd=folder, input=given, capture_output=True, env=environment)
+# what has to change nothing
+HARMLESS = [("read", "interrupt"), ("read", "one"), ("write", "interrupt"), ("write", "one")]
 
 
-def is_front_and_line(said, sound, lines):
-    """Whether it is a front of what a sound run says, and then a front of one of the lines."""
-    lines = [f"avrstk: error: {line}\n".encode() for line in lines]
-    # a line of `clap` or of the program's own words comes before anything else
+class Sweep:
+    """The runs of some words with one call refused in each."""
+
+    def __init__(self, room, shim, label, words, given):
+        self.room, self.shim, self.label, self.words, self.given = room, shim, label, words, given
+        self.sound = self.done()
+        assert self.sound[0] == 0, (label, self.sound)
+
+    def done(self, refused=None):
+        """The status, the output and the messages, and the files that were made."""
+        self.room.clear()
+        environment = {"LD_PRELOAD": str(self.shim), "REFUSE": refused, "REFUSED": "refused"} if refused else None
+        ran = self.room.run(self.words, self.given, environment)
+        return *ran, self.room.read("chip.bin"), self.room.read("out.hex")
+
+    def through(self, kind, how):
+        """Refuses each call of a kind in turn, and counts what became of it."""
+        counts = Counter()
+        for number in range(1, 100_000):
+            done = self.done(f"{kind} {number} {how}")
+            fault = (self.label, kind, how, number, done)
+            if self.room.read("refused") is None:
+                assert done == self.sound, fault
+                return counts
+            if done == self.sound:
+                counts["unneeded"] += 1
+                continue
+            assert how == "fail" and self.is_told(kind, *done), fault
+            counts["told"] += 1
+
+    def is_told(self, kind, status, output, messages, chip, file):
+        """Whether a run says that it failed, and leaves nothing that is half written without a word."""
+        told = [line for line in LINES[kind] if is_front_and_line(messages, self.sound[2], line)]
+        is_whole = chip is None or len(chip) == len(self.sound[3] or b"") or b"chip.bin: " in messages
+        is_front = file is None or (self.sound[4] or b"").startswith(file)
+        return status == 1 and self.sound[1].startswith(output) and told and is_whole and is_front
+
+
+def is_front_and_line(said, sound, line):
+    """Whether it is a front of what a sound run says, and then a front of a line of a fault."""
     if sound.startswith(said) or said == b"error: out of memory\n":
+        # (the latter is said where the words of the command line weren't read yet)
         return True
     for end in range(len(said) + 1):
-        if sound.startswith(said[:end]) and any(line.startswith(said[end:]) for line in lines):
+        if sound.startswith(said[:end]) and is_front_of_error(said[end:], line.encode()):
             return True
     return False
 
 
-def sweep(shim, folder, label, words, answers, kind):
-    sound = run(shim, folder, words, answers)
-    assert sound.returncode == 0, (label, sound)
-    for number in range(1, 100_000):
-        done = run(shim, folder, words, answers, kind, number)
-        if not (folder / "refused").exists():
-            assert (done.returncode, done.stdout, done.stderr) == (0, sound.stdout, sound.stderr), (label, kind, number, done)
-            return number - 1
-        if (done.returncode, done.stdout, done.stderr) == (0, sound.stdout, sound.stderr):
-            # what was refused wasn't needed, as a copy in place of a longer growth
-            continue
-        fault = (label, kind, number, done)
-        assert done.returncode == 1, fault
-        assert sound.stdout.startswith(done.stdout), fault
-        assert is_front_and_line(done.stderr, sound.stderr, LINES[kind]), fault
+def is_front_of_error(said, line):
+    """Whether it is a front of `avrstk: error: FILE: cannot be read`, or of another line without a name."""
+    start = b"avrstk: error: "
+    if not said.startswith(start):
+        return start.startswith(said)
+    rest = said[len(start) :]
+    if not line.startswith((b":", b" ")):
+        return (line + b"\n").startswith(rest)
+    name, _, _ = rest.partition(line)
+    return b"\n" not in name and (name + line + b"\n").startswith(rest)
+
+
+class OverNet(Sweep):
+    """A run over a line whose answer to frame 255 is late: it takes a second, which is the silence of a network."""
+
+    def done(self, refused=None):
+        self.room.clear()
+        peer = BadLine(self.room, {255: "late answer"})
+        self.words = ["-p", "m328p", "-P", f"net:127.0.0.1:{peer.port}", "-V", "-U", "eeprom:w:whole.bin:r"]
+        environment = {"LD_PRELOAD": str(self.shim), "REFUSE": refused, "REFUSED": "refused"} if refused else None
+        status, _, messages = self.room.run(self.words, self.given, environment)
+        return status, b"".join(peer.end()), messages.replace(str(peer.port).encode(), b"PORT"), self.room.read("served.bin"), None
+
+    def is_told(self, kind, status, output, messages, chip, file):
+        return super().is_told(kind, status, output, messages, None, None) and len(chip or b"") == CHIP_FILE
 
 
 def main():
-    if not PROGRAM.exists():
-        sys.exit(__doc__)
-    with tempfile.TemporaryDirectory() as name:
-        folder = Path(name)
-        shim = folder / "refuse.so"
-        subprocess.run(["cc", "-O2", "-shared", "-fPIC", "-o", str(shim), str(TOP / "tests/refuse.c"), "-ldl"], check=True)
-        (folder / "empty.bin").write_bytes(b"")
-        (folder / "e.bin").write_bytes(bytes(i % 256 for i in range(1024)))
-        for file in ["blink.hex", "parts.toml"]:
-            (folder / file).write_bytes((TOP / "examples" / file).read_bytes())
-        total = 0
-        for label, (words, answers) in RUNS.items():
-            for kind in LINES:
-                count = sweep(shim, folder, label, words, answers, kind)
-                print(f"{count:6} refused, {kind}: {label}", flush=True)
-                total += count
-        print(f"{total} refused, 0 failed")
+    begun = time.monotonic()
+    room = Room()
+    room.put("large.bin", bytes((7 * place + place // 256) % 255 for place in range(262_144)))
+    room.given.add("large.bin")
+    shim = room.folder / "refuse.so"
+    subprocess.run(["cc", "-O2", "-shared", "-fPIC", "-o", str(shim), str(TOP / "tests/refuse.c"), "-ldl"], check=True)
+    room.given.add(shim.name)
+    total = Counter()
+    for label, (words, given) in RUNS.items():
+        sweep = Sweep(room, shim, label, words, given)
+        for kind, how in [*((kind, "fail") for kind in LINES), *HARMLESS]:
+            counts = sweep.through(kind, how)
+            print(f"{counts['told']:6} told, {counts['unneeded']:5} of no effect: {kind}, {how}: {label}", flush=True)
+            total += counts
+    late = OverNet(room, shim, "the whole EEPROM over a line with a late answer", [], b"")
+    for kind in ["growth", "open", "socket"]:
+        counts = late.through(kind, "fail")
+        print(f"{counts['told']:6} told, {counts['unneeded']:5} of no effect: {kind}, fail: {late.label}", flush=True)
+        total += counts
+    seconds = time.monotonic() - begun
+    print(f"{total['told']} refusals told, {total['unneeded']} of no effect, 0 failed, in {seconds:.0f} s")
 
 
 if __name__ == "__main__":

@@ -1,62 +1,111 @@
-/* Lets one call of the C library fail: of malloc and realloc together, or of write, the one whose number stands in the
- * environment, from 1. With LD_PRELOAD in front of a program; whether it came to that call is told by the file REFUSED. */
+/* Lets one call of the C library fail. With LD_PRELOAD in front of a program, REFUSE names the call by its kind, its
+ * number from 1, and what becomes of it: "growth 3 fail" refuses the third request for memory. A read or a write may also
+ * be interrupted by a signal ("interrupt"), or move one byte alone ("one"). Whether the program came to that call is told
+ * by the file REFUSED. */
 #define _GNU_SOURCE
 #include <dlfcn.h>
 #include <errno.h>
 #include <fcntl.h>
+#include <netdb.h>
+#include <stdarg.h>
+#include <stdio.h>
 #include <stdlib.h>
+#include <string.h>
+#include <sys/socket.h>
 #include <unistd.h>
 
-static long due(const char *name)
-{
-    const char *text = getenv(name);
-    return text ? atol(text) : 0;
-}
+enum kind { GROWTH, READ, WRITE, OPEN, SOCKET, KINDS };
 
-static int is_refused(long *calls, const char *name)
+static const char *const names[KINDS] = {"growth", "read", "write", "open", "socket"};
+
+enum fate { PASS, FAIL, INTERRUPT, ONE };
+
+/* What becomes of this call, which is counted. */
+static enum fate fate_of(enum kind kind)
 {
-    if (++*calls != due(name))
-        return 0;
+    static long calls[KINDS];
+    static char due[16], how[16];
+    static long number;
+    if (!number) {
+        const char *text = getenv("REFUSE");
+        if (!text || sscanf(text, "%15s %ld %15s", due, &number, how) != 3)
+            number = -1;
+    }
+    if (number < 0 || strcmp(names[kind], due) || ++calls[kind] != number)
+        return PASS;
     const char *mark = getenv("REFUSED");
     if (mark)
-        close(open(mark, O_CREAT | O_WRONLY, 0600));
-    return 1;
+        close(creat(mark, 0600));
+    return !strcmp(how, "interrupt") ? INTERRUPT : !strcmp(how, "one") ? ONE : FAIL;
 }
 
-static long growths, writes;
+#define NEXT(name) ((__typeof__(&name))dlsym(RTLD_NEXT, #name))
 
-void *malloc(size_t size)
-{
-    static void *(*next)(size_t);
-    if (!next)
-        next = dlsym(RTLD_NEXT, "malloc");
-    if (is_refused(&growths, "REFUSE_GROWTH")) {
-        errno = ENOMEM;
-        return NULL;
+/* A call that answers `refused` where it is refused, with this reason. */
+#define REFUSABLE(kind, reason, refused, result, name, parameters, arguments) \
+    result name parameters                                                    \
+    {                                                                         \
+        if (fate_of(kind) != PASS) {                                          \
+            errno = reason;                                                   \
+            return refused;                                                   \
+        }                                                                     \
+        return NEXT(name) arguments;                                          \
     }
-    return next(size);
-}
 
-void *realloc(void *old, size_t size)
-{
-    static void *(*next)(void *, size_t);
-    if (!next)
-        next = dlsym(RTLD_NEXT, "realloc");
-    if (is_refused(&growths, "REFUSE_GROWTH")) {
-        errno = ENOMEM;
-        return NULL;
+/* A read or a write of a descriptor. */
+#define MOVING(kind, name, bytes, parameters, arguments, one)     \
+    ssize_t name parameters                                       \
+    {                                                             \
+        switch (count ? fate_of(kind) : PASS) {                   \
+        case PASS:                                                \
+            return NEXT(name) arguments;                          \
+        case ONE:                                                 \
+            return NEXT(name) one;                                \
+        case INTERRUPT:                                           \
+            errno = EINTR;                                        \
+            return -1;                                            \
+        case FAIL:                                                \
+            errno = EIO;                                          \
+        }                                                         \
+        return -1;                                                \
     }
-    return next(old, size);
-}
 
-ssize_t write(int file, const void *bytes, size_t count)
+/* (dlsym itself takes memory only for its error texts, which it doesn't need here) */
+REFUSABLE(GROWTH, ENOMEM, NULL, void *, malloc, (size_t size), (size))
+REFUSABLE(GROWTH, ENOMEM, NULL, void *, realloc, (void *old, size_t size), (old, size))
+REFUSABLE(SOCKET, EMFILE, -1, int, socket, (int domain, int type, int protocol), (domain, type, protocol))
+REFUSABLE(SOCKET, EADDRINUSE, -1, int, bind, (int file, const struct sockaddr *at, socklen_t size), (file, at, size))
+REFUSABLE(SOCKET, EADDRINUSE, -1, int, listen, (int file, int many), (file, many))
+REFUSABLE(SOCKET, EMFILE, -1, int, accept4, (int file, struct sockaddr *at, socklen_t *size, int flags), (file, at, size, flags))
+REFUSABLE(SOCKET, ECONNREFUSED, -1, int, connect, (int file, const struct sockaddr *at, socklen_t size), (file, at, size))
+REFUSABLE(SOCKET, EAI_NONAME, EAI_NONAME, int, getaddrinfo,
+          (const char *host, const char *port, const struct addrinfo *wanted, struct addrinfo **found), (host, port, wanted, found))
+REFUSABLE(SOCKET, EINVAL, -1, int, setsockopt, (int file, int level, int option, const void *value, socklen_t size),
+          (file, level, option, value, size))
+
+MOVING(READ, read, bytes, (int file, void *bytes, size_t count), (file, bytes, count), (file, bytes, 1))
+MOVING(READ, recv, bytes, (int file, void *bytes, size_t count, int flags), (file, bytes, count, flags), (file, bytes, 1, flags))
+MOVING(WRITE, write, bytes, (int file, const void *bytes, size_t count), (file, bytes, count), (file, bytes, 1))
+MOVING(WRITE, send, bytes, (int file, const void *bytes, size_t count, int flags), (file, bytes, count, flags), (file, bytes, 1, flags))
+
+static int opened(const char *name, const char *path, int flags, mode_t mode)
 {
-    static ssize_t (*next)(int, const void *, size_t);
-    if (!next)
-        next = dlsym(RTLD_NEXT, "write");
-    if (is_refused(&writes, "REFUSE_WRITE")) {
-        errno = EIO;
+    if (fate_of(OPEN) != PASS) {
+        errno = EACCES;
         return -1;
     }
-    return next(file, bytes, count);
+    return ((int (*)(const char *, int, ...))dlsym(RTLD_NEXT, name))(path, flags, mode);
 }
+
+#define OPENING(name)                          \
+    int name(const char *path, int flags, ...) \
+    {                                          \
+        va_list more;                          \
+        va_start(more, flags);                 \
+        mode_t mode = va_arg(more, mode_t);    \
+        va_end(more);                          \
+        return opened(#name, path, flags, mode); \
+    }
+
+OPENING(open)
+OPENING(open64)

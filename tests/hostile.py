@@ -1,0 +1,214 @@
+#!/usr/bin/env python3
+"""Runs the built program where its surroundings fail it: outputs that are closed or full, files that can't be read or made,
+programmers that go away, and callers that send rubbish.
+
+    tests/hostile.py       needs crates/avrstk/out/avrstk, as rt ci leaves it
+"""
+
+import os
+import socket
+import struct
+import subprocess
+import time
+
+from line import BadLine, FrontOfAnswers
+from program import ANSWERS, CHIP_FILE, ENDS, FRAMES, Room, free_port, lines
+
+SIGNATURE = "device signature = 1E 95 0F"
+EMULATED = ["-p", "m328p", "-P", "emu:chip.bin"]
+SESSION = ["-p", "m328p", "-P", "stdio:"]
+
+room = Room()
+ran = 0
+
+
+def see(what, found, wanted):
+    """Counts a run, which has to have come to this."""
+    global ran
+    ran += 1
+    if found != wanted:
+        raise SystemExit(f"{what}: {found}\nwanted: {wanted}")
+
+
+def output_fails():
+    """Outputs that are full, or that nobody reads."""
+    read_fuse = [*EMULATED, "-U", "lfuse:r:-:h"]
+    for name, target in [("full", "/dev/full"), ("closed pipe", None)]:
+        for words, told in [(SESSION, ["error: link cannot be written"]), (read_fuse, [SIGNATURE, "error: -: cannot be written"])]:
+            room.clear()
+            _, messages, status = with_output(words, target)
+            see(f"output {name}: {words}", (status, messages), (1, lines(*told)))
+        see("the chip file behind it", len(room.read("chip.bin") or b""), CHIP_FILE)
+    room.clear()
+    started = room.start([*EMULATED, "-U", "lfuse:w:0xE2:m"], stderr=open("/dev/full", "wb"))
+    started.communicate(timeout=60)
+    see("messages that can't be printed", started.returncode, 1)
+
+
+def with_output(words, target):
+    """A run whose output goes to a file, or to a pipe that is closed at its other end."""
+    if target:
+        output = os.open(target, os.O_WRONLY)
+    else:
+        other, output = os.pipe()
+        os.close(other)
+    started = room.start(words, subprocess.PIPE, stdout=output)
+    os.close(output)
+    try:
+        _, messages = started.communicate(ANSWERS, timeout=60)
+    except BrokenPipeError:
+        messages = started.stderr.read()
+    return None, messages, started.wait()
+
+
+def input_fails():
+    """Standard input that is at its end, a folder, or not there at all."""
+    see("no answers", room.run(SESSION), (1, FRAMES[0], lines("error: link ended")))
+    folder = os.open(room.folder, os.O_RDONLY)
+    started = room.start(SESSION, folder)
+    see("a folder for a line", (*started.communicate(timeout=60), started.returncode), (FRAMES[0], lines("error: link cannot be read"), 1))
+    started = room.start([*EMULATED, "-U", "flash:w:-"], folder)
+    see("a folder for an image", (started.communicate(timeout=60)[1], started.returncode), (lines("error: -: cannot be read"), 1))
+    os.close(folder)
+    see("no file was made", room.read("chip.bin"), None)
+
+
+def files_fail():
+    """Files that aren't there, folders in their place, and files that can't be made or written."""
+    (room.folder / "folder").mkdir()
+    room.given.add("folder")
+    room.put("short.bin", bytes(100))
+    room.given.add("short.bin")
+    erased = [SIGNATURE, "chip erased"]
+    for words, told in [
+        ([*EMULATED, "-U", "flash:w:missing.hex"], ["error: missing.hex: cannot be opened"]),
+        ([*EMULATED, "-U", "flash:w:folder"], ["error: folder: cannot be read"]),
+        ([*EMULATED, "--parts", "folder"], ["error: folder: cannot be read"]),
+        ([*EMULATED, "--parts", "missing.toml"], ["error: missing.toml: cannot be opened"]),
+        (["-p", "m328p", "-P", "emu:short.bin"], ["error: short.bin: 100 bytes, 33796 expected"]),
+        (["-p", "m328p", "-P", "emu:folder"], ["error: folder: cannot be read"]),
+        ([*EMULATED, "-U", "flash:r:folder"], [SIGNATURE, "error: folder: cannot be created"]),
+        ([*EMULATED, "-U", "flash:r:nowhere/out.hex"], [SIGNATURE, "error: nowhere/out.hex: cannot be created"]),
+        ([*EMULATED, "-U", "eeprom:r:/dev/full"], [SIGNATURE, "error: /dev/full: cannot be written"]),
+        (["-p", "m328p", "-P", "emu:nowhere/chip.bin", "-e"], [*erased, "done", "error: nowhere/chip.bin: cannot be created"]),
+        (["-p", "m328p", "-P", "net:127.0.0.1:1", "-e"], ["error: port net:127.0.0.1:1 cannot be opened"]),
+        (["-p", "m328p", "-P", "net:no such host:1"], ["error: port net:no such host:1 cannot be opened"]),
+    ]:
+        room.clear()
+        see(f"{words}", room.run(words), (1, b"", lines(*told)))
+
+
+def answers_are_cut():
+    """A programmer behind a port that ends or resets the connection after each of its answers' bytes."""
+    for count in range(len(ANSWERS)):
+        whole = sum(end <= count for end in ENDS)
+        said = [SIGNATURE] if whole >= 5 else []
+        peer = FrontOfAnswers(ANSWERS[:count], resets=False)
+        found = room.run(["-p", "m328p", "-P", f"net:127.0.0.1:{peer.port}"])
+        see(f"{count} bytes and the end", (*found, peer.end()), (1, b"", lines(*said, "error: link ended"), FRAMES[: whole + 1]))
+        peer = FrontOfAnswers(ANSWERS[:count], resets=True)
+        status, _, messages = room.run(["-p", "m328p", "-P", f"net:127.0.0.1:{peer.port}"])
+        peer.end()
+        faults = [lines(*said[:known], f"error: link cannot be {verb}") for known in (0, 1) for verb in ("read", "written")]
+        see(f"{count} bytes and a reset: {messages}", (status, messages in faults), (1, True))
+
+
+def lines_are_bad():
+    """Whole runs over TCP, between the tool and the emulated programmer that it serves, over a line that loses and delays."""
+    content = room.read("whole.bin")
+    for fates, frames in [({255: "late answer"}, 520), ({6: "lost command", 8: "lost answer"}, 521)]:
+        room.clear()
+        peer = BadLine(room, fates)
+        words = ["-p", "m328p", "-P", f"net:127.0.0.1:{peer.port}", "-V", "-U", "eeprom:w:whole.bin:r"]
+        found = room.run(words)
+        see(f"{fates}: frames", len(peer.end()), frames)
+        see(f"{fates}", found, (0, b"", lines(SIGNATURE, "eeprom: 1024 bytes written", "done")))
+        see(f"{fates}: EEPROM", room.read("served.bin")[32_768:33_792], content)
+
+
+def callers_are_odd():
+    """Callers of the served emulator that send nothing, rubbish, half a frame, or that reset the connection."""
+    command = bytes.fromhex("1B090001 0E05 18".replace(" ", ""))
+    blank = b"\xff" * CHIP_FILE
+    for name, sent, answered, told in [
+        ("nothing", b"", b"", (0, b"")),
+        ("10 MB of rubbish", bytes(range(256)) * 40_000, None, (0, b"")),
+        ("half a frame", FRAMES[0][:4], b"", (0, b"")),
+        ("a frame that is spoiled and one of an unknown command", command, bytes.fromhex("1B0900020E05C9D2"), (0, b"")),
+    ]:
+        room.clear()
+        found, answer = served(sent)
+        see(f"a caller with {name}", found, told)
+        if answered is not None:
+            see(f"what is answered to {name}", answer, answered)
+        see(f"the chip behind {name}", room.read("served.bin"), blank)
+    room.clear()
+    status, messages = served(FRAMES[0], resets=True)[0]
+    see("a caller that resets", (status, messages in (lines("error: link cannot be read"), lines("error: link cannot be written"))), (1, True))
+    see("the chip behind a reset", room.read("served.bin"), blank)
+    with socket.create_server(("127.0.0.1", 0)) as taken:
+        port = str(taken.getsockname()[1])
+        words = ["-p", "m328p", "--serve", port, "--chip", "served.bin"]
+        see("a port that is taken", room.run(words), (1, b"", lines(f"error: port {port} cannot be opened")))
+
+
+def served(sent, resets=False):
+    """The status and messages of a server whose caller sends this, and what the caller was answered."""
+    port = free_port()
+    server = room.start(["-p", "m328p", "--serve", str(port), "--chip", "served.bin"])
+    caller = connected(port)
+    answered = b""
+    with caller:
+        caller.settimeout(30)
+        if resets:
+            caller.sendall(sent)
+            caller.setsockopt(socket.SOL_SOCKET, socket.SO_LINGER, struct.pack("ii", 1, 0))
+        else:
+            answered = exchanged(caller, sent)
+    _, messages = server.communicate(timeout=60)
+    return (server.returncode, messages), answered
+
+
+def exchanged(caller, sent):
+    """What comes for these bytes, up to the end."""
+    answered = b""
+    caller.setblocking(False)
+    open_still = True
+    while True:
+        if sent:
+            try:
+                sent = sent[caller.send(sent) :]
+            except BlockingIOError:
+                pass
+        elif open_still:
+            caller.shutdown(socket.SHUT_WR)
+            open_still = False
+        try:
+            piece = caller.recv(65_536)
+            if not piece:
+                return answered
+            answered += piece
+        except BlockingIOError:
+            time.sleep(0.0005)
+
+
+def connected(port):
+    for _ in range(400):
+        try:
+            return socket.create_connection(("127.0.0.1", port), 30)
+        except ConnectionRefusedError:
+            time.sleep(0.01)
+    raise SystemExit(f"nobody listens at port {port}")
+
+
+def main():
+    begun = time.monotonic()
+    for part in [output_fails, input_fails, files_fail, answers_are_cut, lines_are_bad, callers_are_odd]:
+        before = ran
+        part()
+        print(f"{ran - before:6} seen: {part.__doc__.split('.')[0]}", flush=True)
+    print(f"{ran} passed, 0 failed, in {time.monotonic() - begun:.0f} s")
+
+
+if __name__ == "__main__":
+    main()

@@ -1,0 +1,116 @@
+"""Programmers behind a TCP port of 127.0.0.1: one that gives a front of a session's answers, and a bad line to an emulated one."""
+
+import socket
+import struct
+import threading
+import time
+
+from program import free_port
+
+
+def frames_of(stream):
+    """The frames that come on a connection, to its end; each has its length in its third and fourth byte."""
+    held = b""
+    while True:
+        while len(held) >= 6 and len(held) >= 6 + int.from_bytes(held[2:4], "big"):
+            size = 6 + int.from_bytes(held[2:4], "big")
+            yield held[:size]
+            held = held[size:]
+        try:
+            piece = stream.recv(4096)
+        except OSError:
+            return
+        if not piece:
+            return
+        held += piece
+
+
+class Peer:
+    """Serves one caller at a port, in a thread of its own."""
+
+    def __init__(self):
+        self.listener = socket.create_server(("127.0.0.1", 0))
+        self.listener.settimeout(30)
+        self.port = self.listener.getsockname()[1]
+        self.heard = []
+        self.thread = threading.Thread(target=self.meet, daemon=True)
+        self.thread.start()
+
+    def meet(self):
+        try:
+            caller, _ = self.listener.accept()
+        except OSError:
+            return
+        with caller:
+            caller.settimeout(30)
+            caller.setsockopt(socket.IPPROTO_TCP, socket.TCP_NODELAY, 1)
+            self.serve(caller)
+
+    def end(self):
+        """What was heard, once the caller has gone."""
+        self.thread.join()
+        self.listener.close()
+        return self.heard
+
+
+class FrontOfAnswers(Peer):
+    """Sends the first bytes of a session's answers, and then ends the connection, or resets it."""
+
+    def __init__(self, answers, resets):
+        self.answers = answers
+        self.resets = resets
+        super().__init__()
+
+    def serve(self, caller):
+        caller.sendall(self.answers)
+        if self.resets:
+            caller.setsockopt(socket.SOL_SOCKET, socket.SO_LINGER, struct.pack("ii", 1, 0))
+            return
+        caller.shutdown(socket.SHUT_WR)
+        self.heard.extend(frames_of(caller))
+
+
+class BadLine(Peer):
+    """A line to an emulated programmer, which the tool serves itself. The nth frame from 1 has its fate, and is good without one:
+    `lost command` never arrives, the answer of `lost answer` is dropped, and that of `late answer` comes in front of the next."""
+
+    def __init__(self, room, fates):
+        self.fates = fates
+        self.server_port = free_port()
+        words = ["-p", "m328p", "--serve", str(self.server_port), "--chip", "served.bin"]
+        self.server = room.start(words)
+        super().__init__()
+
+    def connected(self):
+        for _ in range(200):
+            try:
+                return socket.create_connection(("127.0.0.1", self.server_port), 30)
+            except ConnectionRefusedError:
+                time.sleep(0.01)
+        raise TimeoutError("the emulated programmer does not listen")
+
+    def serve(self, caller):
+        with self.connected() as programmer:
+            answers = frames_of(programmer)
+            late = b""
+            for frame in frames_of(caller):
+                self.heard.append(frame)
+                fate = self.fates.get(len(self.heard), "good")
+                if fate == "lost command":
+                    continue
+                programmer.sendall(frame)
+                answer = next(answers)
+                if fate == "late answer":
+                    late += answer
+                elif fate == "good":
+                    caller.sendall(late + answer)
+                    late = b""
+
+    def end(self):
+        """What was heard, once the emulated programmer has saved its chip."""
+        if not self.heard:
+            # nobody called: a caller who says nothing lets both ends go
+            socket.create_connection(("127.0.0.1", self.port), 30).close()
+        heard = super().end()
+        self.server.communicate(timeout=30)
+        return heard

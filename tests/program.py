@@ -1,0 +1,82 @@
+"""The built program in a folder of its own, for the scripts beside this one."""
+
+import os
+import socket
+import subprocess
+import sys
+import tempfile
+from pathlib import Path
+
+TOP = Path(__file__).resolve().parent.parent
+PROGRAM = TOP / "crates/avrstk/out/avrstk"
+
+# the answers of a session in which nothing is done, and how many bytes there are up to the end of each
+ANSWERS = (TOP / "crates/avrstk/stdin").read_bytes()
+ENDS = [17, 25, 35, 45, 55, 63]
+
+# the six frames of that session
+FRAMES = [
+    bytes.fromhex(digits)
+    for digits in [
+        "1B0100010E0114",
+        "1B02000C0E10C8641920005303AC53000031",
+        "1B0300060E1B04300000003F",
+        "1B0400060E1B043000010039",
+        "1B0500060E1B04300002003B",
+        "1B0600030E11010101",
+    ]
+]
+
+# the length of the chip file of an ATmega328P
+CHIP_FILE = 33_796
+
+
+class Room:
+    """A folder that is empty but for a few files."""
+
+    def __init__(self):
+        if not PROGRAM.exists():
+            sys.exit("crates/avrstk/out/avrstk is not built: rt ci leaves it there, and so does (cd crates/avrstk && rt run < stdin)")
+        self.held = tempfile.TemporaryDirectory()
+        self.folder = Path(self.held.name)
+        self.put("empty.bin", b"")
+        self.put("whole.bin", bytes(place % 256 for place in range(1024)))
+        for name in ["blink.hex", "blink.srec", "parts.toml"]:
+            self.put(name, (TOP / "examples" / name).read_bytes())
+        self.given = {it.name for it in self.folder.iterdir()}
+
+    def put(self, name, content):
+        (self.folder / name).write_bytes(content)
+
+    def read(self, name):
+        """The content of a file, or None where there is none."""
+        file = self.folder / name
+        return file.read_bytes() if file.is_file() else None
+
+    def clear(self):
+        """Removes what runs have made."""
+        for file in self.folder.iterdir():
+            if file.name not in self.given:
+                file.unlink()
+
+    def start(self, words, given=subprocess.DEVNULL, **more):
+        how = {"stdin": given, "stdout": subprocess.PIPE, "stderr": subprocess.PIPE, "cwd": self.folder} | more
+        return subprocess.Popen([str(PROGRAM), *words], **how)
+
+    def run(self, words, given=b"", environment=None):
+        """The status, the output and the messages of a run."""
+        started = self.start(words, subprocess.PIPE, env=os.environ | (environment or {}))
+        output, messages = started.communicate(given, timeout=60)
+        return started.returncode, output, messages
+
+
+def lines(*texts):
+    """Messages, each with the program's name in front."""
+    return "".join(f"avrstk: {text}\n" for text in texts).encode()
+
+
+def free_port():
+    """A port of 127.0.0.1 that nobody uses now."""
+    with socket.socket() as it:
+        it.bind(("127.0.0.1", 0))
+        return it.getsockname()[1]
