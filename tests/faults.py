@@ -5,9 +5,9 @@ what it asks of sockets.
     tests/faults.py        needs crates/avrstk/out/avrstk, as rt ci leaves it, and a C compiler (tests/refuse.c)
 
 For every run below and every kind of call the nth is refused, for n from 1 upwards until a run meets no refusal. What was
-sent and said has to be a front of what the sound run sends and says, and then a front of the line of that fault, with
-status 1; or all that the sound run sends and says, with its status, where what was refused wasn't needed. A read or a
-write that a signal breaks off, or that moves one byte alone, has to change nothing.
+sent and said has to be a front of what the sound run sends and says, and then the line of that fault (a front of it where
+a message couldn't be written), with status 1; or all that the sound run sends and says, with its status, where what was
+refused wasn't needed. A read or a write that a signal breaks off, or that moves one byte alone, has to change nothing.
 """
 
 import subprocess
@@ -77,33 +77,32 @@ class Sweep:
 
     def is_told(self, kind, status, output, messages, chip, file):
         """Whether a run says that it failed, and leaves nothing that is half written without a word."""
-        told = [line for line in LINES[kind] if is_front_and_line(messages, self.sound[2], line)]
-        is_whole = chip is None or len(chip) == len(self.sound[3] or b"") or b"chip.bin: " in messages
+        # (the line is whole, unless it was a message that couldn't be written)
+        is_told = any(is_front_and_line(messages, self.sound[2], line, kind == "write") for line in LINES[kind])
+        is_chip = chip is None or len(chip) == len(self.sound[3] or b"") or b"chip.bin: " in messages
         is_front = file is None or (self.sound[4] or b"").startswith(file)
-        return status == 1 and self.sound[1].startswith(output) and told and is_whole and is_front
+        return status == 1 and self.sound[1].startswith(output) and is_told and is_chip and is_front
 
 
-def is_front_and_line(said, sound, line):
-    """Whether it is a front of what a sound run says, and then a front of a line of a fault."""
-    if sound.startswith(said) or said == b"error: out of memory\n":
+def is_front_and_line(said, sound, line, may_stop):
+    """Whether it is a front of what a sound run says, and then the line of a fault, or a front of it where it may stop there."""
+    if (may_stop and sound.startswith(said)) or said == b"error: out of memory\n":
         # (the latter is said where the words of the command line weren't read yet)
         return True
-    for end in range(len(said) + 1):
-        if sound.startswith(said[:end]) and is_front_of_error(said[end:], line.encode()):
-            return True
-    return False
+    return any(sound.startswith(said[:end]) and is_front_of_error(said[end:], line.encode(), may_stop) for end in range(len(said) + 1))
 
 
-def is_front_of_error(said, line):
-    """Whether it is a front of `avrstk: error: FILE: cannot be read`, or of another line without a name."""
+def is_front_of_error(said, line, may_stop):
+    """Whether it is `avrstk: error: FILE: cannot be read`, or another line without a name, or a front of it where it may stop there."""
     start = b"avrstk: error: "
     if not said.startswith(start):
-        return start.startswith(said)
+        return may_stop and start.startswith(said)
     rest = said[len(start) :]
-    if not line.startswith((b":", b" ")):
-        return (line + b"\n").startswith(rest)
-    name, _, _ = rest.partition(line)
-    return b"\n" not in name and (name + line + b"\n").startswith(rest)
+    name = b""
+    if line.startswith((b":", b" ")):
+        name, _, _ = rest.partition(line)
+    whole = name + line + b"\n"
+    return b"\n" not in name and (rest == whole or (may_stop and whole.startswith(rest)))
 
 
 class OverNet(Sweep):

@@ -27,7 +27,7 @@ def see(what, found, wanted):
     global ran
     ran += 1
     if found != wanted:
-        raise SystemExit(f"{what}: {found}\nwanted: {wanted}")
+        raise SystemExit(f"{what}: {str(found)[:500]}\nwanted: {str(wanted)[:500]}")
 
 
 def output_fails():
@@ -62,7 +62,8 @@ def with_output(words, target):
 
 
 def input_fails():
-    """Standard input that is at its end, a folder, or not there at all."""
+    """Standard input that is at its end, or a folder."""
+    room.clear()
     see("no answers", room.run(SESSION), (1, FRAMES[0], lines("error: link ended")))
     folder = os.open(room.folder, os.O_RDONLY)
     started = room.start(SESSION, folder)

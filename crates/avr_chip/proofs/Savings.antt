@@ -23,10 +23,10 @@ failed_since first before now rises (inr end) = inr end
 pub not_written : (old mid end new : Option Record) (file bytes : Bytes) (before between later now status : ℕ) (created : Result ⊤ DeskFault) (fault : DeskFault)
     → is_err created ≡ false → mid ≡ option_map (after_create file created) old → before ≤ between
     → SendsPart File mid end bytes → Counts {T = ⊤} between later (Err fault) → fault ≡ Failed
-    → status ≡ 1 → IsTold end new (not_written_line file) later now → Saves old new file bytes before now (Err status)
-not_written old mid end new file bytes before between later now status (Err trouble) fault is kept rose part counts only one told = cc
-not_written old mid end new file bytes before between later now status (Ok done) NotFound is kept rose part counts only one told = cc
-not_written old mid end new file bytes before between later now status (Ok done) Failed is kept rose part counts only one told =
+    → status ≡ 1 → IsTold end new (not_written_line file) later now → later ≤ now → Saves old new file bytes before now (Err status)
+not_written old mid end new file bytes before between later now status (Err trouble) fault is kept rose part counts only one told rises = cc
+not_written old mid end new file bytes before between later now status (Ok done) NotFound is kept rose part counts only one told rises = cc
+not_written old mid end new file bytes before between later now status (Ok done) Failed is kept rose part counts only one told rises =
     let front = take part.0 bytes in (
       one,
       record {
@@ -37,5 +37,6 @@ not_written old mid end new file bytes before between later now status (Ok done)
         counted = failed_since before between later rose counts.1;
         done = kept_append (Creates file ∷ []) (Writes front ∷ []) old mid end kept part.2;
         told = told.tells;
+        rises = rises;
       },
     )

@@ -1,5 +1,5 @@
 -- A run over the emulated programmer, from its stages.
-use Rattle.std.proofs.Common.{◌≡◌, ℕ, [], sym, ap, subst, Option, Some}
+use Rattle.std.proofs.Common.{◌≡◌, ◌≤◌, ℕ, [], sym, ap, subst, Option, Some}
 use Rattle.avr_chip.specs.Loading.{chip_stage}
 use Rattle.avr_cli.specs.declared.chosen.Settings.{Settings}
 use Rattle.avr_desk.specs.Record.{Record}
@@ -28,13 +28,14 @@ module _ (settings : Settings) (file : Bytes) (plan : Plan) (chip : chips.State)
   good : AreGood w.wire.fates
   good = subst AreGood (sym (ap (λ x. x.fates) begun)) tt
 
-  pub plays_emulated : (old planned_desk loaded_desk played_desk new : Option Record) (loaded played now ran status : ℕ)
-      → Went (planned settings) old planned_desk (Made plan) → Went (chip_stage plan.part file) planned_desk loaded_desk (Made chip)
+  pub plays_emulated : (old planned_desk loaded_desk played_desk new : Option Record) (before loaded played now ran status : ℕ)
+      → Went (planned settings) old planned_desk (Made plan) → Went (chip_stage plan.part file) planned_desk loaded_desk (Made chip) → before ≤ loaded
       → RunsTo (session plan) (Some w.talk) (Some v.talk) loaded_desk played_desk (Stops w.failures v.failures loaded played) ran
       → Leaves plan (memories_of w.wire.programmer.chip) (memories_of v.wire.programmer.chip) ran
       → (AreGood w.wire.fates → GoesWell plan (memories_of w.wire.programmer.chip) (memories_of v.wire.programmer.chip) loaded_desk played_desk (Some v.talk) (Stops w.failures v.failures loaded played) ran)
-      → IsSaved (sent v.talk) played_desk new file (chip_file v.wire.programmer.chip) played now ran status → PlaysEmulated settings file old new now status
-  plays_emulated old planned_desk loaded_desk played_desk new loaded played now ran status made is_loaded runs leaves goes_well saved = record {
+      → IsSaved (sent v.talk) played_desk new file (chip_file v.wire.programmer.chip) played now ran status → played ≤ now
+      → PlaysEmulated settings file old new before now status
+  plays_emulated old planned_desk loaded_desk played_desk new before loaded played now ran status made is_loaded rises runs leaves goes_well saved counted = record {
     plan = plan;
     chip = chip;
     planned_desk = planned_desk;
@@ -45,6 +46,7 @@ module _ (settings : Settings) (file : Bytes) (plan : Plan) (chip : chips.State)
     wire_failures = v.failures;
     made = made;
     loaded = is_loaded;
+    rises = rises;
     talk = v.talk;
     left = v.wire.programmer.chip;
     ran = ran;
@@ -54,4 +56,5 @@ module _ (settings : Settings) (file : Bytes) (plan : Plan) (chip : chips.State)
     goes_well = subst (λ n. GoesWell plan (memories_of chip) (memories_of v.wire.programmer.chip) loaded_desk played_desk (Some v.talk) (Stops n v.failures loaded played) ran) unfailed
         (subst (λ (c : chips.State). GoesWell plan (memories_of c) (memories_of v.wire.programmer.chip) loaded_desk played_desk (Some v.talk) (Stops w.failures v.failures loaded played) ran) its_chip (goes_well good));
     saved = saved;
+    counted = counted;
   }

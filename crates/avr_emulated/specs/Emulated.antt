@@ -1,5 +1,5 @@
 -- A run over the emulated programmer, from settings to status.
-use Rattle.std.specs.Prelude.{◌≡◌, ◌⊎◌, ℕ, List, [], ◌∷◌, Option, Some, Ok, Err}
+use Rattle.std.specs.Prelude.{◌≡◌, ◌≤◌, ◌⊎◌, ℕ, List, [], ◌∷◌, Option, Some, Ok, Err}
 use Rattle.avr_chip.specs.Loading.{chip_stage}
 use Rattle.avr_chip.specs.Saving.{Saves}
 use Rattle.avr_cli.specs.declared.chosen.Settings.{Settings}
@@ -23,8 +23,9 @@ IsSaved [] old new file bytes before now ran status = (new ≡ old) × (status �
 IsSaved (byte ∷ sent) old new file bytes before now ran status =
     (Saves old new file bytes before now (Ok tt) × (status ≡ ran)) ⊎ ((fault : ℕ) × Saves old new file bytes before now (Err fault) × (status ≡ 1))
 
--- The plan was made and its chip was loaded; the session was played over a good line; and the chip was saved.
-pub record PlaysEmulated (settings : Settings) (file : Bytes) (old new : Option Record) (now status : ℕ) : Type 0 where
+-- The plan was made and its chip was loaded; the session was played over a good line; and the chip was saved. A failure of the
+-- desk that is told anywhere is counted between before and now.
+pub record PlaysEmulated (settings : Settings) (file : Bytes) (old new : Option Record) (before now status : ℕ) : Type 0 where
   pub plan : Plan
   pub chip : chips.State
   pub planned_desk : Option Record
@@ -35,6 +36,7 @@ pub record PlaysEmulated (settings : Settings) (file : Bytes) (old new : Option 
   pub wire_failures : ℕ
   pub made : Went (planned settings) old planned_desk (Made plan)
   pub loaded : Went (chip_stage plan.part file) planned_desk loaded_desk (Made chip)
+  pub rises : before ≤ loaded_failures
   pub talk : Talk
   pub left : chips.State
   pub ran : ℕ
@@ -42,16 +44,18 @@ pub record PlaysEmulated (settings : Settings) (file : Bytes) (old new : Option 
   pub leaves : Leaves plan (memories_of chip) (memories_of left) ran
   pub goes_well : GoesWell plan (memories_of chip) (memories_of left) loaded_desk played_desk (Some talk) (Stops 0 wire_failures loaded_failures played_failures) ran
   pub saved : IsSaved (sent talk) played_desk new file (chip_file left) played_failures now ran status
+  pub counted : played_failures ≤ now
 
 -- there is a plan, but no chip: nothing was sent
-pub record LacksChip (settings : Settings) (file : Bytes) (old new : Option Record) (now status : ℕ) : Type 0 where
+pub record LacksChip (settings : Settings) (file : Bytes) (old new : Option Record) (before now status : ℕ) : Type 0 where
   pub plan : Plan
   pub planned_desk : Option Record
   pub planned_failures : ℕ
   pub made : Went (planned settings) old planned_desk (Made plan)
+  pub rises : before ≤ planned_failures
   pub refused : Goes (chip_stage plan.part file) planned_desk new planned_failures now (Err status)
 
 abbrev pub RunsEmulated : Settings → Bytes → Option Record → Option Record → ℕ → ℕ → ℕ → Type 0
 RunsEmulated settings file old new before now status =
-    PlaysEmulated settings file old new now status
-    ⊎ (LacksChip settings file old new now status ⊎ Goes (planned settings) old new before now (Err status))
+    PlaysEmulated settings file old new before now status
+    ⊎ (LacksChip settings file old new before now status ⊎ Goes (planned settings) old new before now (Err status))

@@ -1,4 +1,5 @@
 //! A run over the emulated programmer, from settings to status.
+ghost use Rattle.std.specs.Prelude.{◌≤◌};
 ghost use Rattle.avr_part.specs.ChipFile.{chip_file};
 ghost use Rattle.stk_host.specs.Talk.{sent};
 ghost use Rattle.avr_emulated.specs.Emulated.{IsSaved, RunsEmulated};
@@ -15,6 +16,7 @@ use stk_emu::Wired;
 fn save_if_sent<D: Desk>(alloc: Global, wire: &Wired, file: &str, desk: &mut D, status: u8) -> u8
     ensures saved { IsSaved (sent wire.now.talk) (D.kept desk.old) (D.kept desk.new) file.now (chip_file wire.now.wire.programmer.chip)
         (D.failures desk.old) (D.failures desk.new) status result }
+    ensures rises { D.failures desk.old ≤ D.failures desk.new }
 {
     if wire.sent().is_empty() {
         return status;

@@ -52,9 +52,9 @@ pub serves_chip : (chip : chips.State) (machine left : Machine) (file : Bytes) (
     (old mid new : Option Record) (before between now status : ℕ)
     → machine.held ≡ [] → machine.programmer ≡ fresh_programmer chip → IsFed (fresh_programmer chip) [] machine
     → Serves machine turns served talk talked left → FailsBy served link_before link_now → TellsEnd served old mid before between → before ≤ between
-    → IsSaved served mid new file (chip_file left.programmer.chip) between now status
+    → IsSaved served mid new file (chip_file left.programmer.chip) between now status → between ≤ now
     → ServesChip chip file turns talk talked link_before link_now old new before now status
-serves_chip chip machine left file turns served talk talked link_before link_now old mid new before between now status held programmer fed serves fails told rises saved =
+serves_chip chip machine left file turns served talk talked link_before link_now old mid new before between now status held programmer fed serves fails told rises saved counted =
     let is = is_fresh chip machine held programmer in
     let own = subst (λ (m : Machine). Serves m turns served talk talked left) is serves in
     let none = subst (λ (m : Machine). IsFed (fresh_programmer chip) [] m) is fed in
@@ -70,4 +70,5 @@ serves_chip chip machine left file turns served talk talked link_before link_now
       told = told;
       rises = rises;
       saved = saved;
+      counted = counted;
     }

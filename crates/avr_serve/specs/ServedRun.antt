@@ -62,6 +62,7 @@ pub record ServesChip (chip : chips.State) (file : Bytes) (turns : ℕ) (talk ta
   pub told : TellsEnd served old told_desk before told_failures
   pub rises : before ≤ told_failures
   pub saved : IsSaved served told_desk new file (chip_file left.programmer.chip) told_failures now status
+  pub counted : told_failures ≤ now
 
 -- The part of the settings was found, its chip was loaded, and it was served.
 pub record ServesPart (settings : Settings) (file : Bytes) (turns : ℕ) (talk talked : Option Talk) (link_before link_now : ℕ)

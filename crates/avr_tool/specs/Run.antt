@@ -1,5 +1,5 @@
 -- A run, from settings to status.
-use Rattle.std.specs.Prelude.{ℕ, ◌≡◌, ◌⊎◌, Option}
+use Rattle.std.specs.Prelude.{ℕ, ◌≡◌, ◌≤◌, ◌⊎◌, Option}
 use Rattle.avr_cli.specs.declared.chosen.Settings.{Settings}
 use Rattle.avr_desk.specs.Record.{Record}
 use Rattle.avr_plan.specs.Plan.{Plan}
@@ -11,12 +11,13 @@ use Rattle.stk_host.specs.Talk.{Talk}
 use Rattle.avr_tool.specs.Runs.{Stops, RunsTo}
 use Rattle.avr_tool.specs.Session.{session}
 
--- the plan was made, of what the files gave, and its session was run
+-- The plan was made, of what the files gave, and its session was run: a failure of the desk in it is one since before the run.
 pub record RunsPlan (settings : Settings) (talk_before talk_now : Option Talk) (desk_old desk_new : Option Record) (link_before link_now desk_before desk_now status : ℕ) : Type 0 where
   pub plan : Plan
   pub between : Option Record
   pub count : ℕ
   pub made : Went (planned settings) desk_old between (Made plan)
+  pub rises : desk_before ≤ count
   pub runs : RunsTo (session plan) talk_before talk_now between desk_new (Stops link_before link_now count desk_now) status
 
 -- there is no plan, or planning broke off: nothing was sent or heard, and the status is 1

@@ -7,6 +7,7 @@ returns-in-Ok-clause-runs g c = inl (record {
   between = g.D.Desk.kept c.plan.new.desk;
   count = g.D.Desk.failures c.plan.new.desk;
   made = rw c.in-Ok.is at c.plan.ensures.goes;
+  rises = c.plan.ensures.rises;
   runs = c.drive.ensures.runs;
 })
 
