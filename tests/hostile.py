@@ -36,8 +36,7 @@ def output_fails():
     for name, target in [("full", "/dev/full"), ("closed pipe", None)]:
         for words, told in [(SESSION, ["error: link cannot be written"]), (read_fuse, [SIGNATURE, "error: -: cannot be written"])]:
             room.clear()
-            _, messages, status = with_output(words, target)
-            see(f"output {name}: {words}", (status, messages), (1, lines(*told)))
+            see(f"output {name}: {words}", with_output(words, target), (1, lines(*told)))
         see("the chip file behind it", len(room.read("chip.bin") or b""), CHIP_FILE)
     room.clear()
     started = room.start([*EMULATED, "-U", "lfuse:w:0xE2:m"], stderr=open("/dev/full", "wb"))
@@ -46,7 +45,7 @@ def output_fails():
 
 
 def with_output(words, target):
-    """A run whose output goes to a file, or to a pipe that is closed at its other end."""
+    """The status and messages of a run whose output goes to a file, or to a pipe that is closed at its other end."""
     if target:
         output = os.open(target, os.O_WRONLY)
     else:
@@ -58,7 +57,7 @@ def with_output(words, target):
         _, messages = started.communicate(ANSWERS, timeout=60)
     except BrokenPipeError:
         messages = started.stderr.read()
-    return None, messages, started.wait()
+    return started.wait(), messages
 
 
 def input_fails():
@@ -72,6 +71,20 @@ def input_fails():
     see("a folder for an image", (started.communicate(timeout=60)[1], started.returncode), (lines("error: -: cannot be read"), 1))
     os.close(folder)
     see("no file was made", room.read("chip.bin"), None)
+
+
+def descriptors_are_closed():
+    """Standard input, output and messages that were closed before the program began."""
+    read_fuse = [*EMULATED, "-q", "-U", "lfuse:r:-:h"]
+    for closed, words, wanted in [
+        ("0<&-", SESSION, (1, FRAMES[0], lines("error: link cannot be read"))),
+        ("1>&-", SESSION, (1, b"", lines("error: link cannot be written"))),
+        ("1>&-", read_fuse, (1, b"", lines("error: -: cannot be written"))),
+        ("2>&-", read_fuse, (0, b"0xff\n", b"")),
+        ("2>&-", [*EMULATED, "-e"], (1, b"", b"")),
+    ]:
+        room.clear()
+        see(f"{closed}: {words}", room.run(words, closed=closed), wanted)
 
 
 def files_fail():
@@ -129,7 +142,7 @@ def lines_are_bad():
 
 def callers_are_odd():
     """Callers of the served emulator that send nothing, rubbish, half a frame, or that reset the connection."""
-    command = bytes.fromhex("1B090001 0E05 18".replace(" ", ""))
+    command = bytes.fromhex("1B0900010E0518")
     blank = b"\xff" * CHIP_FILE
     for name, sent, answered, told in [
         ("nothing", b"", b"", (0, b"")),
@@ -204,7 +217,7 @@ def connected(port):
 
 def main():
     begun = time.monotonic()
-    for part in [output_fails, input_fails, files_fail, answers_are_cut, lines_are_bad, callers_are_odd]:
+    for part in [output_fails, input_fails, descriptors_are_closed, files_fail, answers_are_cut, lines_are_bad, callers_are_odd]:
         before = ran
         part()
         print(f"{ran - before:6} seen: {part.__doc__.split('.')[0]}", flush=True)

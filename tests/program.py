@@ -59,13 +59,14 @@ class Room:
             if file.name not in self.given:
                 file.unlink()
 
-    def start(self, words, given=subprocess.DEVNULL, **more):
+    def start(self, words, given=subprocess.DEVNULL, closed="", **more):
         how = {"stdin": given, "stdout": subprocess.PIPE, "stderr": subprocess.PIPE, "cwd": self.folder} | more
-        return subprocess.Popen([str(PROGRAM), *words], **how)
+        shell = ["sh", "-c", f'exec "$0" "$@" {closed}'] if closed else []
+        return subprocess.Popen([*shell, str(PROGRAM), *words], **how)
 
-    def run(self, words, given=b"", environment=None):
-        """The status, the output and the messages of a run."""
-        started = self.start(words, subprocess.PIPE, env=os.environ | (environment or {}))
+    def run(self, words, given=b"", environment=None, closed=""):
+        """The status, the output and the messages of a run; what is closed is in the words of the shell."""
+        started = self.start(words, subprocess.PIPE, closed, env=os.environ | (environment or {}))
         output, messages = started.communicate(given, timeout=60)
         return started.returncode, output, messages
 
