@@ -1,5 +1,5 @@
 -- A session from its opening to its end, over any line.
-use Rattle.std.proofs.Common.{◌≡◌, ℕ, List, [], ◌∷◌, refl, sym, ap, ◌∙◌, subst, arith, inl, inr, Ok, Err, Result}
+use Rattle.std.proofs.Common.{◌≡◌, ℕ, List, [], ◌∷◌, ◌∙◌, arith, Ok, Err, Result}
 use Rattle.std.specs.Prelude.{All, ⊤}
 use Rattle.avr_cli.specs.declared.chosen.Switches.{Switches}
 use Rattle.avr_message.specs.Said.{Saying}
@@ -19,19 +19,22 @@ use Rattle.stk_emu.specs.Leads.{Leads}
 use Rattle.stk_emu.proofs.Obeying.{settled_idle}
 use Rattle.stk_emu.proofs.Counting.{items_counted}
 use Rattle.stk_emu.proofs.LeadsOn.{leads_done, leads_wider, leads_bind, leads_closing}
+use Rattle.avr_tool.specs.declared.standing.Standing.{Standing}
+use Rattle.avr_tool.specs.declared.standing.Standing.TheVariants.{Fine, Faulty, Over}
 use Rattle.avr_tool.specs.Session.{standing, reported, closed_says, opening_part, erasing_part, tasks_part, beginning, working, ending, playing, status_of, session}
 use Rattle.avr_emulated.specs.Items.{erasing_items, task_items, tasks_items, items}
 use Rattle.avr_emulated.specs.Agrees.{Agrees}
 use Rattle.avr_emulated.specs.Outcome.{IsTouched, IsDone}
-use Rattle.avr_emulated.proofs.AnyLineStanding.{Standing, fine, faulty, over, HasStopped, fault_stops}
+use Rattle.avr_emulated.proofs.Standings.{after_fault}
 use Rattle.avr_emulated.proofs.AnyLineAsks.{first_of, rest_of}
 use Rattle.avr_emulated.proofs.AnyLineSteps.{Rests, rests_all, effects_sizes, fits_on}
-use Rattle.avr_emulated.proofs.AnyLineParts.{leads_reported, Comes, Came, Stopped, Goes, goes_then, goes_opening, goes_erasing, erasing_fits, task_fits, goes_tasks}
+use Rattle.avr_emulated.proofs.AnyLineParts.{leads_reported, Comes, Goes, goes_then, goes_opening, goes_erasing, erasing_fits, task_fits, goes_tasks}
 
 -- after the end: as before it, in any mode
-data Ends (part : Part) (m : Memories) (all : List Item) (Check : Type 0) (s : Standing) (q : Programmer) : Type 0 where
-  Ended : s ≡ fine → Idle part (effects part all m) q → Check → Ends part m all Check s q
-  Broke : HasStopped s → Rests part (all_steps part all) m q → Ends part m all Check s q
+abbrev Ends : Part → Memories → List Item → Type 0 → Standing → Programmer → Type 0
+Ends part m all Check Fine q = Idle part (effects part all m) q × Check
+Ends part m all Check Faulty q = Rests part (all_steps part all) m q
+Ends part m all Check Over q = Rests part (all_steps part all) m q
 
 -- after a status
 abbrev Leaves : Part → Memories → List Item → Type 0 → ℕ → Programmer → Type 0
@@ -39,8 +42,10 @@ Leaves part m all Check status q = status ≡ 0 → Idle part (effects part all 
 
 module _ (part : Part) (sound : IsPart part) (m : Memories) (f : FitsPart part m) (all : List Item) (fits : AllFitItems part all) (Check : Type 0) where
   closed : Check → (r : Result ⊤ HostFault) (q : Programmer) → Idle part (effects part all m) q → Ends part m all Check (standing r) q
-  closed check (Ok a) q idle = Ended refl idle check
-  closed check (Err fault) q idle = Broke (fault_stops ⊤ fault) (rests_all part sound all m q fits f idle)
+  closed check (Ok a) q idle = (idle, check)
+  closed check (Err fault) q idle =
+      let rests = rests_all part sound all m q fits f idle in
+      after_fault ⊤ (λ s. Ends part m all Check s q) fault rests rests
 
   -- to leave programming mode keeps the memories
   leads_left : (before : Memories) (outcome_says : Result ⊤ HostFault → List Saying) (p : Programmer) (fates : List Fate) (During : Programmer → Type 0)
@@ -52,37 +57,30 @@ module _ (part : Part) (sound : IsPart part) (m : Memories) (f : FitsPart part m
       (leads_wider device closing p fates (Idle part before) During (λ result q. Idle part before q) (λ result q. Idle part before q) (λ q i. during q i) (λ r q i. i)
       (leads_closing part before p fates idle))
 
-  at : (plan : Plan) (s t : Standing) (p : Programmer) (fates : List Fate) → s ≡ t
-      → Leads device (ending part plan.switches t) p fates (Rests part (all_steps part all) m) (Ends part m all Check)
-      → Leads device (ending part plan.switches s) p fates (Rests part (all_steps part all) m) (Ends part m all Check)
-  at plan s t p fates e l = subst (λ x. Leads device (ending part plan.switches x) p fates (Rests part (all_steps part all) m) (Ends part m all Check)) (sym e) l
-
   leads_ending : (plan : Plan) (s : Standing) (p : Programmer) (fates : List Fate) → Comes part m all Check s p
       → Leads device (ending part plan.switches s) p fates (Rests part (all_steps part all) m) (Ends part m all Check)
-  leads_ending plan s p fates (Came e settled check) =
+  leads_ending plan Fine p fates came =
       let after = effects part all m in
-      at plan s fine p fates e
-      (leads_left after (closed_says plan.switches.quiet part) p fates (Rests part (all_steps part all) m) (Ends part m all Check)
-      (λ q idle. rests_all part sound all m q fits f idle) (λ r q idle. closed check r q idle) (settled_idle part after p settled))
-  leads_ending plan s p fates (Stopped (inl e) rests) =
+      leads_left after (closed_says plan.switches.quiet part) p fates (Rests part (all_steps part all) m) (Ends part m all Check)
+      (λ q idle. rests_all part sound all m q fits f idle) (λ r q idle. closed came.1 r q idle) (settled_idle part after p came.0)
+  leads_ending plan Faulty p fates rests =
       let steps = all_steps part all in
       let some = struck_by part rests.count steps m in
-      at plan s faulty p fates e
-      (leads_bind device (Rests part steps m) (λ t q. Rests part steps m q) (Ends part m all Check) (λ closed. Done over)
-      (λ t q fs r. leads_done device over q fs (Rests part steps m) (Ends part m all Check) r (Broke (inr refl) r)) (reported closing (λ _. [])) p fates
+      leads_bind device (Rests part steps m) (λ t q. Rests part steps m q) (Ends part m all Check) (λ closed. Done Over)
+      (λ t q fs r. leads_done device Over q fs (Rests part steps m) (Ends part m all Check) r r) (reported closing (λ _. [])) p fates
       (leads_left some (λ _. []) p fates (Rests part steps m) (λ t q. Rests part steps m q)
-      (λ q idle. record { count = rests.count; stands = idle }) (λ r q idle. record { count = rests.count; stands = idle }) rests.stands))
-  leads_ending plan s p fates (Stopped (inr e) rests) =
-      at plan s over p fates e (leads_done device over p fates (Rests part (all_steps part all) m) (Ends part m all Check) rests (Broke (inr refl) rests))
+      (λ q idle. record { count = rests.count; stands = idle }) (λ r q idle. record { count = rests.count; stands = idle }) rests.stands)
+  leads_ending plan Over p fates rests = leads_done device Over p fates (Rests part (all_steps part all) m) (Ends part m all Check) rests rests
 
   ends_rests : (s : Standing) (q : Programmer) → Ends part m all Check s q → Rests part (all_steps part all) m q
-  ends_rests s q (Ended e idle check) = rests_all part sound all m q fits f idle
-  ends_rests s q (Broke stopped rests) = rests
+  ends_rests Fine q ends = rests_all part sound all m q fits f ends.0
+  ends_rests Faulty q rests = rests
+  ends_rests Over q rests = rests
 
   ends_leaves : (s : Standing) (q : Programmer) → Ends part m all Check s q → Leaves part m all Check (status_of s) q
-  ends_leaves s q (Ended e idle check) z = (idle, check)
-  ends_leaves s q (Broke (inl e) rests) z = absurd (let one : status_of s ≡ 1 = ap status_of e in omega (arith, one, z))
-  ends_leaves s q (Broke (inr e) rests) z = absurd (let one : status_of s ≡ 1 = ap status_of e in omega (arith, one, z))
+  ends_leaves Fine q ends z = ends
+  ends_leaves Faulty q rests z = absurd (omega (arith, z))
+  ends_leaves Over q rests z = absurd (omega (arith, z))
 
 tasks_fit : (part : Part) (sound : IsPart part) (s : Switches) (tasks : List Task) → All (IsFitted part) tasks → AllFitItems part (tasks_items s tasks)
 tasks_fit part sound s [] fitted = tt
@@ -97,7 +95,7 @@ module _ (plan : Plan) (sound : IsPart plan.part) (fitted : All (IsFitted plan.p
       (erasing_fits plan.part sound plan.switches plan.tasks) (tasks_fit plan.part sound plan.switches plan.tasks fitted)
 
   -- all of a session but its end
-  abbrev pub Checks : Type 0
+  abbrev Checks : Type 0
   Checks = (⊤ × ⊤) × Agrees plan m
 
   pub goes_beginning : Goes plan.part (Idle plan.part m) m (erasing_items plan.switches plan.tasks) (⊤ × ⊤) (beginning plan)
@@ -107,7 +105,7 @@ module _ (plan : Plan) (sound : IsPart plan.part) (fitted : All (IsFitted plan.p
       goes_then part sound (Idle part m) m [] (erasing_items s plan.tasks) ⊤ ⊤ (opening_part part s) (erasing_part part s plan.tasks) tt f
       (goes_opening part sound s m f) (goes_erasing part sound s plan.tasks m f)
 
-  pub goes_working : Goes plan.part (Idle plan.part m) m (items plan) Checks (working plan)
+  goes_working : Goes plan.part (Idle plan.part m) m (items plan) Checks (working plan)
   goes_working =
       let part = plan.part in
       let s = plan.switches in

@@ -1,5 +1,5 @@
 -- All that a session asks fits a frame.
-use Rattle.std.proofs.Common.{◌≡◌, suc, ◌≤◌, List, [], ◌∷◌, length, refl, sym, subst, arith, inl, inr, Bool, true, false, Ok, Err, Result}
+use Rattle.std.proofs.Common.{suc, ◌≤◌, List, [], ◌∷◌, length, arith, Bool, true, false, Ok, Err, Result}
 use Rattle.std.specs.Prelude.{All, if◌then◌else◌}
 use Rattle.avr_cli.specs.declared.chosen.Switches.{Switches}
 use Rattle.avr_message.specs.Said.{Saying}
@@ -11,19 +11,18 @@ use Rattle.avr_plan.specs.declared.task.Task.{Task}
 use Rattle.avr_plan.specs.declared.task.Task.TheVariants.{Write, Verify, Read}
 use Rattle.stk_host.specs.declared.fault.HostFault.{HostFault}
 use Rattle.stk_host.specs.declared.fault.HostFault.TheVariants.{ReadOnly}
-use Rattle.stk_host.specs.Dialog.{Dialog, Done, Say, Ask, ◌>>=◌, lifted}
-use Rattle.stk_host.specs.Tape.{Reading}
+use Rattle.stk_host.specs.Dialog.{Dialog, Done, ◌>>=◌, lifted}
 use Rattle.stk_host.specs.WriteSteps.{write_steps}
 use Rattle.stk_host.specs.ReadSteps.{read_steps}
 use Rattle.stk_host.specs.Operations.{opening, done, erasing, writing, reading, compared, verifying, closing, operation}
 use Rattle.stk_emu.specs.Along.{AsksBodies}
 use Rattle.stk_emu.specs.Effect.{Image, Erase}
-use Rattle.stk_emu.specs.Lawful.{IsBody}
 use Rattle.stk_emu.specs.Strokes.{steps_of}
 use Rattle.stk_emu.proofs.Asking.{asks_bind, asks_lifted, asks_operation, asks_opening, asks_closing}
 use Rattle.stk_emu.proofs.ItemStrokes.{write_are_steps, read_are_steps, item_are_steps}
+use Rattle.avr_tool.specs.declared.standing.Standing.{Standing}
+use Rattle.avr_tool.specs.declared.standing.Standing.TheVariants.{Fine, Faulty, Over}
 use Rattle.avr_tool.specs.Session.{says, standing, reported, unless_fault, fault_or, opening_says, erased_says, written_says, verified_says, closed_says, read_says, opening_part, is_erase_due, left_out_erase, erasing_part, verifying_part, writing_part, read_back_part, left_out_write, write_part, task_part, tasks_part, beginning, working, ending, playing, status_of, session}
-use Rattle.avr_emulated.proofs.AnyLineStanding.{Standing, fine, faulty, over, Stands, outcome_stands}
 
 pub first_of : {X : Type 0} (P : X → Type 0) (x : X) (xs : List X) → All P (x ∷ xs) → P x
 first_of P x xs all = all 0 x (omega arith)
@@ -31,47 +30,22 @@ first_of P x xs all = all 0 x (omega arith)
 pub rest_of : {X : Type 0} (P : X → Type 0) (x : X) (xs : List X) → All P (x ∷ xs) → All P xs
 rest_of P x xs all = λ k d l. all (suc k) d (omega (arith, l))
 
--- each question is a body that a frame can carry, and each result one of these
-abbrev AsksFor : {E R : Type 0} → (R → Type 0) → Dialog E R → Type 0
-AsksFor Result (Done r) = Result r
-AsksFor Result (Say e dialog) = AsksFor Result dialog
-AsksFor Result (Ask bytes go_on) = IsBody bytes × ((reading : Reading) → AsksFor Result (go_on reading))
+asks_says : (sayings : List Saying) (s : Standing) → AsksBodies (says sayings (Done s))
+asks_says [] s = tt
+asks_says (saying ∷ sayings) s = asks_says sayings s
 
-asks_for_bind : {E A B : Type 0} (First : A → Type 0) (Then : B → Type 0) (d : Dialog E A) (next : A → Dialog E B) → AsksFor First d → ((a : A) → First a → AsksFor Then (next a))
-    → AsksFor Then (d >>= next)
-asks_for_bind First Then (Done a) next f g = g a f
-asks_for_bind First Then (Say s d) next f g = asks_for_bind First Then d next f g
-asks_for_bind First Then (Ask bytes go_on) next f g = (f.0, λ reading. asks_for_bind First Then (go_on reading) next (f.1 reading) g)
-
-any_result : {E R : Type 0} (d : Dialog E R) → AsksBodies d → AsksFor (λ r. Unit {0}) d
-any_result (Done r) f = tt
-any_result (Say s d) f = any_result d f
-any_result (Ask bytes go_on) f = (f.0, λ reading. any_result (go_on reading) (f.1 reading))
-
-bodies_only : {E R : Type 0} (Result : R → Type 0) (d : Dialog E R) → AsksFor Result d → AsksBodies d
-bodies_only Result (Done r) f = tt
-bodies_only Result (Say s d) f = bodies_only Result d f
-bodies_only Result (Ask bytes go_on) f = (f.0, λ reading. bodies_only Result (go_on reading) (f.1 reading))
-
-asks_says : (sayings : List Saying) (s : Standing) → Stands s → AsksFor Stands (says sayings (Done s))
-asks_says [] s stands = stands
-asks_says (saying ∷ sayings) s stands = asks_says sayings s stands
-
-asks_reported : {A : Type 0} (call : Dialog ⊥ (Result A HostFault)) (outcome_says : Result A HostFault → List Saying) → AsksBodies call → AsksFor Stands (reported call outcome_says)
+asks_reported : {A : Type 0} (call : Dialog ⊥ (Result A HostFault)) (outcome_says : Result A HostFault → List Saying) → AsksBodies call → AsksBodies (reported call outcome_says)
 asks_reported call outcome_says asks =
-    asks_for_bind (λ r. Unit {0}) Stands (lifted call) (λ outcome. says (outcome_says outcome) (Done (standing outcome))) (any_result (lifted call) (asks_lifted Saying call asks))
-    (λ outcome any. asks_says (outcome_says outcome) (standing outcome) (outcome_stands outcome))
+    asks_bind (lifted call) (λ outcome. says (outcome_says outcome) (Done (standing outcome))) (asks_lifted Saying call asks)
+    (λ outcome. asks_says (outcome_says outcome) (standing outcome))
 
-asks_then : (d next : Dialog Saying Standing) → AsksFor Stands d → AsksFor Stands next → AsksFor Stands (d >>= unless_fault next)
-asks_then d next asks more = asks_for_bind Stands Stands d (unless_fault next) asks after
+asks_then : (d next : Dialog Saying Standing) → AsksBodies d → AsksBodies next → AsksBodies (d >>= unless_fault next)
+asks_then d next asks more = asks_bind d (unless_fault next) asks after
   where
-    at : (s t : Standing) → s ≡ t → AsksFor Stands (unless_fault next t) → AsksFor Stands (unless_fault next s)
-    at s t e f = subst (λ x. AsksFor Stands (unless_fault next x)) (sym e) f
-
-    after : (s : Standing) → Stands s → AsksFor Stands (unless_fault next s)
-    after s (inl e) = at s fine e more
-    after s (inr (inl e)) = at s faulty e (inr (inl refl))
-    after s (inr (inr e)) = at s over e (inr (inr refl))
+    after : (s : Standing) → AsksBodies (unless_fault next s)
+    after Fine = more
+    after Faulty = tt
+    after Over = tt
 
 module _ (part : Part) (sound : IsPart part) (s : Switches) where
   asks_writing : (mem : Mem) (image : Image) → length image ≤ size_of mem part → AsksBodies (writing part mem image)
@@ -81,55 +55,52 @@ module _ (part : Part) (sound : IsPart part) (s : Switches) where
       by_kind true = asks_operation part sound (write_steps part mem image) done (write_are_steps part sound mem image fits)
       by_kind false = tt
 
-  asks_verifying : (mem : Mem) (image : Image) → AsksFor Stands (verifying_part part s mem image)
+  asks_verifying : (mem : Mem) (image : Image) → AsksBodies (verifying_part part s mem image)
   asks_verifying mem image =
       asks_reported (verifying part mem image) (verified_says s.quiet part mem image)
       (asks_operation part sound (read_steps part mem) (compared mem image) (read_are_steps part sound mem))
 
-  asks_read_back : (mem : Mem) (image : Image) → AsksFor Stands (read_back_part part s mem image)
+  asks_read_back : (mem : Mem) (image : Image) → AsksBodies (read_back_part part s mem image)
   asks_read_back mem image = by_switch s.no_verify
     where
-      by_switch : (b : Bool) → AsksFor Stands (if b then Done fine else verifying_part part s mem image)
-      by_switch true = inl refl
+      by_switch : (b : Bool) → AsksBodies (if b then Done Fine else verifying_part part s mem image)
+      by_switch true = tt
       by_switch false = asks_verifying mem image
 
-  asks_write : (mem : Mem) (image : Image) → length image ≤ size_of mem part → AsksFor Stands (write_part part s mem image)
+  asks_write : (mem : Mem) (image : Image) → length image ≤ size_of mem part → AsksBodies (write_part part s mem image)
   asks_write mem image fits = by_switch s.dry
     where
-      by_switch : (b : Bool) → AsksFor Stands (if b then says (left_out_write s mem image) (Done fine) else writing_part part s mem image >>= unless_fault (read_back_part part s mem image))
-      by_switch true = asks_says (left_out_write s mem image) fine (inl refl)
+      by_switch : (b : Bool) → AsksBodies (if b then says (left_out_write s mem image) (Done Fine) else writing_part part s mem image >>= unless_fault (read_back_part part s mem image))
+      by_switch true = asks_says (left_out_write s mem image) Fine
       by_switch false =
           asks_then (writing_part part s mem image) (read_back_part part s mem image)
           (asks_reported (writing part mem image) (written_says s.quiet part mem image) (asks_writing mem image fits)) (asks_read_back mem image)
 
-  asks_task : (task : Task) → IsFitted part task → AsksFor Stands (task_part part s task)
+  asks_task : (task : Task) → IsFitted part task → AsksBodies (task_part part s task)
   asks_task (Write mem image) fitted = asks_write mem image (let size = fitted.0 in omega (arith, size))
   asks_task (Verify mem image) fitted = asks_verifying mem image
   asks_task (Read mem format file) fitted =
       asks_reported (reading part mem) (fault_or part (read_says s mem format file)) (asks_operation part sound (read_steps part mem) Ok (read_are_steps part sound mem))
 
-  asks_tasks : (tasks : List Task) → All (IsFitted part) tasks → AsksFor Stands (tasks_part part s tasks)
-  asks_tasks [] fitted = inl refl
+  asks_tasks : (tasks : List Task) → All (IsFitted part) tasks → AsksBodies (tasks_part part s tasks)
+  asks_tasks [] fitted = tt
   asks_tasks (task ∷ tasks) fitted =
       asks_then (task_part part s task) (tasks_part part s tasks) (asks_task task (first_of (IsFitted part) task tasks fitted)) (asks_tasks tasks (rest_of (IsFitted part) task tasks fitted))
 
-  asks_erasing : (tasks : List Task) → AsksFor Stands (erasing_part part s tasks)
+  asks_erasing : (tasks : List Task) → AsksBodies (erasing_part part s tasks)
   asks_erasing tasks = by_switch s.dry (is_erase_due s tasks)
     where
-      by_switch : (dry due : Bool) → AsksFor Stands (if dry then says (left_out_erase s) (Done fine) else if due then reported erasing (erased_says s.quiet part) else Done fine)
-      by_switch true due = asks_says (left_out_erase s) fine (inl refl)
+      by_switch : (dry due : Bool) → AsksBodies (if dry then says (left_out_erase s) (Done Fine) else if due then reported erasing (erased_says s.quiet part) else Done Fine)
+      by_switch true due = asks_says (left_out_erase s) Fine
       by_switch false true = asks_reported erasing (erased_says s.quiet part) (asks_operation part sound (steps_of part Erase) done (item_are_steps part sound Erase tt))
-      by_switch false false = inl refl
+      by_switch false false = tt
 
-  asks_ending : (standing : Standing) → Stands standing → AsksFor Stands (ending part s standing)
-  asks_ending standing (inl e) =
-      subst (λ x. AsksFor Stands (ending part s x)) (sym e) (asks_reported closing (closed_says s.quiet part) asks_closing)
-  asks_ending standing (inr (inl e)) =
-      subst (λ x. AsksFor Stands (ending part s x)) (sym e)
-      (asks_for_bind Stands Stands (reported closing (λ _. [])) (λ closed. Done over) (asks_reported closing (λ _. []) asks_closing) (λ closed stands. inr (inr refl)))
-  asks_ending standing (inr (inr e)) = subst (λ x. AsksFor Stands (ending part s x)) (sym e) (inr (inr refl))
+  asks_ending : (standing : Standing) → AsksBodies (ending part s standing)
+  asks_ending Fine = asks_reported closing (closed_says s.quiet part) asks_closing
+  asks_ending Faulty = asks_bind (reported closing (λ _. [])) (λ closed. Done Over) (asks_reported closing (λ _. []) asks_closing) (λ closed. tt)
+  asks_ending Over = tt
 
-asks_working : (plan : Plan) → IsPart plan.part → All (IsFitted plan.part) plan.tasks → AsksFor Stands (working plan)
+asks_working : (plan : Plan) → IsPart plan.part → All (IsFitted plan.part) plan.tasks → AsksBodies (working plan)
 asks_working plan sound fitted =
     let part = plan.part in
     let s = plan.switches in
@@ -143,7 +114,5 @@ pub session_asks : (plan : Plan) → IsPart plan.part → All (IsFitted plan.par
 unfolding session
 session_asks plan sound fitted =
     asks_bind (playing plan) (λ standing. Done (status_of standing))
-    (bodies_only Stands (playing plan)
-    (asks_for_bind Stands Stands (working plan) (ending plan.part plan.switches) (asks_working plan sound fitted)
-    (λ standing stands. asks_ending plan.part sound plan.switches standing stands)))
+    (asks_bind (working plan) (ending plan.part plan.switches) (asks_working plan sound fitted) (asks_ending plan.part sound plan.switches))
     (λ standing. tt)

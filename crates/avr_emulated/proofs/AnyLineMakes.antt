@@ -4,6 +4,7 @@ use Rattle.std.proofs.lemmas.List.{length-append}
 use Rattle.std.specs.Prelude.{◌==◌, ⊤, if◌then◌else◌, min}
 use Rattle.avr_message.specs.Said.{Saying}
 use Rattle.avr_part.specs.Part.{Part, IsPart}
+use Rattle.stk_frame.specs.declared.command.Command.{Command}
 use Rattle.stk_host.specs.declared.fault.HostFault.{HostFault}
 use Rattle.stk_host.specs.Dialog.{Dialog, Done, Say, Ask, ◌>>=◌}
 use Rattle.stk_host.specs.Steps.{Outcome, step, play}
@@ -22,12 +23,14 @@ use Rattle.stk_emu.proofs.Attempts.{along_bind, onward, asks≢done}
 use Rattle.stk_emu.proofs.Climbing.{along_before}
 use Rattle.stk_emu.proofs.Obeying.{settled_idle}
 use Rattle.stk_emu.proofs.Tallying.{tallies_wider, tallies_bind, steps_all, tallies_play}
+use Rattle.avr_tool.specs.declared.standing.Standing.{Standing}
+use Rattle.avr_tool.specs.declared.standing.Standing.TheVariants.{Fine, Faulty, Over}
 use Rattle.avr_tool.specs.Session.{reported, unless_fault, status_of}
 use Rattle.avr_emulated.specs.Made.{none_made}
-use Rattle.avr_emulated.proofs.AnyLineStanding.{Steps, Standing, fine, faulty, over}
+use Rattle.avr_emulated.proofs.Standings.{faulty_fine, over_fine}
 use Rattle.avr_emulated.proofs.AnyLineSteps.{Rests, front, behind, struck_front, struck_behind, all_on, all_struck}
-use Rattle.avr_emulated.proofs.AnyLineParts.{Comes, Came, Stopped}
-use Rattle.avr_emulated.proofs.AnyLineTold.{done_same, says≢done, stopped≢fine, none_left, reported_programmer, reported_fine, operation_programmer, operation_ok}
+use Rattle.avr_emulated.proofs.AnyLineParts.{Comes}
+use Rattle.avr_emulated.proofs.AnyLineTold.{done_same, says≢done, none_left, reported_programmer, reported_fine, operation_programmer, operation_ok}
 
 -- the memories of so many first steps of these items
 pub record Struck (part : Part) (items : List Item) (m : Memories) (j : ℕ) (q : Programmer) : Type 0 where
@@ -37,7 +40,7 @@ pub record Struck (part : Part) (items : List Item) (m : Memories) (j : ℕ) (q 
 -- a part that makes the strokes of these items in their order, and where it is fine all have come to data
 pub record Makes (part : Part) (m : Memories) (items : List Item) (d : Dialog Saying Standing) (made : Count Programmer) (p : Programmer) (fates : List Fate) : Type 0 where
   pub tally : Tallies device d made (Struck part items m) p fates
-  pub complete : (k : ℕ) → (along device k d p fates).dialog ≡ Done fine → made k p fates ≡ length (all_steps part items)
+  pub complete : (k : ℕ) → (along device k d p fates).dialog ≡ Done Fine → made k p fates ≡ length (all_steps part items)
 
 -- a count in other words
 pub tallies_same : {E R : Type 0} (d : Dialog E R) (made other : Count Programmer) (At : ℕ → Programmer → Type 0) (p : Programmer) (fates : List Fate)
@@ -78,7 +81,7 @@ makes_none part m d p fates After l = record {
 }
 
 -- counted past the last step nothing is struck
-struck_min : (part : Part) (count : ℕ) (steps : Steps) (m : Memories) → struck_by part (min count (length steps)) steps m ≡ struck_by part count steps m
+struck_min : (part : Part) (count : ℕ) (steps : List (List Command)) (m : Memories) → struck_by part (min count (length steps)) steps m ≡ struck_by part count steps m
 struck_min part zero steps m = ap (λ n. struck_by part n steps m) (let e : min 0 (length steps) ≡ 0 = omega arith in e)
 struck_min part (suc count) [] m = ap (λ n. struck_by part n [] m) (let e : min (suc count) 0 ≡ 0 = omega arith in e)
 struck_min part (suc count) (commands ∷ steps) m =
@@ -91,7 +94,7 @@ counted_most (Done (Err fault)) n total l = omega arith
 counted_most (Say s d) n total l = absurd s
 counted_most (Ask bytes go_on) n total l = omega arith
 
-steps_most : (steps : Steps) (k : ℕ) (p : Programmer) (fates : List Fate) → steps_done device steps k p fates ≤ length steps
+steps_most : (steps : List (List Command)) (k : ℕ) (p : Programmer) (fates : List Fate) → steps_done device steps k p fates ≤ length steps
 steps_most [] k p fates = omega arith
 steps_most (commands ∷ steps) k p fates =
     let s = along device k (step commands) p fates in
@@ -99,7 +102,7 @@ steps_most (commands ∷ steps) k p fates =
 
 module _ (part : Part) (sound : IsPart part) where
   -- the steps of items
-  pub makes_items : (m : Memories) (items : List Item) (steps : Steps) (judge : List ℕ → Result ⊤ HostFault) (outcome_says : Result ⊤ HostFault → List Saying) (p : Programmer)
+  pub makes_items : (m : Memories) (items : List Item) (steps : List (List Command)) (judge : List ℕ → Result ⊤ HostFault) (outcome_says : Result ⊤ HostFault → List Saying) (p : Programmer)
       (fates : List Fate)
       → steps ≡ all_steps part items → AreSteps part steps → Settled part m p → Makes part m items (reported (operation steps judge) outcome_says) (steps_done device steps) p fates
   makes_items m items steps judge outcome_says p fates same are s = record { tally = tally; complete = λ k e. complete k e }
@@ -133,18 +136,18 @@ module _ (part : Part) (sound : IsPart part) where
         stands = λ k. subst (Struck part items m (min (played.count k) (length steps))) (moved k) (stands k (along device k (play steps []) p fates).programmer (played.stands k));
       }
 
-      complete : (k : ℕ) → (along device k (reported (operation steps judge) outcome_says) p fates).dialog ≡ Done fine → steps_done device steps k p fates ≡ length (all_steps part items)
+      complete : (k : ℕ) → (along device k (reported (operation steps judge) outcome_says) p fates).dialog ≡ Done Fine → steps_done device steps k p fates ≡ length (all_steps part items)
       complete k e =
           let ok = reported_fine device (operation steps judge) outcome_says k p fates e in
           let got = operation_ok device steps judge k p fates ok.0 ok.1 in
           steps_all device steps k [] p fates got.0 got.1 ∙ ap length same
 
-  front_is : (count : ℕ) (steps : Steps) → count ≤ length steps → front count steps ≡ count
+  front_is : (count : ℕ) (steps : List (List Command)) → count ≤ length steps → front count steps ≡ count
   front_is zero steps l = refl
   front_is (suc count) [] l = absurd (omega (arith, l))
   front_is (suc count) (commands ∷ steps) l = ap suc (front_is count steps (omega (arith, l)))
 
-  behind_is : (steps : Steps) (count : ℕ) → behind steps count ≡ length steps + count
+  behind_is : (steps : List (List Command)) (count : ℕ) → behind steps count ≡ length steps + count
   behind_is [] count = omega arith
   behind_is (commands ∷ steps) count = let e = behind_is steps count in omega (arith, e)
 
@@ -191,18 +194,18 @@ module _ (part : Part) (sound : IsPart part) where
     At = Struck part (xs ++ ys) m
 
     -- where it is fine it has made all of its strokes, before the last question of what follows
-    whole : (k : ℕ) → (along device k d p fates).dialog ≡ Done fine → first.tally.count k ≡ length (all_steps part xs)
+    whole : (k : ℕ) → (along device k d p fates).dialog ≡ Done Fine → first.tally.count k ≡ length (all_steps part xs)
     whole k e =
         let few = (first.tally.stands k).few in
         let l = first.tally.at_least k in
         let all = first.complete k e in
         omega (arith, few, l, all)
 
-    sharp : (k l : ℕ) → (along device k d p fates).dialog ≡ Done fine → (along device k d p fates).left ≡ suc l → first.tally.count k ≤ made (k - 1) p fates
+    sharp : (k l : ℕ) → (along device k d p fates).dialog ≡ Done Fine → (along device k d p fates).left ≡ suc l → first.tally.count k ≤ made (k - 1) p fates
     sharp zero l e n = absurd (let z = none_left device d p fates in omega (arith, z, n))
     sharp (suc k) l e n =
         let back : suc k - 1 ≡ k = omega arith in
-        let all : made k p fates ≡ length (all_steps part xs) = first.complete k (ap (λ z. z.dialog) (along_before device k l d p fates fine e n)) in
+        let all : made k p fates ≡ length (all_steps part xs) = first.complete k (ap (λ z. z.dialog) (along_before device k l d p fates Fine e n)) in
         let made_all = whole (suc k) e in
         subst (λ i. first.tally.count (suc k) ≤ made i p fates) (sym back) (omega (arith, all, made_all))
 
@@ -219,7 +222,7 @@ module _ (part : Part) (sound : IsPart part) where
     GoesFrom k s = GoesOn device d (unless_fault next) made after At p fates k (first.tally.count k) s
 
     -- the next one goes on
-    goes_fine : (k : ℕ) → (along device k d p fates).dialog ≡ Done fine → Settled part (effects part xs m) (along device k d p fates).programmer → GoesFrom k fine
+    goes_fine : (k : ℕ) → (along device k d p fates).dialog ≡ Done Fine → Settled part (effects part xs m) (along device k d p fates).programmer → GoesFrom k Fine
     goes_fine k e settled =
         let s = along device k d p fates in
         record {
@@ -228,26 +231,26 @@ module _ (part : Part) (sound : IsPart part) where
           sharp = inl (λ l n. sharp k l e n);
         }
 
-    goes_faulty : (k : ℕ) → GoesFrom k faulty
+    goes_faulty : (k : ℕ) → GoesFrom k Faulty
     goes_faulty k =
         let s = along device k d p fates in
         record {
-          rest = nothing_more (first.tally.count k) faulty s.programmer s.fates (struck_first xs ys m (first.tally.count k) s.programmer (first.tally.stands k));
+          rest = nothing_more (first.tally.count k) Faulty s.programmer s.fates (struck_first xs ys m (first.tally.count k) s.programmer (first.tally.stands k));
           sharp = inr (λ l. refl);
         }
 
-    goes_over : (k : ℕ) → GoesFrom k over
+    goes_over : (k : ℕ) → GoesFrom k Over
     goes_over k =
         let s = along device k d p fates in
         record {
-          rest = nothing_more (first.tally.count k) over s.programmer s.fates (struck_first xs ys m (first.tally.count k) s.programmer (first.tally.stands k));
+          rest = nothing_more (first.tally.count k) Over s.programmer s.fates (struck_first xs ys m (first.tally.count k) s.programmer (first.tally.stands k));
           sharp = inr (λ l. refl);
         }
 
     goes_on : (k : ℕ) (s : Standing) → (along device k d p fates).dialog ≡ Done s → Comes part m xs Check s (along device k d p fates).programmer → GoesFrom k s
-    goes_on k s e (Came is settled check) = subst (GoesFrom k) (sym is) (goes_fine k (e ∙ ap (λ z. Done z) is) settled)
-    goes_on k s e (Stopped (inl is) rests) = subst (GoesFrom k) (sym is) (goes_faulty k)
-    goes_on k s e (Stopped (inr is) rests) = subst (GoesFrom k) (sym is) (goes_over k)
+    goes_on k Fine e came = goes_fine k e came.0
+    goes_on k Faulty e rests = goes_faulty k
+    goes_on k Over e rests = goes_over k
 
     -- its strokes, as the first ones of both
     abbrev among : Tallies device d made At p fates
@@ -264,19 +267,18 @@ module _ (part : Part) (sound : IsPart part) where
 
     abbrev Ends : ℕ → Dialog Saying Standing → Type 0
     Ends k x = let s = along device k d p fates in
-        (onward device (unless_fault next) s.left s.fates s.programmer x).dialog ≡ Done fine
+        (onward device (unless_fault next) s.left s.fates s.programmer x).dialog ≡ Done Fine
         → with_next x (made k p fates) (λ a. after a s.left s.programmer s.fates) ≡ length (all_steps part (xs ++ ys))
 
     complete_fine : (k : ℕ) (s : Standing) → (along device k d p fates).dialog ≡ Done s → Comes part m xs Check s (along device k d p fates).programmer → Ends k (Done s)
-    complete_fine k s e (Came is settled check) =
-        subst (λ z. Ends k (Done z)) (sym is) (λ done.
+    complete_fine k Fine e came = λ done.
         let t = along device k d p fates in
-        let all = first.complete k (e ∙ ap (λ z. Done z) is) in
-        let rest = (more t.programmer t.fates settled).complete t.left done in
+        let all = first.complete k e in
+        let rest = (more t.programmer t.fates came.0).complete t.left done in
         let size = size_on xs ys in
-        omega (arith, all, rest, size))
-    complete_fine k s e (Stopped (inl is) rests) = subst (λ z. Ends k (Done z)) (sym is) (λ done. absurd (stopped≢fine faulty (inl refl) (done_same _ _ done)))
-    complete_fine k s e (Stopped (inr is) rests) = subst (λ z. Ends k (Done z)) (sym is) (λ done. absurd (stopped≢fine over (inr refl) (done_same _ _ done)))
+        omega (arith, all, rest, size)
+    complete_fine k Faulty e rests = λ done. faulty_fine (done_same _ _ done)
+    complete_fine k Over e rests = λ done. over_fine (done_same _ _ done)
 
     complete_from : (k : ℕ) (x : Dialog Saying Standing) → (along device k d p fates).dialog ≡ x → Ends k x
     complete_from k (Done s) e = complete_fine k s e (leads.after k s e)

@@ -1,5 +1,5 @@
 -- A session makes the strokes of its plan in their order.
-use Rattle.std.proofs.Common.{◌≡◌, ℕ, ◌+◌, ◌≤◌, List, [], ◌∷◌, length, take, refl, sym, ◌∙◌, subst, arith, inl, inr, Err, Result, Bool, true, false}
+use Rattle.std.proofs.Common.{◌≡◌, ℕ, ◌+◌, ◌≤◌, List, [], ◌∷◌, length, take, refl, sym, ◌∙◌, subst, arith, inr, Err, Result, Bool, true, false}
 use Rattle.std.proofs.lemmas.List.{append-nil}
 use Rattle.std.specs.Prelude.{All, ⊤, ◌==◌, if◌then◌else◌}
 use Rattle.avr_cli.specs.declared.chosen.Switches.{Switches}
@@ -29,16 +29,17 @@ use Rattle.stk_emu.proofs.Counting.{items_counted}
 use Rattle.stk_emu.proofs.ItemStrokes.{write_are_steps, item_are_steps}
 use Rattle.stk_emu.proofs.LeadsOn.{leads_done, leads_bind, leads_closing}
 use Rattle.stk_emu.proofs.Tallying.{tallies_wider, tallies_told, tallies_bind}
+use Rattle.avr_tool.specs.declared.standing.Standing.{Standing}
+use Rattle.avr_tool.specs.declared.standing.Standing.TheVariants.{Fine, Faulty, Over}
 use Rattle.avr_tool.specs.Session.{says, standing, reported, unless_fault, erased_says, written_says, closed_says, opening_part, is_erase_due, left_out_erase, erasing_part, verifying_part, writing_part, read_back_part, left_out_write, write_part, reading_part, task_part, tasks_part, beginning, working, ending, playing, status_of, session}
 use Rattle.avr_emulated.specs.Items.{erasing_items, task_items, tasks_items, items}
 use Rattle.avr_emulated.specs.Agrees.{Shows, Unless, TaskAgrees}
 use Rattle.avr_emulated.specs.Made.{none_made, erasing_made, task_made, tasks_made, beginning_made, made_by}
 use Rattle.avr_emulated.specs.Outcome.{strokes}
-use Rattle.avr_emulated.proofs.AnyLineStanding.{Standing, fine, over, Stands}
 use Rattle.avr_emulated.proofs.AnyLineAsks.{first_of, rest_of}
 use Rattle.avr_emulated.proofs.AnyLineSteps.{effects_sizes}
-use Rattle.avr_emulated.proofs.AnyLineParts.{leads_reported, Comes, Came, Stopped, goes_saying, goes_verifying, goes_read_back, goes_writing, goes_opening, goes_task, erasing_fits, task_fits}
-use Rattle.avr_emulated.proofs.AnyLine.{Checks, goes_beginning, goes_working}
+use Rattle.avr_emulated.proofs.AnyLineParts.{leads_reported, Comes, goes_saying, goes_verifying, goes_read_back, goes_writing, goes_opening, goes_task, erasing_fits, task_fits}
+use Rattle.avr_emulated.proofs.AnyLine.{goes_beginning}
 use Rattle.avr_emulated.proofs.AnyLineMakes.{Struck, Makes, tallies_same, makes_same, makes_none, makes_items, makes_then}
 
 -- a part makes the strokes of these items, from a programmer of these memories
@@ -60,11 +61,11 @@ module _ (part : Part) (sound : IsPart part) (s : Switches) where
     where
       by_switch : (dry due : Bool) → Strikes part (Settled part m) m (if dry then [] else if due then Erase ∷ [] else [])
           (if dry then none_made else if due then steps_done device (steps_of part Erase) else none_made)
-          (if dry then says (left_out_erase s) (Done fine) else if due then reported erasing (erased_says s.quiet part) else Done fine)
-      by_switch true due p fates settled = makes_none part m (says (left_out_erase s) (Done fine)) p fates (Comes part m [] ⊤) (goes_saying part sound m (left_out_erase s) p fates settled)
+          (if dry then says (left_out_erase s) (Done Fine) else if due then reported erasing (erased_says s.quiet part) else Done Fine)
+      by_switch true due p fates settled = makes_none part m (says (left_out_erase s) (Done Fine)) p fates (Comes part m [] ⊤) (goes_saying part sound m (left_out_erase s) p fates settled)
       by_switch false true p fates settled =
           makes_items part sound m (Erase ∷ []) (steps_of part Erase) done (erased_says s.quiet part) p fates refl (item_are_steps part sound Erase tt) settled
-      by_switch false false p fates settled = makes_none part m (Done fine) p fates (Comes part m [] ⊤) (goes_saying part sound m [] p fates settled)
+      by_switch false false p fates settled = makes_none part m (Done Fine) p fates (Comes part m [] ⊤) (goes_saying part sound m [] p fates settled)
 
   makes_writing : (mem : Mem) (image : Image) (m : Memories) → length image ≤ size_of mem part → is_writable mem ≡ true
       → Strikes part (Settled part m) m (Write mem image ∷ []) (steps_done device (write_steps part mem image)) (writing_part part s mem image)
@@ -83,9 +84,9 @@ module _ (part : Part) (sound : IsPart part) (s : Switches) where
   makes_write mem image m fits can f = by_switch s.dry
     where
       by_switch : (dry : Bool) → Strikes part (Settled part m) m (if dry then [] else Write mem image ∷ []) (if dry then none_made else steps_done device (write_steps part mem image))
-          (if dry then says (left_out_write s mem image) (Done fine) else writing_part part s mem image >>= unless_fault (read_back_part part s mem image))
+          (if dry then says (left_out_write s mem image) (Done Fine) else writing_part part s mem image >>= unless_fault (read_back_part part s mem image))
       by_switch true p fates settled =
-          makes_none part m (says (left_out_write s mem image) (Done fine)) p fates (Comes part m [] ⊤) (goes_saying part sound m (left_out_write s mem image) p fates settled)
+          makes_none part m (says (left_out_write s mem image) (Done Fine)) p fates (Comes part m [] ⊤) (goes_saying part sound m (left_out_write s mem image) p fates settled)
       by_switch false p fates settled =
           let item = Write mem image in
           let left = effects part (item ∷ []) m in
@@ -112,7 +113,7 @@ module _ (part : Part) (sound : IsPart part) (s : Switches) where
 
   makes_tasks : (tasks : List Task) (m : Memories) → All (IsFitted part) tasks → FitsPart part m
       → Strikes part (Settled part m) m (tasks_items s tasks) (tasks_made part s tasks) (tasks_part part s tasks)
-  makes_tasks [] m fitted f p fates settled = makes_none part m (Done fine) p fates (Comes part m [] ⊤) (goes_saying part sound m [] p fates settled)
+  makes_tasks [] m fitted f p fates settled = makes_none part m (Done Fine) p fates (Comes part m [] ⊤) (goes_saying part sound m [] p fates settled)
   makes_tasks (task ∷ tasks) m fitted f p fates settled =
       let first = task_items s task in
       let left = effects part first m in
@@ -123,28 +124,21 @@ module _ (part : Part) (sound : IsPart part) (s : Switches) where
       (λ q fs there. makes_tasks tasks left (rest_of (IsFitted part) task tasks fitted) (effects_sizes part sound first m f) q fs there)
 
 -- the end keeps the memories
-ending_keeps : (part : Part) (s : Switches) (before : Memories) (standing : Standing) (p : Programmer) (fates : List Fate) → Stands standing → Idle part before p
+ending_keeps : (part : Part) (s : Switches) (before : Memories) (standing : Standing) (p : Programmer) (fates : List Fate) → Idle part before p
     → Leads device (ending part s standing) p fates (Idle part before) (λ t q. Idle part before q)
-ending_keeps part s before standing p fates stands idle = by_standing stands
+ending_keeps part s before standing p fates idle = by_standing standing
   where
     closes : (outcome_says : Result ⊤ HostFault → List Saying) → Leads device (reported closing outcome_says) p fates (Idle part before) (λ t q. Idle part before q)
     closes outcome_says =
         leads_reported closing outcome_says p fates (Idle part before) (λ r q. Idle part before q) (λ t q. Idle part before q) (λ r q i. i) (λ r q i. i)
         (leads_closing part before p fates idle)
 
-    by_standing : Stands standing → Leads device (ending part s standing) p fates (Idle part before) (λ t q. Idle part before q)
-    by_standing (inl e) = subst (λ x. Leads device (ending part s x) p fates (Idle part before) (λ t q. Idle part before q)) (sym e) (closes (closed_says s.quiet part))
-    by_standing (inr (inl e)) =
-        subst (λ x. Leads device (ending part s x) p fates (Idle part before) (λ t q. Idle part before q)) (sym e)
-        (leads_bind device (Idle part before) (λ t q. Idle part before q) (λ t q. Idle part before q) (λ closed. Done over)
-        (λ t q fs i. leads_done device over q fs (Idle part before) (λ u r. Idle part before r) i i) (reported closing (λ _. [])) p fates (closes (λ _. [])))
-    by_standing (inr (inr e)) =
-        subst (λ x. Leads device (ending part s x) p fates (Idle part before) (λ t q. Idle part before q)) (sym e)
-        (leads_done device over p fates (Idle part before) (λ u r. Idle part before r) idle idle)
-
-comes_stands : (part : Part) (m : Memories) (all : List Item) (Check : Type 0) (s : Standing) (q : Programmer) → Comes part m all Check s q → Stands s
-comes_stands part m all Check s q (Came e settled check) = inl e
-comes_stands part m all Check s q (Stopped stopped rests) = inr stopped
+    by_standing : (at : Standing) → Leads device (ending part s at) p fates (Idle part before) (λ t q. Idle part before q)
+    by_standing Fine = closes (closed_says s.quiet part)
+    by_standing Faulty =
+        leads_bind device (Idle part before) (λ t q. Idle part before q) (λ t q. Idle part before q) (λ closed. Done Over)
+        (λ t q fs i. leads_done device Over q fs (Idle part before) (λ u r. Idle part before r) i i) (reported closing (λ _. [])) p fates (closes (λ _. []))
+    by_standing Over = leads_done device Over p fates (Idle part before) (λ u r. Idle part before r) idle idle
 
 module _ (plan : Plan) (sound : IsPart plan.part) (fitted : All (IsFitted plan.part) plan.tasks) (m : Memories) (f : FitsPart plan.part m) (p : Programmer) (fates : List Fate)
     (idle : Idle plan.part m p) where
@@ -176,8 +170,7 @@ module _ (plan : Plan) (sound : IsPart plan.part) (fitted : All (IsFitted plan.p
       let made = makes_working.tally.count k in
       let struck = makes_working.tally.stands k in
       let before = struck_by part made (all_steps part (items plan)) m in
-      let stands = comes_stands part m (items plan) (Checks plan sound fitted m f) s z.programmer ((goes_working plan sound fitted m f p fates idle).after k s e) in
-      let keeps = ending_keeps part plan.switches before s z.programmer z.fates stands struck.stands in
+      let keeps = ending_keeps part plan.switches before s z.programmer z.fates struck.stands in
       record {
         rest = record {
           count = λ l. 0;

@@ -10,6 +10,7 @@ use Rattle.avr_part.specs.Part.{Part, IsPart, size_of}
 use Rattle.avr_plan.specs.Plan.{IsFitted}
 use Rattle.avr_plan.specs.declared.task.Task.{Task}
 use Rattle.avr_plan.specs.declared.task.Task.TheVariants as task
+use Rattle.stk_frame.specs.declared.command.Command.{Command}
 use Rattle.stk_host.specs.declared.fault.HostFault.{HostFault}
 use Rattle.stk_host.specs.declared.fault.HostFault.TheVariants.{Differs, ReadOnly}
 use Rattle.stk_host.specs.Dialog.{Dialog, Done, ◌>>=◌, lifted}
@@ -30,10 +31,12 @@ use Rattle.stk_emu.proofs.ItemStrokes.{write_are_steps, read_are_steps, item_are
 use Rattle.stk_emu.proofs.PlayGiven.{read_gives}
 use Rattle.stk_emu.proofs.Comparing.{no_difference}
 use Rattle.stk_emu.proofs.LeadsOn.{leads_done, leads_say, leads_lifted, leads_wider, leads_bind, leads_operation, leads_opening}
+use Rattle.avr_tool.specs.declared.standing.Standing.{Standing}
+use Rattle.avr_tool.specs.declared.standing.Standing.TheVariants.{Fine, Faulty, Over}
 use Rattle.avr_tool.specs.Session.{says, standing, reported, unless_fault, fault_or, opening_says, erased_says, written_says, verified_says, read_says, opening_part, is_erase_due, left_out_erase, erasing_part, verifying_part, writing_part, read_back_part, left_out_write, write_part, task_part, tasks_part}
 use Rattle.avr_emulated.specs.Items.{erasing_items, task_items, tasks_items}
 use Rattle.avr_emulated.specs.Agrees.{Shows, Unless, TaskAgrees, TasksAgree}
-use Rattle.avr_emulated.proofs.AnyLineStanding.{Steps, Standing, fine, faulty, over, HasStopped, fault_stops}
+use Rattle.avr_emulated.proofs.Standings.{after_fault}
 use Rattle.avr_emulated.proofs.AnyLineAsks.{first_of, rest_of}
 use Rattle.avr_emulated.proofs.AnyLineSteps.{Rests, reached_rests, rests_here, rests_before, rests_all, rests_behind, effects_sizes, all_struck, quiet_stays, read_quiet}
 
@@ -54,9 +57,10 @@ leads_reported call outcome_says p fates During After Then during after l =
 
 -- After a part of a session that does these items: where it is fine, it has done them all, and the check holds; after a
 -- fault the memories are those of some first steps.
-pub data Comes (part : Part) (m : Memories) (items : List Item) (Check : Type 0) (s : Standing) (q : Programmer) : Type 0 where
-  Came : s ≡ fine → Settled part (effects part items m) q → Check → Comes part m items Check s q
-  Stopped : HasStopped s → Rests part (all_steps part items) m q → Comes part m items Check s q
+abbrev pub Comes : Part → Memories → List Item → Type 0 → Standing → Programmer → Type 0
+Comes part m items Check Fine q = Settled part (effects part items m) q × Check
+Comes part m items Check Faulty q = Rests part (all_steps part items) m q
+Comes part m items Check Over q = Rests part (all_steps part items) m q
 
 -- and after an operation
 abbrev CameTo : {A : Type 0} → Part → Memories → List Item → Type 0 → Result A HostFault → Programmer → Type 0
@@ -69,8 +73,8 @@ Goes part From m items Check d = (p : Programmer) (fates : List Fate) → From p
 
 come_standing : {A : Type 0} (part : Part) (m : Memories) (items : List Item) (Check : Type 0) (r : Result A HostFault) (q : Programmer) → CameTo part m items Check r q
     → Comes part m items Check (standing r) q
-come_standing {A = A} part m items Check (Ok a) q came = Came refl came.0 came.1
-come_standing {A = A} part m items Check (Err fault) q rests = Stopped (fault_stops A fault) rests
+come_standing {A = A} part m items Check (Ok a) q came = came
+come_standing {A = A} part m items Check (Err fault) q rests = after_fault A (λ s. Comes part m items Check s q) fault rests rests
 
 ok_is : {A : Type 0} (a : A) (fault : HostFault) → ◌≡◌ {A = Result A HostFault} (Ok a) (Err fault) → ⊥
 ok_is a fault e = cc
@@ -82,8 +86,9 @@ module _ (part : Part) (sound : IsPart part) where
   came_rests m items Check (Err fault) q fits f came = came
 
   comes_wider : (m : Memories) (items : List Item) (Check Wider : Type 0) → (Check → Wider) → (s : Standing) (q : Programmer) → Comes part m items Check s q → Comes part m items Wider s q
-  comes_wider m items Check Wider follows s q (Came e settled check) = Came e settled (follows check)
-  comes_wider m items Check Wider follows s q (Stopped stopped rests) = Stopped stopped rests
+  comes_wider m items Check Wider follows Fine q came = (came.0, follows came.1)
+  comes_wider m items Check Wider follows Faulty q rests = rests
+  comes_wider m items Check Wider follows Over q rests = rests
 
   -- another check that follows
   goes_wider : (From : Programmer → Type 0) (m : Memories) (items : List Item) (Check Wider : Type 0) (d : Dialog Saying Standing) → (Check → Wider) → Goes part From m items Check d
@@ -93,13 +98,13 @@ module _ (part : Part) (sound : IsPart part) where
       (λ q r. r) (λ s q came. comes_wider m items Check Wider follows s q came) (goes p fates from)
 
   -- nothing but what is said
-  pub goes_saying : (m : Memories) (sayings : List Saying) → Goes part (Settled part m) m [] ⊤ (says sayings (Done fine))
+  pub goes_saying : (m : Memories) (sayings : List Saying) → Goes part (Settled part m) m [] ⊤ (says sayings (Done Fine))
   goes_saying m sayings p fates s =
-      leads_says sayings (Done fine) p fates (Rests part [] m) (Comes part m [] ⊤)
-      (leads_done device fine p fates (Rests part [] m) (Comes part m [] ⊤) (rests_here part [] m p (settled_idle part m p s)) (Came refl s tt))
+      leads_says sayings (Done Fine) p fates (Rests part [] m) (Comes part m [] ⊤)
+      (leads_done device Fine p fates (Rests part [] m) (Comes part m [] ⊤) (rests_here part [] m p (settled_idle part m p s)) (s, tt))
 
   -- an operation, by its steps, and what holds where it is judged to be good
-  goes_operation : {A : Type 0} (m : Memories) (items : List Item) (Check : Type 0) (steps : Steps) (judge : List ℕ → Result A HostFault) (outcome_says : Result A HostFault → List Saying)
+  goes_operation : {A : Type 0} (m : Memories) (items : List Item) (Check : Type 0) (steps : List (List Command)) (judge : List ℕ → Result A HostFault) (outcome_says : Result A HostFault → List Saying)
       → AllFitItems part items → FitsPart part m → AreSteps part steps
       → ((q : Programmer) → Reached part steps m q → Rests part (all_steps part items) m q) → struck_by part (length steps) steps m ≡ effects part items m
       → ((a : A) → judge (all_given part steps m) ≡ Ok a → Check)
@@ -126,27 +131,22 @@ module _ (part : Part) (sound : IsPart part) where
       (λ q r. rests_before part xs ys m q r) (λ s q came. came) (goes p fates from))
     where
       comes : Check → (s : Standing) (q : Programmer) → Comes part (effects part xs m) ys More s q → Comes part m (xs ++ ys) (Check × More) s q
-      comes check s q (Came e settled more) = Came e (subst (λ z. Settled part z q) (sym (effects_on part xs ys m)) settled) (check, more)
-      comes check s q (Stopped stopped rests) = Stopped stopped (rests_behind part sound xs ys m q fits f rests)
-
-      at : (s t : Standing) (q : Programmer) (fs : List Fate) → s ≡ t
-          → Leads device (unless_fault next t) q fs (Rests part (all_steps part (xs ++ ys)) m) (Comes part m (xs ++ ys) (Check × More))
-          → Leads device (unless_fault next s) q fs (Rests part (all_steps part (xs ++ ys)) m) (Comes part m (xs ++ ys) (Check × More))
-      at s t q fs e l = subst (λ x. Leads device (unless_fault next x) q fs (Rests part (all_steps part (xs ++ ys)) m) (Comes part m (xs ++ ys) (Check × More))) (sym e) l
+      comes check Fine q came = (subst (λ z. Settled part z q) (sym (effects_on part xs ys m)) came.0, (check, came.1))
+      comes check Faulty q rests = rests_behind part sound xs ys m q fits f rests
+      comes check Over q rests = rests_behind part sound xs ys m q fits f rests
 
       on : (s : Standing) (q : Programmer) (fs : List Fate) → Comes part m xs Check s q
           → Leads device (unless_fault next s) q fs (Rests part (all_steps part (xs ++ ys)) m) (Comes part m (xs ++ ys) (Check × More))
-      on s q fs (Came e settled check) =
-          at s fine q fs e
-          (leads_wider device next q fs (Rests part (all_steps part ys) (effects part xs m)) (Rests part (all_steps part (xs ++ ys)) m) (Comes part (effects part xs m) ys More)
+      on Fine q fs came =
+          leads_wider device next q fs (Rests part (all_steps part ys) (effects part xs m)) (Rests part (all_steps part (xs ++ ys)) m) (Comes part (effects part xs m) ys More)
           (Comes part m (xs ++ ys) (Check × More))
-          (λ z r. rests_behind part sound xs ys m z fits f r) (λ t z after. comes check t z after) (more q fs settled))
-      on s q fs (Stopped (inl e) rests) =
+          (λ z r. rests_behind part sound xs ys m z fits f r) (λ t z after. comes came.1 t z after) (more q fs came.0)
+      on Faulty q fs rests =
           let r = rests_before part xs ys m q rests in
-          at s faulty q fs e (leads_done device faulty q fs (Rests part (all_steps part (xs ++ ys)) m) (Comes part m (xs ++ ys) (Check × More)) r (Stopped (inl refl) r))
-      on s q fs (Stopped (inr e) rests) =
+          leads_done device Faulty q fs (Rests part (all_steps part (xs ++ ys)) m) (Comes part m (xs ++ ys) (Check × More)) r r
+      on Over q fs rests =
           let r = rests_before part xs ys m q rests in
-          at s over q fs e (leads_done device over q fs (Rests part (all_steps part (xs ++ ys)) m) (Comes part m (xs ++ ys) (Check × More)) r (Stopped (inr refl) r))
+          leads_done device Over q fs (Rests part (all_steps part (xs ++ ys)) m) (Comes part m (xs ++ ys) (Check × More)) r r
 
   -- a memory is read, and what it holds is judged
   pub goes_reading : {A : Type 0} (m : Memories) (Check : Type 0) (mem : Mem) (judge : List ℕ → Result A HostFault) (outcome_says : Result A HostFault → List Saying)
@@ -159,7 +159,7 @@ module _ (part : Part) (sound : IsPart part) where
       (λ a e. judged a (sym (ap judge (read_gives part sound m f mem)) ∙ e))
 
   -- the steps of items
-  goes_items : (m : Memories) (items : List Item) (steps : Steps) (outcome_says : Result ⊤ HostFault → List Saying) → steps ≡ all_steps part items
+  goes_items : (m : Memories) (items : List Item) (steps : List (List Command)) (outcome_says : Result ⊤ HostFault → List Saying) → steps ≡ all_steps part items
       → AllFitItems part items → FitsPart part m → AreSteps part steps → Goes part (Settled part m) m items ⊤ (reported (operation steps done) outcome_says)
   goes_items m items steps outcome_says same fits f are =
       goes_operation m items ⊤ steps done outcome_says fits f are
@@ -187,7 +187,7 @@ module _ (part : Part) (sound : IsPart part) where
     goes_erasing tasks m f = by_switch s.dry (is_erase_due s tasks)
       where
         by_switch : (dry due : Bool) → Goes part (Settled part m) m (if dry then [] else if due then Erase ∷ [] else []) ⊤
-            (if dry then says (left_out_erase s) (Done fine) else if due then reported erasing (erased_says s.quiet part) else Done fine)
+            (if dry then says (left_out_erase s) (Done Fine) else if due then reported erasing (erased_says s.quiet part) else Done Fine)
         by_switch true due = goes_saying m (left_out_erase s)
         by_switch false true = goes_chip_erasing m f
         by_switch false false = goes_saying m []
@@ -214,7 +214,7 @@ module _ (part : Part) (sound : IsPart part) where
         → Goes part (Settled part m) m [] (Unless s.no_verify (Shows part mem image m)) (read_back_part part s mem image)
     goes_read_back mem image m f = by_switch s.no_verify
       where
-        by_switch : (b : Bool) → Goes part (Settled part m) m [] (Unless b (Shows part mem image m)) (if b then Done fine else verifying_part part s mem image)
+        by_switch : (b : Bool) → Goes part (Settled part m) m [] (Unless b (Shows part mem image m)) (if b then Done Fine else verifying_part part s mem image)
         by_switch true = goes_saying m []
         by_switch false = goes_verifying mem image m f
 
@@ -237,7 +237,7 @@ module _ (part : Part) (sound : IsPart part) where
       where
         by_switch : (dry : Bool) → Goes part (Settled part m) m (if dry then [] else Write mem image ∷ [])
             (Unless (dry || s.no_verify) (Shows part mem image (effects part (if dry then [] else Write mem image ∷ []) m)))
-            (if dry then says (left_out_write s mem image) (Done fine) else writing_part part s mem image >>= unless_fault (read_back_part part s mem image))
+            (if dry then says (left_out_write s mem image) (Done Fine) else writing_part part s mem image >>= unless_fault (read_back_part part s mem image))
         by_switch true = goes_saying m (left_out_write s mem image)
         by_switch false =
             let left = effect part (Write mem image) m in

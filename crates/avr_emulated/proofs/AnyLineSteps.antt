@@ -3,6 +3,7 @@ use Rattle.std.proofs.Common.{◌≡◌, ℕ, zero, suc, ◌+◌, List, [], ◌�
 use Rattle.avr_part.specs.declared.mem.Mem.{Mem}
 use Rattle.avr_part.specs.declared.mem.Mem.TheVariants.{Flash, Eeprom, Lfuse, Hfuse, Efuse, Lock, Signature, Calibration}
 use Rattle.avr_part.specs.Part.{Part, IsPart}
+use Rattle.stk_frame.specs.declared.command.Command.{Command}
 use Rattle.stk_host.specs.Places.{each_from}
 use Rattle.stk_host.specs.ReadSteps.{block_count, block_steps, signature_step, read_steps}
 use Rattle.stk_emu.specs.Programmer.{Programmer}
@@ -12,30 +13,29 @@ use Rattle.stk_emu.specs.Strokes.{struck, struck_by, stroke_of, steps_of, all_st
 use Rattle.stk_emu.specs.Leads.{Reached}
 use Rattle.stk_emu.proofs.Obeying.{settled_idle}
 use Rattle.stk_emu.proofs.ItemStrokes.{items_do, struck_all, effect_sizes}
-use Rattle.avr_emulated.proofs.AnyLineStanding.{Steps}
 
 -- the memories of the first so many of these steps, in any mode
-pub record Rests (part : Part) (steps : Steps) (m : Memories) (q : Programmer) : Type 0 where
+pub record Rests (part : Part) (steps : List (List Command)) (m : Memories) (q : Programmer) : Type 0 where
   pub count : ℕ
   pub stands : Idle part (struck_by part count steps m) q
 
 -- so many of the first steps, in front of others
-abbrev pub front : ℕ → Steps → ℕ
+abbrev pub front : ℕ → List (List Command) → ℕ
 front zero steps = zero
 front (suc count) [] = zero
 front (suc count) (commands ∷ steps) = suc (front count steps)
 
 -- all of these, and so many more
-abbrev pub behind : Steps → ℕ → ℕ
+abbrev pub behind : List (List Command) → ℕ → ℕ
 behind [] count = count
 behind (commands ∷ steps) count = suc (behind steps count)
 
-pub struck_front : (part : Part) (count : ℕ) (xs ys : Steps) (m : Memories) → struck_by part (front count xs) (xs ++ ys) m ≡ struck_by part count xs m
+pub struck_front : (part : Part) (count : ℕ) (xs ys : List (List Command)) (m : Memories) → struck_by part (front count xs) (xs ++ ys) m ≡ struck_by part count xs m
 struck_front part zero xs ys m = refl
 struck_front part (suc count) [] ys m = refl
 struck_front part (suc count) (commands ∷ xs) ys m = struck_front part count xs ys (struck part commands m)
 
-pub struck_behind : (part : Part) (count : ℕ) (xs ys : Steps) (m : Memories) → struck_by part (behind xs count) (xs ++ ys) m ≡ struck_by part count ys (struck_by part (length xs) xs m)
+pub struck_behind : (part : Part) (count : ℕ) (xs ys : List (List Command)) (m : Memories) → struck_by part (behind xs count) (xs ++ ys) m ≡ struck_by part count ys (struck_by part (length xs) xs m)
 struck_behind part count [] ys m = refl
 struck_behind part count (commands ∷ xs) ys m = struck_behind part count xs ys (struck part commands m)
 
@@ -44,10 +44,10 @@ all_on part [] ys = refl
 all_on part (item ∷ xs) ys = ap (λ steps. steps_of part item ++ steps) (all_on part xs ys) ∙ sym (append_assoc (steps_of part item) (all_steps part xs) (all_steps part ys))
 
 module _ (part : Part) where
-  pub reached_rests : (steps : Steps) (m : Memories) (q : Programmer) → Reached part steps m q → Rests part steps m q
+  pub reached_rests : (steps : List (List Command)) (m : Memories) (q : Programmer) → Reached part steps m q → Rests part steps m q
   reached_rests steps m q r = record { count = r.count; stands = settled_idle part (struck_by part r.count steps m) q r.stands }
 
-  pub rests_here : (steps : Steps) (m : Memories) (q : Programmer) → Idle part m q → Rests part steps m q
+  pub rests_here : (steps : List (List Command)) (m : Memories) (q : Programmer) → Idle part m q → Rests part steps m q
   rests_here steps m q idle = record { count = 0; stands = idle }
 
   -- some first steps are some first of more
@@ -88,20 +88,20 @@ module _ (part : Part) where
   fits_on (item ∷ xs) ys f g = (f.0, fits_on xs ys f.1 g)
 
 -- steps that write nothing
-abbrev pub AreQuiet : Steps → Type 0
+abbrev pub AreQuiet : List (List Command) → Type 0
 AreQuiet [] = Unit {0}
 AreQuiet (commands ∷ steps) = (stroke_of commands ≡ []) × AreQuiet steps
 
-pub quiet_stays : (part : Part) (count : ℕ) (steps : Steps) (m : Memories) → AreQuiet steps → struck_by part count steps m ≡ m
+pub quiet_stays : (part : Part) (count : ℕ) (steps : List (List Command)) (m : Memories) → AreQuiet steps → struck_by part count steps m ≡ m
 quiet_stays part zero steps m quiet = refl
 quiet_stays part (suc count) [] m quiet = refl
 quiet_stays part (suc count) (commands ∷ steps) m quiet = ap (λ items. struck_by part count steps (effects part items m)) quiet.0 ∙ quiet_stays part count steps m quiet.1
 
-quiet_on : (xs ys : Steps) → AreQuiet xs → AreQuiet ys → AreQuiet (xs ++ ys)
+quiet_on : (xs ys : List (List Command)) → AreQuiet xs → AreQuiet ys → AreQuiet (xs ++ ys)
 quiet_on [] ys f g = g
 quiet_on (commands ∷ xs) ys f g = (f.0, quiet_on xs ys f.1 g)
 
-each_quiet : (steps_at : ℕ → Steps) (place count : ℕ) → ((i : ℕ) → AreQuiet (steps_at i)) → AreQuiet (each_from steps_at place count)
+each_quiet : (steps_at : ℕ → List (List Command)) (place count : ℕ) → ((i : ℕ) → AreQuiet (steps_at i)) → AreQuiet (each_from steps_at place count)
 each_quiet steps_at place zero each = tt
 each_quiet steps_at place (suc count) each = quiet_on (steps_at place) (each_from steps_at (place + 1) count) (each place) (each_quiet steps_at (place + 1) count each)
 

@@ -1,6 +1,7 @@
 -- A call of the host, and what is said of it: where it stands on a line.
-use Rattle.std.proofs.Common.{◌≡◌, ℕ, List, [], ◌∷◌, refl, sym, ap, ◌∙◌, arith, inl, inr, Ok, Err, Result}
+use Rattle.std.proofs.Common.{◌≡◌, ℕ, List, [], ◌∷◌, refl, sym, ap, ◌∙◌, Ok, Err, Result}
 use Rattle.avr_message.specs.Said.{Saying}
+use Rattle.stk_frame.specs.declared.command.Command.{Command}
 use Rattle.stk_host.specs.declared.fault.HostFault.{HostFault}
 use Rattle.stk_host.specs.Dialog.{Dialog, Done, Say, Ask, ◌>>=◌, lifted}
 use Rattle.stk_host.specs.Steps.{Outcome, play}
@@ -10,19 +11,16 @@ use Rattle.stk_emu.specs.Device.{Device}
 use Rattle.stk_emu.specs.Along.{along}
 use Rattle.stk_emu.proofs.Attempts.{along_bind, onward, asks≢done}
 use Rattle.stk_emu.proofs.LeadsOn.{along_lifted, along_told}
-use Rattle.avr_tool.specs.Session.{says, standing, reported, status_of}
-use Rattle.avr_emulated.proofs.AnyLineStanding.{Steps, Standing, fine, HasStopped, fault_stops}
+use Rattle.avr_tool.specs.declared.standing.Standing.{Standing}
+use Rattle.avr_tool.specs.declared.standing.Standing.TheVariants.{Fine}
+use Rattle.avr_tool.specs.Session.{says, standing, reported}
+use Rattle.avr_emulated.proofs.Standings.{after_fault, faulty_fine, over_fine}
 
 pub done_same : {E R : Type 0} (a b : R) → ◌≡◌ {A = Dialog E R} (Done a) (Done b) → a ≡ b
 done_same a b e = cc
 
 pub says≢done : {E R : Type 0} (e : E) (d : Dialog E R) (r : R) → ◌≡◌ {A = Dialog E R} (Say e d) (Done r) → ⊥
 says≢done e d r s = cc
-
--- a session that has stopped isn't fine
-pub stopped≢fine : (s : Standing) → HasStopped s → s ≡ fine → ⊥
-stopped≢fine s (inl e) f = let one : status_of s ≡ 1 = ap status_of e in let none : status_of s ≡ 0 = ap status_of f in omega (arith, one, none)
-stopped≢fine s (inr e) f = let one : status_of s ≡ 1 = ap status_of e in let none : status_of s ≡ 0 = ap status_of f in omega (arith, one, none)
 
 pub none_left : {E R P : Type 0} (m : Device P) (d : Dialog E R) (p : P) (fates : List Fate) → (along m 0 d p fates).left ≡ 0
 none_left m (Done r) p fates = refl
@@ -54,23 +52,23 @@ module _ {P : Type 0} (m : Device P) where
         ap (λ z. z.programmer) (along_bind m k (lifted call) telling p fates)
         ∙ (on_programmer s.left s.fates s.programmer s.dialog ∙ ap (λ z. z.programmer) (along_lifted {E = Saying} m k call p fates))
 
-    on_fine : (left : ℕ) (fates : List Fate) (p : P) (d : Dialog ⊥ (Result A HostFault)) → (onward m telling left fates p (lifted d)).dialog ≡ Done fine → (a : A) × (d ≡ Done (Ok a))
+    on_fine : (left : ℕ) (fates : List Fate) (p : P) (d : Dialog ⊥ (Result A HostFault)) → (onward m telling left fates p (lifted d)).dialog ≡ Done Fine → (a : A) × (d ≡ Done (Ok a))
     on_fine left fates p (Done (Ok a)) e = (a, refl)
     on_fine left fates p (Done (Err fault)) e =
-        absurd (stopped≢fine (standing {A = A} (Err fault)) (fault_stops A fault)
+        absurd (after_fault A (λ s. s ≡ Fine → ⊥) fault faulty_fine over_fine
         (done_same _ _ (sym (says_dialog left (outcome_says (Err fault)) (standing {A = A} (Err fault)) p fates) ∙ e)))
     on_fine left fates p (Say s d) e = absurd s
     on_fine left fates p (Ask bytes go_on) e = absurd (asks≢done _ _ _ e)
 
     -- where it is fine the call has succeeded
-    pub reported_fine : (k : ℕ) (p : P) (fates : List Fate) → (along m k (reported call outcome_says) p fates).dialog ≡ Done fine → (a : A) × ((along m k call p fates).dialog ≡ Done (Ok a))
+    pub reported_fine : (k : ℕ) (p : P) (fates : List Fate) → (along m k (reported call outcome_says) p fates).dialog ≡ Done Fine → (a : A) × ((along m k call p fates).dialog ≡ Done (Ok a))
     reported_fine k p fates e =
         let s = along m k call p fates in
         on_fine s.left s.fates s.programmer s.dialog
         (sym (ap (λ z. (onward m telling z.left z.fates z.programmer z.dialog).dialog) (along_lifted {E = Saying} m k call p fates))
         ∙ (sym (ap (λ z. z.dialog) (along_bind m k (lifted call) telling p fates)) ∙ e))
 
-  module _ {A : Type 0} (steps : Steps) (judge : List ℕ → Result A HostFault) where
+  module _ {A : Type 0} (steps : List (List Command)) (judge : List ℕ → Result A HostFault) where
     -- an operation is its steps, judged
     pub operation_programmer : (k : ℕ) (p : P) (fates : List Fate) → (along m k (operation steps judge) p fates).programmer ≡ (along m k (play steps []) p fates).programmer
     unfolding operation

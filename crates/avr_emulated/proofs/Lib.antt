@@ -1,4 +1,4 @@
-pub mod AnyLineStanding
+pub mod Standings
 pub mod AnyLineAsks
 pub mod AnyLineSteps
 pub mod AnyLineParts

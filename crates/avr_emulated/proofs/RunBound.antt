@@ -1,26 +1,21 @@
 -- A session asks at most four times the commands of its plan's steps.
-use Rattle.std.proofs.Common.{◌≡◌, ℕ, ◌+◌, ◌*◌, List, [], ◌∷◌, ◌++◌, append_assoc, ◌∙◌, subst, arith, Bool, true, false, Ok, Err, Result}
+use Rattle.std.proofs.Common.{◌≡◌, ℕ, ◌+◌, ◌*◌, List, [], ◌∷◌, ◌++◌, append_assoc, ◌∙◌, subst, arith, Bool, true, false, Ok, Result}
 use Rattle.std.specs.Prelude.{if◌then◌else◌}
 use Rattle.avr_cli.specs.declared.chosen.Switches.{Switches}
 use Rattle.avr_message.specs.Said.{Saying, SaidPart}
-use Rattle.avr_part.specs.Mem.{is_writable}
 use Rattle.avr_part.specs.declared.mem.Mem.{Mem}
 use Rattle.avr_part.specs.Part.{Part}
 use Rattle.avr_plan.specs.Plan.{Plan}
 use Rattle.avr_plan.specs.declared.task.Task.{Task}
 use Rattle.avr_plan.specs.declared.task.Task.TheVariants.{Write, Verify, Read}
 use Rattle.stk_frame.specs.declared.command.Command.{Command}
-use Rattle.stk_frame.specs.declared.command.Command.TheVariants.{SignOn}
-use Rattle.stk_frame.specs.HostCommands.{enter, leave}
 use Rattle.stk_host.specs.declared.fault.HostFault.{HostFault}
-use Rattle.stk_host.specs.declared.fault.HostFault.TheVariants.{ReadOnly}
 use Rattle.stk_host.specs.Dialog.{Dialog, Done, ◌>>=◌, lifted}
-use Rattle.stk_host.specs.Steps.{if_done, step, play}
 use Rattle.stk_host.specs.WriteSteps.{write_steps}
-use Rattle.stk_host.specs.ReadSteps.{signature_steps, read_steps}
-use Rattle.stk_host.specs.Operations.{beginning, signature_judged, opening, ended, closing, judged_by, operation, done, erasing, writing, reading, compared, verifying}
+use Rattle.stk_host.specs.ReadSteps.{read_steps}
+use Rattle.stk_host.specs.Operations.{opening, closing, done, erasing, writing, reading, compared, verifying}
 use Rattle.stk_host.specs.Bound.{AsksAtMost, SendsAtMost, commands_in, opening_steps, erasing_steps, closing_steps}
-use Rattle.stk_host.proofs.Bounds.{asks_bind, asks_lifted, step_most, then_most, play_most, judged_most, sends_asked}
+use Rattle.stk_host.proofs.Bounds.{asks_bind, asks_lifted, sends_asked, operation_most, opening_most, closing_most, writing_most}
 use Rattle.stk_emu.specs.Effect.{Image}
 use Rattle.avr_tool.specs.declared.standing.Standing.{Standing}
 use Rattle.avr_tool.specs.declared.standing.Standing.TheVariants.{Fine, Faulty, Over}
@@ -45,31 +40,6 @@ most_alone : {E A B : Type 0} (n : ℕ) (d : Dialog E A) (go_on : A → Dialog E
 most_alone n d go_on f g =
     let e : n + 0 ≡ n = omega arith in
     subst (λ z. AsksAtMost z (d >>= go_on)) e (asks_bind n 0 d go_on f g)
-
--- the operations of the host
-
-operation_most : {A : Type 0} (steps : List (List Command)) (judge : List ℕ → Result A HostFault) → AsksAtMost (4 * commands_in steps) (operation steps judge)
-unfolding operation
-operation_most steps judge = judged_most (4 * commands_in steps) (play steps []) (judged_by judge) (play_most steps [])
-
-opening_most : (signature : List ℕ) (force : Bool) → AsksAtMost (4 * commands_in opening_steps) (opening signature force)
-unfolding opening beginning
-opening_most signature force =
-    judged_most (4 * commands_in opening_steps) beginning (signature_judged signature force)
-    (then_most (SignOn ∷ []) ((enter ∷ []) ∷ signature_steps) (λ name. step (enter ∷ []) >>= if_done (λ nothing. play signature_steps []))
-    (λ name. then_most (enter ∷ []) signature_steps (λ nothing. play signature_steps []) (λ nothing. play_most signature_steps [])))
-
-closing_most : AsksAtMost (4 * commands_in closing_steps) closing
-unfolding closing
-closing_most = judged_most (4 * commands_in closing_steps) (step (leave ∷ [])) ended (step_most (leave ∷ []))
-
--- a memory that can't be written is asked nothing
-writing_most : (part : Part) (mem : Mem) (image : Image) → AsksAtMost (4 * commands_in (write_steps part mem image)) (writing part mem image)
-writing_most part mem image = by_kind (is_writable mem)
-  where
-    by_kind : (b : Bool) → AsksAtMost (4 * commands_in (write_steps part mem image)) (if b then operation (write_steps part mem image) done else Done (Err (ReadOnly mem)))
-    by_kind true = operation_most (write_steps part mem image) done
-    by_kind false = tt
 
 -- the parts of a session
 

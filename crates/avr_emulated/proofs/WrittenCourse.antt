@@ -19,18 +19,13 @@ use Rattle.stk_emu.proofs.PageStrokes.{effects_on}
 use Rattle.avr_emulated.specs.Agrees.{Shows, Unless, TaskAgrees, TasksAgree, Agrees}
 use Rattle.avr_emulated.specs.Course.{Course, fine, reported, then_from, ◌then◌, opening, erasing, verifying, reading_back, task_course, tasks_course, working, status_after, course}
 use Rattle.avr_emulated.specs.Items.{erasing_items, task_items, tasks_items, items}
+use Rattle.avr_emulated.proofs.Standings.{faulty_fine, over_fine}
 
 -- A course that stands fine exactly where something agrees, and then leaves these memories.
 record Turns (c : Course) (Agree : Type 0) (left : Memories) : Type 0 where
   if_fine : c.standing ≡ Fine → Agree
   is_fine : Agree → c.standing ≡ Fine
   memories : c.standing ≡ Fine → c.memories ≡ left
-
-faulty_fine : {A : Type 0} → ◌≡◌ {A = Standing} Faulty Fine → A
-faulty_fine e = absurd (let no : ⊥ = cc in no)
-
-over_fine : {A : Type 0} → ◌≡◌ {A = Standing} Over Fine → A
-over_fine e = absurd (let no : ⊥ = cc in no)
 
 -- one course after another
 turns_on : (first : Course) (next : Memories → Course) (A B : Type 0) (between left : Memories) (s : Standing) → first.standing ≡ s

@@ -1,11 +1,11 @@
 -- Answers to texts, piece by piece.
-use Rattle.std.proofs.Common.{◌≡◌, ℕ, List, [], ◌∷◌, ◌++◌, ◌≤◌, length, refl, ap, sym, ◌∙◌, append_assoc, arith}
+use Rattle.std.proofs.Common.{◌≡◌, ℕ, List, [], ◌∷◌, ◌++◌, ◌<◌, ◌≤◌, length, refl, ap, sym, ◌∙◌, append_assoc, arith}
 use Rattle.std.specs.Prelude.{filter}
 use Rattle.std.proofs.lemmas.List.Elements.{filter-append}
 use Rattle.stk_frame.specs.declared.reader.Event.{Event}
 use Rattle.stk_frame.specs.declared.reader.Event.TheVariants.{More, Frame, Spoiled}
 use Rattle.stk_frame.specs.Cut.{cut, frames, is_frame}
-use Rattle.stk_frame.specs.Reader.{Stands, Fed, Tells, found}
+use Rattle.stk_frame.specs.Reader.{HoldsFrame, Stands, Fed, Tells, found}
 use Rattle.stk_frame.proofs.Cut.{chosen}
 use Rattle.stk_emu.specs.Programmer.{Programmer}
 use Rattle.stk_emu.specs.Device.{Device, device, answers, after_all, answer_frame, after_frame}
@@ -31,6 +31,12 @@ pub found_few : (event : Event) (held : List ℕ) → length (found event held) 
 found_few More held = omega arith
 found_few Frame held = omega arith
 found_few Spoiled held = omega arith
+
+-- an answer is one to a frame that is held whole
+pub answer_ends : (event : Event) (held out : List ℕ) (p : Programmer) → Tells event held → out ≡ answers device (found event held) p → 0 < length out → HoldsFrame held
+answer_ends More held out p tells e some = absurd (let none : length out ≡ 0 = ap length e in omega (arith, none, some))
+answer_ends Frame held out p tells e some = tells.0
+answer_ends Spoiled held out p tells e some = tells.0
 
 -- the frames of a text with these bytes behind it
 pub frames_fed : (old used new : List ℕ) (fs : List (List ℕ)) (text : List ℕ) → Fed old used new fs → filter is_frame fs ≡ fs → Stands old text → frames (text ++ used) ≡ frames text ++ fs

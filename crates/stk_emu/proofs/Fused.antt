@@ -3,13 +3,13 @@ use Rattle.std.proofs.Common.{◌≡◌, ℕ, ◌≢◌, List, [], ◌∷◌, �
 use Rattle.std.proofs.lemmas.List.Elements.{All-head, All-tail}
 use Rattle.stk_frame.specs.Frame.{frame}
 use Rattle.stk_host.specs.Tape.{Tape, Reading}
-use Rattle.stk_host.specs.Dialog.{Dialog, Done, Say, Ask, Frame, played, behind, by_answer, next}
+use Rattle.stk_host.specs.Dialog.{Dialog, Done, Say, Ask, Frame, played, behind, by_answer, next, frames_in}
 use Rattle.stk_host.proofs.Tapes.{answer_waits}
 use Rattle.stk_emu.specs.declared.fate.Fate.{Fate}
 use Rattle.stk_emu.specs.Device.{Device}
 use Rattle.stk_emu.specs.Wire.{first_fate, other_fates, IsLawfulFate, AreLawful, Wire, passed, tape_of}
 use Rattle.stk_emu.specs.Lawful.{IsBody, IsClear}
-use Rattle.stk_emu.specs.Along.{along, reading_of, AsksBodies, frames_in, Fused}
+use Rattle.stk_emu.specs.Along.{along, reading_of, AsksBodies, Fused}
 use Rattle.stk_emu.proofs.Segments.{segment_read, segment_leaves, segment_late}
 
 -- each answer to a body is a body that a frame can carry

@@ -31,7 +31,6 @@ pub mod LeadsOn
 pub mod GoodFates
 pub mod Asking
 pub mod Counting
-pub mod Bounding
 pub mod Tallying
 pub mod EffectRows
 pub mod Comparing

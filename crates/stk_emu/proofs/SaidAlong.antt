@@ -5,7 +5,7 @@ use Rattle.stk_frame.specs.Frame.{frame}
 use Rattle.stk_frame.specs.Cut.{frames}
 use Rattle.stk_host.specs.Tape.{on_tape}
 use Rattle.stk_host.specs.Talk.{sent, heard}
-use Rattle.stk_host.specs.Dialog.{Dialog, Done, Say, Ask, ◌>>=◌, lifted, Event, played, by_answer, next, bytes_sent, sayings}
+use Rattle.stk_host.specs.Dialog.{Dialog, Done, Say, Ask, ◌>>=◌, lifted, Event, played, by_answer, next, bytes_sent, sayings, frames_in}
 use Rattle.stk_host.specs.Play.{Plays}
 use Rattle.stk_host.proofs.Tapes.{answer_waits}
 use Rattle.stk_emu.specs.declared.fate.Fate.{Fate}
@@ -14,7 +14,7 @@ use Rattle.stk_emu.specs.Device.{Device, device}
 use Rattle.stk_emu.specs.Wire.{AreLawful, first_fate, other_fates, after_fate, Wire, passed, tape_of, fresh}
 use Rattle.stk_emu.specs.Wired.{State, Keeps, brought}
 use Rattle.stk_emu.specs.Lawful.{IsClear}
-use Rattle.stk_emu.specs.Along.{along, said_along, reading_of, AsksBodies, frames_in}
+use Rattle.stk_emu.specs.Along.{along, said_along, reading_of, AsksBodies}
 use Rattle.stk_emu.proofs.Segments.{segment_late, segment_leaves}
 use Rattle.stk_emu.proofs.Bodies.{answers_bodies}
 use Rattle.stk_emu.proofs.Fused.{AnswersBodies, first_played, others_lawful, next_other, head_is, tail_is}

@@ -9,7 +9,7 @@ use Rattle.stk_frame.proofs.Cut.{chosen, cut_none, size_stays}
 use Rattle.stk_frame.proofs.Laws.{cut_first, frame_is_piece, frame_is_good}
 use Rattle.stk_host.specs.Tape.{Tape, Reading, answer, on_tape}
 use Rattle.stk_host.specs.Talk.{Talk, Sent, Got, sent, heard}
-use Rattle.stk_host.specs.Dialog.{Dialog, Done, Say, Ask, Event, Frame, Said, Played, played, by_answer, next, bytes_sent}
+use Rattle.stk_host.specs.Dialog.{Dialog, Done, Say, Ask, Event, Frame, Said, Played, played, by_answer, next, bytes_sent, frames_in}
 use Rattle.stk_host.specs.Play.{IsDue, TurnsFrom, InTurn, Plays, Breaks, IsFront, IsBegun, IsPrefixOf}
 use Rattle.stk_host.proofs.Leading.{bytes_append}
 use Rattle.stk_emu.specs.declared.fate.Fate.{Fate}
@@ -18,7 +18,7 @@ use Rattle.stk_emu.specs.Device.{Device, device}
 use Rattle.stk_emu.specs.Wire.{AreLawful, first_fate, Wire, passed, tape_of, fresh}
 use Rattle.stk_emu.specs.Wired.{State, Keeps, NeverIdle, brought}
 use Rattle.stk_emu.specs.Lawful.{IsBody, IsClear}
-use Rattle.stk_emu.specs.Along.{along, reading_of, AsksBodies, frames_in, Fused}
+use Rattle.stk_emu.specs.Along.{along, reading_of, AsksBodies, Fused}
 use Rattle.stk_emu.specs.Leads.{GoesAlong}
 use Rattle.stk_emu.proofs.Segments.{segment_late}
 use Rattle.stk_emu.proofs.Bodies.{answers_bodies}

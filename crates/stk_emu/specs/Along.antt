@@ -1,7 +1,7 @@
 -- A dialog over a line, question by question: neither bytes nor sequence numbers, and no late answers.
 use Rattle.std.specs.Prelude.{ℕ, zero, suc, List, [], ◌∷◌, ◌≡◌, Some, length}
 use Rattle.stk_host.specs.Tape.{Tape, Reading, Answered, Silent}
-use Rattle.stk_host.specs.Dialog.{Dialog, Done, Say, Ask, Event, Frame, Said, played}
+use Rattle.stk_host.specs.Dialog.{Dialog, Done, Say, Ask, played}
 use Rattle.stk_emu.specs.declared.fate.Fate.{Fate}
 use Rattle.stk_emu.specs.declared.fate.Fate.TheVariants.{Good, LostCommand, LostAnswer, LateAnswer, CommandRefused, AnswerSpoiled}
 use Rattle.stk_emu.specs.Device.{Device, refusal}
@@ -45,12 +45,6 @@ abbrev pub AsksBodies : {E R : Type 0} → Dialog E R → Type 0
 AsksBodies (Done r) = Unit {0}
 AsksBodies (Say e dialog) = AsksBodies dialog
 AsksBodies (Ask bytes go_on) = IsBody bytes × ((reading : Reading) → AsksBodies (go_on reading))
-
--- the frames that were sent
-abbrev pub frames_in : {E : Type 0} → List (Event E) → List (List ℕ)
-frames_in [] = []
-frames_in (Frame bytes ∷ events) = bytes ∷ frames_in events
-frames_in (Said e ∷ events) = frames_in events
 
 -- A dialog whose frames went out over a wire, some of them, in their order: the programmer stands as along the line, and
 -- where the play over the tape that they bring is done, so is the dialog, with the same result, and nothing of the tape is left.

@@ -1,7 +1,7 @@
 -- What an emulator holds, what it was fed, and what it answers.
-use Rattle.std.specs.Prelude.{ℕ, List, ◌≡◌, ◌≤◌, length, filter}
+use Rattle.std.specs.Prelude.{ℕ, List, ◌≡◌, ◌<◌, ◌≤◌, length, filter}
 use Rattle.stk_frame.specs.Cut.{frames, is_frame}
-use Rattle.stk_frame.specs.Reader.{Stands, Fed}
+use Rattle.stk_frame.specs.Reader.{HoldsFrame, Stands, Fed}
 use Rattle.stk_emu.specs.Programmer.{Programmer}
 use Rattle.stk_emu.specs.Device.{device, answers, after_all}
 
@@ -25,5 +25,6 @@ pub record Answers (old : Machine) (used : List ℕ) (new : Machine) (out : List
   pub few : length found ≤ 1
   pub are_frames : filter is_frame found ≡ found
   pub fed : Fed old.held used new.held found
+  pub ends : 0 < length out → HoldsFrame new.held
   pub answered : out ≡ answers device found old.programmer
   pub obeyed : new.programmer ≡ after_all device found old.programmer

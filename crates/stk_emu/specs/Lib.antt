@@ -14,5 +14,4 @@ pub mod Strokes
 pub mod Climbs
 pub mod Given
 pub mod Leads
-pub mod Bound
 pub mod Tallies

@@ -2,7 +2,7 @@
 //! and what is read of them. No code.
 #![tactic(auto)]
 
-ghost use Rattle.std.specs.Prelude.{◌≡◌, ◌++◌, ℕ, List, [], ◌∷◌, Some, Ok, Result, Bool, None, length, take, replicate, slice_index, ◌≤◌, ◌<◌, ◌*◌, ◌↔◌};
+ghost use Rattle.std.specs.Prelude.{◌≡◌, ◌++◌, ℕ, List, [], ◌∷◌, Some, Ok, Result, Bool, None, length, take, replicate, slice_index, ◌<◌, ◌↔◌};
 ghost use Rattle.avr_image.specs.Image.{byte_at, or_blank};
 ghost use Rattle.avr_part.specs.State as chip;
 ghost use Rattle.avr_part.specs.Part.{Part, IsPart};
@@ -13,7 +13,7 @@ ghost use Rattle.stk_frame.specs.Frame.{frame};
 ghost use Rattle.stk_frame.specs.Cut.{frames};
 ghost use Rattle.stk_frame.specs.HostCommands.{enter, leave};
 ghost use Rattle.stk_host.specs.Tape.{Tape, answer};
-ghost use Rattle.stk_host.specs.Dialog.{Dialog, Event, played, sayings, Done};
+ghost use Rattle.stk_host.specs.Dialog.{Dialog, Event, played, frames_in, sayings, Done};
 ghost use Rattle.stk_host.specs.Steps.{Outcome, step, play};
 ghost use Rattle.stk_host.specs.ReadSteps.{read_steps};
 ghost use Rattle.stk_host.specs.declared.fault.HostFault.{HostFault};
@@ -24,14 +24,13 @@ ghost use Rattle.stk_emu.specs.Programmer.{Programmer, fresh_programmer};
 ghost use Rattle.stk_emu.specs.Device.{device};
 ghost use Rattle.stk_emu.specs.Lawful.{IsBody, IsClear};
 ghost use Rattle.stk_emu.specs.Wire.{Wire, AreLawful, IsLawfulFate, first_fate, segment, tape_of};
-ghost use Rattle.stk_emu.specs.Along.{along, said_along, reading_of, AsksBodies, frames_in, Fused};
+ghost use Rattle.stk_emu.specs.Along.{along, said_along, reading_of, AsksBodies, Fused};
 ghost use Rattle.stk_emu.specs.Effect.{Memories, Image, Item, effect, effects, memories_of, memory_in, laid, and_in};
 ghost use Rattle.stk_emu.specs.Settled.{Idle, Settled, FitsPart};
 ghost use Rattle.stk_emu.specs.Fits.{Fits};
 ghost use Rattle.stk_emu.specs.Strokes.{IsStep, AreSteps, struck, struck_by, strokes_of, all_steps, AllFitItems};
 ghost use Rattle.stk_emu.specs.Given.{given_by, all_given, Holds};
 ghost use Rattle.stk_emu.specs.Wired.{State, Keeps, NeverIdle};
-ghost use Rattle.stk_emu.specs.Bound.{commands_in};
 ghost use Rattle.stk_emu.specs.Leads.{Leads, Reached, AfterOperation, AfterOpening, AreGood, GoesAlong};
 ghost use Rattle.stk_emu.specs.Climbs.{Climbs};
 ghost use Rattle.stk_emu.specs.declared.fate.Fate.{Fate};
@@ -176,13 +175,6 @@ pub fn what_is_said_over_a_wire_is_said_along_the_line()
         (events : List (Event (List ℕ))) (r next : ℕ) (left : List ℕ)
         → AsksBodies d → AreLawful fates → Keeps p fates w → Plays d n [] w.talk events r next left
         → sayings events ≡ said_along device (length (frames (sent w.talk))) d p fates }
-{}
-
-/// Over every tape a play of steps sends at most four times their commands.
-#[tactic(auto, using(crate::proofs::Bounding::play_most))]
-pub fn a_play_sends_at_most_four_times_its_commands()
-    ensures { (steps : List (List Command)) (before : List ℕ) (n : ℕ) (tape : Tape)
-        → length (frames_in (played (play steps before) n tape).events) ≤ 4 * commands_in steps }
 {}
 
 /// A comparison finds no difference exactly where the memory holds the image; an image laid over a memory is held; and an

@@ -29,8 +29,7 @@ mod laws;
 pub use emulator::Emulator;
 pub use fate::Fate;
 pub use laws::{
-    a_conversation_goes_along_the_line, a_play_climbs_from_step_to_step,
-    a_play_sends_at_most_four_times_its_commands, a_programmer_begins_idle,
+    a_conversation_goes_along_the_line, a_play_climbs_from_step_to_step, a_programmer_begins_idle,
     a_segment_is_read_whole, a_session_is_led_from_call_to_call, a_step_leads_to_its_stroke,
     a_talk_in_turn_is_never_idle, a_talk_over_a_wire_goes_along_the_line, an_effect_twice_is_once,
     every_answer_fits_a_frame, good_fates_bring_all_data, no_difference_is_the_image,

@@ -1,7 +1,15 @@
--- How much dialogs ask: laws for the crates above, and the bound of steps.
-use Rattle.std.proofs.Common.{◌≡◌, ℕ, zero, suc, ◌+◌, ◌*◌, ◌-◌, ◌≤◌, List, [], ◌∷◌, ◌++◌, length, length-append, refl, ap, subst, arith, Ok, Err, Option, Some, None}
+-- How much dialogs ask: laws for the crates above, and the bounds of steps and of the operations.
+use Rattle.std.proofs.Common.{◌≡◌, ℕ, zero, suc, ◌+◌, ◌*◌, ◌-◌, ◌≤◌, List, [], ◌∷◌, ◌++◌, length, length-append, refl, ap, subst, arith, Bool, true, false, Result, Ok, Err, Option, Some, None}
 use Rattle.std.proofs.Math.Nat.{suc-mul}
+use Rattle.std.specs.Prelude.{if◌then◌else◌}
+use Rattle.avr_part.specs.declared.mem.Mem.{Mem}
+use Rattle.avr_part.specs.Mem.{is_writable}
+use Rattle.avr_part.specs.Part.{Part}
 use Rattle.stk_frame.specs.declared.command.Command.{Command}
+use Rattle.stk_frame.specs.declared.command.Command.TheVariants.{SignOn}
+use Rattle.stk_frame.specs.HostCommands.{enter, leave}
+use Rattle.stk_host.specs.declared.fault.HostFault.{HostFault}
+use Rattle.stk_host.specs.declared.fault.HostFault.TheVariants.{ReadOnly}
 use Rattle.stk_host.specs.declared.fault.StepFault.{StepFault}
 use Rattle.stk_host.specs.declared.fault.StepFault.TheVariants.{NoAnswer}
 use Rattle.stk_host.specs.Tape.{Tape, Reading, answer, on_tape}
@@ -9,7 +17,10 @@ use Rattle.stk_host.specs.Talk.{heard}
 use Rattle.stk_host.specs.Dialog.{Dialog, Done, Say, Ask, ◌>>=◌, lifted, Event, Frame, Said, Played, played, by_answer, next, frames_in}
 use Rattle.stk_host.specs.Play.{IsBegun, IsFront, NoPart}
 use Rattle.stk_host.specs.Steps.{exchange, Reply, Data, Again, Stop, replied, with_data, attempt, Outcome, settled, tries, step, if_done, play}
-use Rattle.stk_host.specs.Bound.{AsksAtMost, SendsAtMost, commands_in, IsBoundedBy}
+use Rattle.stk_host.specs.WriteSteps.{write_steps}
+use Rattle.stk_host.specs.ReadSteps.{signature_steps}
+use Rattle.stk_host.specs.Operations.{beginning, signature_judged, opening, ended, closing, judged_by, operation, done, writing}
+use Rattle.stk_host.specs.Bound.{AsksAtMost, SendsAtMost, commands_in, opening_steps, closing_steps, IsBoundedBy}
 
 -- questions
 
@@ -147,3 +158,31 @@ pub judged_most : {A B : Type 0} (n : ℕ) (d : Dialog ⊥ A) (judge : A → B) 
 judged_most n d judge f =
     let e : n + 0 ≡ n = omega arith in
     subst (λ z. AsksAtMost z (d >>= λ outcome. Done (judge outcome))) e (asks_bind n 0 d (λ outcome. Done (judge outcome)) f (λ outcome. tt))
+
+-- the operations
+
+pub operation_most : {A : Type 0} (steps : List (List Command)) (judge : List ℕ → Result A HostFault) → AsksAtMost (4 * commands_in steps) (operation steps judge)
+unfolding operation
+operation_most steps judge = judged_most (4 * commands_in steps) (play steps []) (judged_by judge) (play_most steps [])
+
+beginning_most : AsksAtMost (4 * commands_in opening_steps) beginning
+unfolding beginning
+beginning_most =
+    then_most (SignOn ∷ []) ((enter ∷ []) ∷ signature_steps) (λ name. step (enter ∷ []) >>= if_done (λ nothing. play signature_steps []))
+    (λ name. then_most (enter ∷ []) signature_steps (λ nothing. play signature_steps []) (λ nothing. play_most signature_steps []))
+
+pub opening_most : (signature : List ℕ) (force : Bool) → AsksAtMost (4 * commands_in opening_steps) (opening signature force)
+unfolding opening
+opening_most signature force = judged_most (4 * commands_in opening_steps) beginning (signature_judged signature force) beginning_most
+
+pub closing_most : AsksAtMost (4 * commands_in closing_steps) closing
+unfolding closing
+closing_most = judged_most (4 * commands_in closing_steps) (step (leave ∷ [])) ended (step_most (leave ∷ []))
+
+-- a memory that can't be written is asked nothing
+pub writing_most : (part : Part) (mem : Mem) (image : List (Option ℕ)) → AsksAtMost (4 * commands_in (write_steps part mem image)) (writing part mem image)
+writing_most part mem image = by_kind (is_writable mem)
+  where
+    by_kind : (b : Bool) → AsksAtMost (4 * commands_in (write_steps part mem image)) (if b then operation (write_steps part mem image) done else Done (Err (ReadOnly mem)))
+    by_kind true = operation_most (write_steps part mem image) done
+    by_kind false = tt

@@ -1,6 +1,6 @@
 use Rattle.std.proofs.Common.{sym, ◌∙◌}
 use Rattle.stk_frame.specs.Reader.{found}
-use Rattle.stk_emu.proofs.Answering.{found_frames, found_few, is_fed, emulated, none_found}
+use Rattle.stk_emu.proofs.Answering.{found_frames, found_few, answer_ends, is_fed, emulated, none_found}
 use Rattle.stk_emu.proofs.emulator.Emulator.feed.Goals as goal
 
 pub returns-clause-all : goal.returns-clause-all
@@ -13,6 +13,7 @@ returns-clause-one c =
       few = found_few c.feed-used.result.1 c.feed-used.new.self;
       are_frames = found_frames c.feed-used.result.1 c.feed-used.new.self c.feed-used.ensures.tells;
       fed = c.feed-used.ensures.fed;
+      ends = answer_ends c.feed-used.result.1 c.feed-used.new.self _ c.self.inside.programmer c.feed-used.ensures.tells c.answer_event.ensures.answers;
       answered = c.answer_event.ensures.answers;
       obeyed = c.answer_event.ensures.after;
     })

@@ -1,0 +1,27 @@
+-- How a session stands: after an operation that failed, and that a fault is not fine.
+use Rattle.std.proofs.Common.{◌≡◌, Err}
+use Rattle.stk_host.specs.declared.fault.HostFault.{HostFault}
+use Rattle.stk_host.specs.declared.fault.HostFault.TheVariants.{NoAnswer, LinkEnded, SendFailed, Babble, Refused, BadAnswer, WrongSignature, Differs, ReadOnly, Memory, RecvFailed}
+use Rattle.avr_tool.specs.declared.standing.Standing.{Standing}
+use Rattle.avr_tool.specs.declared.standing.Standing.TheVariants.{Fine, Faulty, Over}
+use Rattle.avr_tool.specs.Session.{standing}
+
+-- after a fault a session is faulty or over
+pub after_fault : (A : Type 0) (P : Standing → Type 0) (fault : HostFault) → P Faulty → P Over → P (standing {A = A} (Err fault))
+after_fault A P NoAnswer faulty over = faulty
+after_fault A P LinkEnded faulty over = over
+after_fault A P SendFailed faulty over = faulty
+after_fault A P Babble faulty over = faulty
+after_fault A P (Refused command status) faulty over = faulty
+after_fault A P (BadAnswer command) faulty over = faulty
+after_fault A P (WrongSignature found) faulty over = faulty
+after_fault A P (Differs mem address want found) faulty over = faulty
+after_fault A P (ReadOnly mem) faulty over = faulty
+after_fault A P Memory faulty over = faulty
+after_fault A P RecvFailed faulty over = faulty
+
+pub faulty_fine : {A : Type 0} → ◌≡◌ {A = Standing} Faulty Fine → A
+faulty_fine e = absurd (let no : ⊥ = cc in no)
+
+pub over_fine : {A : Type 0} → ◌≡◌ {A = Standing} Over Fine → A
+over_fine e = absurd (let no : ⊥ = cc in no)
