@@ -1,5 +1,5 @@
 use Rattle.stk_emu.specs.Wire.{AreLawful}
-use Rattle.acceptance.proofs.bad_line.fates_drawn.Given as goal
+use Rattle.acceptance.proofs.runs_over_drawn_lines.fates_drawn.Given as goal
 
 abbrev pub invariant-loop-drawn : goal.invariant-loop-drawn
 invariant-loop-drawn l = AreLawful l.fates.items

@@ -1,6 +1,7 @@
-//! Whole runs over the emulated programmer, from the words of the command line to the chip file.
-use avr_cli::{Settings, read_words, settings};
-use avr_desk::{Bytes, MemDesk};
+//! Whole runs over the emulated programmer with a chip file, from the words of the command line to the file.
+
+use crate::support::{Row, desk_with, settings_for, shows};
+use avr_desk::MemDesk;
 use avr_emulated::run_emulated;
 use std::alloc::Global;
 use std::process::Abort;
@@ -13,34 +14,8 @@ const LOCK: usize = 33_795;
 
 const CHIP_FILE: usize = 33_796;
 
-/// A run with the chip file `chip.bin`: the words behind the program's name and port, what goes to standard output, the
-/// messages without the program's name in front, and the status.
-#[derive(Drop)]
-struct Row {
-    words: &'static [&'static str],
-    output: &'static str,
-    messages: &'static [&'static str],
-    status: u8,
-}
-
-fn settings_for(alloc: Global, words: &[&str]) -> Result<Settings, Fail> {
-    let mut all: Vec<String> = Vec::new(alloc);
-    for word in ["avrstk", "-P", "emu:chip.bin"] {
-        all.push(String::from_str(alloc, word)?)?;
-    }
-    for word in words {
-        all.push(String::from_str(alloc, *word)?)?;
-    }
-    let matches = read_words(alloc, all.as_slice())?;
-    Ok(settings(alloc, &matches)?)
-}
-
-fn no_files(alloc: Global) -> MemDesk {
-    MemDesk::new(alloc, Bytes::new(alloc))
-}
-
 /// A chip file of FF, so long, in which these bytes stand.
-fn blank_file(alloc: Global, size: usize, places: &[(usize, u8)]) -> Result<Vec<u8>, Fail> {
+fn chip_file(alloc: Global, size: usize, places: &[(usize, u8)]) -> Result<Vec<u8>, Fail> {
     let mut bytes = Vec::new(alloc);
     bytes.resize(size, 0xFF)?;
     for (place, byte) in places {
@@ -51,53 +26,39 @@ fn blank_file(alloc: Global, size: usize, places: &[(usize, u8)]) -> Result<Vec<
     Ok(bytes)
 }
 
-/// The chip file of an erased ATmega328P in which these bytes stand.
-fn chip_file(alloc: Global, places: &[(usize, u8)]) -> Result<Vec<u8>, Fail> {
-    blank_file(alloc, CHIP_FILE, places)
+/// A desk with the chip file of an erased ATmega328P in which these bytes stand.
+fn desk_with_chip(alloc: Global, places: &[(usize, u8)]) -> Result<MemDesk, Fail> {
+    let chip = chip_file(alloc, CHIP_FILE, places)?;
+    desk_with(alloc, &[("chip.bin", chip.as_slice())])
 }
 
-/// A desk with such a chip file.
-fn desk_with(alloc: Global, places: &[(usize, u8)]) -> Result<MemDesk, Fail> {
-    let mut desk = no_files(alloc);
-    desk.put("chip.bin", chip_file(alloc, places)?.as_slice())?;
-    Ok(desk)
-}
-
-fn printed(alloc: Global, lines: &[&str]) -> Result<Vec<u8>, Fail> {
-    let mut bytes = Vec::new(alloc);
-    for line in lines {
-        bytes.extend_from_slice(b"avrstk: ")?;
-        bytes.extend_from_slice(line.as_bytes())?;
-        bytes.extend_from_slice(b"\n")?;
-    }
-    Ok(bytes)
-}
-
-/// Runs and looks at what was said and answered.
-fn run_row(rt: &impl Abort, alloc: Global, desk: &mut MemDesk, row: &Row) -> Result<(), Fail> {
+/// Runs a row, and looks at what was said, written and answered.
+fn run_with_chip(
+    rt: &impl Abort,
+    alloc: Global,
+    row: &Row,
+    desk: &mut MemDesk,
+) -> Result<(), Fail> {
     let settings = settings_for(alloc, row.words)?;
     let status = run_emulated(alloc, &settings, "chip.bin", desk);
-    assert!(rt; desk.messages() == printed(alloc, row.messages)?.as_slice());
-    assert!(rt; desk.output() == row.output.as_bytes());
-    assert!(rt; status == row.status);
-    Ok(())
+    shows(rt, alloc, row, desk, status)
 }
 
-/// The chip file is the one of an erased part in which these bytes stand.
+/// The chip file is the one of an erased ATmega328P in which these bytes stand.
 fn look_at_chip(
     rt: &impl Abort,
     alloc: Global,
     desk: &MemDesk,
     places: &[(usize, u8)],
 ) -> Result<(), Fail> {
-    let wanted = chip_file(alloc, places)?;
+    let wanted = chip_file(alloc, CHIP_FILE, places)?;
     assert!(rt; desk.file("chip.bin") == Some(wanted.as_slice()));
     Ok(())
 }
 
 #[test]
 fn a_fuse_is_written_to_a_new_chip(rt: HostRuntime) -> Result<(), Fail> {
-    let mut desk = no_files(rt.alloc());
+    let mut desk = desk_with(rt.alloc(), &[])?;
     let row = Row {
         words: &["-p", "m328p", "-U", "lfuse:w:0xE2:m", "-U", "lfuse:r:-:h"],
         output: "0xe2\n",
@@ -110,13 +71,13 @@ fn a_fuse_is_written_to_a_new_chip(rt: HostRuntime) -> Result<(), Fail> {
         ],
         status: 0,
     };
-    run_row(&rt, rt.alloc(), &mut desk, &row)?;
+    run_with_chip(&rt, rt.alloc(), &row, &mut desk)?;
     look_at_chip(&rt, rt.alloc(), &desk, &[(LFUSE, 0xE2)])
 }
 
 #[test]
 fn a_locked_chip_is_erased_and_written(rt: HostRuntime) -> Result<(), Fail> {
-    let mut desk = desk_with(rt.alloc(), &[(0, 0x0F), (LOCK, 0xFE)])?;
+    let mut desk = desk_with_chip(rt.alloc(), &[(0, 0x0F), (LOCK, 0xFE)])?;
     let row = Row {
         words: &["-p", "m328p", "-e", "-U", "lfuse:w:0x62:m"],
         output: "",
@@ -129,14 +90,14 @@ fn a_locked_chip_is_erased_and_written(rt: HostRuntime) -> Result<(), Fail> {
         ],
         status: 0,
     };
-    run_row(&rt, rt.alloc(), &mut desk, &row)?;
+    run_with_chip(&rt, rt.alloc(), &row, &mut desk)?;
     look_at_chip(&rt, rt.alloc(), &desk, &[(LFUSE, 0x62)])
 }
 
 /// Without an erase flash keeps its zeros, and the run says where.
 #[test]
 fn flash_that_was_not_erased_differs(rt: HostRuntime) -> Result<(), Fail> {
-    let mut desk = desk_with(rt.alloc(), &[(0, 0x0F)])?;
+    let mut desk = desk_with_chip(rt.alloc(), &[(0, 0x0F)])?;
     let row = Row {
         words: &["-p", "m328p", "-D", "-U", "flash:w:0xF0:m"],
         output: "",
@@ -147,26 +108,26 @@ fn flash_that_was_not_erased_differs(rt: HostRuntime) -> Result<(), Fail> {
         ],
         status: 1,
     };
-    run_row(&rt, rt.alloc(), &mut desk, &row)?;
+    run_with_chip(&rt, rt.alloc(), &row, &mut desk)?;
     look_at_chip(&rt, rt.alloc(), &desk, &[(0, 0)])
 }
 
 /// Trailing FF of flash are not kept, to an even length.
 #[test]
 fn flash_is_read_without_its_end(rt: HostRuntime) -> Result<(), Fail> {
-    let mut desk = desk_with(rt.alloc(), &[(0, 1), (1, 2), (2, 3)])?;
+    let mut desk = desk_with_chip(rt.alloc(), &[(0, 1), (1, 2), (2, 3)])?;
     let row = Row {
         words: &["-p", "m328p", "-U", "flash:r:-:i"],
         output: ":04000000010203FFF7\n:00000001FF\n",
         messages: &["device signature = 1E 95 0F", "flash: 4 bytes read", "done"],
         status: 0,
     };
-    run_row(&rt, rt.alloc(), &mut desk, &row)
+    run_with_chip(&rt, rt.alloc(), &row, &mut desk)
 }
 
 #[test]
 fn all_of_an_erased_flash_is_read(rt: HostRuntime) -> Result<(), Fail> {
-    let mut desk = no_files(rt.alloc());
+    let mut desk = desk_with(rt.alloc(), &[])?;
     let row = Row {
         words: &["-p", "m328p", "-A", "-U", "flash:r:f.bin"],
         output: "",
@@ -177,21 +138,21 @@ fn all_of_an_erased_flash_is_read(rt: HostRuntime) -> Result<(), Fail> {
         ],
         status: 0,
     };
-    run_row(&rt, rt.alloc(), &mut desk, &row)?;
+    run_with_chip(&rt, rt.alloc(), &row, &mut desk)?;
     assert!(&rt; desk.file("f.bin").map(|bytes| bytes.len()) == Some(32_768));
     Ok(())
 }
 
 #[test]
 fn an_erased_flash_is_an_empty_file(rt: HostRuntime) -> Result<(), Fail> {
-    let mut desk = no_files(rt.alloc());
+    let mut desk = desk_with(rt.alloc(), &[])?;
     let row = Row {
         words: &["-p", "m328p", "-U", "flash:r:f.bin"],
         output: "",
         messages: &["device signature = 1E 95 0F", "flash: 0 bytes read", "done"],
         status: 0,
     };
-    run_row(&rt, rt.alloc(), &mut desk, &row)?;
+    run_with_chip(&rt, rt.alloc(), &row, &mut desk)?;
     assert!(&rt; desk.file("f.bin").map(|bytes| bytes.len()) == Some(0));
     Ok(())
 }
@@ -199,47 +160,41 @@ fn an_erased_flash_is_an_empty_file(rt: HostRuntime) -> Result<(), Fail> {
 /// A part of one's own, and options that have no effect.
 #[test]
 fn a_part_file_is_read(rt: HostRuntime) -> Result<(), Fail> {
-    let mut desk = no_files(rt.alloc());
-    desk.put(
-        "p.toml",
-        b"[parts.x1]
+    let file = b"[parts.x1]
 signature = \"1E950F\"
 flash_size = 32768
 flash_page = 128
 eeprom_size = 1024
 eeprom_page = 4
 eesave_bit = 3
-",
-    )?;
+";
+    let mut desk = desk_with(rt.alloc(), &[("p.toml", file)])?;
     let row = Row {
         words: &["-b", "115200", "-v", "--parts", "p.toml", "-p", "x1"],
         output: "",
         messages: &["device signature = 1E 95 0F", "done"],
         status: 0,
     };
-    run_row(&rt, rt.alloc(), &mut desk, &row)
+    run_with_chip(&rt, rt.alloc(), &row, &mut desk)
 }
 
 #[test]
 fn a_part_that_lacks_a_field_is_refused(rt: HostRuntime) -> Result<(), Fail> {
-    let mut desk = no_files(rt.alloc());
-    desk.put(
-        "p.toml",
-        b"[parts.x1]
+    let file = b"[parts.x1]
 signature = \"1E950F\"
 flash_size = 32768
 flash_page = 128
 eeprom_size = 1024
 eesave_bit = 3
-",
-    )?;
+";
+    let mut desk = desk_with(rt.alloc(), &[("p.toml", file)])?;
     let row = Row {
         words: &["--parts", "p.toml", "-p", "x1"],
         output: "",
         messages: &["error: p.toml: eeprom_page is missing"],
         status: 1,
     };
-    run_row(&rt, rt.alloc(), &mut desk, &row)?;
+    run_with_chip(&rt, rt.alloc(), &row, &mut desk)?;
     assert!(&rt; desk.file("chip.bin").is_none());
     Ok(())
 }
@@ -247,15 +202,14 @@ eesave_bit = 3
 /// A chip file of another length is refused, and stays as it is.
 #[test]
 fn a_chip_file_of_another_length_is_refused(rt: HostRuntime) -> Result<(), Fail> {
-    let mut desk = no_files(rt.alloc());
-    desk.put("chip.bin", &[0; 100])?;
+    let mut desk = desk_with(rt.alloc(), &[("chip.bin", &[0; 100])])?;
     let row = Row {
         words: &["-p", "m328p"],
         output: "",
         messages: &["error: chip.bin: 100 bytes, 33796 expected"],
         status: 1,
     };
-    run_row(&rt, rt.alloc(), &mut desk, &row)?;
+    run_with_chip(&rt, rt.alloc(), &row, &mut desk)?;
     assert!(&rt; desk.file("chip.bin").map(|bytes| bytes.len()) == Some(100));
     Ok(())
 }
@@ -263,14 +217,14 @@ fn a_chip_file_of_another_length_is_refused(rt: HostRuntime) -> Result<(), Fail>
 /// A refused plan loads no chip, and creates no file.
 #[test]
 fn a_refused_plan_leaves_no_chip(rt: HostRuntime) -> Result<(), Fail> {
-    let mut desk = no_files(rt.alloc());
+    let mut desk = desk_with(rt.alloc(), &[])?;
     let row = Row {
         words: &["-p", "m328p", "-U", "flash:w:a.hex"],
         output: "",
         messages: &["error: a.hex: cannot be opened"],
         status: 1,
     };
-    run_row(&rt, rt.alloc(), &mut desk, &row)?;
+    run_with_chip(&rt, rt.alloc(), &row, &mut desk)?;
     assert!(&rt; desk.file("chip.bin").is_none());
     Ok(())
 }
@@ -278,7 +232,7 @@ fn a_refused_plan_leaves_no_chip(rt: HostRuntime) -> Result<(), Fail> {
 /// Lock bits keep a fuse from being written, and without a read back nobody sees it.
 #[test]
 fn a_lock_keeps_the_fuses(rt: HostRuntime) -> Result<(), Fail> {
-    let mut desk = no_files(rt.alloc());
+    let mut desk = desk_with(rt.alloc(), &[])?;
     let row = Row {
         words: &[
             "-p",
@@ -298,16 +252,15 @@ fn a_lock_keeps_the_fuses(rt: HostRuntime) -> Result<(), Fail> {
         ],
         status: 0,
     };
-    run_row(&rt, rt.alloc(), &mut desk, &row)?;
+    run_with_chip(&rt, rt.alloc(), &row, &mut desk)?;
     look_at_chip(&rt, rt.alloc(), &desk, &[(LOCK, 0xFE)])
 }
 
 /// Two bytes at 20000 of an ATmega2560, whose record file needs the address of the upper half.
 #[test]
 fn large_flash_is_read_as_records(rt: HostRuntime) -> Result<(), Fail> {
-    let mut desk = no_files(rt.alloc());
-    let chip = blank_file(rt.alloc(), 266_244, &[(0x20000, 0x55)])?;
-    desk.put("chip.bin", chip.as_slice())?;
+    let chip = chip_file(rt.alloc(), 266_244, &[(0x20000, 0x55)])?;
+    let mut desk = desk_with(rt.alloc(), &[("chip.bin", chip.as_slice())])?;
     let row = Row {
         words: &[
             "-p",
@@ -326,7 +279,7 @@ fn large_flash_is_read_as_records(rt: HostRuntime) -> Result<(), Fail> {
         ],
         status: 0,
     };
-    run_row(&rt, rt.alloc(), &mut desk, &row)?;
+    run_with_chip(&rt, rt.alloc(), &row, &mut desk)?;
     let ihex = desk.file("f.hex").unwrap_or(&[]);
     assert!(&rt; ihex.ends_with(b":020000040002F8\n:0200000055FFAA\n:00000001FF\n"));
     let srec = desk.file("f.srec").unwrap_or(&[]);
@@ -337,13 +290,13 @@ fn large_flash_is_read_as_records(rt: HostRuntime) -> Result<(), Fail> {
 /// The same record is past the end of a smaller flash.
 #[test]
 fn a_record_past_the_end_is_refused(rt: HostRuntime) -> Result<(), Fail> {
-    let mut desk = no_files(rt.alloc());
-    desk.put("a.hex", b":020000040002F8\n:0100000055AA\n:00000001FF\n")?;
+    let file = b":020000040002F8\n:0100000055AA\n:00000001FF\n";
+    let mut desk = desk_with(rt.alloc(), &[("a.hex", file)])?;
     let row = Row {
         words: &["-p", "m328p", "-U", "flash:w:a.hex"],
         output: "",
         messages: &["error: a.hex: line 2: address 00020000 out of range"],
         status: 1,
     };
-    run_row(&rt, rt.alloc(), &mut desk, &row)
+    run_with_chip(&rt, rt.alloc(), &row, &mut desk)
 }

@@ -1,0 +1,181 @@
+//! What the tests share: words, desks, wires and their fates, runs, and looks at what came of them.
+ghost use Rattle.std.specs.Prelude.{IfOk, OnOk};
+ghost use Rattle.stk_emu.specs.Wire.{AreLawful, IsLawfulFate};
+
+use avr_cli::{Settings, read_words, settings};
+use avr_desk::{Bytes, Desk, MemDesk};
+use avr_part::{Chip, Mem, Parts};
+use avr_tool::run;
+use std::alloc::{AllocError, Global};
+use std::process::Abort;
+use std::test::Fail;
+use stk_emu::{Fate, Wired};
+use stk_host::Link;
+
+/// The five frames that open a session with an ATmega328P, in hexadecimal digits.
+pub(crate) const OPENING: &str =
+    "1B0100010E01141B02000C0E10C8641920005303AC530000311B0300060E1B04300000003F1B0400060E1B0430000100391B0500060E1B04300002003B";
+
+/// A run: the words behind the program's name and port, what goes to standard output, the messages without the program's
+/// name in front, and the status.
+#[derive(Drop)]
+pub(crate) struct Row {
+    pub(crate) words: &'static [&'static str],
+    pub(crate) output: &'static str,
+    pub(crate) messages: &'static [&'static str],
+    pub(crate) status: u8,
+}
+
+/// A run that is over.
+#[derive(Drop)]
+pub(crate) struct Over<D, L> {
+    pub(crate) desk: D,
+    pub(crate) link: L,
+    pub(crate) status: u8,
+}
+
+/// The settings of a command line with these words behind the program's name and port.
+pub(crate) fn settings_for(alloc: Global, words: &[&str]) -> Result<Settings, Fail> {
+    let mut all: Vec<String> = Vec::new(alloc);
+    for word in ["avrstk", "-P", "emu:chip.bin"] {
+        all.push(String::from_str(alloc, word)?)?;
+    }
+    for word in words {
+        all.push(String::from_str(alloc, *word)?)?;
+    }
+    let matches = read_words(alloc, all.as_slice())?;
+    Ok(settings(alloc, &matches)?)
+}
+
+/// A desk with these files, each a name and its bytes.
+pub(crate) fn desk_with(alloc: Global, files: &[(&str, &[u8])]) -> Result<MemDesk, Fail> {
+    let mut desk = MemDesk::new(alloc, Bytes::new(alloc));
+    for (name, bytes) in files {
+        desk.put(*name, *bytes)?;
+    }
+    Ok(desk)
+}
+
+/// One fate more.
+pub(crate) fn add(fates: &mut Vec<Fate>, fate: Fate) -> Result<(), AllocError>
+    requires lawful { IsLawfulFate fate }
+    requires before { AreLawful fates.old.items }
+    ensures { OnOk result (AreLawful fates.new.items) }
+{
+    fates.push(fate)?;
+    Ok(())
+}
+
+/// So many good fates, and then another.
+pub(crate) fn fates(alloc: Global, good: usize, last: Fate) -> Result<Vec<Fate>, AllocError>
+    requires { IsLawfulFate last }
+    ensures { IfOk result (λ v. AreLawful v.items) }
+{
+    let mut fates = Vec::new(alloc);
+    for _good in 0..good {
+        add(&mut fates, Fate::Good)?;
+    }
+    add(&mut fates, last)?;
+    Ok(fates)
+}
+
+/// A wire with these fates to a part that was never written.
+pub(crate) fn wire_to(alloc: Global, id: &str, fates: Vec<Fate>) -> Result<Wired, Fail>
+    requires { AreLawful fates.items }
+{
+    let part = Parts::none().find(id)?;
+    let chip = Chip::fresh(alloc, part.copied())?;
+    Ok(Wired::new(alloc, chip, fates))
+}
+
+/// Runs the tool with these words at a desk and over a link.
+pub(crate) fn run_on<D: Desk + Drop, L: Link + Drop>(
+    alloc: Global,
+    words: &[&str],
+    desk: D,
+    link: L,
+) -> Result<Over<D, L>, Fail> {
+    let settings = settings_for(alloc, words)?;
+    let mut desk = desk;
+    let mut link = link;
+    let status = run(alloc, &settings, &mut desk, &mut link);
+    Ok(Over { desk, link, status })
+}
+
+/// The lines of messages, each with the program's name.
+pub(crate) fn printed(alloc: Global, lines: &[&str]) -> Result<Vec<u8>, Fail> {
+    let mut bytes = Vec::new(alloc);
+    for line in lines {
+        bytes.extend_from_slice(b"avrstk: ")?;
+        bytes.extend_from_slice(line.as_bytes())?;
+        bytes.extend_from_slice(b"\n")?;
+    }
+    Ok(bytes)
+}
+
+/// What was said, written and answered is what the row says.
+pub(crate) fn shows(
+    rt: &impl Abort,
+    alloc: Global,
+    row: &Row,
+    desk: &MemDesk,
+    status: u8,
+) -> Result<(), Fail> {
+    assert!(rt; desk.messages() == printed(alloc, row.messages)?.as_slice());
+    assert!(rt; desk.output() == row.output.as_bytes());
+    assert!(rt; status == row.status);
+    Ok(())
+}
+
+/// Runs a row at a desk and over a wire, and looks at what was said, written and answered.
+pub(crate) fn run_row(
+    rt: &impl Abort,
+    alloc: Global,
+    row: &Row,
+    desk: MemDesk,
+    wire: Wired,
+) -> Result<Over<MemDesk, Wired>, Fail> {
+    let over = run_on(alloc, row.words, desk, wire)?;
+    shows(rt, alloc, row, &over.desk, over.status)?;
+    Ok(over)
+}
+
+/// The bytes of these frames, which are given in hexadecimal digits.
+pub(crate) fn joined(alloc: Global, frames: &[&str]) -> Result<Vec<u8>, Fail> {
+    let mut bytes = Vec::new(alloc);
+    for digits in frames {
+        bytes.extend_from_slice(hex::decode(alloc, *digits)?.as_slice())?;
+    }
+    Ok(bytes)
+}
+
+/// Whether a memory of the chip begins with these bytes.
+pub(crate) fn holds(chip: &Chip, mem: Mem, bytes: &[u8]) -> bool {
+    for (address, byte) in (0u32..4_096).zip(bytes) {
+        if chip.byte(mem, address) != Some(*byte) {
+            return false;
+        }
+    }
+    true
+}
+
+/// Whether each byte of these memories of the chip is FF.
+pub(crate) fn is_blank(chip: &Chip, mems: &[Mem]) -> bool {
+    for mem in mems {
+        for address in 0..chip.part().size_of(*mem) {
+            if chip.byte(*mem, address) != Some(0xFF) {
+                return false;
+            }
+        }
+    }
+    true
+}
+
+/// So many bytes, each the low byte of its address.
+pub(crate) fn pattern(alloc: Global, size: u32) -> Result<Vec<u8>, AllocError> {
+    let mut bytes = Vec::new(alloc);
+    for n in 0..size {
+        bytes.push((n % 256) as u8)?;
+    }
+    Ok(bytes)
+}
