@@ -1,8 +1,8 @@
 -- A run over a port of the network, from settings to status.
-use Rattle.std.specs.Prelude.{ℕ, ◌≡◌, ◌≤◌, ◌⊎◌, [], ◌∷◌, Option, None, Err, codes}
+use Rattle.std.specs.Prelude.{ℕ, ◌≡◌, ◌≤◌, ◌⊎◌, ◌++◌, Option, None, Err, codes}
 use Rattle.avr_cli.specs.declared.chosen.Settings.{Settings}
 use Rattle.avr_desk.specs.Record.{Record}
-use Rattle.avr_message.specs.Lines.{Bytes, error}
+use Rattle.avr_message.specs.Lines.{Bytes}
 use Rattle.avr_message.specs.Said.{Tells}
 use Rattle.avr_plan.specs.Plan.{Plan}
 use Rattle.avr_plan.specs.Planning.{planned}
@@ -10,10 +10,7 @@ use Rattle.avr_plan.specs.Playing.{Goes, Went}
 use Rattle.avr_plan.specs.Stage.{Made}
 use Rattle.avr_tool.specs.Runs.{Stops, RunsTo}
 use Rattle.avr_tool.specs.Session.{session}
-
--- the line of a port that cannot be opened
-unfoldable pub unopened_line : Bytes → Bytes
-unopened_line address = error (codes "port net:" ∷ address ∷ codes " cannot be opened" ∷ [])
+use Rattle.avr_net.specs.Lines.{unopened_line}
 
 -- The plan was made, and its session was run over the port. A socket doesn't show what passed over it.
 pub record PlaysOverNet (settings : Settings) (old new : Option Record) (before now status : ℕ) : Type 0 where
@@ -32,7 +29,7 @@ pub record LacksPort (settings : Settings) (address : Bytes) (old new : Option R
   pub planned_failures : ℕ
   pub made : Went (planned settings) old planned_desk (Made plan)
   pub rises : before ≤ planned_failures
-  pub told : Tells planned_desk new (unopened_line address) planned_failures now
+  pub told : Tells planned_desk new (unopened_line (codes "net:" ++ address)) planned_failures now
   pub status_is : status ≡ 1
 
 -- the one or the other, or there is no plan (that the port was left alone then, no clause says)

@@ -12,6 +12,7 @@
 // links over sockets
 mod ports;
 // from settings to status
+mod refusal;
 mod run;
 mod serving;
 

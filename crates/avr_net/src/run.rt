@@ -1,46 +1,14 @@
 //! A run over a port of the network, from settings to status.
-ghost use Rattle.std.specs.Prelude.{◌≡◌, IfErr};
-ghost use Rattle.avr_desk.specs.Fault.{Counts};
-ghost use Rattle.avr_message.specs.Said.{IsPrinted, Tells};
-ghost use Rattle.avr_net.specs.OverNet.{RunsOverNet, unopened_line};
+ghost use Rattle.avr_net.specs.OverNet.{RunsOverNet};
 
 use crate::ports::connect;
+use crate::refusal::refuse_unopened;
 use avr_cli::Settings;
-use avr_desk::{Desk, DeskFault};
-use avr_message::{Piece, print_error};
+use avr_desk::Desk;
 use avr_plan::plan;
 use avr_tool::drive;
 use std::alloc::Global;
 use std::net::Net;
-
-/// The status of a run whose port cannot be opened.
-const UNOPENED: u8 = 1;
-
-/// Prints that a port cannot be opened.
-#[tactic(auto, unfolding(crate::specs::OverNet::unopened_line))]
-fn print_unopened<D: Desk>(desk: &mut D, address: &str) -> Result<(), DeskFault>
-    ensures printed { IsPrinted (D.kept desk.old) (D.kept desk.new) (unopened_line address.now) result }
-    ensures counts { Counts (D.failures desk.old) (D.failures desk.new) result }
-    ensures fault { IfErr result (λ e. e ≡ DeskFault.Failed) }
-{
-    print_error(
-        desk,
-        &[
-            Piece::Text("port net:"),
-            Piece::Text(address),
-            Piece::Text(" cannot be opened"),
-        ],
-    )
-}
-
-/// Prints that a port cannot be opened, and answers the status, 1.
-fn refuse_unopened<D: Desk>(desk: &mut D, address: &str) -> u8
-    ensures status { result ≡ 1 }
-    ensures told { Tells (D.kept desk.old) (D.kept desk.new) (unopened_line address.now) (D.failures desk.old) (D.failures desk.new) }
-{
-    let _ = print_unopened(desk, address);
-    UNOPENED
-}
 
 /// Plans what the settings ask for and runs it over the programmer behind `HOST:PORT`.
 ///
@@ -61,7 +29,7 @@ pub fn run_net<R: Net, D: Desk>(
     };
     let mut link = match connect(rt, address) {
         Ok(link) => link,
-        Err(_) => return refuse_unopened(desk, address),
+        Err(_) => return refuse_unopened(desk, "net:", address),
     };
     drive(alloc, &plan, desk, &mut link)
 }

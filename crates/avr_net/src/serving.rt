@@ -1,48 +1,16 @@
 //! Serving an emulated programmer at a port of this machine, from settings to status.
-ghost use Rattle.std.specs.Prelude.{◌≡◌, IfErr};
-ghost use Rattle.avr_desk.specs.Fault.{Counts};
-ghost use Rattle.avr_message.specs.Said.{IsPrinted, Tells};
-ghost use Rattle.avr_net.specs.ServedNet.{ServesNet, ServesOn, unserved_line};
+ghost use Rattle.avr_cli.specs.Port.{port_number as number_of};
+ghost use Rattle.avr_net.specs.ServedNet.{ServesNet, ServesOn, ServesAt};
 
 use crate::ports::{accept, listen};
-use avr_chip::load_chip;
+use crate::refusal::refuse_unopened;
 use avr_cli::{Settings, port_number};
-use avr_desk::{Desk, DeskFault};
-use avr_message::{Piece, print_error};
+use avr_desk::Desk;
 use avr_part::Chip;
-use avr_serve::{READS, find_part, serve_chip};
+use avr_serve::{READS, find_chip, serve_chip};
 use std::alloc::Global;
 use std::io::{Read, Write};
 use std::net::{Net, OpenListener, OpenStream};
-
-/// The status where the port cannot be opened.
-const UNSERVED: u8 = 1;
-
-/// Prints that a port cannot be opened.
-#[tactic(auto, unfolding(crate::specs::ServedNet::unserved_line))]
-fn print_unserved<D: Desk>(desk: &mut D, port: &str) -> Result<(), DeskFault>
-    ensures printed { IsPrinted (D.kept desk.old) (D.kept desk.new) (unserved_line port.now) result }
-    ensures counts { Counts (D.failures desk.old) (D.failures desk.new) result }
-    ensures fault { IfErr result (λ e. e ≡ DeskFault.Failed) }
-{
-    print_error(
-        desk,
-        &[
-            Piece::Text("port "),
-            Piece::Text(port),
-            Piece::Text(" cannot be opened"),
-        ],
-    )
-}
-
-/// Prints that a port cannot be opened, and answers the status, 1.
-fn refuse_unserved<D: Desk>(desk: &mut D, port: &str) -> u8
-    ensures status { result ≡ 1 }
-    ensures told { Tells (D.kept desk.old) (D.kept desk.new) (unserved_line port.now) (D.failures desk.old) (D.failures desk.new) }
-{
-    let _ = print_unserved(desk, port);
-    UNSERVED
-}
 
 /// Accepts one connection and serves a chip over it, in at most [`READS`] reads.
 ///
@@ -63,7 +31,7 @@ where
 {
     let mut link = match accept(listener) {
         Ok(link) => link,
-        Err(_) => return refuse_unserved(desk, port),
+        Err(_) => return refuse_unopened(desk, "", port),
     };
     serve_chip(alloc, chip, file, desk, &mut link, READS)
 }
@@ -77,16 +45,15 @@ fn serve_at<R: Net, D: Desk>(
     file: &str,
     desk: &mut D,
 ) -> u8
-    ensures serves { ServesOn chip port.now file.now (D.kept desk.old) (D.kept desk.new) (D.failures desk.old) (D.failures desk.new) result }
+    ensures serves { ServesAt (number_of port.now) chip port.now file.now (D.kept desk.old) (D.kept desk.new) (D.failures desk.old) (D.failures desk.new) result }
 {
     let Some(number) = port_number(port) else {
-        return refuse_unserved(desk, port);
+        return refuse_unopened(desk, "", port);
     };
-    let listener = match listen(rt, number) {
-        Ok(listener) => listener,
-        Err(_) => return refuse_unserved(desk, port),
-    };
-    serve_on(alloc, chip, port, file, &listener, desk)
+    match listen(rt, number) {
+        Ok(listener) => serve_on(alloc, chip, port, file, &listener, desk),
+        Err(_) => refuse_unopened(desk, "", port),
+    }
 }
 
 /// Serves the emulated programmer of the settings' part at a port of 127.0.0.1, to the first caller.
@@ -106,11 +73,7 @@ pub fn serve_net<R: Net, D: Desk>(
 ) -> u8
     ensures serves { ServesNet settings.now port.now file.now (D.kept desk.old) (D.kept desk.new) (D.failures desk.old) (D.failures desk.new) result }
 {
-    let part = match find_part(alloc, desk, settings) {
-        Ok(part) => part,
-        Err(status) => return status,
-    };
-    let chip = match load_chip(alloc, &part, file, desk) {
+    let chip = match find_chip(alloc, settings, file, desk) {
         Ok(chip) => chip,
         Err(status) => return status,
     };

@@ -183,18 +183,53 @@ fn a_caller_is_answered_and_the_chip_is_saved(rt: HostRuntime) -> Result<(), Fai
     Ok(())
 }
 
+/// No contract says where a port is opened.
 #[test]
-fn a_port_that_is_taken(rt: HostRuntime) -> Result<(), Fail> {
-    let alloc = rt.alloc();
+fn a_port_is_open_to_this_machine_alone(rt: HostRuntime) -> Result<(), Fail> {
     let listener = listen(&rt, 0)?;
+    assert!(rt; listener.local_addr()?.ip().is_loopback());
+    Ok(())
+}
+
+/// Serves a part at the listener's port, which is taken, with the bytes of a chip file where there is one.
+fn serve_at_taken(
+    rt: &HostRuntime,
+    listener: &TcpListener,
+    part: &str,
+    chip: Option<&[u8]>,
+) -> Result<Over, Fail> {
+    let alloc = rt.alloc();
     let number = listener.local_addr()?.port();
     let port = format!(in alloc; "{number}")?;
-    let settings = settings_for(alloc, "m328p")?;
+    let settings = settings_for(alloc, part)?;
     let mut desk = MemDesk::new(alloc, Bytes::new(alloc));
-    let status = serve_net(&rt, alloc, &settings, port.as_str(), "chip.bin", &mut desk);
-    assert_eq!(rt; status, 1);
-    let line = format!(in alloc; "avrstk: error: port {number} cannot be opened\n")?;
-    assert!(rt; desk.messages() == line.as_bytes());
-    assert!(rt; desk.file("chip.bin").is_none());
+    if let Some(bytes) = chip {
+        desk.put("chip.bin", bytes)?;
+    }
+    let status = serve_net(rt, alloc, &settings, port.as_str(), "chip.bin", &mut desk);
+    Ok(Over { desk, status })
+}
+
+#[test]
+fn a_port_that_is_taken(rt: HostRuntime) -> Result<(), Fail> {
+    let listener = listen(&rt, 0)?;
+    let over = serve_at_taken(&rt, &listener, "m328p", None)?;
+    assert_eq!(rt; over.status, 1);
+    let number = listener.local_addr()?.port();
+    let line = format!(in rt.alloc(); "avrstk: error: port {number} cannot be opened\n")?;
+    assert!(rt; over.desk.messages() == line.as_bytes());
+    assert!(rt; over.desk.file("chip.bin").is_none());
+    Ok(())
+}
+
+/// No contract says that the port is opened behind the part and the chip.
+#[test]
+fn a_part_and_a_chip_are_refused_before_the_port(rt: HostRuntime) -> Result<(), Fail> {
+    let listener = listen(&rt, 0)?;
+    let no_part = serve_at_taken(&rt, &listener, "m329p", None)?;
+    assert!(rt; no_part.desk.messages() == b"avrstk: error: no part m329p\n".as_slice());
+    let no_chip = serve_at_taken(&rt, &listener, "m328p", Some(b"abc"))?;
+    let line = b"avrstk: error: chip.bin: 3 bytes, 33796 expected\n";
+    assert!(rt; no_chip.desk.messages() == line.as_slice());
     Ok(())
 }

@@ -1,5 +1,5 @@
 -- A fresh emulator that served, from settings to status.
-use Rattle.std.proofs.Common.{◌≡◌, ◌≤◌, ℕ, List, [], refl, ap₂, subst, Option, Result, Err}
+use Rattle.std.proofs.Common.{◌≡◌, ◌≤◌, ℕ, List, [], ap₂, subst, Option, Result, Err}
 use Rattle.avr_chip.specs.Loading.{chip_stage}
 use Rattle.avr_cli.specs.declared.chosen.Settings.{Settings}
 use Rattle.avr_desk.specs.Record.{Record}
@@ -16,7 +16,7 @@ use Rattle.stk_emu.specs.Programmer.{fresh_programmer}
 use Rattle.stk_emu.specs.Emulator.{Machine, IsFed}
 use Rattle.avr_serve.specs.declared.serving.Served.{Served}
 use Rattle.avr_serve.specs.Serving.{Serves, FailsBy}
-use Rattle.avr_serve.specs.ServedRun.{settings_part, fresh_machine, TellsEnd, IsSaved, ServesChip, LacksChip}
+use Rattle.avr_serve.specs.ServedRun.{settings_part, settings_chip, fresh_machine, TellsEnd, IsSaved, ServesChip}
 
 pub goes_without_parts : (s : Settings) (old new : Option Record) (before now status : ℕ) → Goes (parts_stage s.parts) old new before now (Err status)
     → Goes (settings_part s) old new before now (Err status)
@@ -29,20 +29,15 @@ goes_with_parts s id old mid new before between now parts result same rises went
     goes_on (parts_stage s.parts) (λ parts. part_stage s.part parts) old mid new parts before between now result went rises
     (subst (λ (i : Bytes). Goes (part_stage i parts) mid new between now result) same goes)
 
--- the part was found, and its chip refused
-pub lacks_chip : (s : Settings) (file : Bytes) (talk : Option Talk) (failures : ℕ) (old mid new : Option Record) (before between now status : ℕ) (part : Part)
-    → Went (settings_part s) old mid (Made part) → Goes (chip_stage part file) mid new between now (Err status) → before ≤ between
-    → LacksChip s file talk talk failures failures old new before now status
-lacks_chip s file talk failures old mid new before between now status part chosen refused rises = record {
-  part = part;
-  part_desk = mid;
-  part_failures = between;
-  chosen = chosen;
-  refused = refused;
-  rises = rises;
-  silent = refl;
-  unfailed = refl;
-}
+pub goes_without_part : (s : Settings) (file : Bytes) (old new : Option Record) (before now status : ℕ) → Goes (settings_part s) old new before now (Err status)
+    → Goes (settings_chip s file) old new before now (Err status)
+goes_without_part s file old new before now status goes = goes_no_further (settings_part s) (λ part. chip_stage part file) old new before now status goes
+
+pub goes_with_part : (s : Settings) (file : Bytes) (old mid new : Option Record) (before between now : ℕ) (part : Part) (result : Result chips.State ℕ)
+    → before ≤ between
+    → Went (settings_part s) old mid (Made part) → Goes (chip_stage part file) mid new between now result → Goes (settings_chip s file) old new before now result
+goes_with_part s file old mid new before between now part result rises went goes =
+    goes_on (settings_part s) (λ part. chip_stage part file) old mid new part before between now result went rises goes
 
 is_fresh : (chip : chips.State) (machine : Machine) → machine.held ≡ [] → machine.programmer ≡ fresh_programmer chip → machine ≡ fresh_machine chip
 is_fresh chip machine held programmer = ap₂ (λ h p. record { held = h; programmer = p }) held programmer

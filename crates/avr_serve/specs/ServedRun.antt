@@ -23,6 +23,10 @@ use Rattle.avr_serve.specs.declared.serving.Served.TheVariants.{Ended, RecvFaile
 abbrev pub settings_part : Settings → Stage Part
 settings_part s = parts_stage s.parts >>= λ parts. part_stage s.part parts
 
+-- the chip of that part which this file holds; where there is no such file it is fresh
+abbrev pub settings_chip : Settings → Bytes → Stage chips.State
+settings_chip s file = settings_part s >>= λ part. chip_stage part file
+
 -- an emulator with this chip that was fed nothing
 abbrev pub fresh_machine : chips.State → Machine
 fresh_machine chip = record { held = []; programmer = fresh_programmer chip }
@@ -64,38 +68,25 @@ pub record ServesChip (chip : chips.State) (file : Bytes) (turns : ℕ) (talk ta
   pub saved : IsSaved served told_desk new file (chip_file left.programmer.chip) told_failures now status
   pub counted : told_failures ≤ now
 
--- The part of the settings was found, its chip was loaded, and it was served.
-pub record ServesPart (settings : Settings) (file : Bytes) (turns : ℕ) (talk talked : Option Talk) (link_before link_now : ℕ)
+-- The chip of the settings was loaded, and it was served.
+pub record ServesLoaded (settings : Settings) (file : Bytes) (turns : ℕ) (talk talked : Option Talk) (link_before link_now : ℕ)
     (old new : Option Record) (before now status : ℕ) : Type 0 where
-  pub part : Part
   pub chip : chips.State
-  pub part_desk : Option Record
   pub loaded_desk : Option Record
   pub loaded_failures : ℕ
-  pub chosen : Went (settings_part settings) old part_desk (Made part)
-  pub loaded : Went (chip_stage part file) part_desk loaded_desk (Made chip)
+  pub loaded : Went (settings_chip settings file) old loaded_desk (Made chip)
   pub rises : before ≤ loaded_failures
   pub serves : ServesChip chip file turns talk talked link_before link_now loaded_desk new loaded_failures now status
 
--- There is a part, but no chip, which was told: nothing was heard or sent.
-pub record LacksChip (settings : Settings) (file : Bytes) (talk talked : Option Talk) (link_before link_now : ℕ) (old new : Option Record) (before now status : ℕ) : Type 0 where
-  pub part : Part
-  pub part_desk : Option Record
-  pub part_failures : ℕ
-  pub chosen : Went (settings_part settings) old part_desk (Made part)
-  pub refused : Goes (chip_stage part file) part_desk new part_failures now (Err status)
-  pub rises : before ≤ part_failures
+-- There is no chip, which was told: nothing was heard or sent.
+pub record LacksChip (settings : Settings) (file : Bytes) (talk talked : Option Talk) (link_before link_now : ℕ)
+    (old new : Option Record) (before now status : ℕ) : Type 0 where
+  pub refused : Goes (settings_chip settings file) old new before now (Err status)
   pub silent : talked ≡ talk
   pub unfailed : link_now ≡ link_before
 
--- There is no part, which was told: nothing was heard or sent.
-pub record LacksPart (settings : Settings) (talk talked : Option Talk) (link_before link_now : ℕ) (old new : Option Record) (before now status : ℕ) : Type 0 where
-  pub refused : Goes (settings_part settings) old new before now (Err status)
-  pub silent : talked ≡ talk
-  pub unfailed : link_now ≡ link_before
-
+-- the one or the other
 abbrev pub RunsServed : Settings → Bytes → ℕ → Option Talk → Option Talk → ℕ → ℕ → Option Record → Option Record → ℕ → ℕ → ℕ → Type 0
 RunsServed settings file turns talk talked link_before link_now old new before now status =
-    ServesPart settings file turns talk talked link_before link_now old new before now status
-    ⊎ (LacksChip settings file talk talked link_before link_now old new before now status
-    ⊎ LacksPart settings talk talked link_before link_now old new before now status)
+    ServesLoaded settings file turns talk talked link_before link_now old new before now status
+    ⊎ LacksChip settings file talk talked link_before link_now old new before now status

@@ -22,5 +22,5 @@ mod run_tests;
 #[cfg(test)]
 mod tests;
 
-pub use run::{READS, find_part, serve, serve_chip, serve_for};
+pub use run::{READS, find_chip, serve, serve_chip, serve_for};
 pub use serving::{Served, answer_all};

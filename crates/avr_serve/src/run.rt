@@ -1,7 +1,7 @@
 //! Serving an emulated programmer, from settings to status.
 ghost use Rattle.std.specs.Prelude.{◌≤◌};
 ghost use Rattle.avr_plan.specs.Playing.{Goes};
-ghost use Rattle.avr_serve.specs.ServedRun.{RunsServed, ServesChip, settings_part};
+ghost use Rattle.avr_serve.specs.ServedRun.{RunsServed, ServesChip, settings_part, settings_chip};
 
 use crate::ending::{save_served, tell_end};
 use crate::serving::answer_all;
@@ -18,10 +18,7 @@ use stk_host::Link;
 pub const READS: u32 = 16_777_216;
 
 /// The part of the settings: looked up in their part file, where they have one, before the built-in parts.
-///
-/// Where that file or the name of the part is refused, where the desk fails or memory is refused, the answer is `Err(1)`,
-/// and the line that tells why was printed as far as the desk takes it.
-pub fn find_part<D: Desk>(alloc: Global, desk: &mut D, settings: &Settings) -> Result<Part, u8>
+fn find_part<D: Desk>(alloc: Global, desk: &mut D, settings: &Settings) -> Result<Part, u8>
     ensures goes { Goes (settings_part settings.now) (D.kept desk.old) (D.kept desk.new) (D.failures desk.old) (D.failures desk.new) result }
     ensures rises { D.failures desk.old ≤ D.failures desk.new }
 {
@@ -30,6 +27,26 @@ pub fn find_part<D: Desk>(alloc: Global, desk: &mut D, settings: &Settings) -> R
         Err(status) => return Err(status),
     };
     chosen_part(desk, &parts, settings.part.as_str())
+}
+
+/// The chip that is served: of the settings' part, loaded from the file of this name, and fresh where there is no such file.
+///
+/// Where the part file, the name of the part or the chip file is refused, where the desk fails or memory is refused, the
+/// answer is `Err(1)`, and the line that tells why was printed as far as the desk takes it.
+pub fn find_chip<D: Desk>(
+    alloc: Global,
+    settings: &Settings,
+    file: &str,
+    desk: &mut D,
+) -> Result<Chip, u8>
+    ensures goes { Goes (settings_chip settings.now file.now) (D.kept desk.old) (D.kept desk.new) (D.failures desk.old) (D.failures desk.new) result }
+    ensures rises { D.failures desk.old ≤ D.failures desk.new }
+{
+    let part = match find_part(alloc, desk, settings) {
+        Ok(part) => part,
+        Err(status) => return Err(status),
+    };
+    load_chip(alloc, &part, file, desk)
 }
 
 /// Serves a chip over a link, in at most `turns` reads, tells how that ended, and saves the chip to the file of this name.
@@ -69,39 +86,35 @@ pub fn serve_chip<D: Desk, L: Link>(
 pub fn serve_for<D: Desk, L: Link>(
     alloc: Global,
     settings: &Settings,
-    chip_file: &str,
+    file: &str,
     desk: &mut D,
     link: &mut L,
     turns: u32,
 ) -> u8
-    ensures runs { RunsServed settings.now chip_file.now turns (L.talk link.old) (L.talk link.new) (L.failures link.old) (L.failures link.new)
+    ensures runs { RunsServed settings.now file.now turns (L.talk link.old) (L.talk link.new) (L.failures link.old) (L.failures link.new)
         (D.kept desk.old) (D.kept desk.new) (D.failures desk.old) (D.failures desk.new) result }
     ensures rises { D.failures desk.old ≤ D.failures desk.new }
     ensures counted { L.failures link.old ≤ L.failures link.new }
 {
-    let part = match find_part(alloc, desk, settings) {
-        Ok(part) => part,
-        Err(status) => return status,
-    };
-    let chip = match load_chip(alloc, &part, chip_file, desk) {
+    let chip = match find_chip(alloc, settings, file, desk) {
         Ok(chip) => chip,
         Err(status) => return status,
     };
-    serve_chip(alloc, chip, chip_file, desk, link, turns)
+    serve_chip(alloc, chip, file, desk, link, turns)
 }
 
 /// Serves as [`serve_for`] does, in at most 16,777,216 reads.
 pub fn serve<D: Desk, L: Link>(
     alloc: Global,
     settings: &Settings,
-    chip_file: &str,
+    file: &str,
     desk: &mut D,
     link: &mut L,
 ) -> u8
-    ensures runs { RunsServed settings.now chip_file.now 16777216 (L.talk link.old) (L.talk link.new) (L.failures link.old) (L.failures link.new)
+    ensures runs { RunsServed settings.now file.now 16777216 (L.talk link.old) (L.talk link.new) (L.failures link.old) (L.failures link.new)
         (D.kept desk.old) (D.kept desk.new) (D.failures desk.old) (D.failures desk.new) result }
     ensures rises { D.failures desk.old ≤ D.failures desk.new }
     ensures counted { L.failures link.old ≤ L.failures link.new }
 {
-    serve_for(alloc, settings, chip_file, desk, link, READS)
+    serve_for(alloc, settings, file, desk, link, READS)
 }

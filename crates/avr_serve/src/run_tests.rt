@@ -1,6 +1,4 @@
 //! From settings to status: how serving ends, what is told of it, and the chip file.
-#![tactic(auto)]
-
 use super::*;
 use avr_cli::{Settings, read_words, settings};
 use avr_desk::{Bytes, MemDesk};

@@ -1,6 +1,4 @@
 //! Sending.
-#![tactic(auto)]
-
 ghost use Rattle.std.specs.Prelude.{◌≡◌, ◌<◌, ◌≤◌, ℕ, length, OnOk, OnErr};
 ghost use Rattle.stk_host.specs.Talk.{HasFailed};
 ghost use Rattle.stk_host.specs.Reach.{Says};

@@ -1,6 +1,4 @@
 //! Frames that come in pieces, silences, and every call of the link failing in turn.
-#![tactic(auto)]
-
 use super::*;
 use avr_part::{Chip, PartFault, Parts};
 use std::alloc::{AllocError, Global};
