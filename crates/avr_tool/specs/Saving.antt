@@ -1,5 +1,7 @@
 -- Bytes that go to a file or to standard output. (For contracts inside this crate.)
-use Rattle.std.specs.Prelude.{List, [], ◌∷◌}
+use Rattle.std.specs.Prelude.{◌≡◌, List, [], ◌∷◌, ◌++◌, Option, option_map}
+use Rattle.avr_desk.specs.Record.{Record}
+use Rattle.avr_desk.specs.Stream.{after_sent}
 use Rattle.avr_desk.specs.declared.stream.Stream.{Stream}
 use Rattle.avr_desk.specs.declared.stream.Stream.TheVariants.{File, Output, Messages}
 use Rattle.avr_message.specs.Lines.{Bytes}
@@ -9,3 +11,7 @@ abbrev pub sent_says : Stream → Bytes → List Saying
 sent_says File bytes = Writes bytes ∷ []
 sent_says Output bytes = Outs bytes ∷ []
 sent_says Messages bytes = Line bytes ∷ []
+
+-- of these bytes those went there that stand before the ones that wait
+abbrev pub SendsFront : Stream → Option Record → Option Record → Bytes → Bytes → Type 0
+SendsFront stream old new bytes waiting = (sent : Bytes) × (bytes ≡ sent ++ waiting) × (new ≡ option_map (after_sent stream sent) old)

@@ -1,8 +1,9 @@
 //! The text of a file, in any format, to where it goes.
-ghost use Rattle.std.specs.Prelude.{◌≡◌, ◌++◌, ◌<◌, ◌≤◌, ◌^◌, ◌↔◌, ℕ, List, length, take, IsTrue, option_map, OnOk, OnErr, IfErr};
+ghost use Rattle.std.specs.Prelude.{◌≡◌, ◌++◌, ◌+◌, ◌<◌, ◌≤◌, ◌^◌, ◌↔◌, ℕ, List, length, take, IsTrue, option_map, OnOk, OnErr, IfErr};
 ghost use Rattle.avr_desk.specs.Fault.{Counts};
 ghost use Rattle.avr_desk.specs.Stream.{SendsPart, after_sent};
 ghost use Rattle.avr_tool.specs.FileText.{file_text, used, trimmed};
+ghost use Rattle.avr_tool.specs.Saving.{SendsFront};
 
 use arrayvec::ArrayVec;
 use avr_cli::Format;
@@ -45,7 +46,31 @@ impl Pieces for ListWriter<'_> {
     }
 }
 
-/// Writes all pieces of a text. After a fault a front of it was written.
+/// Makes room for so many bytes behind those that wait: where they don't fit, what waits is written.
+fn make_room<D: Desk>(
+    desk: &mut D,
+    stream: Stream,
+    waiting: &mut ArrayVec<u8, 4_096>,
+    count: usize,
+) -> Result<(), DeskFault>
+    requires { count ≤ 4096 }
+    ensures sent { OnOk result
+        (SendsFront stream (D.kept desk.old) (D.kept desk.new) waiting.old.items waiting.new.items) }
+    ensures room { OnOk result (length waiting.new.items + count ≤ 4096) }
+    ensures part { OnErr result (SendsPart stream (D.kept desk.old) (D.kept desk.new) waiting.old.items) }
+    ensures counts { Counts (D.failures desk.old) (D.failures desk.new) result }
+    ensures fault { IfErr result (λ e. e ≡ DeskFault.Failed) }
+{
+    let room = waiting.remaining_capacity();
+    if count <= room {
+        return Ok(());
+    }
+    write_all(desk, stream, waiting.as_slice())?;
+    waiting.clear();
+    Ok(())
+}
+
+/// Writes all pieces of a text, many at once. After a fault a front of it was written.
 fn write_pieces<D: Desk, P: Pieces + Drop>(
     desk: &mut D,
     stream: Stream,
@@ -58,13 +83,13 @@ fn write_pieces<D: Desk, P: Pieces + Drop>(
 {
     let mut text = text;
     let mut piece = ArrayVec::new();
+    let mut waiting = ArrayVec::new();
     'pieces: while text.next_piece(&mut piece) {
-        match write_all(desk, stream, piece.as_slice()) {
-            Ok(()) => {}
-            Err(fault) => return Err(fault),
-        }
+        make_room(desk, stream, &mut waiting, piece.len())?;
+        let _ = waiting.try_extend_from_slice(piece.as_slice());
     }
-    Ok(())
+    let rest = waiting.as_slice();
+    write_all(desk, stream, rest)
 }
 
 /// Writes the text that these bytes are in a format. After a fault a front of it was written.
@@ -76,7 +101,8 @@ pub(crate) fn write_text<D: Desk>(
     bytes: &[u8],
 ) -> Result<(), DeskFault>
     requires { length bytes.now ≤ 2 ^ 32 }
-    ensures all { OnOk result (D.kept desk.new ≡ option_map (after_sent stream (file_text format bytes.now)) (D.kept desk.old)) }
+    ensures all { OnOk result
+        (D.kept desk.new ≡ option_map (after_sent stream (file_text format bytes.now)) (D.kept desk.old)) }
     ensures part { OnErr result (SendsPart stream (D.kept desk.old) (D.kept desk.new) (file_text format bytes.now)) }
     ensures counts { Counts (D.failures desk.old) (D.failures desk.new) result }
     ensures fault { IfErr result (λ e. e ≡ DeskFault.Failed) }

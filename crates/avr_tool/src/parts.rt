@@ -10,14 +10,14 @@ ghost use Rattle.avr_tool.specs.Session.{opening_part, chip_erasing_part, left_o
 ghost use Rattle.stk_host.specs.Talk.{Stays};
 
 use crate::reports::{report_bytes, report_done, report_erased, report_opening, warn};
-use crate::saving::report_read;
+use crate::saving::{Target, report_read};
 use crate::standing::{Standing, Stopped, conclude, fine_if_said};
-use avr_cli::{Format, Switches, Text};
+use avr_cli::Switches;
 use avr_desk::Desk;
 use avr_image::Image;
 use avr_message::Piece;
-use avr_part::{Mem, Part};
-use avr_plan::Task;
+use avr_part::Mem;
+use avr_plan::{Plan, Task};
 use std::alloc::Global;
 use stk_host::{Host, Link};
 
@@ -26,17 +26,18 @@ pub(crate) fn open_session<D: Desk, L: Link>(
     host: &mut Host,
     desk: &mut D,
     link: &mut L,
-    part: &Part,
-    switches: Switches,
+    plan: &Plan,
 ) -> Result<Standing, Stopped>
     requires sound { host.old.broken ≡ None }
-    requires signature { host.old.signature ≡ part.now.signature }
-    ensures performs { Performs (opening_part part.now switches) host.old host.new (L.talk link.old) (L.talk link.new) (L.failures link.old) (L.failures link.new)
+    requires signature { host.old.signature ≡ plan.now.part.signature }
+    ensures performs { Performs (opening_part plan.now.part plan.now.switches) host.old host.new
+        (L.talk link.old) (L.talk link.new) (L.failures link.old) (L.failures link.new)
         (D.kept desk.old) (D.kept desk.new) (D.failures desk.old) (D.failures desk.new) result }
     ensures comes { Stays L.comes_of link.old link.new }
 {
+    let switches = plan.switches();
     let opened = host.open(link, switches.force);
-    let reported = report_opening(desk, switches.quiet, part, &opened);
+    let reported = report_opening(desk, switches.quiet, plan.part(), &opened);
     conclude(&opened, reported)
 }
 
@@ -45,22 +46,24 @@ fn erase_chip<D: Desk, L: Link>(
     host: &mut Host,
     desk: &mut D,
     link: &mut L,
-    part: &Part,
-    switches: Switches,
+    plan: &Plan,
 ) -> Result<Standing, Stopped>
     requires sound { host.old.broken ≡ None }
-    ensures performs { Performs (chip_erasing_part part.now switches) host.old host.new (L.talk link.old) (L.talk link.new) (L.failures link.old) (L.failures link.new)
+    ensures performs { Performs (chip_erasing_part plan.now.part plan.now.switches) host.old host.new
+        (L.talk link.old) (L.talk link.new) (L.failures link.old) (L.failures link.new)
         (D.kept desk.old) (D.kept desk.new) (D.failures desk.old) (D.failures desk.new) result }
     ensures comes { Stays L.comes_of link.old link.new }
 {
     let erased = host.erase(link);
-    let reported = report_erased(desk, switches.quiet, part, &erased);
+    let reported = report_erased(desk, plan.switches().quiet, plan.part(), &erased);
     conclude(&erased, reported)
 }
 
 /// Warns that an erase that was asked for is left out.
 fn warn_of_no_erase<D: Desk>(desk: &mut D, quiet: u8) -> Result<(), Stopped>
-    ensures reports { Reports (D.kept desk.old) (D.kept desk.new) (warns quiet (codes "chip not erased because of -n" ∷ [])) (PrintStops (D.failures desk.old) (D.failures desk.new)) result }
+    ensures reports { Reports (D.kept desk.old) (D.kept desk.new)
+        (warns quiet (codes "chip not erased because of -n" ∷ []))
+        (PrintStops (D.failures desk.old) (D.failures desk.new)) result }
     ensures counted { D.failures desk.old ≤ D.failures desk.new }
 {
     warn(desk, quiet, &[Piece::Text("chip not erased because of -n")])
@@ -68,7 +71,8 @@ fn warn_of_no_erase<D: Desk>(desk: &mut D, quiet: u8) -> Result<(), Stopped>
 
 /// Leaves out an erase, with a warning if one was asked for.
 fn leave_out_erase<D: Desk>(desk: &mut D, switches: Switches) -> Result<Standing, Stopped>
-    ensures leaves { LeavesOut (left_out_erase switches) (D.kept desk.old) (D.kept desk.new) (D.failures desk.old) (D.failures desk.new) result }
+    ensures leaves { LeavesOut (left_out_erase switches) (D.kept desk.old) (D.kept desk.new)
+        (D.failures desk.old) (D.failures desk.new) result }
 {
     if switches.erase {
         let warned = warn_of_no_erase(desk, switches.quiet);
@@ -103,20 +107,20 @@ pub(crate) fn erase_if_due<D: Desk, L: Link>(
     host: &mut Host,
     desk: &mut D,
     link: &mut L,
-    part: &Part,
-    switches: Switches,
-    tasks: &[Task],
+    plan: &Plan,
 ) -> Result<Standing, Stopped>
     requires sound { host.old.broken ≡ None }
-    ensures performs { Performs (erasing_part part.now switches tasks.now) host.old host.new (L.talk link.old) (L.talk link.new) (L.failures link.old) (L.failures link.new)
+    ensures performs { Performs (erasing_part plan.now.part plan.now.switches plan.now.tasks) host.old host.new
+        (L.talk link.old) (L.talk link.new) (L.failures link.old) (L.failures link.new)
         (D.kept desk.old) (D.kept desk.new) (D.failures desk.old) (D.failures desk.new) result }
     ensures comes { Stays L.comes_of link.old link.new }
 {
+    let switches = plan.switches();
     if switches.dry {
         return leave_out_erase(desk, switches);
     }
-    if is_erase_due(switches, tasks) {
-        return erase_chip(host, desk, link, part, switches);
+    if is_erase_due(switches, plan.tasks()) {
+        return erase_chip(host, desk, link, plan);
     }
     Ok(Standing::Fine)
 }
@@ -127,15 +131,15 @@ fn verify<D: Desk, L: Link>(
     host: &mut Host,
     desk: &mut D,
     link: &mut L,
-    part: &Part,
-    switches: Switches,
+    plan: &Plan,
     mem: Mem,
     image: &Image,
 ) -> Result<Standing, Stopped>
     requires sound { host.old.broken ≡ None }
-    requires part { host.old.part ≡ part.now }
-    requires fits { length image.now ≤ size_of mem part.now }
-    ensures performs { Performs (verifying_part part.now switches mem image.now) host.old host.new (L.talk link.old) (L.talk link.new) (L.failures link.old) (L.failures link.new)
+    requires part { host.old.part ≡ plan.now.part }
+    requires fits { length image.now ≤ size_of mem plan.now.part }
+    ensures performs { Performs (verifying_part plan.now.part plan.now.switches mem image.now) host.old host.new
+        (L.talk link.old) (L.talk link.new) (L.failures link.old) (L.failures link.new)
         (D.kept desk.old) (D.kept desk.new) (D.failures desk.old) (D.failures desk.new) result }
     ensures comes { Stays L.comes_of link.old link.new }
 {
@@ -143,8 +147,8 @@ fn verify<D: Desk, L: Link>(
     let count = image.len();
     let reported = report_done(
         desk,
-        switches.quiet,
-        part,
+        plan.switches().quiet,
+        plan.part(),
         mem,
         count,
         " bytes verified",
@@ -158,15 +162,15 @@ fn write<D: Desk, L: Link>(
     host: &mut Host,
     desk: &mut D,
     link: &mut L,
-    part: &Part,
-    switches: Switches,
+    plan: &Plan,
     mem: Mem,
     image: &Image,
 ) -> Result<Standing, Stopped>
     requires sound { host.old.broken ≡ None }
-    requires part { host.old.part ≡ part.now }
-    requires fits { length image.now ≤ size_of mem part.now }
-    ensures performs { Performs (writing_part part.now switches mem image.now) host.old host.new (L.talk link.old) (L.talk link.new) (L.failures link.old) (L.failures link.new)
+    requires part { host.old.part ≡ plan.now.part }
+    requires fits { length image.now ≤ size_of mem plan.now.part }
+    ensures performs { Performs (writing_part plan.now.part plan.now.switches mem image.now) host.old host.new
+        (L.talk link.old) (L.talk link.new) (L.failures link.old) (L.failures link.new)
         (D.kept desk.old) (D.kept desk.new) (D.failures desk.old) (D.failures desk.new) result }
     ensures comes { Stays L.comes_of link.old link.new }
 {
@@ -174,8 +178,8 @@ fn write<D: Desk, L: Link>(
     let count = image.len();
     let reported = report_done(
         desk,
-        switches.quiet,
-        part,
+        plan.switches().quiet,
+        plan.part(),
         mem,
         count,
         " bytes written",
@@ -190,34 +194,41 @@ fn read_back<D: Desk, L: Link>(
     host: &mut Host,
     desk: &mut D,
     link: &mut L,
-    part: &Part,
-    switches: Switches,
+    plan: &Plan,
     mem: Mem,
     image: &Image,
 ) -> Result<Standing, Stopped>
     requires sound { host.old.broken ≡ None }
-    requires part { host.old.part ≡ part.now }
-    requires fits { length image.now ≤ size_of mem part.now }
-    ensures performs { Performs (read_back_part part.now switches mem image.now) host.old host.new (L.talk link.old) (L.talk link.new) (L.failures link.old) (L.failures link.new)
+    requires part { host.old.part ≡ plan.now.part }
+    requires fits { length image.now ≤ size_of mem plan.now.part }
+    ensures performs { Performs (read_back_part plan.now.part plan.now.switches mem image.now) host.old host.new
+        (L.talk link.old) (L.talk link.new) (L.failures link.old) (L.failures link.new)
         (D.kept desk.old) (D.kept desk.new) (D.failures desk.old) (D.failures desk.new) result }
     ensures comes { Stays L.comes_of link.old link.new }
 {
-    if switches.no_verify {
+    if plan.switches().no_verify {
         return Ok(Standing::Fine);
     }
-    verify(alloc, host, desk, link, part, switches, mem, image)
+    verify(alloc, host, desk, link, plan, mem, image)
 }
 
 /// Leaves out a write, and says so.
 fn leave_out_write<D: Desk>(
     desk: &mut D,
-    switches: Switches,
+    plan: &Plan,
     mem: Mem,
     image: &Image,
 ) -> Result<Standing, Stopped>
-    ensures leaves { LeavesOut (left_out_write switches mem image.now) (D.kept desk.old) (D.kept desk.new) (D.failures desk.old) (D.failures desk.new) result }
+    ensures leaves { LeavesOut (left_out_write plan.now.switches mem image.now)
+        (D.kept desk.old) (D.kept desk.new) (D.failures desk.old) (D.failures desk.new) result }
 {
-    let said = report_bytes(desk, switches.quiet, mem, image.len(), " bytes not written");
+    let said = report_bytes(
+        desk,
+        plan.switches().quiet,
+        mem,
+        image.len(),
+        " bytes not written",
+    );
     fine_if_said(said)
 }
 
@@ -227,27 +238,23 @@ fn write_and_verify<D: Desk, L: Link>(
     host: &mut Host,
     desk: &mut D,
     link: &mut L,
-    part: &Part,
-    switches: Switches,
+    plan: &Plan,
     mem: Mem,
     image: &Image,
 ) -> Result<Standing, Stopped>
     requires sound { host.old.broken ≡ None }
-    requires part { host.old.part ≡ part.now }
-    requires fits { length image.now ≤ size_of mem part.now }
-    ensures performs { Performs (write_part part.now switches mem image.now) host.old host.new (L.talk link.old) (L.talk link.new) (L.failures link.old) (L.failures link.new)
+    requires part { host.old.part ≡ plan.now.part }
+    requires fits { length image.now ≤ size_of mem plan.now.part }
+    ensures performs { Performs (write_part plan.now.part plan.now.switches mem image.now) host.old host.new
+        (L.talk link.old) (L.talk link.new) (L.failures link.old) (L.failures link.new)
         (D.kept desk.old) (D.kept desk.new) (D.failures desk.old) (D.failures desk.new) result }
     ensures comes { Stays L.comes_of link.old link.new }
 {
-    if switches.dry {
-        return leave_out_write(desk, switches, mem, image);
+    if plan.switches().dry {
+        return leave_out_write(desk, plan, mem, image);
     }
-    let standing = match write(host, desk, link, part, switches, mem, image) {
-        Ok(standing) => standing,
-        Err(stopped) => return Err(stopped),
-    };
-    match standing {
-        Standing::Fine => read_back(alloc, host, desk, link, part, switches, mem, image),
+    match write(host, desk, link, plan, mem, image)? {
+        Standing::Fine => read_back(alloc, host, desk, link, plan, mem, image),
         fault => Ok(fault),
     }
 }
@@ -258,30 +265,21 @@ fn read<D: Desk, L: Link>(
     host: &mut Host,
     desk: &mut D,
     link: &mut L,
-    part: &Part,
-    switches: Switches,
+    plan: &Plan,
     mem: Mem,
-    format: Format,
-    file: &Text,
+    target: Target<'_>,
 ) -> Result<Standing, Stopped>
     requires sound { host.old.broken ≡ None }
-    requires part { host.old.part ≡ part.now }
-    ensures performs { Performs (reading_part part.now switches mem format file.now) host.old host.new (L.talk link.old) (L.talk link.new) (L.failures link.old) (L.failures link.new)
+    requires part { host.old.part ≡ plan.now.part }
+    ensures performs { Performs
+        (reading_part plan.now.part plan.now.switches mem target.entry.format target.entry.file.now)
+        host.old host.new (L.talk link.old) (L.talk link.new) (L.failures link.old) (L.failures link.new)
         (D.kept desk.old) (D.kept desk.new) (D.failures desk.old) (D.failures desk.new) result }
     ensures comes { Stays L.comes_of link.old link.new }
 {
     let mut bytes = Vec::new(alloc);
     let outcome = host.read(link, mem, &mut bytes);
-    let reported = report_read(
-        desk,
-        switches,
-        part,
-        mem,
-        format,
-        file,
-        bytes.as_slice(),
-        &outcome,
-    );
+    let reported = report_read(desk, plan, mem, target, bytes.as_slice(), &outcome);
     conclude(&outcome, reported)
 }
 
@@ -291,29 +289,31 @@ fn perform<D: Desk, L: Link>(
     host: &mut Host,
     desk: &mut D,
     link: &mut L,
-    part: &Part,
-    switches: Switches,
+    plan: &Plan,
     task: &Task,
 ) -> Result<Standing, Stopped>
     requires sound { host.old.broken ≡ None }
-    requires part { host.old.part ≡ part.now }
-    requires fits { IsFitted part.now task.now }
-    ensures performs { Performs (task_part part.now switches task.now) host.old host.new (L.talk link.old) (L.talk link.new) (L.failures link.old) (L.failures link.new)
+    requires part { host.old.part ≡ plan.now.part }
+    requires fits { IsFitted plan.now.part task.now }
+    ensures performs { Performs (task_part plan.now.part plan.now.switches task.now) host.old host.new
+        (L.talk link.old) (L.talk link.new) (L.failures link.old) (L.failures link.new)
         (D.kept desk.old) (D.kept desk.new) (D.failures desk.old) (D.failures desk.new) result }
     ensures comes { Stays L.comes_of link.old link.new }
 {
     match task {
-        Task::Write(mem, image) => {
-            write_and_verify(alloc, host, desk, link, part, switches, *mem, image)
-        }
-        Task::Verify(mem, image) => verify(alloc, host, desk, link, part, switches, *mem, image),
+        Task::Write(mem, image) => write_and_verify(alloc, host, desk, link, plan, *mem, image),
+        Task::Verify(mem, image) => verify(alloc, host, desk, link, plan, *mem, image),
         Task::Read {
             memory,
             format,
             file,
-        } => read(
-            alloc, host, desk, link, part, switches, *memory, *format, file,
-        ),
+        } => {
+            let target = Target {
+                file: file.as_str(),
+                format: *format,
+            };
+            read(alloc, host, desk, link, plan, *memory, target)
+        }
     }
 }
 
@@ -323,26 +323,22 @@ pub(crate) fn perform_all<D: Desk, L: Link>(
     host: &mut Host,
     desk: &mut D,
     link: &mut L,
-    part: &Part,
-    switches: Switches,
+    plan: &Plan,
     tasks: &[Task],
 ) -> Result<Standing, Stopped>
     requires sound { host.old.broken ≡ None }
-    requires part { host.old.part ≡ part.now }
-    requires fits { All (IsFitted part.now) tasks.now }
-    ensures performs { Performs (tasks_part part.now switches tasks.now) host.old host.new (L.talk link.old) (L.talk link.new) (L.failures link.old) (L.failures link.new)
+    requires part { host.old.part ≡ plan.now.part }
+    requires fits { All (IsFitted plan.now.part) tasks.now }
+    ensures performs { Performs (tasks_part plan.now.part plan.now.switches tasks.now) host.old host.new
+        (L.talk link.old) (L.talk link.new) (L.failures link.old) (L.failures link.new)
         (D.kept desk.old) (D.kept desk.new) (D.failures desk.old) (D.failures desk.new) result }
     ensures comes { Stays L.comes_of link.old link.new }
 {
     match tasks {
         [] => Ok(Standing::Fine),
         [task, more @ ..] => {
-            let standing = match perform(alloc, host, desk, link, part, switches, task) {
-                Ok(standing) => standing,
-                Err(stopped) => return Err(stopped),
-            };
-            match standing {
-                Standing::Fine => perform_all(alloc, host, desk, link, part, switches, more),
+            match perform(alloc, host, desk, link, plan, task)? {
+                Standing::Fine => perform_all(alloc, host, desk, link, plan, more),
                 fault => Ok(fault),
             }
         }

@@ -14,7 +14,8 @@ const REFUSED: u8 = 1;
 
 /// Prints what is wrong with an update.
 fn print_update<D: Desk>(desk: &mut D, number: u8, text: &str) -> Result<(), DeskFault>
-    ensures printed { IsPrinted (D.kept desk.old) (D.kept desk.new) (error (codes "update " ∷ decimal number ∷ text.now ∷ [])) result }
+    ensures printed { IsPrinted (D.kept desk.old) (D.kept desk.new)
+        (error (codes "update " ∷ decimal number ∷ text.now ∷ [])) result }
     ensures counts { Counts (D.failures desk.old) (D.failures desk.new) result }
     ensures fault { IfErr result (λ e. e ≡ DeskFault.Failed) }
 {
@@ -39,7 +40,8 @@ fn print_text<D: Desk>(desk: &mut D, text: &str) -> Result<(), DeskFault>
 
 /// Prints that something given is not known.
 fn print_unknown<'a, D: Desk>(desk: &mut D, what: &'a str, name: &'a str) -> Result<(), DeskFault>
-    ensures printed { IsPrinted (D.kept desk.old) (D.kept desk.new) (error (what.now ∷ name.now ∷ codes " is not known" ∷ [])) result }
+    ensures printed { IsPrinted (D.kept desk.old) (D.kept desk.new)
+        (error (what.now ∷ name.now ∷ codes " is not known" ∷ [])) result }
     ensures counts { Counts (D.failures desk.old) (D.failures desk.new) result }
     ensures fault { IfErr result (λ e. e ≡ DeskFault.Failed) }
 {

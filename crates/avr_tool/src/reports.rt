@@ -27,7 +27,8 @@ fn stopped_if_failed(printed: Result<(), DeskFault>) -> Result<(), Stopped>
 
 /// Prints a line of information, unless the run is quiet.
 pub(crate) fn inform<D: Desk>(desk: &mut D, quiet: u8, pieces: &[Piece<'_>]) -> Result<(), Stopped>
-    ensures reports { Reports (D.kept desk.old) (D.kept desk.new) (informs quiet (map text_of pieces.now)) (PrintStops (D.failures desk.old) (D.failures desk.new)) result }
+    ensures reports { Reports (D.kept desk.old) (D.kept desk.new) (informs quiet (map text_of pieces.now))
+        (PrintStops (D.failures desk.old) (D.failures desk.new)) result }
     ensures counted { D.failures desk.old ≤ D.failures desk.new }
 {
     if quiet > 0 {
@@ -38,7 +39,8 @@ pub(crate) fn inform<D: Desk>(desk: &mut D, quiet: u8, pieces: &[Piece<'_>]) -> 
 
 /// Prints a warning, unless the run is quiet twice.
 pub(crate) fn warn<D: Desk>(desk: &mut D, quiet: u8, pieces: &[Piece<'_>]) -> Result<(), Stopped>
-    ensures reports { Reports (D.kept desk.old) (D.kept desk.new) (warns quiet (map text_of pieces.now)) (PrintStops (D.failures desk.old) (D.failures desk.new)) result }
+    ensures reports { Reports (D.kept desk.old) (D.kept desk.new) (warns quiet (map text_of pieces.now))
+        (PrintStops (D.failures desk.old) (D.failures desk.new)) result }
     ensures counted { D.failures desk.old ≤ D.failures desk.new }
 {
     if quiet > 1 {
@@ -49,7 +51,8 @@ pub(crate) fn warn<D: Desk>(desk: &mut D, quiet: u8, pieces: &[Piece<'_>]) -> Re
 
 /// Prints an error.
 pub(crate) fn tell<D: Desk>(desk: &mut D, pieces: &[Piece<'_>]) -> Result<(), Stopped>
-    ensures reports { Reports (D.kept desk.old) (D.kept desk.new) (Line (error (map text_of pieces.now)) ∷ []) (PrintStops (D.failures desk.old) (D.failures desk.new)) result }
+    ensures reports { Reports (D.kept desk.old) (D.kept desk.new) (Line (error (map text_of pieces.now)) ∷ [])
+        (PrintStops (D.failures desk.old) (D.failures desk.new)) result }
     ensures counted { D.failures desk.old ≤ D.failures desk.new }
 {
     stopped_if_failed(print_error(desk, pieces))
@@ -63,7 +66,8 @@ pub(crate) fn report_bytes<D: Desk>(
     count: u32,
     done: &str,
 ) -> Result<(), Stopped>
-    ensures reports { Reports (D.kept desk.old) (D.kept desk.new) (bytes_say quiet mem count done.now) (PrintStops (D.failures desk.old) (D.failures desk.new)) result }
+    ensures reports { Reports (D.kept desk.old) (D.kept desk.new) (bytes_say quiet mem count done.now)
+        (PrintStops (D.failures desk.old) (D.failures desk.new)) result }
     ensures counted { D.failures desk.old ≤ D.failures desk.new }
 {
     let pieces = [
@@ -77,7 +81,10 @@ pub(crate) fn report_bytes<D: Desk>(
 
 /// Prints that a command was refused with this status.
 fn tell_refused<D: Desk>(desk: &mut D, command: u8, status: u8) -> Result<(), Stopped>
-    ensures reports { Reports (D.kept desk.old) (D.kept desk.new) (Line (error (codes "command " ∷ digits (command ∷ []) ∷ codes " refused with status " ∷ digits (status ∷ []) ∷ [])) ∷ []) (PrintStops (D.failures desk.old) (D.failures desk.new)) result }
+    ensures reports { Reports (D.kept desk.old) (D.kept desk.new)
+        (Line (error (codes "command " ∷ digits (command ∷ [])
+        ∷ codes " refused with status " ∷ digits (status ∷ []) ∷ [])) ∷ [])
+        (PrintStops (D.failures desk.old) (D.failures desk.new)) result }
     ensures counted { D.failures desk.old ≤ D.failures desk.new }
 {
     let pieces = [
@@ -91,7 +98,9 @@ fn tell_refused<D: Desk>(desk: &mut D, command: u8, status: u8) -> Result<(), St
 
 /// Prints that what answered a command is no answer to it.
 fn tell_bad_answer<D: Desk>(desk: &mut D, command: u8) -> Result<(), Stopped>
-    ensures reports { Reports (D.kept desk.old) (D.kept desk.new) (Line (error (codes "command " ∷ digits (command ∷ []) ∷ codes ": bad answer" ∷ [])) ∷ []) (PrintStops (D.failures desk.old) (D.failures desk.new)) result }
+    ensures reports { Reports (D.kept desk.old) (D.kept desk.new)
+        (Line (error (codes "command " ∷ digits (command ∷ []) ∷ codes ": bad answer" ∷ [])) ∷ [])
+        (PrintStops (D.failures desk.old) (D.failures desk.new)) result }
     ensures counted { D.failures desk.old ≤ D.failures desk.new }
 {
     let pieces = [
@@ -104,7 +113,8 @@ fn tell_bad_answer<D: Desk>(desk: &mut D, command: u8) -> Result<(), Stopped>
 
 /// Prints that the signature is another than the part's.
 fn tell_wrong_signature<D: Desk>(desk: &mut D, part: &Part, found: [u8; 3]) -> Result<(), Stopped>
-    ensures reports { Reports (D.kept desk.old) (D.kept desk.new) (Line (error (other_signature part.now found)) ∷ []) (PrintStops (D.failures desk.old) (D.failures desk.new)) result }
+    ensures reports { Reports (D.kept desk.old) (D.kept desk.new) (Line (error (other_signature part.now found)) ∷ [])
+        (PrintStops (D.failures desk.old) (D.failures desk.new)) result }
     ensures counted { D.failures desk.old ≤ D.failures desk.new }
 {
     let pieces = [
@@ -126,7 +136,11 @@ fn tell_differs<D: Desk>(
     want: u8,
     found: u8,
 ) -> Result<(), Stopped>
-    ensures reports { Reports (D.kept desk.old) (D.kept desk.new) (Line (error (name_of mem ∷ codes ": address " ∷ digits (big_bytes 4 address) ∷ codes ": " ∷ digits (want ∷ []) ∷ codes " expected, " ∷ digits (found ∷ []) ∷ codes " found" ∷ [])) ∷ []) (PrintStops (D.failures desk.old) (D.failures desk.new)) result }
+    ensures reports { Reports (D.kept desk.old) (D.kept desk.new)
+        (Line (error (name_of mem ∷ codes ": address " ∷ digits (big_bytes 4 address)
+        ∷ codes ": " ∷ digits (want ∷ []) ∷ codes " expected, "
+        ∷ digits (found ∷ []) ∷ codes " found" ∷ [])) ∷ [])
+        (PrintStops (D.failures desk.old) (D.failures desk.new)) result }
     ensures counted { D.failures desk.old ≤ D.failures desk.new }
 {
     let pieces = [
@@ -144,7 +158,9 @@ fn tell_differs<D: Desk>(
 
 /// Prints that a memory can't be written.
 fn tell_read_only<D: Desk>(desk: &mut D, mem: Mem) -> Result<(), Stopped>
-    ensures reports { Reports (D.kept desk.old) (D.kept desk.new) (Line (error (name_of mem ∷ codes " is read-only" ∷ [])) ∷ []) (PrintStops (D.failures desk.old) (D.failures desk.new)) result }
+    ensures reports { Reports (D.kept desk.old) (D.kept desk.new)
+        (Line (error (name_of mem ∷ codes " is read-only" ∷ [])) ∷ [])
+        (PrintStops (D.failures desk.old) (D.failures desk.new)) result }
     ensures counted { D.failures desk.old ≤ D.failures desk.new }
 {
     tell(
@@ -155,7 +171,8 @@ fn tell_read_only<D: Desk>(desk: &mut D, mem: Mem) -> Result<(), Stopped>
 
 /// Prints an error of one text.
 fn tell_text<D: Desk>(desk: &mut D, text: &str) -> Result<(), Stopped>
-    ensures reports { Reports (D.kept desk.old) (D.kept desk.new) (Line (error (text.now ∷ [])) ∷ []) (PrintStops (D.failures desk.old) (D.failures desk.new)) result }
+    ensures reports { Reports (D.kept desk.old) (D.kept desk.new) (Line (error (text.now ∷ [])) ∷ [])
+        (PrintStops (D.failures desk.old) (D.failures desk.new)) result }
     ensures counted { D.failures desk.old ≤ D.failures desk.new }
 {
     tell(desk, &[Piece::Text(text)])
@@ -168,7 +185,8 @@ pub(crate) fn tell_fault<D: Desk>(
     part: &Part,
     fault: HostFault,
 ) -> Result<(), Stopped>
-    ensures reports { Reports (D.kept desk.old) (D.kept desk.new) (Line (fault_line part.now fault) ∷ []) (PrintStops (D.failures desk.old) (D.failures desk.new)) result }
+    ensures reports { Reports (D.kept desk.old) (D.kept desk.new) (Line (fault_line part.now fault) ∷ [])
+        (PrintStops (D.failures desk.old) (D.failures desk.new)) result }
     ensures counted { D.failures desk.old ≤ D.failures desk.new }
 {
     match fault {
@@ -190,7 +208,8 @@ pub(crate) fn tell_fault<D: Desk>(
 
 /// Prints the signature that was found.
 fn report_found<D: Desk>(desk: &mut D, quiet: u8, found: [u8; 3]) -> Result<(), Stopped>
-    ensures reports { Reports (D.kept desk.old) (D.kept desk.new) (signature_says quiet found) (PrintStops (D.failures desk.old) (D.failures desk.new)) result }
+    ensures reports { Reports (D.kept desk.old) (D.kept desk.new) (signature_says quiet found)
+        (PrintStops (D.failures desk.old) (D.failures desk.new)) result }
     ensures counted { D.failures desk.old ≤ D.failures desk.new }
 {
     let pieces = [Piece::Text("device signature = "), Piece::Signature(found)];
@@ -199,7 +218,8 @@ fn report_found<D: Desk>(desk: &mut D, quiet: u8, found: [u8; 3]) -> Result<(), 
 
 /// Warns that the signature is another than the part's.
 fn warn_other<D: Desk>(desk: &mut D, quiet: u8, part: &Part, found: [u8; 3]) -> Result<(), Stopped>
-    ensures reports { Reports (D.kept desk.old) (D.kept desk.new) (warns quiet (other_signature part.now found)) (PrintStops (D.failures desk.old) (D.failures desk.new)) result }
+    ensures reports { Reports (D.kept desk.old) (D.kept desk.new) (warns quiet (other_signature part.now found))
+        (PrintStops (D.failures desk.old) (D.failures desk.new)) result }
     ensures counted { D.failures desk.old ≤ D.failures desk.new }
 {
     let pieces = [
@@ -220,7 +240,8 @@ fn warn_of_signature<D: Desk>(
     part: &Part,
     found: [u8; 3],
 ) -> Result<(), Stopped>
-    ensures reports { Reports (D.kept desk.old) (D.kept desk.new) (warns_of_signature quiet part.now found) (PrintStops (D.failures desk.old) (D.failures desk.new)) result }
+    ensures reports { Reports (D.kept desk.old) (D.kept desk.new) (warns_of_signature quiet part.now found)
+        (PrintStops (D.failures desk.old) (D.failures desk.new)) result }
     ensures counted { D.failures desk.old ≤ D.failures desk.new }
 {
     if found == part.signature() {
@@ -237,13 +258,12 @@ fn report_taken<D: Desk>(
     part: &Part,
     found: [u8; 3],
 ) -> Result<(), Stopped>
-    ensures reports { Reports (D.kept desk.old) (D.kept desk.new) (opening_says quiet part.now (Ok found)) (PrintStops (D.failures desk.old) (D.failures desk.new)) result }
+    ensures reports { Reports (D.kept desk.old) (D.kept desk.new) (opening_says quiet part.now (Ok found))
+        (PrintStops (D.failures desk.old) (D.failures desk.new)) result }
     ensures counted { D.failures desk.old ≤ D.failures desk.new }
 {
-    match report_found(desk, quiet, found) {
-        Ok(()) => warn_of_signature(desk, quiet, part, found),
-        Err(stopped) => Err(stopped),
-    }
+    report_found(desk, quiet, found)?;
+    warn_of_signature(desk, quiet, part, found)
 }
 
 /// Prints the signature that was refused, and the error.
@@ -253,13 +273,13 @@ fn report_refused<D: Desk>(
     part: &Part,
     found: [u8; 3],
 ) -> Result<(), Stopped>
-    ensures reports { Reports (D.kept desk.old) (D.kept desk.new) (opening_says quiet part.now (Err (HostFault.WrongSignature found))) (PrintStops (D.failures desk.old) (D.failures desk.new)) result }
+    ensures reports { Reports (D.kept desk.old) (D.kept desk.new)
+        (opening_says quiet part.now (Err (HostFault.WrongSignature found)))
+        (PrintStops (D.failures desk.old) (D.failures desk.new)) result }
     ensures counted { D.failures desk.old ≤ D.failures desk.new }
 {
-    match report_found(desk, quiet, found) {
-        Ok(()) => tell_fault(desk, part, HostFault::WrongSignature(found)),
-        Err(stopped) => Err(stopped),
-    }
+    report_found(desk, quiet, found)?;
+    tell_fault(desk, part, HostFault::WrongSignature(found))
 }
 
 /// Reports what opening a session came to.
@@ -269,7 +289,8 @@ pub(crate) fn report_opening<D: Desk>(
     part: &Part,
     opened: &Result<[u8; 3], HostFault>,
 ) -> Result<(), Stopped>
-    ensures reports { Reports (D.kept desk.old) (D.kept desk.new) (opening_says quiet part.now opened.now) (PrintStops (D.failures desk.old) (D.failures desk.new)) result }
+    ensures reports { Reports (D.kept desk.old) (D.kept desk.new) (opening_says quiet part.now opened.now)
+        (PrintStops (D.failures desk.old) (D.failures desk.new)) result }
     ensures counted { D.failures desk.old ≤ D.failures desk.new }
 {
     match opened {
@@ -286,7 +307,9 @@ pub(crate) fn report_erased<D: Desk>(
     part: &Part,
     erased: &Result<(), HostFault>,
 ) -> Result<(), Stopped>
-    ensures reports { Reports (D.kept desk.old) (D.kept desk.new) (fault_or part.now (λ _. informs quiet (codes "chip erased" ∷ [])) erased.now) (PrintStops (D.failures desk.old) (D.failures desk.new)) result }
+    ensures reports { Reports (D.kept desk.old) (D.kept desk.new)
+        (fault_or part.now (λ _. informs quiet (codes "chip erased" ∷ [])) erased.now)
+        (PrintStops (D.failures desk.old) (D.failures desk.new)) result }
     ensures counted { D.failures desk.old ≤ D.failures desk.new }
 {
     match erased {
@@ -305,7 +328,9 @@ pub(crate) fn report_done<D: Desk>(
     done: &str,
     outcome: &Result<(), HostFault>,
 ) -> Result<(), Stopped>
-    ensures reports { Reports (D.kept desk.old) (D.kept desk.new) (fault_or part.now (λ _. bytes_say quiet mem count done.now) outcome.now) (PrintStops (D.failures desk.old) (D.failures desk.new)) result }
+    ensures reports { Reports (D.kept desk.old) (D.kept desk.new)
+        (fault_or part.now (λ _. bytes_say quiet mem count done.now) outcome.now)
+        (PrintStops (D.failures desk.old) (D.failures desk.new)) result }
     ensures counted { D.failures desk.old ≤ D.failures desk.new }
 {
     match outcome {
@@ -321,7 +346,9 @@ pub(crate) fn report_closing<D: Desk>(
     part: &Part,
     closed: &Result<(), HostFault>,
 ) -> Result<(), Stopped>
-    ensures reports { Reports (D.kept desk.old) (D.kept desk.new) (fault_or part.now (λ _. informs quiet (codes "done" ∷ [])) closed.now) (PrintStops (D.failures desk.old) (D.failures desk.new)) result }
+    ensures reports { Reports (D.kept desk.old) (D.kept desk.new)
+        (fault_or part.now (λ _. informs quiet (codes "done" ∷ [])) closed.now)
+        (PrintStops (D.failures desk.old) (D.failures desk.new)) result }
     ensures counted { D.failures desk.old ≤ D.failures desk.new }
 {
     match closed {

@@ -11,11 +11,19 @@ ghost use Rattle.stk_host.specs.Calls.{given};
 use crate::file_text::{trimmed, write_text};
 use crate::reports::{report_bytes, tell, tell_fault};
 use crate::standing::Stopped;
-use avr_cli::{Format, Switches, Text};
+use avr_cli::{Format, Switches};
 use avr_desk::{Desk, Stream};
 use avr_message::Piece;
-use avr_part::{Mem, Part};
+use avr_part::Mem;
+use avr_plan::Plan;
 use stk_host::HostFault;
+
+/// Where bytes are saved: the name of a file, `-` for standard output, and the format.
+#[derive(Clone, Copy)]
+pub(crate) struct Target<'a> {
+    pub(crate) file: &'a str,
+    pub(crate) format: Format,
+}
 
 /// Prints what can't be done with a file, as far as the desk prints it.
 fn tell_trouble<D: Desk>(desk: &mut D, file: &str, trouble: &str)
@@ -29,58 +37,53 @@ fn tell_trouble<D: Desk>(desk: &mut D, file: &str, trouble: &str)
 fn write_file<D: Desk>(
     desk: &mut D,
     stream: Stream,
-    file: &str,
-    format: Format,
+    target: Target<'_>,
     bytes: &[u8],
 ) -> Result<(), Stopped>
     requires { length bytes.now ≤ 2 ^ 32 }
-    ensures reports { Reports (D.kept desk.old) (D.kept desk.new) (sent_says stream (file_text format bytes.now)) (DeskStops (D.failures desk.old) (D.failures desk.new)) result }
+    ensures reports { Reports (D.kept desk.old) (D.kept desk.new)
+        (sent_says stream (file_text target.entry.format bytes.now))
+        (DeskStops (D.failures desk.old) (D.failures desk.new)) result }
     ensures counted { D.failures desk.old ≤ D.failures desk.new }
 {
-    match write_text(desk, stream, format, bytes) {
+    match write_text(desk, stream, target.format, bytes) {
         Ok(()) => Ok(()),
         Err(_) => {
-            tell_trouble(desk, file, ": cannot be written");
+            tell_trouble(desk, target.file, ": cannot be written");
             Err(Stopped)
         }
     }
 }
 
 /// Creates the file of this name and writes it.
-fn create_file<D: Desk>(
-    desk: &mut D,
-    file: &str,
-    format: Format,
-    bytes: &[u8],
-) -> Result<(), Stopped>
+fn create_file<D: Desk>(desk: &mut D, target: Target<'_>, bytes: &[u8]) -> Result<(), Stopped>
     requires { length bytes.now ≤ 2 ^ 32 }
-    ensures reports { Reports (D.kept desk.old) (D.kept desk.new) (Creates file.now ∷ Writes (file_text format bytes.now) ∷ []) (DeskStops (D.failures desk.old) (D.failures desk.new)) result }
+    ensures reports { Reports (D.kept desk.old) (D.kept desk.new)
+        (Creates target.entry.file.now ∷ Writes (file_text target.entry.format bytes.now) ∷ [])
+        (DeskStops (D.failures desk.old) (D.failures desk.new)) result }
     ensures counted { D.failures desk.old ≤ D.failures desk.new }
 {
-    match desk.create(file) {
-        Ok(()) => write_file(desk, Stream::File, file, format, bytes),
+    match desk.create(target.file) {
+        Ok(()) => write_file(desk, Stream::File, target, bytes),
         Err(_) => {
-            tell_trouble(desk, file, ": cannot be created");
+            tell_trouble(desk, target.file, ": cannot be created");
             Err(Stopped)
         }
     }
 }
 
-/// Saves bytes in a format: in the file of this name, or on standard output where that is `-`.
-pub(crate) fn save<D: Desk>(
-    desk: &mut D,
-    file: &str,
-    format: Format,
-    bytes: &[u8],
-) -> Result<(), Stopped>
+/// Saves bytes in a format: in the file of the target's name, or on standard output.
+pub(crate) fn save<D: Desk>(desk: &mut D, target: Target<'_>, bytes: &[u8]) -> Result<(), Stopped>
     requires { length bytes.now ≤ 2 ^ 32 }
-    ensures reports { Reports (D.kept desk.old) (D.kept desk.new) (saved file.now (file_text format bytes.now)) (DeskStops (D.failures desk.old) (D.failures desk.new)) result }
+    ensures reports { Reports (D.kept desk.old) (D.kept desk.new)
+        (saved target.entry.file.now (file_text target.entry.format bytes.now))
+        (DeskStops (D.failures desk.old) (D.failures desk.new)) result }
     ensures counted { D.failures desk.old ≤ D.failures desk.new }
 {
-    if file == "-" {
-        write_file(desk, Stream::Output, file, format, bytes)
+    if target.file == "-" {
+        write_file(desk, Stream::Output, target, bytes)
     } else {
-        create_file(desk, file, format, bytes)
+        create_file(desk, target, bytes)
     }
 }
 
@@ -99,39 +102,42 @@ fn report_bytes_read<D: Desk>(
     desk: &mut D,
     switches: Switches,
     mem: Mem,
-    format: Format,
-    file: &Text,
+    target: Target<'_>,
     bytes: &[u8],
 ) -> Result<(), Stopped>
     requires { length bytes.now < 2 ^ 32 }
-    ensures reports { Reports (D.kept desk.old) (D.kept desk.new) (read_says switches mem format file.now bytes.now) (DeskStops (D.failures desk.old) (D.failures desk.new)) result }
+    ensures reports { Reports (D.kept desk.old) (D.kept desk.new)
+        (read_says switches mem target.entry.format target.entry.file.now bytes.now)
+        (DeskStops (D.failures desk.old) (D.failures desk.new)) result }
     ensures counted { D.failures desk.old ≤ D.failures desk.new }
 {
     let kept = kept_of(mem, switches.all, bytes);
-    match save(desk, file.as_str(), format, kept) {
-        Ok(()) => report_bytes(desk, switches.quiet, mem, kept.len() as u32, " bytes read"),
-        Err(stopped) => Err(stopped),
-    }
+    save(desk, target, kept)?;
+    report_bytes(desk, switches.quiet, mem, kept.len() as u32, " bytes read")
 }
 
 /// Reports what reading a memory came to.
 pub(crate) fn report_read<D: Desk>(
     desk: &mut D,
-    switches: Switches,
-    part: &Part,
+    plan: &Plan,
     mem: Mem,
-    format: Format,
-    file: &Text,
+    target: Target<'_>,
     bytes: &[u8],
     outcome: &Result<(), HostFault>,
 ) -> Result<(), Stopped>
     requires { length bytes.now < 2 ^ 32 }
-    ensures reports { Reports (D.kept desk.old) (D.kept desk.new) (fault_or part.now (read_says switches mem format file.now) (given bytes.now outcome.now)) (DeskStops (D.failures desk.old) (D.failures desk.new)) result }
-    ensures told { OnErr outcome.now (Reports (D.kept desk.old) (D.kept desk.new) (fault_or part.now (read_says switches mem format file.now) (given bytes.now outcome.now)) (PrintStops (D.failures desk.old) (D.failures desk.new)) result) }
+    ensures reports { Reports (D.kept desk.old) (D.kept desk.new)
+        (fault_or plan.now.part (read_says plan.now.switches mem target.entry.format target.entry.file.now)
+        (given bytes.now outcome.now))
+        (DeskStops (D.failures desk.old) (D.failures desk.new)) result }
+    ensures told { OnErr outcome.now (Reports (D.kept desk.old) (D.kept desk.new)
+        (fault_or plan.now.part (read_says plan.now.switches mem target.entry.format target.entry.file.now)
+        (given bytes.now outcome.now))
+        (PrintStops (D.failures desk.old) (D.failures desk.new)) result) }
     ensures counted { D.failures desk.old ≤ D.failures desk.new }
 {
     match outcome {
-        Ok(()) => report_bytes_read(desk, switches, mem, format, file, bytes),
-        Err(fault) => tell_fault(desk, part, *fault),
+        Ok(()) => report_bytes_read(desk, plan.switches(), mem, target, bytes),
+        Err(fault) => tell_fault(desk, plan.part(), *fault),
     }
 }

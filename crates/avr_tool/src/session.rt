@@ -24,18 +24,13 @@ fn open_and_erase<D: Desk, L: Link>(
 ) -> Result<Standing, Stopped>
     requires sound { host.old.broken ≡ None }
     requires signature { host.old.signature ≡ plan.now.part.signature }
-    ensures performs { Performs (beginning plan.now) host.old host.new (L.talk link.old) (L.talk link.new) (L.failures link.old) (L.failures link.new)
+    ensures performs { Performs (beginning plan.now) host.old host.new
+        (L.talk link.old) (L.talk link.new) (L.failures link.old) (L.failures link.new)
         (D.kept desk.old) (D.kept desk.new) (D.failures desk.old) (D.failures desk.new) result }
     ensures comes { Stays L.comes_of link.old link.new }
 {
-    let standing = match open_session(host, desk, link, plan.part(), plan.switches()) {
-        Ok(standing) => standing,
-        Err(stopped) => return Err(stopped),
-    };
-    match standing {
-        Standing::Fine => {
-            erase_if_due(host, desk, link, plan.part(), plan.switches(), plan.tasks())
-        }
+    match open_session(host, desk, link, plan)? {
+        Standing::Fine => erase_if_due(host, desk, link, plan),
         fault => Ok(fault),
     }
 }
@@ -51,26 +46,13 @@ fn work<D: Desk, L: Link>(
     requires sound { host.old.broken ≡ None }
     requires signature { host.old.signature ≡ plan.now.part.signature }
     requires part { host.old.part ≡ plan.now.part }
-    ensures performs { Performs (working plan.now) host.old host.new (L.talk link.old) (L.talk link.new) (L.failures link.old) (L.failures link.new)
+    ensures performs { Performs (working plan.now) host.old host.new
+        (L.talk link.old) (L.talk link.new) (L.failures link.old) (L.failures link.new)
         (D.kept desk.old) (D.kept desk.new) (D.failures desk.old) (D.failures desk.new) result }
     ensures comes { Stays L.comes_of link.old link.new }
 {
-    let standing = match open_and_erase(host, desk, link, plan) {
-        Ok(standing) => standing,
-        Err(stopped) => return Err(stopped),
-    };
-    match standing {
-        Standing::Fine => {
-            perform_all(
-                alloc,
-                host,
-                desk,
-                link,
-                plan.part(),
-                plan.switches(),
-                plan.tasks(),
-            )
-        }
+    match open_and_erase(host, desk, link, plan)? {
+        Standing::Fine => perform_all(alloc, host, desk, link, plan, plan.tasks()),
         fault => Ok(fault),
     }
 }
@@ -83,7 +65,8 @@ fn close<D: Desk, L: Link>(
     plan: &Plan,
 ) -> Result<Standing, Stopped>
     requires { host.old.broken ≡ None }
-    ensures performs { Performs (ending plan.now.part plan.now.switches Fine) host.old host.new (L.talk link.old) (L.talk link.new) (L.failures link.old) (L.failures link.new)
+    ensures performs { Performs (ending plan.now.part plan.now.switches Fine) host.old host.new
+        (L.talk link.old) (L.talk link.new) (L.failures link.old) (L.failures link.new)
         (D.kept desk.old) (D.kept desk.new) (D.failures desk.old) (D.failures desk.new) result }
     ensures comes { Stays L.comes_of link.old link.new }
 {
@@ -100,15 +83,14 @@ fn close_after_fault<D: Desk, L: Link>(
     plan: &Plan,
 ) -> Result<Standing, Stopped>
     requires { host.old.broken ≡ None }
-    ensures performs { Performs (ending plan.now.part plan.now.switches Faulty) host.old host.new (L.talk link.old) (L.talk link.new) (L.failures link.old) (L.failures link.new)
+    ensures performs { Performs (ending plan.now.part plan.now.switches Faulty) host.old host.new
+        (L.talk link.old) (L.talk link.new) (L.failures link.old) (L.failures link.new)
         (D.kept desk.old) (D.kept desk.new) (D.failures desk.old) (D.failures desk.new) result }
     ensures comes { Stays L.comes_of link.old link.new }
 {
     let closed = host.close(link);
-    match conclude(&closed, Ok(())) {
-        Ok(_) => Ok(Standing::Over),
-        Err(stopped) => Err(stopped),
-    }
+    conclude(&closed, Ok(()))?;
+    Ok(Standing::Over)
 }
 
 /// Ends a session, as it stands.
@@ -120,7 +102,8 @@ fn end<D: Desk, L: Link>(
     standing: Standing,
 ) -> Result<Standing, Stopped>
     requires { Serves (Ok standing) host.old.broken }
-    ensures performs { Performs (ending plan.now.part plan.now.switches standing) host.old host.new (L.talk link.old) (L.talk link.new) (L.failures link.old) (L.failures link.new)
+    ensures performs { Performs (ending plan.now.part plan.now.switches standing) host.old host.new
+        (L.talk link.old) (L.talk link.new) (L.failures link.old) (L.failures link.new)
         (D.kept desk.old) (D.kept desk.new) (D.failures desk.old) (D.failures desk.new) result }
     ensures comes { Stays L.comes_of link.old link.new }
 {
@@ -142,14 +125,13 @@ fn play<D: Desk, L: Link>(
     requires sound { host.old.broken ≡ None }
     requires signature { host.old.signature ≡ plan.now.part.signature }
     requires part { host.old.part ≡ plan.now.part }
-    ensures performs { Performs (playing plan.now) host.old host.new (L.talk link.old) (L.talk link.new) (L.failures link.old) (L.failures link.new)
+    ensures performs { Performs (playing plan.now) host.old host.new
+        (L.talk link.old) (L.talk link.new) (L.failures link.old) (L.failures link.new)
         (D.kept desk.old) (D.kept desk.new) (D.failures desk.old) (D.failures desk.new) result }
     ensures comes { Stays L.comes_of link.old link.new }
 {
-    match work(alloc, host, desk, link, plan) {
-        Ok(standing) => end(host, desk, link, plan, standing),
-        Err(stopped) => Err(stopped),
-    }
+    let standing = work(alloc, host, desk, link, plan)?;
+    end(host, desk, link, plan, standing)
 }
 
 /// Plays the session of a plan over a link, reports it at the desk, writes the files that were read, and answers the

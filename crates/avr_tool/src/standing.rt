@@ -42,10 +42,8 @@ pub(crate) fn conclude<T>(
 pub(crate) fn fine_if_said(said: Result<(), Stopped>) -> Result<Standing, Stopped>
     ensures { result ≡ fine_if_said said }
 {
-    match said {
-        Ok(()) => Ok(Standing::Fine),
-        Err(stopped) => Err(stopped),
-    }
+    said?;
+    Ok(Standing::Fine)
 }
 
 /// The status of a run whose session stands so at its end.

@@ -4,6 +4,7 @@ use crate::run;
 use avr_cli::{Settings, read_words, settings};
 use avr_desk::{Bytes, FailingDesk, MemDesk};
 use std::alloc::Global;
+use std::ops::Range;
 use std::process::Abort;
 use std::test::Fail;
 use stk_host::{FailingLink, Item, TapeLink};
@@ -16,6 +17,9 @@ const M328P: &str =
 /// SIGN_ON, ENTER_PROGMODE_ISP and the three of READ_SIGNATURE_ISP.
 const OPENING: &str =
     "1B0100010E01141B02000C0E10C8641920005303AC530000311B0300060E1B04300000003F1B0400060E1B0430000100391B0500060E1B04300002003B";
+
+/// LEAVE_PROGMODE_ISP.
+const LEAVE: &str = "1B0600030E11010101";
 
 /// A run: the part, the answers as digits with `-` for a silence, the frames as digits, the messages and the status.
 struct Row {
@@ -113,21 +117,21 @@ fn signatures(rt: HostRuntime) -> Result<(), Fail> {
             Row {
                 part: "m328p",
                 answers: M328P,
-                frames: &[OPENING, "1B0600030E11010101"],
+                frames: &[OPENING, LEAVE],
                 messages: "avrstk: device signature = 1E 95 0F\navrstk: done\n",
                 status: 0,
             },
             Row {
                 part: "t85",
                 answers: "1B01000B0E01000853544B3530305F32021B0200020E1000051B0300040E1B001E00171B0400040E1B0093009D1B0500040E1B000B00041B0600020E110000",
-                frames: &[OPENING, "1B0600030E11010101"],
+                frames: &[OPENING, LEAVE],
                 messages: "avrstk: device signature = 1E 93 0B\navrstk: done\n",
                 status: 0,
             },
             Row {
                 part: "m328p",
                 answers: "1B01000B0E01000853544B3530305F32021B0200020E1000051B0300040E1B001E00171B0400040E1B0095009B1B0500040E1B0014001B1B0600020E110000",
-                frames: &[OPENING, "1B0600030E11010101"],
+                frames: &[OPENING, LEAVE],
                 messages: "avrstk: device signature = 1E 95 14\navrstk: error: signature is 1E 95 14, m328p has 1E 95 0F\n",
                 status: 1,
             },
@@ -162,7 +166,7 @@ fn answers_that_do_not_come(rt: HostRuntime) -> Result<(), Fail> {
             Row {
                 part: "m328p",
                 answers: "1B01000B0E01000853544B3530305F32021B0200020E1000051B0300040E1B001E00171B0400040E1B0095009B1B0500040E1B000F0000",
-                frames: &[OPENING, "1B0600030E11010101"],
+                frames: &[OPENING, LEAVE],
                 messages: "avrstk: device signature = 1E 95 0F\navrstk: error: link ended\n",
                 status: 1,
             },
@@ -215,6 +219,53 @@ fn commands_that_are_refused(rt: HostRuntime) -> Result<(), Fail> {
                 status: 1,
             },
         ],
+    )
+}
+
+/// The first bytes of the sound answers; then the line ends.
+fn front_of_answers(alloc: Global, count: usize) -> Result<Vec<Item>, Fail> {
+    let mut items = Vec::new(alloc);
+    for byte in hex::decode(alloc, M328P)?.into_iter().take(count) {
+        items.push(Item::Byte(byte))?;
+    }
+    Ok(items)
+}
+
+/// Looks at runs over answers that are cut to each of these counts of bytes, of which this front of the sound run is sent.
+fn look_at_cuts(
+    rt: &impl Abort,
+    alloc: Global,
+    counts: Range<usize>,
+    sent: usize,
+    messages: &str,
+) -> Result<(), Fail> {
+    let mut frames = joined(alloc, &[OPENING, LEAVE])?;
+    frames.truncate(sent);
+    for count in counts {
+        for cut in [1usize, 281] {
+            let over = run_over(alloc, "m328p", front_of_answers(alloc, count)?, cut)?;
+            shows(rt, &over, frames.as_slice(), messages, 1)?;
+        }
+    }
+    Ok(())
+}
+
+/// Each answer that came whole draws the next frame: after 17, 25, 35, 45 and 55 bytes.
+#[test]
+fn answers_that_break_off(rt: HostRuntime) -> Result<(), Fail> {
+    let alloc = rt.alloc();
+    let ended = "avrstk: error: link ended\n";
+    look_at_cuts(&rt, alloc, 0..17, 7, ended)?;
+    look_at_cuts(&rt, alloc, 17..25, 25, ended)?;
+    look_at_cuts(&rt, alloc, 25..35, 37, ended)?;
+    look_at_cuts(&rt, alloc, 35..45, 49, ended)?;
+    look_at_cuts(&rt, alloc, 45..55, 61, ended)?;
+    look_at_cuts(
+        &rt,
+        alloc,
+        55..63,
+        70,
+        "avrstk: device signature = 1E 95 0F\navrstk: error: link ended\n",
     )
 }
 

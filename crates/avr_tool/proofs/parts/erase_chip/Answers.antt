@@ -8,6 +8,9 @@ use Rattle.avr_tool.proofs.Performing.{operation_performs}
 use Rattle.avr_tool.proofs.parts.erase_chip.Goals as goal
 
 pub returns-clause-performs : goal.returns-clause-performs
-returns-clause-performs g c = operation_performs (fault_or c.args.part.now (λ _. informs c.args.switches.quiet (codes "chip erased" ∷ []))) c.erase-erased.result c.report_erased-reported.result c.conclude.result (PrintStops _ _) (print_is_desk _ _) c.conclude.ensures
-    (call_ended _ _ _ _ _ c.erase-erased.result _ _ (c.erase-erased.ensures.played c.requires.sound)) (c.erase-erased.ensures.bound c.requires.sound) c.report_erased-reported.ensures.reports
-    (told_of _ _ c.args.part.now _ _ _ c.erase-erased.result c.report_erased-reported.result c.report_erased-reported.ensures.reports) (c.erase-erased.ensures.failed c.requires.sound) (c.erase-erased.ensures.lasts c.requires.sound) c.erase-erased.ensures.part c.erase-erased.ensures.counted c.report_erased-reported.ensures.counted
+returns-clause-performs g c =
+    let reports = rw (c.part.ensures, c.switches.ensures) at c.report_erased-reported.ensures.reports in
+    operation_performs (fault_or c.args.plan.now.part (λ _. informs c.args.plan.now.switches.quiet (codes "chip erased" ∷ []))) c.erase-erased.result c.report_erased-reported.result c.conclude.result (PrintStops _ _) (print_is_desk _ _) c.conclude.ensures
+    (call_ended _ _ _ _ _ c.erase-erased.result _ _ (c.erase-erased.ensures.played c.requires.sound)) (c.erase-erased.ensures.bound c.requires.sound) reports
+    (told_of _ _ c.args.plan.now.part _ _ _ c.erase-erased.result c.report_erased-reported.result reports) (c.erase-erased.ensures.failed c.requires.sound) (c.erase-erased.ensures.lasts c.requires.sound) c.erase-erased.ensures.part c.erase-erased.ensures.counted
+    c.report_erased-reported.ensures.counted

@@ -1,18 +1,20 @@
 use Rattle.std.proofs.Common.{length, codes}
+use Rattle.std.proofs.lemmas.Result.{err_from_is_err_and}
 use Rattle.avr_tool.specs.FileText.{file_text}
 use Rattle.avr_tool.specs.Session.{saved, bytes_say}
 use Rattle.avr_tool.proofs.Saves.{reports_then, reports_until}
 use Rattle.avr_tool.proofs.saving.report_bytes_read.Goals as goal
 
-pub returns-in-Ok-clause-reports : goal.returns-in-Ok-clause-reports
-returns-in-Ok-clause-reports g c =
+pub returns-clause-reports : goal.returns-clause-reports
+returns-clause-reports g c =
     let kept = c.kept_of-kept.result.now in
-    rw (← c.kept_of-kept.ensures, ← c.as_str.ensures)
-    (reports_then _ _ (saved c.as_str.result.now (file_text c.args.format kept)) (bytes_say c.args.switches.quiet c.args.mem (length kept) (codes " bytes read")) (g.D.Desk.kept c.save.new.desk) _ (g.D.Desk.failures c.save.new.desk) _ c.report_bytes.result
-    c.in-Ok.ensures.reports c.in-Ok.ensures.counted c.report_bytes.ensures.reports)
+    rw (← c.kept_of-kept.ensures)
+    (reports_then _ _ (saved c.args.target.file.now (file_text c.args.target.format kept)) (bytes_say c.args.switches.quiet c.args.mem (length kept) (codes " bytes read")) (g.D.Desk.kept c.save.new.desk) _ (g.D.Desk.failures c.save.new.desk) _ c.report_bytes.result
+    c.in_ok-save.ensures.reports c.in_ok-save.ensures.counted c.report_bytes.ensures.reports)
 
-pub returns-in-Err-clause-reports : goal.returns-in-Err-clause-reports
-returns-in-Err-clause-reports g c =
+pub returns-in_err-save-clause-reports : goal.returns-in_err-save-clause-reports
+returns-in_err-save-clause-reports g c =
+    let p = err_from_is_err_and c.from_residual.result c.from_residual.ensures.1 in
     let kept = c.kept_of-kept.result.now in
-    rw (← c.kept_of-kept.ensures, ← c.as_str.ensures)
-    (reports_until (saved c.as_str.result.now (file_text c.args.format kept)) (bytes_say c.args.switches.quiet c.args.mem (length kept) (codes " bytes read")) c.in-Err.stopped c.in-Err.ensures.reports)
+    rw (p.1, ← c.kept_of-kept.ensures)
+    (reports_until (saved c.args.target.file.now (file_text c.args.target.format kept)) (bytes_say c.args.switches.quiet c.args.mem (length kept) (codes " bytes read")) p.0 c.in_err-save.ensures.reports)

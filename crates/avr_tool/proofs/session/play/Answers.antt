@@ -1,9 +1,12 @@
+use Rattle.std.proofs.lemmas.Result.{err_from_is_err_and}
 use Rattle.avr_tool.specs.Session.{ending}
 use Rattle.avr_tool.proofs.Performing.{performs_on, performs_until}
 use Rattle.avr_tool.proofs.session.play.Goals as goal
 
-pub returns-in-Ok-clause-performs : goal.returns-in-Ok-clause-performs
-returns-in-Ok-clause-performs g c = performs_on (ending c.args.plan.now.part c.args.plan.now.switches) c.in-Ok.standing c.end.result (rw c.in-Ok.is at c.work.ensures.performs) c.end.ensures.performs
+pub returns-clause-performs : goal.returns-clause-performs
+returns-clause-performs g c = performs_on (ending c.args.plan.now.part c.args.plan.now.switches) _ c.end.result c.in_ok-standing.ensures.performs c.end.ensures.performs
 
-pub returns-in-Err-clause-performs : goal.returns-in-Err-clause-performs
-returns-in-Err-clause-performs g c = performs_until (ending c.args.plan.now.part c.args.plan.now.switches) c.in-Err.stopped (rw c.in-Err.is at c.work.ensures.performs)
+pub returns-in_err-standing-clause-performs : goal.returns-in_err-standing-clause-performs
+returns-in_err-standing-clause-performs g c =
+    let p = err_from_is_err_and c.from_residual.result c.from_residual.ensures.1 in
+    rw p.1 (performs_until (ending c.args.plan.now.part c.args.plan.now.switches) p.0 c.in_err-standing.ensures.performs)
