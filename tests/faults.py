@@ -26,7 +26,7 @@ RUNS = {
     "a fuse written and read": ([*EMULATED, "-U", "lfuse:w:0xE2:m", "-U", "lfuse:r:-:h"], b""),
     "the whole EEPROM": ([*EMULATED, "-V", "-U", "eeprom:w:whole.bin:r"], b""),
     "a firmware, and read back": ([*EMULATED, "-U", "flash:w:blink.hex", "-U", "flash:r:out.hex:i"], b""),
-    "a firmware of 256 kB": (["-p", "m2560", "-P", "emu:chip.bin", "-U", "flash:w:large.bin:r"], b""),
+    "a firmware of 256 kB, and read back": (["-p", "m2560", "-P", "emu:chip.bin", "-U", "flash:w:large.bin:r", "-U", "flash:r:out.hex:i"], b""),
     "an image on standard input": ([*EMULATED, "-U", "flash:w:-:r"], bytes(range(1, 251)) * 20),
     "a part file": ([*EMULATED, "--parts", "parts.toml"], b""),
 }
