@@ -18,12 +18,13 @@ use stk_host::FailingLink;
 #[derive(Drop)]
 struct SoundRun {
     row: Row,
-    /// How many bytes of the EEPROM it writes, from the file `e.bin`.
+    /// How many bytes the file `e.bin` has. The EEPROM begins with them at the end.
     size: u32,
     /// The answer to frame 255 comes late.
     is_late: bool,
     /// Two for each frame.
     link_calls: u64,
+    /// One for each piece of a line, each output, and each opening and reading of a file.
     desk_calls: u64,
     /// The calls of the desk whose failure is told; where any other fails, printing itself did.
     told: &'static [(u64, &'static [&'static str])],
