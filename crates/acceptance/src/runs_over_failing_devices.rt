@@ -18,12 +18,13 @@ use stk_host::FailingLink;
 #[derive(Drop)]
 struct SoundRun {
     row: Row,
-    /// How many bytes of the EEPROM it writes, from the file `e.bin`.
+    /// How many bytes the file `e.bin` has. The EEPROM begins with them at the end.
     size: u32,
     /// The answer to frame 255 comes late.
     is_late: bool,
     /// Two for each frame.
     link_calls: u64,
+    /// One for each piece of a line, each output, and each opening and reading of a file.
     desk_calls: u64,
     /// The calls of the desk whose failure is told; where any other fails, printing itself did.
     told: &'static [(u64, &'static [&'static str])],
@@ -31,77 +32,81 @@ struct SoundRun {
 
 type OverFailing = Over<FailingDesk<MemDesk>, FailingLink<Wired>>;
 
-/// The runs: a session and nothing else, an empty file as flash, a fuse, and the whole EEPROM.
-const RUNS: &[SoundRun] = &[
-    SoundRun {
-        row: Row {
-            words: &["-p", "m328p"],
-            output: "",
-            messages: &["device signature = 1E 95 0F", "done"],
-            status: 0,
-        },
-        size: 0,
-        is_late: false,
-        link_calls: 12,
-        desk_calls: 4 + 3,
-        told: &[],
+/// A session and nothing else.
+const SESSION: SoundRun = SoundRun {
+    row: Row {
+        words: &["-p", "m328p"],
+        output: "",
+        messages: &["device signature = 1E 95 0F", "done"],
+        status: 0,
     },
-    // five frames that open, the erase, 256 of the read back, and LEAVE
-    SoundRun {
-        row: Row {
-            words: &["-p", "m328p", "-U", "flash:w:e.bin:r"],
-            output: "",
-            messages: &[
-                "device signature = 1E 95 0F",
-                "chip erased",
-                "flash: 0 bytes written",
-                "flash: 0 bytes verified",
-                "done",
-            ],
-            status: 0,
-        },
-        size: 0,
-        is_late: false,
-        link_calls: 2 * 263,
-        desk_calls: 2 + 4 + 3 + 6 + 6 + 3,
-        told: &[
-            (1, &["error: e.bin: cannot be opened"]),
-            (2, &["error: e.bin: cannot be read"]),
+    size: 0,
+    is_late: false,
+    link_calls: 12,
+    desk_calls: 4 + 3,
+    told: &[],
+};
+
+/// An empty file as flash: five frames that open, the erase, 256 of the read back, and LEAVE.
+const EMPTY_FLASH: SoundRun = SoundRun {
+    row: Row {
+        words: &["-p", "m328p", "-U", "flash:w:e.bin:r"],
+        output: "",
+        messages: &[
+            "device signature = 1E 95 0F",
+            "chip erased",
+            "flash: 0 bytes written",
+            "flash: 0 bytes verified",
+            "done",
         ],
+        status: 0,
     },
-    // the 17th call of the desk writes the fuse that was read
-    SoundRun {
-        row: Row {
-            words: &["-p", "m328p", "-U", "lfuse:w:0xE2:m", "-U", "lfuse:r:-:h"],
-            output: "0xe2\n",
-            messages: &[
-                "device signature = 1E 95 0F",
-                "lfuse: 1 bytes written",
-                "lfuse: 1 bytes verified",
-                "lfuse: 1 bytes read",
-                "done",
-            ],
-            status: 0,
-        },
-        size: 0,
-        is_late: false,
-        link_calls: 18,
-        desk_calls: 4 + 6 + 6 + 1 + 6 + 3,
-        told: &[(17, &["error: -: cannot be written"])],
-    },
-    SoundRun {
-        row: WHOLE_EEPROM,
-        size: 1_024,
-        is_late: true,
-        link_calls: 2 * 520,
-        desk_calls: 3 + 4 + 6 + 3,
-        told: &[
-            (1, &["error: e.bin: cannot be opened"]),
-            (2, &["error: e.bin: cannot be read"]),
-            (3, &["error: e.bin: cannot be read"]),
+    size: 0,
+    is_late: false,
+    link_calls: 2 * 263,
+    desk_calls: 2 + 4 + 3 + 6 + 6 + 3,
+    told: &[
+        (1, &["error: e.bin: cannot be opened"]),
+        (2, &["error: e.bin: cannot be read"]),
+    ],
+};
+
+/// A fuse, which is written, compared and read: the 17th call of the desk writes it.
+const FUSE: SoundRun = SoundRun {
+    row: Row {
+        words: &["-p", "m328p", "-U", "lfuse:w:0xE2:m", "-U", "lfuse:r:-:h"],
+        output: "0xe2\n",
+        messages: &[
+            "device signature = 1E 95 0F",
+            "lfuse: 1 bytes written",
+            "lfuse: 1 bytes verified",
+            "lfuse: 1 bytes read",
+            "done",
         ],
+        status: 0,
     },
-];
+    size: 0,
+    is_late: false,
+    link_calls: 18,
+    desk_calls: 4 + 6 + 6 + 1 + 6 + 3,
+    told: &[(17, &["error: -: cannot be written"])],
+};
+
+/// The whole EEPROM, over a wire whose frame 255 is answered late.
+const EEPROM: SoundRun = SoundRun {
+    row: WHOLE_EEPROM,
+    size: 1_024,
+    is_late: true,
+    link_calls: 2 * 520,
+    desk_calls: 3 + 4 + 6 + 3,
+    told: &[
+        (1, &["error: e.bin: cannot be opened"]),
+        (2, &["error: e.bin: cannot be read"]),
+        (3, &["error: e.bin: cannot be read"]),
+    ],
+};
+
+const RUNS: &[SoundRun] = &[SESSION, EMPTY_FLASH, FUSE, EEPROM];
 
 fn desk_of(alloc: Global, run: &SoundRun) -> Result<MemDesk, Fail> {
     let bytes = pattern(alloc, run.size)?;
@@ -206,10 +211,18 @@ fn fail_each_link_call(rt: &impl Abort, alloc: Global, run: &SoundRun) -> Result
 
 #[test]
 fn each_call_of_the_link_fails(rt: HostRuntime) -> Result<(), Fail> {
-    for run in RUNS {
-        fail_each_link_call(&rt, rt.alloc(), run)?;
-    }
-    Ok(())
+    fail_each_link_call(&rt, rt.alloc(), &SESSION)?;
+    fail_each_link_call(&rt, rt.alloc(), &FUSE)
+}
+
+#[test]
+fn each_call_of_the_link_fails_over_an_empty_flash(rt: HostRuntime) -> Result<(), Fail> {
+    fail_each_link_call(&rt, rt.alloc(), &EMPTY_FLASH)
+}
+
+#[test]
+fn each_call_of_the_link_fails_over_the_whole_eeprom(rt: HostRuntime) -> Result<(), Fail> {
+    fail_each_link_call(&rt, rt.alloc(), &EEPROM)
 }
 
 /// What is told where this call of the desk fails.

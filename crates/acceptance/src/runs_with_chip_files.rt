@@ -139,7 +139,8 @@ fn all_of_an_erased_flash_is_read(rt: HostRuntime) -> Result<(), Fail> {
         status: 0,
     };
     run_with_chip(&rt, rt.alloc(), &row, &mut desk)?;
-    assert!(&rt; desk.file("f.bin").map(|bytes| bytes.len()) == Some(32_768));
+    let erased = chip_file(rt.alloc(), 32_768, &[])?;
+    assert!(&rt; desk.file("f.bin") == Some(erased.as_slice()));
     Ok(())
 }
 
@@ -153,7 +154,7 @@ fn an_erased_flash_is_an_empty_file(rt: HostRuntime) -> Result<(), Fail> {
         status: 0,
     };
     run_with_chip(&rt, rt.alloc(), &row, &mut desk)?;
-    assert!(&rt; desk.file("f.bin").map(|bytes| bytes.len()) == Some(0));
+    assert!(&rt; desk.file("f.bin") == Some([].as_slice()));
     Ok(())
 }
 
@@ -210,7 +211,7 @@ fn a_chip_file_of_another_length_is_refused(rt: HostRuntime) -> Result<(), Fail>
         status: 1,
     };
     run_with_chip(&rt, rt.alloc(), &row, &mut desk)?;
-    assert!(&rt; desk.file("chip.bin").map(|bytes| bytes.len()) == Some(100));
+    assert!(&rt; desk.file("chip.bin") == Some([0; 100].as_slice()));
     Ok(())
 }
 
