@@ -43,6 +43,7 @@ pub record Unsaved (old new : Option Record) (file bytes : Bytes) (before now : 
   pub counted : IsCounted before failures trouble
   pub done : between ≡ option_map (after_all (done_before file trouble)) old
   pub told : Tells between new (trouble_line file trouble) failures now
+  pub rises : failures ≤ now
 
 -- The file was created and all its bytes were written; or the status is 1, and it was not saved.
 abbrev pub Saves : Option Record → Option Record → Bytes → Bytes → ℕ → ℕ → Result ⊤ ℕ → Type 0
