@@ -1,21 +1,22 @@
 -- The chip of a file.
-use Rattle.std.proofs.Common.{◌≡◌, refl, sym, ap, arith, ℕ, ◌≤◌, ◌==◌, length, Bool, true, false, nat_le, nat_lt, inl, inr, Option, option_map, Result, Ok, Err, if◌then◌else◌}
+use Rattle.std.proofs.Common.{◌≡◌, refl, sym, ap, arith, ℕ, ◌≤◌, ◌==◌, length, Bool, true, false, nat_le, inl, inr, Option, option_map, Result, Ok, Err, if◌then◌else◌}
 use Rattle.std.proofs.lemmas.Bool.Decides.{nat_tests}
 use Rattle.avr_desk.specs.Files.{IsWhole, with_read}
 use Rattle.avr_desk.specs.Record.{Record}
 use Rattle.avr_desk.specs.declared.record.Opening.TheVariants.{Found}
 use Rattle.avr_desk.specs.declared.record.Reading.{Reading}
+use Rattle.avr_message.specs.Lines.{Bytes}
 use Rattle.avr_part.specs.ChipFile.{chip_file_size, chip_in, state_in}
 use Rattle.avr_part.specs.Part.{Part}
 use Rattle.avr_part.specs.PartFile.{GivesOrMemory}
 use Rattle.avr_part.specs.State.{State, fresh_state}
 use Rattle.avr_part.specs.declared.fault.PartFault.{PartFault}
 use Rattle.avr_part.specs.declared.fault.PartFault.TheVariants.{BadChipFile}
+use Rattle.avr_plan.proofs.Openings.{goes_opened, goes_judged}
 use Rattle.avr_plan.proofs.Played.{went_settled, goes_unsettled}
-use Rattle.avr_plan.specs.Lines.{Bytes, IsTold, too_long_line}
+use Rattle.avr_plan.specs.Lines.{IsTold, too_long_line}
 use Rattle.avr_plan.specs.Playing.{Goes, Went}
 use Rattle.avr_plan.specs.Stage.{Made, settled}
-use Rattle.avr_chip.proofs.Openings.{goes_opened}
 use Rattle.avr_chip.specs.Lines.{length_line}
 use Rattle.avr_chip.specs.Loading.{chip_or_line, judged_chip, chip_given, chip_stage}
 
@@ -66,6 +67,15 @@ goes_wrong_length part file bytes n old new before now status (inr memory) one t
 
 -- ---- the chip of a file that was read
 
+-- the judgment of what the file gave
+goes_whole : (part : Part) (file bytes : Bytes) (ended : Bool) (old mid new : Option Record) (before between now : ℕ) (result : Result State ℕ)
+    → mid ≡ option_map (with_read file bytes ended) old → IsWhole 4194304 (record { bytes = bytes; ended = ended }) → before ≤ between
+    → Goes (settled (judged_chip part file bytes)) mid new between now result → Goes (chip_stage part file) old new before now result
+goes_whole part file bytes ended old mid new before between now result kept whole rose goes =
+    let reading : Reading = record { name = file; bytes = bytes; ended = ended } in
+    goes_opened file (chip_given part file) (Found reading) old mid new before between now result refl kept rose
+    (goes_judged file 4194304 (judged_chip part file) reading mid new between now result whole goes)
+
 -- to its end
 pub goes_ended : (part : Part) (file bytes : Bytes) (ended : Bool) (old mid new : Option Record) (before between now : ℕ) (result : Result State ℕ)
     → mid ≡ option_map (with_read file bytes ended) old → IsWhole 4194304 (record { bytes = bytes; ended = ended }) → ended ≡ true → before ≤ between
@@ -73,9 +83,7 @@ pub goes_ended : (part : Part) (file bytes : Bytes) (ended : Bool) (old mid new 
 goes_ended part file bytes false old mid new before between now result kept whole is rose goes = cc
 goes_ended part file bytes true old mid new before between now result kept whole is rose goes =
     let fits : nat_le (length bytes) 4194304 ≡ true = grind (arith, nat_tests, whole) in
-    let reading : Reading = record { name = file; bytes = bytes; ended = true } in
-    let next : Goes (chip_given part file (Found reading)) mid new between now result = rw fits goes in
-    goes_opened file (chip_given part file) (Found reading) old mid new before between now result kept rose next
+    goes_whole part file bytes true old mid new before between now result kept whole rose (rw fits goes)
 
 -- or past the limit
 pub goes_past : (part : Part) (file bytes : Bytes) (ended : Bool) (old mid new : Option Record) (before between now status : ℕ)
@@ -85,10 +93,7 @@ pub goes_past : (part : Part) (file bytes : Bytes) (ended : Bool) (old mid new :
 goes_past part file bytes true old mid new before between now status kept whole is rose one told = cc
 goes_past part file bytes false old mid new before between now status kept whole is rose one told =
     let more = whole.0 in
-    let past : nat_lt 4194304 (length bytes) ≡ true = grind (arith, nat_tests, more) in
     let long : nat_le (length bytes) 4194304 ≡ false = grind (arith, nat_tests, more) in
     let given : judged_chip part file bytes ≡ Err (too_long_line file 4194304) = rw long refl in
-    let goes = goes_unsettled (judged_chip part file bytes) (too_long_line file 4194304) mid new between now status given one told in
-    let reading : Reading = record { name = file; bytes = bytes; ended = false } in
-    let next : Goes (chip_given part file (Found reading)) mid new between now (Err status) = rw past goes in
-    goes_opened file (chip_given part file) (Found reading) old mid new before between now (Err status) kept rose next
+    goes_whole part file bytes false old mid new before between now (Err status) kept whole rose
+    (goes_unsettled (judged_chip part file bytes) (too_long_line file 4194304) mid new between now status given one told)

@@ -1,3 +1,2 @@
-pub mod Openings
 pub mod Chips
 pub mod Savings

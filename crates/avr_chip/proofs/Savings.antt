@@ -1,23 +1,21 @@
 -- Chip files that are saved.
-use Rattle.std.proofs.Common.{◌≡◌, arith, ℕ, ◌≤◌, inl, inr, [], ◌∷◌, take, drop, Option, option_map, Result, Ok, Err, false}
+use Rattle.std.proofs.Common.{◌≡◌, ℕ, ◌≤◌, [], ◌∷◌, take, drop, Option, option_map, Result, Ok, Err, false}
 use Rattle.std.specs.Prelude.{⊤}
 use Rattle.std.specs.Result.{is_err}
 use Rattle.std.proofs.lemmas.List.{take-append-drop}
-use Rattle.avr_desk.specs.Fault.{Counts, HasFailed}
+use Rattle.avr_desk.specs.Fault.{Counts}
 use Rattle.avr_desk.specs.Record.{Record, after_create}
 use Rattle.avr_desk.specs.Stream.{SendsPart}
 use Rattle.avr_desk.specs.declared.fault.DeskFault.{DeskFault}
 use Rattle.avr_desk.specs.declared.fault.DeskFault.TheVariants.{NotFound, Failed}
 use Rattle.avr_desk.specs.declared.stream.Stream.TheVariants.{File}
 use Rattle.avr_message.proofs.Saying.{kept_append}
+use Rattle.avr_message.specs.Lines.{Bytes}
 use Rattle.avr_message.specs.Said.{Creates, Writes}
-use Rattle.avr_plan.specs.Lines.{Bytes, IsTold}
+use Rattle.avr_plan.proofs.Played.{failed_since}
+use Rattle.avr_plan.specs.Lines.{IsTold}
 use Rattle.avr_chip.specs.Lines.{not_written_line}
 use Rattle.avr_chip.specs.Saving.{NotWritten, Saves}
-
-failed_since : (first before now : ℕ) → first ≤ before → HasFailed before now → HasFailed first now
-failed_since first before now rises (inl l) = inl (omega arith)
-failed_since first before now rises (inr end) = inr end
 
 -- the file was created, and not written whole
 pub not_written : (old mid end new : Option Record) (file bytes : Bytes) (before between later now status : ℕ) (created : Result ⊤ DeskFault) (fault : DeskFault)

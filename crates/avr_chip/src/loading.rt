@@ -1,20 +1,23 @@
 //! A chip is loaded from its file.
-ghost use Rattle.std.specs.Prelude.{◌≡◌, ◌≤◌, IfOk, Ok, length};
+ghost use Rattle.std.specs.Prelude.{◌≡◌, ◌≤◌, ℕ, Option, IfOk, Ok, length};
+ghost use Rattle.avr_desk.specs.Record.{Record};
 ghost use Rattle.avr_part.specs.ChipFile.{chip_file_size};
 ghost use Rattle.avr_part.specs.State.{fresh_state};
+ghost use Rattle.avr_plan.specs.ImageReading.{FileBreaks, IsCounted};
 ghost use Rattle.avr_plan.specs.Playing.{Goes};
 ghost use Rattle.avr_plan.specs.Stage.{settled};
 ghost use Rattle.avr_chip.specs.Loading.{chip_or_line, chip_stage};
 
-use crate::refusal::{refuse_file, refuse_length, refuse_memory, refuse_too_long};
+use crate::refusal::refuse_length;
 use avr_desk::{Desk, FileFault, read_file};
 use avr_part::{Chip, Mem, Part, PartFault};
+use avr_plan::{refuse_file, refuse_memory, refuse_too_long};
 use std::alloc::Global;
 
 /// The most bytes that are read of a file.
 const LIMIT: usize = 4_194_304;
 
-/// The length of a chip file of this part.
+/// The length of a chip file of this part: flash, EEPROM, three fuses and the lock.
 fn file_size(part: &Part) -> u32
     ensures { result ≡ chip_file_size part.now }
 {
@@ -57,12 +60,33 @@ fn chip_of<D: Desk>(
     }
 }
 
+/// The chip of a file that was not read, for this fault: where there is no such file it is fresh.
+fn unread_chip<D: Desk>(
+    alloc: Global,
+    part: &Part,
+    file: &str,
+    fault: FileFault,
+    desk: &mut D,
+) -> Result<Chip, u8>
+    ensures goes { (old : Option Record) (before : ℕ) → FileBreaks file.now old (D.kept desk.old) fault → before ≤ D.failures desk.old
+        → IsCounted before (D.failures desk.old) fault
+        → Goes (chip_stage part.now file.now) old (D.kept desk.new) before (D.failures desk.new) result }
+    ensures part { IfOk result (λ c. c.part ≡ part.now) }
+    ensures rises { D.failures desk.old ≤ D.failures desk.new }
+{
+    match fault {
+        FileFault::Absent => fresh_chip(alloc, part, desk),
+        _ => Err(refuse_file(desk, file, fault)),
+    }
+}
+
 /// Loads the chip of this part that its file holds; where there is no such file the chip is fresh.
 ///
 /// The file is read to its end, or until more than 4,194,304 bytes came. The chip that is loaded has empty buffers.
 ///
-/// Where the file has another length than one of this part, where the desk fails or memory is refused, the answer is `Err(1)`,
-/// and the line that tells why was printed as far as the desk takes it.
+/// The answer is `Err(1)` where the file has another length than the part's flash, EEPROM and 4 bytes (33,796 for `m328p`), also
+/// where it is empty, where it can't be opened or read on, and where memory is refused. Then the line that tells why was
+/// printed, as far as the desk takes it.
 pub fn load_chip<D: Desk>(alloc: Global, part: &Part, file: &str, desk: &mut D) -> Result<Chip, u8>
     ensures goes { Goes (chip_stage part.now file.now) (D.kept desk.old) (D.kept desk.new) (D.failures desk.old) (D.failures desk.new) result }
     ensures part { IfOk result (λ c. c.part ≡ part.now) }
@@ -70,10 +94,7 @@ pub fn load_chip<D: Desk>(alloc: Global, part: &Part, file: &str, desk: &mut D) 
 {
     let contents = match read_file(alloc, desk, file, LIMIT) {
         Ok(contents) => contents,
-        Err(FileFault::Absent) => return fresh_chip(alloc, part, desk),
-        Err(FileFault::NotOpened) => return Err(refuse_file(desk, file, ": cannot be opened")),
-        Err(FileFault::NotRead) => return Err(refuse_file(desk, file, ": cannot be read")),
-        Err(FileFault::Memory) => return Err(refuse_memory(desk)),
+        Err(fault) => return unread_chip(alloc, part, file, fault, desk),
     };
     if !contents.ended {
         return Err(refuse_too_long(desk, file, LIMIT as u32));

@@ -3,9 +3,10 @@ ghost use Rattle.std.specs.Prelude.{◌≤◌};
 ghost use Rattle.avr_part.specs.ChipFile.{chip_file};
 ghost use Rattle.avr_chip.specs.Saving.{Saves};
 
-use crate::refusal::{refuse_file, refuse_memory};
+use crate::refusal::refuse_saving;
 use avr_desk::{Desk, Stream, write_all};
 use avr_part::Chip;
+use avr_plan::refuse_memory;
 use std::alloc::Global;
 
 /// Creates the file of this name and writes these bytes.
@@ -14,18 +15,19 @@ fn save_bytes<D: Desk>(file: &str, bytes: &[u8], desk: &mut D) -> Result<(), u8>
     ensures rises { D.failures desk.old ≤ D.failures desk.new }
 {
     if desk.create(file).is_err() {
-        return Err(refuse_file(desk, file, ": cannot be created"));
+        return Err(refuse_saving(desk, file, ": cannot be created"));
     }
     match write_all(desk, Stream::File, bytes) {
         Ok(()) => Ok(()),
-        Err(_) => Err(refuse_file(desk, file, ": cannot be written")),
+        Err(_) => Err(refuse_saving(desk, file, ": cannot be written")),
     }
 }
 
 /// Saves a chip: creates the file of this name and writes the chip's memories, whole, as [`crate::load_chip`] reads them.
 ///
-/// Where the desk fails or memory is refused the answer is `Err(1)`, and the line that tells why was printed as far as the
-/// desk takes it. No file is created where memory is refused; one that was created holds a front of the bytes.
+/// The answer is `Err(1)` where the file can't be created or written to its end, and where memory is refused. Then the line that
+/// tells why was printed, as far as the desk takes it. No file is created where memory is refused; one that was created holds a
+/// front of the bytes.
 pub fn save_chip<D: Desk>(alloc: Global, chip: &Chip, file: &str, desk: &mut D) -> Result<(), u8>
     ensures saves { Saves (D.kept desk.old) (D.kept desk.new) file.now (chip_file chip.now) (D.failures desk.old) (D.failures desk.new) result }
     ensures rises { D.failures desk.old ≤ D.failures desk.new }

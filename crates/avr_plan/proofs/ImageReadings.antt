@@ -11,9 +11,10 @@ use Rattle.avr_desk.specs.Record.{Record, after_open, after_read, noted, is_nil}
 use Rattle.avr_desk.specs.declared.record.Open.{Open}
 use Rattle.avr_desk.specs.declared.record.Open.TheVariants.{Closed, ToRead, ToWrite}
 use Rattle.avr_desk.specs.declared.files.FileFault.TheVariants.{Absent, NotOpened, NotRead, Memory}
+use Rattle.avr_message.specs.Lines.{Bytes}
 use Rattle.avr_records.specs.Detect.{detected}
 use Rattle.avr_records.specs.declared.kind.Found.{Found}
-use Rattle.avr_plan.specs.ImageFile.{Bytes, Given, whole_file, long_file, file_within, kind_of}
+use Rattle.avr_plan.specs.ImageFile.{Given, whole_file, long_file, file_within, kind_of}
 use Rattle.avr_plan.specs.ImageReading.{Going, Outcome, ReadsRest, RestIsRead, ReadsOpenImage, OpenIsRead, ReadsImage, ImageIsRead, IsGiven}
 use Rattle.avr_plan.specs.Intake.{Takes}
 use Rattle.avr_plan.specs.declared.bad_file.BadFile.{BadFile}

@@ -3,11 +3,12 @@ use Rattle.std.proofs.Common.{◌≡◌, sym, ap, ℕ, ◌≤◌, List, Option, 
 use Rattle.avr_cli.specs.declared.chosen.Switches.{Switches}
 use Rattle.avr_cli.specs.declared.update.Format.{Format}
 use Rattle.avr_desk.specs.Record.{Record}
+use Rattle.avr_message.specs.Lines.{Bytes}
 use Rattle.avr_records.specs.declared.kind.Ending.{Ending}
 use Rattle.avr_plan.proofs.FileStages.{goes_whole, went_whole, goes_file_fault}
 use Rattle.avr_plan.proofs.Played.{goes_on, goes_no_further, goes_unsettled, went_went, went_nowhere, went_settled}
 use Rattle.avr_plan.specs.ImageReading.{ReadsImage, ImageIsRead, IsCountedRead}
-use Rattle.avr_plan.specs.Lines.{Bytes, IsTold, bad_file_line, read_fault_line}
+use Rattle.avr_plan.specs.Lines.{IsTold, bad_file_line, read_fault_line}
 use Rattle.avr_plan.specs.Planning.{file_image_stage, judged_image, image_or_line, warned}
 use Rattle.avr_plan.specs.Playing.{Goes, Went}
 use Rattle.avr_plan.specs.Stage.{Stage, Made, ◌>>=◌, settled, said, file_stage}
@@ -28,7 +29,7 @@ went_file : (file : Bytes) (format : Format) (size : ℕ) (old mid : Option Reco
 went_file file format size old mid image ending reads =
     let judge = judged_image file format size in
     let given : judge reads.bytes ≡ Ok (image, ending) = ap (image_or_line file) (sym reads.gives) in
-    went_whole file 4194304 judge (record { name = file; bytes = reads.bytes; ended = reads.ended }) old mid (image, ending) reads.kept reads.whole
+    went_whole file 4194304 judge reads.bytes reads.ended old mid (image, ending) reads.kept reads.whole
     (went_settled (judge reads.bytes) (image, ending) mid given)
 
 -- a file that is an image, and its warning
@@ -61,7 +62,7 @@ goes_bad switches file format size old mid new before between now bad status rea
     let judge = judged_image file format size in
     let given : judge reads.bytes ≡ Err (bad_file_line file bad) = ap (image_or_line file) (sym reads.gives) in
     goes_no_further (file_stage file 4194304 judge) (behind_file switches file) old new before now status
-    (goes_whole file 4194304 judge (record { name = file; bytes = reads.bytes; ended = reads.ended }) old mid new before between now (Err status)
+    (goes_whole file 4194304 judge reads.bytes reads.ended old mid new before between now (Err status)
     reads.kept reads.whole rises (goes_unsettled (judge reads.bytes) (bad_file_line file bad) mid new between now status given one told))
 
 -- a file that was not read

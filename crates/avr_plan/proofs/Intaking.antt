@@ -5,6 +5,7 @@ use Rattle.std.proofs.lemmas.Bool.Decides.{nat_tests}
 use Rattle.avr_image.specs.Raw as raw_file
 use Rattle.avr_image.specs.declared.fault.ImageFault.{ImageFault}
 use Rattle.avr_image.specs.declared.fault.ImageFault.TheVariants.{OutOfRange}
+use Rattle.avr_message.specs.Lines.{Bytes}
 use Rattle.avr_records.proofs.Feeding.{reads-sound}
 use Rattle.avr_records.specs.Closed.{closed_fault, unless_fault}
 use Rattle.avr_records.specs.Reader.{State, memory_size}
@@ -13,7 +14,7 @@ use Rattle.avr_records.specs.declared.kind.Kind.{Kind}
 use Rattle.avr_records.specs.declared.kind.Kind.TheVariants as records
 use Rattle.avr_records.specs.declared.fault.RecordFault.{RecordFault}
 use Rattle.avr_plan.proofs.FirstFaults.{closed_fault-more, closed_fault-whole}
-use Rattle.avr_plan.specs.ImageFile.{Bytes, whole_file, long_file, of_records, of_raw, or_too_long}
+use Rattle.avr_plan.specs.ImageFile.{whole_file, long_file, of_records, of_raw, or_too_long}
 use Rattle.avr_plan.specs.Intake.{Decides, TakesRecords, TakesRaw, found_as, in_long_file}
 use Rattle.avr_plan.specs.declared.bad_file.BadFile.{BadFile}
 use Rattle.avr_plan.specs.declared.bad_file.BadFile.TheVariants.{Record, Raw, TooLong}

@@ -2,6 +2,7 @@ pub mod FirstFaults
 pub mod Intaking
 pub mod ImageReadings
 pub mod Played
+pub mod Openings
 pub mod FileStages
 pub mod ImageStages
 pub mod Sizes

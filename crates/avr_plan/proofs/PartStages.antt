@@ -3,13 +3,14 @@ use Rattle.std.proofs.Common.{◌≡◌, ◌∙◌, sym, ap, refl, arith, ℕ, �
 use Rattle.std.proofs.lemmas.Bool.Decides.{nat_tests}
 use Rattle.avr_desk.specs.Files.{IsWhole, with_read}
 use Rattle.avr_desk.specs.Record.{Record}
+use Rattle.avr_message.specs.Lines.{Bytes}
 use Rattle.avr_part.specs.Part.{Part}
 use Rattle.avr_part.specs.PartFile.{GivesOrMemory, parts_of}
 use Rattle.avr_part.specs.declared.fault.PartFault.{PartFault}
 use Rattle.avr_part.specs.declared.fault.PartFault.TheVariants.{Memory}
 use Rattle.avr_plan.proofs.FileStages.{goes_whole, went_whole}
 use Rattle.avr_plan.proofs.Played.{went_settled, goes_unsettled, goes_without_memory}
-use Rattle.avr_plan.specs.Lines.{Bytes, IsTold, part_file_line, too_long_line}
+use Rattle.avr_plan.specs.Lines.{IsTold, part_file_line, too_long_line}
 use Rattle.avr_plan.specs.Planning.{judged_parts, parts_or_line}
 use Rattle.avr_plan.specs.Playing.{Goes, Went}
 use Rattle.avr_plan.specs.Stage.{Made, settled, file_stage}
@@ -28,7 +29,7 @@ goes_long_parts file bytes true old mid new before between now status kept whole
 goes_long_parts file bytes false old mid new before between now status kept whole is rises one told =
     let past : nat_le (length bytes) 65536 ≡ false = let more = whole.0 in grind (arith, nat_tests, more) in
     let given : judged_parts file bytes ≡ Err (too_long_line file 65536) = rw past refl in
-    goes_whole file 65536 (judged_parts file) (record { name = file; bytes = bytes; ended = false }) old mid new before between now (Err status)
+    goes_whole file 65536 (judged_parts file) bytes false old mid new before between now (Err status)
     kept whole rises
     (goes_unsettled (judged_parts file bytes) (too_long_line file 65536) mid new between now status given one told)
 
@@ -39,7 +40,7 @@ pub went_parts : (file bytes : Bytes) (ended : Bool) (old mid : Option Record) (
 went_parts file bytes false old mid parts kept whole is gives = cc
 went_parts file bytes true old mid parts kept whole is (inl gives) =
     let given : judged_parts file bytes ≡ Ok parts = judged-within file bytes whole ∙ ap (parts_or_line file) (sym gives) in
-    went_whole file 65536 (judged_parts file) (record { name = file; bytes = bytes; ended = true }) old mid parts kept whole
+    went_whole file 65536 (judged_parts file) bytes true old mid parts kept whole
     (went_settled (judged_parts file bytes) parts mid given)
 went_parts file bytes true old mid parts kept whole is (inr memory) = cc
 
@@ -50,12 +51,12 @@ pub goes_bad_parts : (file bytes : Bytes) (ended : Bool) (old mid new : Option R
 goes_bad_parts file bytes false old mid new before between now status fault kept whole is rises gives one told = cc
 goes_bad_parts file bytes true old mid new before between now status fault kept whole is rises (inl gives) one told =
     let given : judged_parts file bytes ≡ Err (part_file_line file fault) = judged-within file bytes whole ∙ ap (parts_or_line file) (sym gives) in
-    goes_whole file 65536 (judged_parts file) (record { name = file; bytes = bytes; ended = true }) old mid new before between now (Err status)
+    goes_whole file 65536 (judged_parts file) bytes true old mid new before between now (Err status)
     kept whole rises
     (goes_unsettled (judged_parts file bytes) (part_file_line file fault) mid new between now status given one told)
 goes_bad_parts file bytes true old mid new before between now status fault kept whole is rises (inr memory) one told =
     let same : fault ≡ Memory = cc in
     let refused = subst (λ f. IsTold mid new (part_file_line file f) between now) same told in
-    goes_whole file 65536 (judged_parts file) (record { name = file; bytes = bytes; ended = true }) old mid new before between now (Err status)
+    goes_whole file 65536 (judged_parts file) bytes true old mid new before between now (Err status)
     kept whole rises
     (goes_without_memory (settled (judged_parts file bytes)) mid new between now status one refused)

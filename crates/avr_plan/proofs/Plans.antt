@@ -3,9 +3,9 @@ use Rattle.std.proofs.Common.{◌≡◌, sym, subst, ℕ, ◌≤◌, List, [], O
 use Rattle.avr_cli.specs.declared.chosen.Settings.{Settings}
 use Rattle.avr_cli.specs.declared.update.Update.{Update}
 use Rattle.avr_desk.specs.Record.{Record}
+use Rattle.avr_message.specs.Lines.{Bytes}
 use Rattle.avr_part.specs.Part.{Part}
 use Rattle.avr_plan.proofs.Played.{goes_on, goes_no_further, went_went, went_into}
-use Rattle.avr_plan.specs.Lines.{Bytes}
 use Rattle.avr_plan.specs.Plan.{Plan}
 use Rattle.avr_plan.specs.Planning.{parts_stage, part_stage, tasks_stage, planned}
 use Rattle.avr_plan.specs.Playing.{Goes, Went}

@@ -16,7 +16,7 @@ use Rattle.avr_plan.specs.Stage.{Stage, Answer, Made, Refused, Unread, Played, b
 
 -- ---- counts
 
-failed_since : (first before now : ℕ) → first ≤ before → HasFailed before now → HasFailed first now
+pub failed_since : (first before now : ℕ) → first ≤ before → HasFailed before now → HasFailed first now
 failed_since first before now rises (inl l) = inl (omega arith)
 failed_since first before now rises (inr e) = inr e
 

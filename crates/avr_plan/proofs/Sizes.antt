@@ -12,6 +12,7 @@ use Rattle.avr_image.specs.Placing.{with_pieces, with_value, then_on}
 use Rattle.avr_image.specs.Raw as raw_file
 use Rattle.avr_image.specs.Values.{values, judged, pieces}
 use Rattle.avr_image.specs.declared.fault.ImageFault.{ImageFault}
+use Rattle.avr_message.specs.Lines.{Bytes}
 use Rattle.avr_records.specs.Lines.{lines}
 use Rattle.avr_records.specs.Reading.{Said, answer, first_fault, in_place, up_to_end, placed, read, says, together, ending}
 use Rattle.avr_records.specs.declared.kind.Ending.{Ending}
@@ -20,7 +21,7 @@ use Rattle.avr_records.specs.declared.kind.Found.{Found}
 use Rattle.avr_records.specs.declared.kind.Found.TheVariants as file
 use Rattle.avr_records.specs.declared.kind.Kind.TheVariants as records
 use Rattle.avr_records.specs.declared.fault.RecordFault.{RecordFault}
-use Rattle.avr_plan.specs.ImageFile.{Bytes, whole_file, image_within, kind_of, of_records, of_raw}
+use Rattle.avr_plan.specs.ImageFile.{whole_file, image_within, kind_of, of_records, of_raw}
 
 abbrev Image : Type 0
 Image = List (Option ℕ)

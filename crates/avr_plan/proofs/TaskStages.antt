@@ -5,11 +5,12 @@ use Rattle.avr_cli.specs.declared.update.Format.{Format}
 use Rattle.avr_cli.specs.declared.update.Format.TheVariants.{Auto, Ihex, Srec, Raw, Immediate, Decimal, Hexadecimal, Octal, Binary}
 use Rattle.avr_cli.specs.declared.update.Update.{Update}
 use Rattle.avr_desk.specs.Record.{Record}
+use Rattle.avr_message.specs.Lines.{Bytes}
 use Rattle.avr_part.specs.Mem.{is_writable}
 use Rattle.avr_part.specs.Part.{Part}
 use Rattle.avr_part.specs.declared.mem.Mem.{Mem}
 use Rattle.avr_plan.proofs.Played.{goes_refused, goes_on, goes_no_further}
-use Rattle.avr_plan.specs.Lines.{Bytes, IsTold, read_only_line}
+use Rattle.avr_plan.specs.Lines.{IsTold, read_only_line}
 use Rattle.avr_plan.specs.Planning.{file_image_stage, image_stage, update_image, write_stage, task_stage, tasks_stage}
 use Rattle.avr_plan.specs.Playing.{Goes, Went}
 use Rattle.avr_plan.specs.Stage.{Stage, Made, ◌>>=◌, settled}

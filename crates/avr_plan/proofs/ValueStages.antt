@@ -7,9 +7,10 @@ use Rattle.avr_image.specs.Fault.{OrMemory}
 use Rattle.avr_image.specs.Values.{values}
 use Rattle.avr_image.specs.declared.fault.ImageFault.{ImageFault}
 use Rattle.avr_image.specs.declared.fault.ImageFault.TheVariants.{Memory}
+use Rattle.avr_message.specs.Lines.{Bytes}
 use Rattle.avr_part.specs.declared.mem.Mem.{Mem}
 use Rattle.avr_plan.proofs.Played.{went_settled, goes_unsettled, goes_without_memory}
-use Rattle.avr_plan.specs.Lines.{Bytes, IsTold, values_line}
+use Rattle.avr_plan.specs.Lines.{IsTold, values_line}
 use Rattle.avr_plan.specs.Planning.{image_stage, values_or_line}
 use Rattle.avr_plan.specs.Playing.{Goes, Went}
 use Rattle.avr_plan.specs.Stage.{Made, settled}

@@ -4,6 +4,7 @@ use Rattle.avr_cli.specs.declared.update.Format.{Format}
 use Rattle.avr_cli.specs.declared.update.Format.TheVariants as letter
 use Rattle.avr_image.specs.Raw as raw_file
 use Rattle.avr_image.specs.declared.fault.ImageFault.{ImageFault}
+use Rattle.avr_message.specs.Lines.{Bytes}
 use Rattle.avr_records.specs.Closed.{closed_fault}
 use Rattle.avr_records.specs.Detect.{detected}
 use Rattle.avr_records.specs.Reading.{read}
@@ -15,9 +16,6 @@ use Rattle.avr_records.specs.declared.kind.Kind.TheVariants as records
 use Rattle.avr_records.specs.declared.fault.RecordFault.{RecordFault}
 use Rattle.avr_plan.specs.declared.bad_file.BadFile.{BadFile}
 use Rattle.avr_plan.specs.declared.bad_file.BadFile.TheVariants.{Record, Raw, Elf, TooLong}
-
-abbrev pub Bytes : Type 0
-Bytes = List ℕ
 
 -- an image, and whether its file had an end record; or what is wrong with the file
 abbrev pub Given : Type 0

@@ -1,12 +1,13 @@
 -- What is made of the bytes of a file as they come, and the bytes that may have come.
 use Rattle.std.specs.Prelude.{◌≡◌, ℕ, length, ◌++◌, Err}
 use Rattle.avr_image.specs.Raw as raw_file
+use Rattle.avr_message.specs.Lines.{Bytes}
 use Rattle.avr_records.specs.Reader.{State, Stands, memory_size}
 use Rattle.avr_records.specs.declared.kind.Found.{Found}
 use Rattle.avr_records.specs.declared.kind.Found.TheVariants as file
 use Rattle.avr_records.specs.declared.kind.Kind.{Kind}
 use Rattle.avr_records.specs.declared.kind.Kind.TheVariants as records
-use Rattle.avr_plan.specs.ImageFile.{Bytes, whole_file, long_file}
+use Rattle.avr_plan.specs.ImageFile.{whole_file, long_file}
 use Rattle.avr_plan.specs.declared.bad_file.BadFile.{BadFile}
 use Rattle.avr_plan.specs.declared.bad_file.BadFile.TheVariants.{Record, TooLong}
 use Rattle.avr_plan.specs.declared.intake.Intake.{Intake}

@@ -5,8 +5,9 @@ use Rattle.avr_desk.specs.Record.{Record}
 use Rattle.avr_desk.specs.declared.record.Opening.{Opening}
 use Rattle.avr_desk.specs.declared.record.Opening.TheVariants.{Found}
 use Rattle.avr_desk.specs.declared.record.Reading.{Reading}
+use Rattle.avr_message.specs.Lines.{Bytes}
 use Rattle.avr_message.specs.Said.{Saying, Opens, Line, IsBegun, IsPrefixOf, after_all}
-use Rattle.avr_plan.specs.Lines.{Bytes, memory_line, not_opened_line, not_read_line}
+use Rattle.avr_plan.specs.Lines.{memory_line, not_opened_line, not_read_line}
 use Rattle.avr_plan.specs.Stage.{Stage, Answer, Made, Refused, Played, next_opening}
 
 -- These openings passed, and what the desk was given to do is what the stage says of them, whatever later ones would give.

@@ -3,8 +3,9 @@ use Rattle.std.specs.Prelude.{ℕ, Bool, ◌||◌, nat_lt, List, [], ◌∷◌, 
 use Rattle.avr_desk.specs.declared.record.Opening.{Opening}
 use Rattle.avr_desk.specs.declared.record.Opening.TheVariants.{Absent, Found}
 use Rattle.avr_desk.specs.declared.record.Reading.{Reading}
+use Rattle.avr_message.specs.Lines.{Bytes}
 use Rattle.avr_message.specs.Said.{Saying, Opens, Line}
-use Rattle.avr_plan.specs.Lines.{Bytes, not_opened_line}
+use Rattle.avr_plan.specs.Lines.{not_opened_line}
 
 -- It made something; or it is refused; or it can't be judged, since a file was not read to its end or past its limit.
 pub data Answer (A : Type 0) : Type 0 where
@@ -49,10 +50,15 @@ settled (Err line) openings = record { says = Line line ∷ []; answer = Refused
 abbrev pub unread : {A : Type 0} → Stage A
 unread openings = record { says = []; answer = Unread; left = openings }
 
--- what the next opening gives; behind the last one no file is there
+-- the opening of the file of this name that gives what this one gives
+abbrev pub named : Bytes → Opening → Opening
+named name (Absent other) = Absent name
+named name (Found reading) = Found (record reading { name = name })
+
+-- the file of this name gives what the next opening gives; behind the last one it is not there
 abbrev pub next_opening : Bytes → List Opening → Opening
 next_opening name [] = Absent name
-next_opening name (opening ∷ openings) = opening
+next_opening name (opening ∷ openings) = named name opening
 
 abbrev pub opened : Bytes → Stage Opening
 opened name openings = record {

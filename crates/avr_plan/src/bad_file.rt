@@ -6,16 +6,16 @@ use thiserror::Error;
 /// Why the bytes of a file are no image of a memory.
 #[derive(Clone, Copy, Debug, Drop, PartialEq, Eq, Error)]
 pub enum BadFile {
-    /// A line of a record file is at fault.
+    /// A line of a record file is at fault: the first one, by its number from 1.
     #[error("{0}")]
     Record(RecordFault),
-    /// Raw bytes go past the memory.
+    /// Raw bytes go past the memory, first at this address.
     #[error("{0}")]
     Raw(ImageFault),
     /// It is an executable in the ELF format.
     #[error("ELF is not read")]
     Elf,
-    /// It has more bytes than an image file may have.
+    /// It has more than 4,194,304 bytes.
     #[error("too long")]
     TooLong,
 }

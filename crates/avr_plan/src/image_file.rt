@@ -1,7 +1,8 @@
 //! An image file over a desk: read in pieces to its end, or past the limit, and only then judged.
 ghost use Rattle.std.specs.Prelude.{◌≡◌, ◌+◌, ◌<◌, ◌≤◌, ◌^◌, ℕ, IfErr, length};
+ghost use Rattle.avr_message.specs.Lines.{Bytes};
 ghost use Rattle.avr_records.specs.declared.kind.Found.{Found as AnyFound};
-ghost use Rattle.avr_plan.specs.ImageFile.{Bytes, kind_of, whole_file};
+ghost use Rattle.avr_plan.specs.ImageFile.{kind_of, whole_file};
 ghost use Rattle.avr_plan.specs.ImageReading.{IsGiven, FrontIsRead, RestIsRead, OpenIsRead, ImageIsRead, IsCounted, IsCountedRead};
 ghost use Rattle.avr_plan.specs.Intake.{Takes, counted};
 
@@ -16,7 +17,7 @@ use std::alloc::Global;
 use thiserror::Error;
 
 /// The most bytes of an image file.
-const LIMIT: usize = 4_194_304;
+pub(crate) const LIMIT: usize = 4_194_304;
 
 /// The most bytes that are asked of a desk at a time.
 const PIECE: usize = 4096;
@@ -24,7 +25,7 @@ const PIECE: usize = 4096;
 /// How many bytes of a file show its format.
 const FRONT: usize = 1024;
 
-/// Why no image came of a file.
+/// Why no image came of a file. It shows as the reason alone, without the file's name.
 #[derive(Clone, Copy, Debug, PartialEq, Eq, Error)]
 pub enum ReadFault {
     /// The file was not read to its end.
@@ -147,7 +148,18 @@ fn read_open<D: Desk>(
 }
 
 /// Reads an image file: opens it, reads it to its end or until more than 4,194,304 bytes came, in pieces of at most 4,096,
-/// and then tells what it is to a memory of this size. No more than a piece is held beside the image.
+/// and then tells what it is to a memory of `size` bytes. No more than a piece is held beside the image.
+///
+/// The name `-` is standard input. Intel HEX, S-records and raw bytes are read as such; for any other `format` the first 1,024
+/// bytes show which of them it is, or that it is ELF. Where the answer is an image, it has a place for each byte of the memory.
+///
+/// The answer is `ReadFault::File` where the file is not there or can't be opened or read on, and where memory is refused; else
+/// `ReadFault::Image` of the first thing wrong with it. Of a file past the limit only a line that ends within it is judged; where
+/// none is at fault it is `BadFile::TooLong`.
+///
+/// ```text
+/// let (image, ending) = read_image(alloc, &mut desk, "app.hex", Format::Auto, 32_768)?;
+/// ```
 pub fn read_image<D: Desk>(
     alloc: Global,
     desk: &mut D,

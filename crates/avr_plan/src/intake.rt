@@ -1,7 +1,8 @@
 //! An image that is made of the bytes of a file as they come.
 ghost use Rattle.std.specs.Prelude.{◌≡◌, ◌+◌, ◌<◌, ◌≤◌, ◌^◌, ◌++◌, ℕ, List, [], Ok, Err, length, MatchResult};
+ghost use Rattle.avr_message.specs.Lines.{Bytes};
 ghost use Rattle.avr_records.specs.declared.kind.Found.{Found as AnyFound};
-ghost use Rattle.avr_plan.specs.ImageFile.{Bytes, whole_file, long_file};
+ghost use Rattle.avr_plan.specs.ImageFile.{whole_file, long_file};
 ghost use Rattle.avr_plan.specs.Intake.{Takes, counted, found_as, in_long_file};
 
 use crate::bad_file::BadFile;
@@ -12,7 +13,7 @@ use std::alloc::Global;
 
 /// What is made of the bytes of a file as they come: a reader's work, or the fault that it met.
 #[derive(Drop)]
-pub enum Intake {
+pub(crate) enum Intake {
     Records(RecordReader),
     Raw(RawReader),
     Faulty(BadFile),

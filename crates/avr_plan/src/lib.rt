@@ -32,6 +32,7 @@ pub use image_file::{ReadFault, read_image};
 pub use part_choice::{chosen_part, given_parts};
 pub use planned::Plan;
 pub use planning::plan;
+pub use refusal::{refuse, refuse_file, refuse_memory, refuse_too_long};
 pub use task::Task;
 
 #[cfg(test)]

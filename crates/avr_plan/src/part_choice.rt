@@ -30,10 +30,10 @@ fn file_parts<D: Desk>(alloc: Global, desk: &mut D, file: &str) -> Result<Parts,
     }
 }
 
-/// The parts of the part file, if one is given.
+/// The parts of the part file, or none where no file is given.
 ///
-/// Where the file can't be read or is no part file, the line that tells why was printed, as far as the desk prints it, and
-/// the answer is the status 1.
+/// The file has at most 65,536 bytes. Where it can't be read, is longer or is no part file, and where memory is refused, the
+/// line that tells why was printed, as far as the desk takes it, and the answer is the status, 1.
 pub fn given_parts<D: Desk>(alloc: Global, desk: &mut D, file: &Option<Text>) -> Result<Parts, u8>
     ensures goes { Goes (parts_stage file.now) (D.kept desk.old) (D.kept desk.new) (D.failures desk.old) (D.failures desk.new) result }
     ensures rises { D.failures desk.old ≤ D.failures desk.new }
@@ -44,8 +44,15 @@ pub fn given_parts<D: Desk>(alloc: Global, desk: &mut D, file: &Option<Text>) ->
     }
 }
 
-/// The part of this id, in the part file before the built-in parts. Where there is none the line that tells so was printed,
-/// as far as the desk prints it, and the answer is the status 1.
+/// The part of this id, in the parts of the part file before the built-in ones.
+///
+/// Where there is none the line `avrstk: error: no part ID` was printed, as far as the desk takes it, and the answer is the
+/// status, 1.
+///
+/// ```text
+/// let parts = given_parts(alloc, &mut desk, &settings.parts)?;
+/// let part = chosen_part(&mut desk, &parts, "m328p")?;
+/// ```
 pub fn chosen_part<D: Desk>(desk: &mut D, parts: &Parts, id: &str) -> Result<Part, u8>
     ensures goes { Goes (part_stage id.now parts.now) (D.kept desk.old) (D.kept desk.new) (D.failures desk.old) (D.failures desk.new) result }
     ensures rises { D.failures desk.old ≤ D.failures desk.new }

@@ -110,10 +110,7 @@ fn update_tasks<D: Desk>(
 {
     let mut tasks = Tasks::new(alloc);
     for update in updates {
-        let task = match update_task(alloc, desk, switches, part, update) {
-            Ok(task) => task,
-            Err(status) => return Err(status),
-        };
+        let task = update_task(alloc, desk, switches, part, update)?;
         if tasks.push(task).is_err() {
             return Err(refuse_memory(desk));
         }
@@ -122,25 +119,19 @@ fn update_tasks<D: Desk>(
 }
 
 /// Makes the plan of a run: reads and judges the part file, looks the part up, and then reads and judges the file of each
-/// update in order. The first refusal prints its line and answers the status, 1; a missing end record is warned of.
+/// update in order. A missing end record is warned of, unless warnings are off.
 ///
 /// Every file is opened anew and read to its end, or past its limit, before it is judged. No file is created.
+///
+/// The first refusal prints its line, and the answer is the status, 1. It is also 1 where the desk fails or memory is refused;
+/// then nothing more is opened, and the line of that was printed as far as the desk takes it.
 pub fn plan<D: Desk>(alloc: Global, settings: &Settings, desk: &mut D) -> Result<Plan, u8>
     ensures goes { Goes (planned settings.now) (D.kept desk.old) (D.kept desk.new) (D.failures desk.old) (D.failures desk.new) result }
     ensures rises { D.failures desk.old ≤ D.failures desk.new }
 {
-    let parts = match given_parts(alloc, desk, &settings.parts) {
-        Ok(parts) => parts,
-        Err(status) => return Err(status),
-    };
-    let part = match chosen_part(desk, &parts, settings.part.as_str()) {
-        Ok(part) => part,
-        Err(status) => return Err(status),
-    };
+    let parts = given_parts(alloc, desk, &settings.parts)?;
+    let part = chosen_part(desk, &parts, settings.part.as_str())?;
     let switches = settings.switches;
-    let tasks = match update_tasks(alloc, desk, switches, &part, settings.updates.as_slice()) {
-        Ok(tasks) => tasks,
-        Err(status) => return Err(status),
-    };
+    let tasks = update_tasks(alloc, desk, switches, &part, settings.updates.as_slice())?;
     Ok(Plan::new(part, tasks, switches))
 }

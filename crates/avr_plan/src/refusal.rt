@@ -6,18 +6,15 @@ ghost use Rattle.avr_message.specs.Lines.{error, text_of};
 ghost use Rattle.avr_plan.specs.Lines.{memory_line, not_opened_line, file_fault_line, too_long_line, part_file_line, no_part_line, record_line, record_fault_line, record_range_line, range_line, raw_fault_line, bad_file_line, read_fault_line, values_line, read_only_line, IsTold};
 
 use crate::bad_file::BadFile;
-use crate::image_file::ReadFault;
+use crate::image_file::{LIMIT, ReadFault};
 use avr_desk::{Desk, FileFault};
 use avr_image::ImageFault;
 use avr_message::{Piece, print_error};
 use avr_part::{Field, Mem, PartFault};
 use avr_records::RecordFault;
 
-/// The most bytes of an image file.
-const IMAGE_LIMIT: u32 = 4_194_304;
-
-/// Prints an error.
-fn refuse<D: Desk>(desk: &mut D, pieces: &[Piece<'_>]) -> u8
+/// Prints a line `avrstk: error: ..` of these pieces, as far as the desk takes it, and answers the status, 1.
+pub fn refuse<D: Desk>(desk: &mut D, pieces: &[Piece<'_>]) -> u8
     ensures status { result ≡ 1 }
     ensures told { IsTold (D.kept desk.old) (D.kept desk.new) (error (map text_of pieces.now)) (D.failures desk.old) (D.failures desk.new) }
     ensures rises { D.failures desk.old ≤ D.failures desk.new }
@@ -26,8 +23,8 @@ fn refuse<D: Desk>(desk: &mut D, pieces: &[Piece<'_>]) -> u8
     1
 }
 
-/// Tells that memory was refused.
-pub(crate) fn refuse_memory<D: Desk>(desk: &mut D) -> u8
+/// Tells that memory was refused, `out of memory`, and answers 1.
+pub fn refuse_memory<D: Desk>(desk: &mut D) -> u8
     ensures status { result ≡ 1 }
     ensures told { IsTold (D.kept desk.old) (D.kept desk.new) memory_line (D.failures desk.old) (D.failures desk.new) }
     ensures rises { D.failures desk.old ≤ D.failures desk.new }
@@ -47,8 +44,9 @@ fn refuse_unopened<D: Desk>(desk: &mut D, file: &str) -> u8
     )
 }
 
-/// Tells why a file was not read.
-pub(crate) fn refuse_file<D: Desk>(desk: &mut D, file: &str, fault: FileFault) -> u8
+/// Tells why a file was not read, and answers 1: `FILE: cannot be opened`, also where it is not there, `FILE: cannot be read`
+/// or `out of memory`.
+pub fn refuse_file<D: Desk>(desk: &mut D, file: &str, fault: FileFault) -> u8
     ensures status { result ≡ 1 }
     ensures told { IsTold (D.kept desk.old) (D.kept desk.new) (file_fault_line file.now fault) (D.failures desk.old) (D.failures desk.new) }
     ensures rises { D.failures desk.old ≤ D.failures desk.new }
@@ -61,8 +59,8 @@ pub(crate) fn refuse_file<D: Desk>(desk: &mut D, file: &str, fault: FileFault) -
     }
 }
 
-/// Tells that a file has more bytes than its limit.
-pub(crate) fn refuse_too_long<D: Desk>(desk: &mut D, file: &str, limit: u32) -> u8
+/// Tells that a file has more bytes than `limit`, `FILE: longer than 65536 bytes`, and answers 1.
+pub fn refuse_too_long<D: Desk>(desk: &mut D, file: &str, limit: u32) -> u8
     ensures status { result ≡ 1 }
     ensures told { IsTold (D.kept desk.old) (D.kept desk.new) (too_long_line file.now limit) (D.failures desk.old) (D.failures desk.new) }
     ensures rises { D.failures desk.old ≤ D.failures desk.new }
@@ -220,7 +218,7 @@ fn refuse_bad_file<D: Desk>(desk: &mut D, file: &str, fault: BadFile) -> u8
         BadFile::Record(fault) => refuse_record(desk, file, fault),
         BadFile::Raw(fault) => refuse_raw(desk, file, fault),
         BadFile::Elf => refuse(desk, &[Piece::Text(file), Piece::Text(": ELF is not read")]),
-        BadFile::TooLong => refuse_too_long(desk, file, IMAGE_LIMIT),
+        BadFile::TooLong => refuse_too_long(desk, file, LIMIT as u32),
     }
 }
 

@@ -1,36 +1,11 @@
-use Rattle.avr_desk.specs.declared.record.Opening.TheVariants.{Absent}
+use Rattle.avr_plan.proofs.Openings.{breaks_as, counted_as}
 use Rattle.avr_chip.proofs.Chips.{goes_ended, goes_past}
-use Rattle.avr_chip.proofs.Openings.{goes_opened, goes_unopened, goes_unread, goes_unheld}
-use Rattle.avr_chip.specs.Loading.{chip_given}
 use Rattle.avr_chip.proofs.loading.load_chip.Goals as goal
 
-pub returns-in-Err-Absent-clause-goes : goal.returns-in-Err-Absent-clause-goes
-returns-in-Err-Absent-clause-goes g c =
-    let reads = c.in-Err-Absent.ensures.kept in
-    goes_opened c.args.file.now (chip_given c.args.part.now c.args.file.now) (Absent c.args.file.now) _ _ _ _ _ _ _
-    (rw c.in-Err-Absent.field-0-is at reads) c.in-Err-Absent.ensures.counts.0 c.fresh_chip.ensures.goes
-
-pub returns-in-Err-NotOpened-clause-goes : goal.returns-in-Err-NotOpened-clause-goes
-returns-in-Err-NotOpened-clause-goes g c =
-    let reads = c.in-Err-NotOpened.ensures.kept in
-    let counts = c.in-Err-NotOpened.ensures.counts in
-    goes_unopened c.args.file.now (chip_given c.args.part.now c.args.file.now) _ _ _ _ _ _ _
-    (rw c.in-Err-NotOpened.field-0-is at reads) (rw c.in-Err-NotOpened.field-0-is at counts)
-    c.refuse_file.ensures.rises c.refuse_file.ensures.status c.refuse_file.ensures.told
-
-pub returns-in-Err-NotRead-clause-goes : goal.returns-in-Err-NotRead-clause-goes
-returns-in-Err-NotRead-clause-goes g c =
-    let reads = c.in-Err-NotRead.ensures.kept in
-    let counts = c.in-Err-NotRead.ensures.counts in
-    let refused = c.refuse_file-in-Err-NotRead.ensures in
-    goes_unread c.args.file.now (chip_given c.args.part.now c.args.file.now) _ _ _ _ _ _ _
-    (rw c.in-Err-NotRead.field-0-is at reads) (rw c.in-Err-NotRead.field-0-is at counts) refused.rises refused.status refused.told
-
-pub returns-in-Err-Memory-clause-goes : goal.returns-in-Err-Memory-clause-goes
-returns-in-Err-Memory-clause-goes g c =
-    let reads = c.in-Err-Memory.ensures.kept in
-    goes_unheld c.args.file.now (chip_given c.args.part.now c.args.file.now) _ _ _ _ _ _ _
-    (rw c.in-Err-Memory.field-0-is at reads) c.in-Err-Memory.ensures.counts.0 c.refuse_memory.ensures.status c.refuse_memory.ensures.told
+pub returns-in-Err-clause-goes : goal.returns-in-Err-clause-goes
+returns-in-Err-clause-goes g c =
+    let counts = c.in-Err.ensures.counts in
+    c.unread_chip.ensures.goes _ _ (breaks_as _ _ _ c.in-Err.fault c.in-Err.ensures.kept) counts.0 (counted_as _ _ c.in-Err.fault counts)
 
 pub returns-then-not-contents-clause-goes : goal.returns-then-not-contents-clause-goes
 returns-then-not-contents-clause-goes g c =

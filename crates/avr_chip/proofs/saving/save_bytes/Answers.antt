@@ -4,7 +4,7 @@ use Rattle.avr_chip.proofs.saving.save_bytes.Goals as goal
 
 pub returns-in-Err-clause-saves : goal.returns-in-Err-clause-saves
 returns-in-Err-clause-saves g c =
-    let refused = c.refuse_file-in-Err.ensures in
+    let refused = c.refuse_saving-in-Err.ensures in
     not_written _ _ _ _ c.args.file.now c.args.bytes.now _ _ _ _ _ c.create.result c.in-Err.field-0
     (sym c.is_err.ensures.value ∙ c.if-is_err.false) c.create.ensures.kept c.create.ensures.counts.0
     c.in-Err.ensures.part c.in-Err.ensures.counts c.in-Err.ensures.fault refused.status refused.told refused.rises

@@ -1,8 +1,9 @@
 use Rattle.std.proofs.Common.{subst}
+use Rattle.avr_message.specs.Lines.{Bytes}
 use Rattle.avr_part.specs.PartFile.{GivesOrMemory, parts_of}
 use Rattle.avr_plan.proofs.PartStages.{went_parts, goes_bad_parts, goes_long_parts}
-use Rattle.avr_plan.proofs.FileStages.{goes_file_fault, breaks_as, counted_as}
-use Rattle.avr_plan.specs.Lines.{Bytes}
+use Rattle.avr_plan.proofs.FileStages.{goes_file_fault}
+use Rattle.avr_plan.proofs.Openings.{breaks_as, counted_as}
 use Rattle.avr_plan.specs.Planning.{judged_parts}
 use Rattle.avr_plan.proofs.part_choice.file_parts.Goals as goal
 

@@ -1,6 +1,7 @@
 use Rattle.std.proofs.Common.{◌∙◌, sym, ap, subst, arith, [], ◌∷◌, ◌++◌, ◌+◌, List, drop, Ok, Err, All}
 use Rattle.std.proofs.lemmas.List.{drop_more, drop_all}
 use Rattle.std.proofs.lemmas.List.Elements.{All-append}
+use Rattle.std.proofs.lemmas.Result.{err_from_is_err_and}
 use Rattle.avr_cli.specs.declared.update.Update.{Update}
 use Rattle.avr_plan.proofs.Played.{went_nowhere, goes_without_memory}
 use Rattle.avr_plan.proofs.TaskStages.{goes_with_next, goes_without_next, pushed, all_one}
@@ -17,28 +18,29 @@ loop-update-preserved g c =
     let u = c.update-item.result in
     let part = c.args.part.now in
     let cut = drop_more us i u c.loop-update-test.true ∙ ap (λ (x : Update). x ∷ drop (i + 1) us) (sym c.update-item.is) in
-    let same = pushed c.push.result c.push.new.self (c.loop-update.tasks ++ c.in-Ok.task ∷ []) c.loop-update.tasks c.push.ensures
+    let same = pushed c.push.result c.push.new.self (c.loop-update.tasks ++ c.in_ok-task.task ∷ []) c.loop-update.tasks c.push.ensures
     c.if-is_err.ensures.value in
     record {
       goes = λ new now result goes. c.loop-update.invariant.goes new now result
-          (goes_with_next c.args.switches part c.loop-update.tasks us i u _ _ new _ _ now c.in-Ok.task result cut c.in-Ok.ensures.goes
-          c.in-Ok.ensures.rises
+          (goes_with_next c.args.switches part c.loop-update.tasks us i u _ _ new _ _ now c.in_ok-task.task result cut c.in_ok-task.ensures.goes
+          c.in_ok-task.ensures.rises
           (subst (λ (ts : List Task). Goes (tasks_stage c.args.switches part ts (drop (i + 1) us)) (g.D.Desk.kept c.update_task.new.desk) new
           (g.D.Desk.failures c.update_task.new.desk) now result) same goes));
-      rises = omega (arith, c.loop-update.invariant.rises, c.in-Ok.ensures.rises);
+      rises = omega (arith, c.loop-update.invariant.rises, c.in_ok-task.ensures.rises);
       fitted = subst (λ (ts : List Task). All (IsFitted part) ts) (sym same)
-          (All-append (IsFitted part) c.loop-update.tasks (c.in-Ok.task ∷ []) c.loop-update.invariant.fitted
-          (all_one (IsFitted part) c.in-Ok.task c.in-Ok.ensures.fitted));
+          (All-append (IsFitted part) c.loop-update.tasks (c.in_ok-task.task ∷ []) c.loop-update.invariant.fitted
+          (all_one (IsFitted part) c.in_ok-task.task c.in_ok-task.ensures.fitted));
     }
 
-pub returns-in-Err-clause-goes : goal.returns-in-Err-clause-goes
-returns-in-Err-clause-goes g c =
+pub returns-in_err-task-clause-goes : goal.returns-in_err-task-clause-goes
+returns-in_err-task-clause-goes g c =
     let us = c.args.updates.now in
     let i = c.loop-update.update-index in
     let u = c.update-item.result in
     let cut = drop_more us i u c.loop-update-test.true ∙ ap (λ (x : Update). x ∷ drop (i + 1) us) (sym c.update-item.is) in
-    c.loop-update.invariant.goes _ _ (Err c.in-Err.status)
-    (goes_without_next c.args.switches c.args.part.now c.loop-update.tasks us i u _ _ _ _ c.in-Err.status cut c.in-Err.ensures.goes)
+    let p = err_from_is_err_and c.from_residual.result c.from_residual.ensures.1 in
+    rw (p.1, p.2) (c.loop-update.invariant.goes _ _ (Err c.in_err-task.field-0.0)
+    (goes_without_next c.args.switches c.args.part.now c.loop-update.tasks us i u _ _ _ _ c.in_err-task.field-0.0 cut c.in_err-task.ensures.goes))
 
 pub returns-then-is_err-clause-goes : goal.returns-then-is_err-clause-goes
 returns-then-is_err-clause-goes g c =
@@ -48,9 +50,9 @@ returns-then-is_err-clause-goes g c =
     let part = c.args.part.now in
     let cut = drop_more us i u c.loop-update-test.true ∙ ap (λ (x : Update). x ∷ drop (i + 1) us) (sym c.update-item.is) in
     c.loop-update.invariant.goes _ _ (Err c.refuse_memory.result)
-    (goes_with_next c.args.switches part c.loop-update.tasks us i u _ _ _ _ _ _ c.in-Ok.task (Err c.refuse_memory.result) cut c.in-Ok.ensures.goes
-    c.in-Ok.ensures.rises
-    (goes_without_memory (tasks_stage c.args.switches part (c.loop-update.tasks ++ c.in-Ok.task ∷ []) (drop (i + 1) us)) _ _ _ _ _
+    (goes_with_next c.args.switches part c.loop-update.tasks us i u _ _ _ _ _ _ c.in_ok-task.task (Err c.refuse_memory.result) cut c.in_ok-task.ensures.goes
+    c.in_ok-task.ensures.rises
+    (goes_without_memory (tasks_stage c.args.switches part (c.loop-update.tasks ++ c.in_ok-task.task ∷ []) (drop (i + 1) us)) _ _ _ _ _
     c.refuse_memory.ensures.status c.refuse_memory.ensures.told))
 
 pub returns-clause-goes : goal.returns-clause-goes
