@@ -165,14 +165,14 @@ told_some old new l a b (Err stopped) some =
     one_line old new l f.whole f.begun f.later f.sayings_are f.part (between_is a b some ∙ f.kept)
 
 -- a file's trouble is told behind what was done
-pub file_stops : (old mid new : Option Record) (sayings : List Saying) (file : List ℕ) (trouble : Trouble) (a b c : ℕ) → SaysFront old mid sayings → HasFailed a b → a ≤ b → b ≤ c
-    → PrintsSome mid new (cause_line (OfFile file trouble)) → SaidSome old new sayings (DeskStops a c)
-file_stops old mid new sayings file trouble a b c front failed first then some = record {
+pub file_stops : (old mid new : Option Record) (sayings : List Saying) (file : List ℕ) (trouble : Trouble) (S : Cause → Type 0) → SaysFront old mid sayings → S (OfFile file trouble)
+    → PrintsSome mid new (cause_line (OfFile file trouble)) → SaidSome old new sayings S
+file_stops old mid new sayings file trouble S front stops some = record {
   between = mid;
   front = front;
   cause = OfFile file trouble;
   told = some.0;
-  stops = failed_before a b c first then failed;
+  stops = stops;
   of_line = some.1;
   kept = some.2;
 }

@@ -1,19 +1,19 @@
 //! What was read of a memory becomes a file.
 ghost use Rattle.std.specs.Prelude.{◌≡◌, ◌∷◌, ◌≤◌, ◌<◌, ◌^◌, [], length, OnErr};
 ghost use Rattle.avr_message.specs.Lines.{error};
-ghost use Rattle.avr_message.specs.Said.{Creates, Writes};
+ghost use Rattle.avr_message.specs.Said.{Creates, Writes, Tells};
 ghost use Rattle.avr_tool.specs.FileText.{file_text};
-ghost use Rattle.avr_tool.specs.Runs.{Reports, PrintStops, DeskStops, PrintsSome};
-ghost use Rattle.avr_tool.specs.Saving.{sent_says};
+ghost use Rattle.avr_tool.specs.Runs.{Reports, PrintStops, DeskStops};
+ghost use Rattle.avr_tool.specs.Saving.{sent_says, SaveStops};
 ghost use Rattle.avr_tool.specs.Session.{saved, kept_of, read_says, fault_or};
 ghost use Rattle.stk_host.specs.Calls.{given};
 
 use crate::file_text::{trimmed, write_text};
-use crate::reports::{report_bytes, tell, tell_fault};
+use crate::reports::{report_bytes, tell_fault};
 use crate::standing::Stopped;
 use avr_cli::{Format, Switches};
 use avr_desk::{Desk, Stream};
-use avr_message::Piece;
+use avr_message::{Piece, print_error};
 use avr_part::Mem;
 use avr_plan::Plan;
 use stk_host::HostFault;
@@ -27,10 +27,11 @@ pub(crate) struct Target<'a> {
 
 /// Prints what can't be done with a file, as far as the desk prints it.
 fn tell_trouble<D: Desk>(desk: &mut D, file: &str, trouble: &str)
-    ensures some { PrintsSome (D.kept desk.old) (D.kept desk.new) (error (file.now ∷ trouble.now ∷ [])) }
+    ensures told { Tells (D.kept desk.old) (D.kept desk.new) (error (file.now ∷ trouble.now ∷ []))
+        (D.failures desk.old) (D.failures desk.new) }
     ensures counted { D.failures desk.old ≤ D.failures desk.new }
 {
-    let _ = tell(desk, &[Piece::Text(file), Piece::Text(trouble)]);
+    let _ = print_error(desk, &[Piece::Text(file), Piece::Text(trouble)]);
 }
 
 /// Writes the text that these bytes are in a format to the file that was created, or to standard output.
@@ -43,7 +44,7 @@ fn write_file<D: Desk>(
     requires { length bytes.now ≤ 2 ^ 32 }
     ensures reports { Reports (D.kept desk.old) (D.kept desk.new)
         (sent_says stream (file_text target.entry.format bytes.now))
-        (DeskStops (D.failures desk.old) (D.failures desk.new)) result }
+        (SaveStops target.entry.file.now (D.failures desk.old) (D.failures desk.new)) result }
     ensures counted { D.failures desk.old ≤ D.failures desk.new }
 {
     match write_text(desk, stream, target.format, bytes) {
@@ -60,7 +61,7 @@ fn create_file<D: Desk>(desk: &mut D, target: Target<'_>, bytes: &[u8]) -> Resul
     requires { length bytes.now ≤ 2 ^ 32 }
     ensures reports { Reports (D.kept desk.old) (D.kept desk.new)
         (Creates target.entry.file.now ∷ Writes (file_text target.entry.format bytes.now) ∷ [])
-        (DeskStops (D.failures desk.old) (D.failures desk.new)) result }
+        (SaveStops target.entry.file.now (D.failures desk.old) (D.failures desk.new)) result }
     ensures counted { D.failures desk.old ≤ D.failures desk.new }
 {
     match desk.create(target.file) {
@@ -77,7 +78,7 @@ pub(crate) fn save<D: Desk>(desk: &mut D, target: Target<'_>, bytes: &[u8]) -> R
     requires { length bytes.now ≤ 2 ^ 32 }
     ensures reports { Reports (D.kept desk.old) (D.kept desk.new)
         (saved target.entry.file.now (file_text target.entry.format bytes.now))
-        (DeskStops (D.failures desk.old) (D.failures desk.new)) result }
+        (SaveStops target.entry.file.now (D.failures desk.old) (D.failures desk.new)) result }
     ensures counted { D.failures desk.old ≤ D.failures desk.new }
 {
     if target.file == "-" {

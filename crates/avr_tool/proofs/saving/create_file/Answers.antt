@@ -1,9 +1,9 @@
-use Rattle.std.proofs.Common.{[], ◌∷◌}
+use Rattle.std.proofs.Common.{[], ◌∷◌, refl}
 use Rattle.avr_message.specs.Said.{Writes}
 use Rattle.avr_tool.specs.FileText.{file_text}
 use Rattle.avr_tool.specs.Runs.{NotCreated, cause_line}
-use Rattle.avr_tool.proofs.Reporting.{file_stops}
-use Rattle.avr_tool.proofs.Saves.{failed_by, not_created, created_then}
+use Rattle.avr_tool.proofs.Reporting.{failed_before, file_stops}
+use Rattle.avr_tool.proofs.Saves.{failed_by, not_created, created_then, tells_some}
 use Rattle.avr_tool.proofs.saving.create_file.Goals as goal
 
 pub returns-in-Ok-clause-reports : goal.returns-in-Ok-clause-reports
@@ -13,5 +13,6 @@ returns-in-Ok-clause-reports g c =
 pub returns-in-Err-clause-reports : goal.returns-in-Err-clause-reports
 unfolding cause_line
 returns-in-Err-clause-reports g c =
-    file_stops _ _ _ _ c.args.target.file.now NotCreated _ _ _ (not_created _ _ c.args.target.file.now c.create.result _ _ c.in-Err.is c.create.ensures.kept) (failed_by _ _ c.create.result _ c.in-Err.is c.create.ensures.fault c.create.ensures.counts) c.create.ensures.counts.0
-    c.tell_trouble.ensures.counted c.tell_trouble.ensures.some
+    let failed = failed_by _ _ c.create.result _ c.in-Err.is c.create.ensures.fault c.create.ensures.counts in
+    file_stops _ _ _ _ c.args.target.file.now NotCreated _ (not_created _ _ c.args.target.file.now c.create.result _ _ c.in-Err.is c.create.ensures.kept)
+    (refl, failed_before _ _ _ c.create.ensures.counts.0 c.tell_trouble.ensures.counted failed) (tells_some _ _ _ _ _ c.tell_trouble.ensures.told)

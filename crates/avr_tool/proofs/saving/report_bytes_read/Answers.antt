@@ -2,7 +2,8 @@ use Rattle.std.proofs.Common.{length, codes}
 use Rattle.std.proofs.lemmas.Result.{err_from_is_err_and}
 use Rattle.avr_tool.specs.FileText.{file_text}
 use Rattle.avr_tool.specs.Session.{saved, bytes_say}
-use Rattle.avr_tool.proofs.Saves.{reports_then, reports_until}
+use Rattle.avr_tool.proofs.Reporting.{stops_for}
+use Rattle.avr_tool.proofs.Saves.{save_is_desk, reports_then, reports_until}
 use Rattle.avr_tool.proofs.saving.report_bytes_read.Goals as goal
 
 pub returns-clause-reports : goal.returns-clause-reports
@@ -17,4 +18,4 @@ returns-in_err-save-clause-reports g c =
     let p = err_from_is_err_and c.from_residual.result c.from_residual.ensures.1 in
     let kept = c.kept_of-kept.result.now in
     rw (p.1, ← c.kept_of-kept.ensures)
-    (reports_until (saved c.args.target.file.now (file_text c.args.target.format kept)) (bytes_say c.args.switches.quiet c.args.mem (length kept) (codes " bytes read")) p.0 c.in_err-save.ensures.reports)
+    (reports_until (saved c.args.target.file.now (file_text c.args.target.format kept)) (bytes_say c.args.switches.quiet c.args.mem (length kept) (codes " bytes read")) p.0 (stops_for _ _ (save_is_desk c.args.target.file.now _ _) c.in_err-save.ensures.reports))
