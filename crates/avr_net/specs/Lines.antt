@@ -2,6 +2,6 @@
 use Rattle.std.specs.Prelude.{[], ◌∷◌, codes}
 use Rattle.avr_message.specs.Lines.{Bytes, error}
 
--- the port as it was given: the text of `-P`, or the number of `--serve`
-unfoldable pub unopened_line : Bytes → Bytes
-unopened_line port = error (codes "port " ∷ port ∷ codes " cannot be opened" ∷ [])
+-- the port as it was given: what stands before its name, `net:` of `-P` and nothing of `--serve`, and the name
+unfoldable pub unopened_line : Bytes → Bytes → Bytes
+unopened_line scheme name = error (codes "port " ∷ scheme ∷ name ∷ codes " cannot be opened" ∷ [])

@@ -1,5 +1,5 @@
 -- A run over a port of the network, from settings to status.
-use Rattle.std.specs.Prelude.{ℕ, ◌≡◌, ◌≤◌, ◌⊎◌, ◌++◌, Option, None, Err, codes}
+use Rattle.std.specs.Prelude.{ℕ, ◌≡◌, ◌≤◌, ◌⊎◌, Option, None, Err, codes}
 use Rattle.avr_cli.specs.declared.chosen.Settings.{Settings}
 use Rattle.avr_desk.specs.Record.{Record}
 use Rattle.avr_message.specs.Lines.{Bytes}
@@ -29,7 +29,7 @@ pub record LacksPort (settings : Settings) (address : Bytes) (old new : Option R
   pub planned_failures : ℕ
   pub made : Went (planned settings) old planned_desk (Made plan)
   pub rises : before ≤ planned_failures
-  pub told : Tells planned_desk new (unopened_line (codes "net:" ++ address)) planned_failures now
+  pub told : Tells planned_desk new (unopened_line (codes "net:") address) planned_failures now
   pub status_is : status ≡ 1
 
 -- the one or the other, or there is no plan (that the port was left alone then, no clause says)

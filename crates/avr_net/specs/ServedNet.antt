@@ -1,5 +1,5 @@
 -- Serving an emulated programmer at a port of this machine, from settings to status.
-use Rattle.std.specs.Prelude.{ℕ, ◌≡◌, ◌≤◌, ◌⊎◌, Option, Some, None, Err}
+use Rattle.std.specs.Prelude.{ℕ, ◌≡◌, ◌≤◌, ◌⊎◌, [], Option, Some, None, Err}
 use Rattle.avr_cli.specs.Port.{port_number}
 use Rattle.avr_cli.specs.declared.chosen.Settings.{Settings}
 use Rattle.avr_desk.specs.Record.{Record}
@@ -18,7 +18,7 @@ pub record ServesCaller (chip : chips.State) (file : Bytes) (old new : Option Re
 
 -- No connection could be accepted: that was told, nothing else was done at the desk, and the status is 1.
 pub record LacksCaller (port : Bytes) (old new : Option Record) (before now status : ℕ) : Type 0 where
-  pub told : Tells old new (unopened_line port) before now
+  pub told : Tells old new (unopened_line [] port) before now
   pub status_is : status ≡ 1
 
 -- the one or the other

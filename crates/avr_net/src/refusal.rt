@@ -1,5 +1,5 @@
 //! A port that cannot be opened.
-ghost use Rattle.std.specs.Prelude.{◌≡◌, ◌++◌};
+ghost use Rattle.std.specs.Prelude.{◌≡◌};
 ghost use Rattle.avr_message.specs.Said.{Tells};
 ghost use Rattle.avr_net.specs.Lines.{unopened_line};
 
@@ -12,9 +12,10 @@ const UNOPENED: u8 = 1;
 /// Tells that a port cannot be opened, as far as the desk takes it, and answers the status, 1.
 ///
 /// The port was given as `scheme` and behind it `name`: `net:` and `HOST:PORT`, or nothing and a number.
+#[tactic(auto, unfolding(crate::specs::Lines::unopened_line))]
 pub(crate) fn refuse_unopened<'a, D: Desk>(desk: &mut D, scheme: &'a str, name: &'a str) -> u8
     ensures status { result ≡ 1 }
-    ensures told { Tells (D.kept desk.old) (D.kept desk.new) (unopened_line (scheme.now ++ name.now)) (D.failures desk.old) (D.failures desk.new) }
+    ensures told { Tells (D.kept desk.old) (D.kept desk.new) (unopened_line scheme.now name.now) (D.failures desk.old) (D.failures desk.new) }
 {
     let _ = print_error(
         desk,
