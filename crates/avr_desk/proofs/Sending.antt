@@ -1,10 +1,10 @@
 -- Bytes that are sent one after the other.
-use Rattle.std.proofs.Common.{◌≡◌, ◌∙◌, ap, sym, refl, arith, ℕ, ◌+◌, ◌-◌, List, ◌++◌, Option, Some, None, option_map, append_assoc, append-nil, take, drop, length, Bor, [], ◌∷◌, get_or, ◌<◌, ◌≤◌}
+use Rattle.std.proofs.Common.{◌≡◌, ◌∙◌, ap, sym, refl, arith, ℕ, ◌+◌, ◌-◌, ◌++◌, Option, Some, None, option_map, append_assoc, append-nil, take, drop, length, [], ◌≤◌}
 use Rattle.std.proofs.Math.Seq.{take-add, take-append-add}
 use Rattle.std.proofs.lemmas.Grind.{common_steps}
-use Rattle.std.proofs.lemmas.List.{drop_more, take_more, length-append, take-append-le, take-append-drop}
+use Rattle.std.proofs.lemmas.List.{length-append, take-append-le}
 use Rattle.avr_desk.specs.Record.{Record, Bytes, written_on}
-use Rattle.avr_desk.specs.Stream.{after_sent, joined, SendsPart}
+use Rattle.avr_desk.specs.Stream.{after_sent, SendsPart}
 use Rattle.avr_desk.specs.declared.stream.Stream.{Stream}
 use Rattle.avr_desk.specs.declared.stream.Stream.TheVariants.{File, Output, Messages}
 use Rattle.avr_desk.specs.declared.record.Open.{Open}
@@ -69,18 +69,3 @@ sent_next_part s old now new a b c first then =
     let cut : take (length a + then.0) (a ++ (b ++ c)) ≡ a ++ take then.0 b =
     take-append-add a (b ++ c) then.0 ∙ ap (λ (x : Bytes). a ++ x) (take-append-le then.0 b c within) in
     (length a + then.0, omega (arith, length-append a (b ++ c), length-append b c), e ∙ ap (λ (x : Bytes). option_map (after_sent s x) old) (sym cut))
-
-joined-append : (ps qs : List (Bor Bytes)) → joined (ps ++ qs) ≡ joined ps ++ joined qs
-joined-append [] qs = refl
-joined-append (p ∷ ps) qs = ap (λ (b : Bytes). p.now ++ b) (joined-append ps qs) ∙ sym (append_assoc p.now (joined ps) (joined qs))
-
--- the pieces before the ith, the ith and those behind it
-pub joined_at : (ps : List (Bor Bytes)) (i : ℕ) (d : Bor Bytes) → i < length ps → joined ps ≡ joined (take i ps) ++ ((get_or ps i d).now ++ joined (drop (i + 1) ps))
-joined_at ps i d l =
-    ap joined (sym (take-append-drop i ps)) ∙ joined-append (take i ps) (drop i ps)
-    ∙ ap (λ (qs : List (Bor Bytes)). joined (take i ps) ++ joined qs) (drop_more ps i d l)
-
-pub joined_more : (ps : List (Bor Bytes)) (i : ℕ) (d : Bor Bytes) → i < length ps → joined (take (i + 1) ps) ≡ joined (take i ps) ++ (get_or ps i d).now
-joined_more ps i d l =
-    ap joined (take_more ps i d l) ∙ joined-append (take i ps) (get_or ps i d ∷ [])
-    ∙ ap (λ (b : Bytes). joined (take i ps) ++ b) (append-nil (get_or ps i d).now)

@@ -1,6 +1,5 @@
 -- Where bytes go, and a call that sends them all or only a front of them.
-use Rattle.std.specs.Prelude.{◌≡◌, ◌≤◌, ◌++◌, ℕ, List, [], ◌∷◌, take, length, Option, option_map}
-use Rattle.std.specs.Borrow.{Bor}
+use Rattle.std.specs.Prelude.{◌≡◌, ◌≤◌, ℕ, take, length, Option, option_map}
 use Rattle.avr_desk.specs.Record.{Record, Bytes, after_write, after_out, after_err}
 use Rattle.avr_desk.specs.declared.stream.Stream.{Stream}
 use Rattle.avr_desk.specs.declared.stream.Stream.TheVariants.{File, Output, Messages}
@@ -15,8 +14,3 @@ after_sent Messages bytes r = after_err bytes r
 abbrev pub SendsPart : Stream → Option Record → Option Record → Bytes → Type 0
 SendsPart stream old new bytes =
     (n : ℕ) × (n ≤ length bytes) × (new ≡ option_map (after_sent stream (take n bytes)) old)
-
--- the pieces, one after the other
-abbrev pub joined : List (Bor Bytes) → Bytes
-joined [] = []
-joined (p ∷ ps) = p.now ++ joined ps

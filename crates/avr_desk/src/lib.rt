@@ -3,8 +3,8 @@
 //! The one idea: what was asked of a desk and what it gave is one record, so that a contract of a
 //! caller can say what was opened, created, printed and reported, over any desk that shows it.
 //!
-//! `read_file(alloc, &mut desk, "a.hex", 65_536)?` reads a file whole, `print_pieces(&mut desk,
-//! &[b"done", b"\n"])?` reports a line.
+//! `read_file(alloc, &mut desk, "a.hex", 65_536)?` reads a file whole, `write_all(&mut desk,
+//! Stream::Messages, b"done\n")?` reports a line.
 #![tactic(auto)]
 
 // What a desk is, and what it keeps of a run.
@@ -30,7 +30,7 @@ pub use fault::DeskFault;
 pub use files::{Contents, FileFault, read_file};
 pub use mem_desk::MemDesk;
 pub use record::{Open, Opening, Reading, Writing};
-pub use stream::{Stream, print_pieces, write_all};
+pub use stream::{Stream, write_all};
 pub use system::SystemDesk;
 
 #[cfg(test)]

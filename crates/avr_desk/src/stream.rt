@@ -1,8 +1,8 @@
 //! All of the bytes, to one of the three places that a desk writes to.
 ghost use Rattle.std.specs.Prelude.{◌≡◌, ◌≤◌, length, option_map, IfOk, IfErr, OnOk, OnErr};
 ghost use Rattle.avr_desk.specs.Fault.{Counts, HasFailed, TakesNone};
-ghost use Rattle.avr_desk.specs.Record.{after_err, taken};
-ghost use Rattle.avr_desk.specs.Stream.{SendsPart, after_sent, joined};
+ghost use Rattle.avr_desk.specs.Record.{taken};
+ghost use Rattle.avr_desk.specs.Stream.{SendsPart, after_sent};
 
 use crate::desk::Desk;
 use crate::fault::DeskFault;
@@ -47,23 +47,6 @@ pub fn write_all<D: Desk>(desk: &mut D, stream: Stream, bytes: &[u8]) -> Result<
             return Err(DeskFault::Failed);
         }
         at += count;
-    }
-    Ok(())
-}
-
-/// Writes the pieces one after the other as a message. After a fault a front of them was written,
-/// and nothing more is.
-pub fn print_pieces<D: Desk>(desk: &mut D, pieces: &[&[u8]]) -> Result<(), DeskFault>
-    ensures all { OnOk result (D.kept desk.new ≡ option_map (after_err (joined pieces.now)) (D.kept desk.old)) }
-    ensures part { OnErr result (SendsPart Stream.Messages (D.kept desk.old) (D.kept desk.new) (joined pieces.now)) }
-    ensures counts { Counts (D.failures desk.old) (D.failures desk.new) result }
-    ensures fault { IfErr result (λ e. e ≡ DeskFault.Failed) }
-{
-    for piece in pieces {
-        match write_all(desk, Stream::Messages, piece) {
-            Ok(()) => {}
-            Err(fault) => return Err(fault),
-        }
     }
     Ok(())
 }

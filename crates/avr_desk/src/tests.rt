@@ -1,7 +1,7 @@
 //! Calls on their happy path, and the desk of a program over real files.
 use crate::{
-    Bytes, Desk, DeskFault, FailingDesk, FileFault, MemDesk, Stream, SystemDesk, print_pieces,
-    read_file, write_all,
+    Bytes, Desk, DeskFault, FailingDesk, FileFault, MemDesk, Stream, SystemDesk, read_file,
+    write_all,
 };
 use std::alloc::Global;
 use std::io::{self, ErrorKind, Write};
@@ -57,7 +57,8 @@ fn a_created_file_is_new(rt: HostRuntime) -> Result<(), Fail> {
 fn output_and_messages(rt: HostRuntime) -> Result<(), Fail> {
     let mut desk = MemDesk::new(rt.alloc(), Bytes::new(rt.alloc()));
     write_all(&mut desk, Stream::Output, b"0xe2\n")?;
-    print_pieces(&mut desk, &[b"avrstk: ", b"done", b"\n"])?;
+    write_all(&mut desk, Stream::Messages, b"avrstk: ")?;
+    write_all(&mut desk, Stream::Messages, b"done\n")?;
     assert!(rt; desk.output() == b"0xe2\n".as_slice());
     assert!(rt; desk.messages() == b"avrstk: done\n".as_slice());
     Ok(())
