@@ -1,13 +1,10 @@
 -- What was done at a desk, whole or in part.
-use Rattle.std.proofs.Common.{◌≡◌, ◌∙◌, sym, subst, option_map, IfErr, inl, inr, ap, List, [], ◌∷◌, ◌++◌, ℕ, take, drop, refl, Option, Some, None, Ok, Err, Result, append_assoc, append-nil}
+use Rattle.std.proofs.Common.{◌≡◌, ◌∙◌, sym, subst, option_map, ap, List, [], ◌∷◌, ◌++◌, ℕ, take, drop, refl, Option, Some, None, append_assoc}
 use Rattle.std.proofs.lemmas.List.{take-append-drop}
 use Rattle.avr_desk.specs.Record.{Record}
-use Rattle.avr_desk.specs.Fault.{Counts}
-use Rattle.avr_desk.specs.declared.fault.DeskFault.{DeskFault}
-use Rattle.avr_desk.specs.declared.fault.DeskFault.TheVariants.{NotFound, Failed}
 use Rattle.avr_desk.specs.Stream.{SendsPart}
 use Rattle.avr_desk.specs.declared.stream.Stream.TheVariants.{Messages, File, Output}
-use Rattle.avr_message.specs.Said.{Saying, Line, Writes, Outs, Says, SaysFront, IsBegun, IsPrinted, Tells, after, after_all}
+use Rattle.avr_message.specs.Said.{Saying, Line, Writes, Outs, SaysFront, IsBegun, after, after_all}
 
 -- one thing after another
 pub kept_on : (f g h : Record → Record) (a b c : Option Record) → ((r : Record) → h r ≡ g (f r)) → b ≡ option_map f a → c ≡ option_map g b → c ≡ option_map h a
@@ -29,17 +26,6 @@ kept_append x y a b c e f = kept_on (after_all x) (after_all y) (after_all (x ++
 -- nothing was done
 pub none_said : (d : Option Record) (sayings : List Saying) → SaysFront d d sayings
 none_said d sayings = record { whole = []; begun = []; later = sayings; sayings_are = refl; part = tt; kept = kept_none d }
-
--- all was done
-pub all_said : {d e : Option Record} (sayings : List Saying) → e ≡ option_map (after_all sayings) d → SaysFront d e sayings
-all_said {d = d} {e = e} sayings kept = record {
-  whole = sayings;
-  begun = [];
-  later = [];
-  sayings_are = sym (append-nil sayings);
-  part = tt;
-  kept = subst (λ ss. e ≡ option_map (after_all ss) d) (sym (append-nil sayings)) kept;
-}
 
 -- sayings that were done, and a front of others behind them
 pub front_behind : {d e f : Option Record} (done more : List Saying) → e ≡ option_map (after_all done) d → SaysFront e f more → SaysFront d f (done ++ more)
@@ -99,19 +85,3 @@ out_part old new bytes more part = record {
   part = (drop part.0 bytes, take-append-drop part.0 bytes);
   kept = part.2;
 }
-
--- a line that was printed is said
-pub says_line : {T Fault : Type 0} (old new : Option Record) (bytes : List ℕ) (result : Result T Fault) → IsPrinted old new bytes result → Says old new (Line bytes ∷ []) result
-says_line old new bytes (Ok done) printed = printed
-says_line old new bytes (Err fault) part = line_part old new bytes [] part
-
--- a line that was printed behind sayings that were done
-pub says_behind : {T Fault : Type 0} (done : List Saying) (old mid new : Option Record) (bytes : List ℕ) (result : Result T Fault) → mid ≡ option_map (after_all done) old → IsPrinted mid new bytes result
-    → Says old new (done ++ Line bytes ∷ []) result
-says_behind done old mid new bytes (Ok ok) kept printed = kept_append done (Line bytes ∷ []) old mid new kept printed
-says_behind done old mid new bytes (Err fault) kept part = front_behind done (Line bytes ∷ []) kept (line_part mid new bytes [] part)
-
-pub told_by : (old new : Option Record) (line : List ℕ) (before now : ℕ) (result : Result (Unit {0}) DeskFault) → IsPrinted old new line result → Counts before now result → IfErr result (λ e. e ≡ Failed) → Tells old new line before now
-told_by old new line before now (Ok done) printed counts only = inl printed
-told_by old new line before now (Err NotFound) part counts only = cc
-told_by old new line before now (Err Failed) part counts only = inr (part, counts.1)

@@ -63,11 +63,6 @@ pub record SaysFront (old new : Option Record) (sayings : List Saying) : Type 0 
   pub part : IsBegun begun later
   pub kept : new ≡ option_map (after_all (whole ++ begun)) old
 
--- All of them were done, or where the desk failed a front of them.
-abbrev pub Says : {T Fault : Type 0} → Option Record → Option Record → List Saying → Result T Fault → Type 0
-Says old new sayings (Ok done) = new ≡ option_map (after_all sayings) old
-Says old new sayings (Err fault) = SaysFront old new sayings
-
 -- The line was printed, or where the desk failed a front of it.
 abbrev pub IsPrinted : {T Fault : Type 0} → Option Record → Option Record → Bytes → Result T Fault → Type 0
 IsPrinted old new bytes (Ok done) = new ≡ option_map (after_err bytes) old

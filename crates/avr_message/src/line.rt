@@ -1,5 +1,5 @@
 //! Lines of messages.
-ghost use Rattle.std.specs.Prelude.{◌≡◌, map, option_map, OnOk, OnErr, IfErr};
+ghost use Rattle.std.specs.Prelude.{◌≡◌, ◌∷◌, [], map, option_map, OnOk, OnErr, IfErr};
 ghost use Rattle.std.specs.List.{concat};
 ghost use Rattle.avr_desk.specs.Fault.{Counts};
 ghost use Rattle.avr_desk.specs.Record.{after_err};
@@ -26,6 +26,16 @@ fn write_pieces<D: Desk>(desk: &mut D, pieces: &[Piece<'_>]) -> Result<(), DeskF
     Ok(())
 }
 
+/// Ends a line.
+fn end_line<D: Desk>(desk: &mut D) -> Result<(), DeskFault>
+    ensures all { OnOk result (D.kept desk.new ≡ option_map (after_err (10 ∷ [])) (D.kept desk.old)) }
+    ensures part { OnErr result (SendsPart Stream.Messages (D.kept desk.old) (D.kept desk.new) (10 ∷ [])) }
+    ensures counts { Counts (D.failures desk.old) (D.failures desk.new) result }
+    ensures fault { IfErr result (λ e. e ≡ DeskFault.Failed) }
+{
+    write_all(desk, Stream::Messages, b"\n")
+}
+
 /// Prints a line that begins with this mark.
 fn print_line<D: Desk>(desk: &mut D, mark: &str, pieces: &[Piece<'_>]) -> Result<(), DeskFault>
     ensures printed { IsPrinted (D.kept desk.old) (D.kept desk.new) (line mark.now (map text_of pieces.now)) result }
@@ -40,10 +50,17 @@ fn print_line<D: Desk>(desk: &mut D, mark: &str, pieces: &[Piece<'_>]) -> Result
         Ok(()) => {}
         Err(fault) => return Err(fault),
     }
-    write_all(desk, Stream::Messages, b"\n")
+    end_line(desk)
 }
 
-/// Prints a line of information. After a fault of the desk a front of the line was printed.
+/// Prints a line of information to the desk's messages: `avrstk: `, the pieces and LF. The one fault
+/// is `Failed`, which comes where the desk failed; a front of the line was printed then, and no more.
+///
+/// ```text
+/// let signature = Piece::Signature([0x1E, 0x95, 0x0F]);
+/// print_information(&mut desk, &[Piece::Text("device signature = "), signature])?;
+/// assert!(rt; desk.messages() == b"avrstk: device signature = 1E 95 0F\n".as_slice());
+/// ```
 pub fn print_information<D: Desk>(desk: &mut D, pieces: &[Piece<'_>]) -> Result<(), DeskFault>
     ensures printed { IsPrinted (D.kept desk.old) (D.kept desk.new) (information (map text_of pieces.now)) result }
     ensures counts { Counts (D.failures desk.old) (D.failures desk.new) result }
@@ -52,7 +69,12 @@ pub fn print_information<D: Desk>(desk: &mut D, pieces: &[Piece<'_>]) -> Result<
     print_line(desk, "avrstk: ", pieces)
 }
 
-/// Prints a warning. After a fault of the desk a front of the line was printed.
+/// Prints a warning, as [`print_information`] prints a line, behind `avrstk: warning: `.
+///
+/// ```text
+/// print_warning(&mut desk, &[Piece::Text("a.hex"), Piece::Text(": no end record")])?;
+/// assert!(rt; desk.messages() == b"avrstk: warning: a.hex: no end record\n".as_slice());
+/// ```
 pub fn print_warning<D: Desk>(desk: &mut D, pieces: &[Piece<'_>]) -> Result<(), DeskFault>
     ensures printed { IsPrinted (D.kept desk.old) (D.kept desk.new) (warning (map text_of pieces.now)) result }
     ensures counts { Counts (D.failures desk.old) (D.failures desk.new) result }
@@ -61,7 +83,13 @@ pub fn print_warning<D: Desk>(desk: &mut D, pieces: &[Piece<'_>]) -> Result<(), 
     print_line(desk, "avrstk: warning: ", pieces)
 }
 
-/// Prints an error. After a fault of the desk a front of the line was printed.
+/// Prints an error, as [`print_information`] prints a line, behind `avrstk: error: `.
+///
+/// ```text
+/// let pieces = [Piece::Text("command "), Piece::Byte(0x10), Piece::Text(": bad answer")];
+/// print_error(&mut desk, &pieces)?;
+/// assert!(rt; desk.messages() == b"avrstk: error: command 10: bad answer\n".as_slice());
+/// ```
 pub fn print_error<D: Desk>(desk: &mut D, pieces: &[Piece<'_>]) -> Result<(), DeskFault>
     ensures printed { IsPrinted (D.kept desk.old) (D.kept desk.new) (error (map text_of pieces.now)) result }
     ensures counts { Counts (D.failures desk.old) (D.failures desk.new) result }

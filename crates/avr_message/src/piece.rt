@@ -12,15 +12,15 @@ use byteorder::{BigEndian, ByteOrder};
 /// A piece of a line.
 #[derive(Clone, Copy, Debug)]
 pub enum Piece<'a> {
-    /// A text as it is.
+    /// A text as it is. Nothing in it is escaped.
     Text(&'a str),
-    /// A byte as two upper-case hexadecimal digits.
+    /// A byte as two upper-case hexadecimal digits, as `0F`.
     Byte(u8),
-    /// A signature: three such bytes with a blank between two.
+    /// The three bytes of a signature, so written, with a blank between two, as `1E 95 0F`.
     Signature([u8; 3]),
-    /// A byte address as eight upper-case hexadecimal digits.
+    /// A byte address as eight upper-case hexadecimal digits, as `00010000`.
     Address(u32),
-    /// A decimal number.
+    /// A decimal number, as `4194304`.
     Number(u32),
 }
 

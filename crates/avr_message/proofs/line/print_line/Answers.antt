@@ -10,5 +10,5 @@ returns-in-Err-write_pieces-clause-printed g c =
 
 pub returns-clause-printed : goal.returns-clause-printed
 returns-clause-printed g c =
-    line_ends _ _ _ _ c.args.mark.now (all_text c.args.pieces.now) c.write_all-2.result (rw (← c.as_bytes.ensures.value) c.in-Ok.ensures.all) c.in-Ok-write_pieces.ensures.all
-    c.write_all-2.ensures.all c.write_all-2.ensures.part
+    line_ends _ _ _ _ c.args.mark.now (all_text c.args.pieces.now) c.end_line.result (rw (← c.as_bytes.ensures.value) c.in-Ok.ensures.all) c.in-Ok-write_pieces.ensures.all
+    c.end_line.ensures.all c.end_line.ensures.part
