@@ -1,6 +1,7 @@
 pub mod AddressLaws
 pub mod CommandLemmas
 pub mod CutLemmas
+pub mod KeepingLemmas
 mod LineRows
 pub mod PortLemmas
 pub mod UpdateLaws

@@ -1,7 +1,7 @@
 -- The command line: its options, as `clap` reads them, and what they give.
 use Rattle.std.specs.Prelude.{ℕ, Bool, true, false, List, [], ◌∷◌, ◌++◌, Option, Some, None, codes, pos, Result, unwrap_or}
 use Rattle.std.specs.Str.{bytes_eq}
-use Rattle.clap.specs.Words.{App, Row, Rule, new_app, new_rule, matches_of, first_of, all_of, count_of}
+use Rattle.clap.specs.Words.{App, Row, Rule, new_app, new_rule, with_rule, matches_of, first_of, all_of, count_of}
 use Rattle.clap.specs.declared.builder.ArgAction.TheVariants.{SetTrue, Append, Count}
 use Rattle.clap.specs.declared.builder.value_parser.ValueParser.TheVariants.{Signed}
 use Rattle.avr_cli.specs.Cuts.{Bytes}
@@ -42,13 +42,17 @@ target_rules =
     ∷ value_rule (codes "port") 80
     ∷ list_rule (codes "update") 85 ∷ []
 
--- -e, -D, -V, -n, -F and -A: how
-unfoldable pub switch_rules : List Rule
-switch_rules =
+-- -e, -D and -V: what is done before and after a write
+unfoldable pub write_rules : List Rule
+write_rules =
     flag_rule (codes "erase") 101
     ∷ flag_rule (codes "keep-flash") 68
-    ∷ flag_rule (codes "no-verify") 86
-    ∷ flag_rule (codes "dry") 110
+    ∷ flag_rule (codes "no-verify") 86 ∷ []
+
+-- -n, -F and -A: how the whole run goes
+unfoldable pub run_rules : List Rule
+run_rules =
+    flag_rule (codes "dry") 110
     ∷ flag_rule (codes "force") 70
     ∷ flag_rule (codes "all") 65 ∷ []
 
@@ -63,9 +67,10 @@ telling_rules =
 unfoldable pub file_rules : List Rule
 file_rules = long_rule (codes "parts") ∷ long_rule (codes "serve") ∷ long_rule (codes "chip") ∷ []
 
--- a command with more options
+-- a command with more options, in this order
 abbrev pub with_rules : App → List Rule → App
-with_rules a rules = record a { top = record a.top { rules = a.top.rules ++ rules } }
+with_rules a [] = a
+with_rules a (rule ∷ rules) = with_rules (with_rule a rule) rules
 
 -- a command whose options may be given again
 abbrev pub overriding : App → App
@@ -74,8 +79,8 @@ overriding a = record a { top = record a.top { args_override_self = true } }
 -- the command with all its options
 unfoldable pub avrstk : App
 avrstk =
-    with_rules (with_rules (with_rules (with_rules (overriding (new_app (codes "avrstk")))
-    target_rules) switch_rules) telling_rules) file_rules
+    with_rules (with_rules (with_rules (with_rules (with_rules (overriding (new_app (codes "avrstk")))
+    target_rules) write_rules) run_rules) telling_rules) file_rules
 
 -- a flag is given
 abbrev pub is_true : Option Bytes → Bool

@@ -1,5 +1,5 @@
 -- What a run was asked to do, as a function of what the command line gave.
-use Rattle.std.specs.Prelude.{◌≡◌, ◌⊎◌, ◌+◌, ℕ, false, nat_lt, List, [], ◌∷◌, length, Option, Some, None, Result, Ok, Err, codes}
+use Rattle.std.specs.Prelude.{◌≡◌, ◌⊎◌, ◌+◌, ℕ, Bool, true, false, nat_lt, List, [], ◌∷◌, length, Option, Some, None, Result, Ok, Err, codes}
 use Rattle.std.specs.Prelude.{if◌then◌else◌, ⊤}
 use Rattle.std.specs.Str.{bytes_eq}
 use Rattle.avr_cli.specs.Cuts.{Bytes}
@@ -12,7 +12,8 @@ use Rattle.avr_cli.specs.declared.chosen.Port.{Port}
 use Rattle.avr_cli.specs.declared.chosen.Switches.{Switches}
 use Rattle.avr_cli.specs.declared.chosen.Settings.{Settings}
 use Rattle.avr_cli.specs.declared.chosen.SettingsFault.{SettingsFault}
-use Rattle.avr_cli.specs.declared.chosen.SettingsFault.TheVariants.{NoPart, BadProgrammer, TooMany, BadUpdate, StandardTaken, Memory}
+use Rattle.avr_cli.specs.declared.chosen.SettingsFault.TheVariants.{NoPart, BadProgrammer, BadPort, NoChip, TooMany, BadUpdate}
+use Rattle.avr_cli.specs.declared.chosen.SettingsFault.TheVariants.{StandardTaken, Memory}
 
 -- the texts that the command line gave, and its switches
 pub record Entries : Type 0 where
@@ -28,6 +29,21 @@ pub record Entries : Type 0 where
 -- the result is the one wanted, or memory was refused
 abbrev pub GivesOrMemory : {T : Type 0} → Result T SettingsFault → Result T SettingsFault → Type 0
 GivesOrMemory want got = (got ≡ want) ⊎ (got ≡ Err Memory)
+
+-- the fault keeps no text, and comes before any text is kept
+abbrev pub keeps_nothing : SettingsFault → Bool
+keeps_nothing NoPart = true
+keeps_nothing (BadPort None) = true
+keeps_nothing NoChip = true
+keeps_nothing fault = false
+
+abbrev pub is_told : {T : Type 0} → Result T SettingsFault → Bool
+is_told (Ok value) = false
+is_told (Err fault) = keeps_nothing fault
+
+-- such a fault is told even where memory is refused
+abbrev pub TellsAnyway : {T : Type 0} → Result T SettingsFault → Result T SettingsFault → Type 0
+TellsAnyway want got = is_told want ≡ true → got ≡ want
 
 infixl 10 ◌>>=◌
 abbrev pub ◌>>=◌ : {A B : Type 0} → Result A SettingsFault → (A → Result B SettingsFault) → Result B SettingsFault

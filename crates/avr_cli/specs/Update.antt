@@ -1,5 +1,5 @@
 -- What is done with one memory, from the text of `-U`: MEMORY:OP:FILE[:FORMAT], or a file for flash alone.
-use Rattle.std.specs.Prelude.{◌≡◌, ◌⊎◌, ◌==◌, ◌-◌, ◌&&◌, ℕ, nat_le, List, [], ◌∷◌, ◌++◌, Option, Some, None, Result, Ok, Err}
+use Rattle.std.specs.Prelude.{◌≡◌, ◌⊎◌, ◌==◌, ◌-◌, ◌&&◌, ℕ, nat_le, List, [], ◌∷◌, ◌++◌, Option, Some, None, Result, Ok, Err, IsOk}
 use Rattle.std.specs.Prelude.{codes, length, take, slice_index, find, if◌then◌else◌}
 use Rattle.std.specs.Str.{bytes_eq}
 use Rattle.avr_part.specs.Mem.{name_of}
@@ -14,9 +14,9 @@ use Rattle.avr_cli.specs.declared.update.Update.{Update}
 use Rattle.avr_cli.specs.declared.update.UpdateFault.{UpdateFault}
 use Rattle.avr_cli.specs.declared.update.UpdateFault.TheVariants.{BadMemory, BadOp, BadFormat, NoFile, Memory}
 
--- the result is the one wanted, or memory was refused
+-- the result is the one wanted, or memory was refused to an update
 abbrev pub GivesUpdate : Result Update UpdateFault → Result Update UpdateFault → Type 0
-GivesUpdate want got = (got ≡ want) ⊎ (got ≡ Err Memory)
+GivesUpdate want got = (got ≡ want) ⊎ (IsOk want × (got ≡ Err Memory))
 
 abbrev pub memories : List Mem
 memories = Flash ∷ Eeprom ∷ Lfuse ∷ Hfuse ∷ Efuse ∷ Lock ∷ Signature ∷ Calibration ∷ []

@@ -12,16 +12,18 @@ use thiserror::Error;
 pub enum Port {
     /// `stdio:`, standard input and output.
     Stdio,
-    /// `emu:CHIPFILE`, the emulator over this chip file.
+    /// `emu:CHIPFILE`, the emulator over this chip file, whose name isn't empty.
     Emulated(Text),
-    /// `net:HOST:PORT`, a socket: `HOST:PORT` as given.
+    /// `net:HOST:PORT`, a socket: `HOST:PORT` as given. What stands before the last colon isn't
+    /// empty, and what stands behind it has a [`port_number`](crate::port_number).
     Network(Text),
     /// `--serve PORT` with `--chip FILE`: the emulator over this chip file answers at this port of
-    /// 127.0.0.1, in the digits given.
+    /// 127.0.0.1, in the digits given, which have a [`port_number`](crate::port_number).
     Served { port: Text, chip: Text },
 }
 
-/// The options that are on or off, and the one that is counted.
+/// The options that are on or off, and the one that is counted. With `--serve` none is looked at:
+/// all are off.
 #[derive(Clone, Copy, Debug, PartialEq, Eq)]
 pub struct Switches {
     /// `-e`: the chip is erased.
@@ -36,7 +38,8 @@ pub struct Switches {
     pub force: bool,
     /// `-A`: trailing FF of a flash read are kept.
     pub all: bool,
-    /// `-q`: once, no information lines; from twice on, no warnings either.
+    /// `-q`, how often it is given, up to 255: once, no information lines are printed; from twice
+    /// on, no warnings either.
     pub quiet: u8,
 }
 
@@ -45,15 +48,19 @@ pub struct Switches {
 pub struct Settings {
     /// The part's id, as `m328p`, which nothing has looked up yet.
     pub part: Text,
+    /// Where the programmer is, or where one is to be.
     pub port: Port,
     /// The file of `--parts`, where it is given.
     pub parts: Option<Text>,
+    /// Each `-U` in the order given, at most 16; with `--serve` none.
     pub updates: Updates,
+    /// How it is done.
     pub switches: Switches,
 }
 
 /// Why a command line makes no settings. The first that holds is told, in the order in which they
-/// stand here, but for memory, which may come in place of any other.
+/// stand here, but for memory, which may come in place of any other that keeps a text or follows a
+/// text that was kept.
 #[derive(Debug, Drop, Error)]
 pub enum SettingsFault {
     /// No `-p`.
@@ -62,8 +69,8 @@ pub enum SettingsFault {
     /// `-c` with another name than `stk500v2`: that name.
     #[error("the programmer is not known")]
     BadProgrammer(Text),
-    /// `-P`, or the port of `--serve`, with a text that names no port: that text, or none where
-    /// neither is given.
+    /// `-P` with a text that names no port, or `--serve` with no number of one: that text; or none
+    /// where neither is given.
     #[error("the port is not known")]
     BadPort(Option<Text>),
     /// `--serve` without `--chip`.
@@ -84,7 +91,12 @@ pub enum SettingsFault {
 }
 
 impl SettingsFault {
-    /// The number of the fault.
+    /// The number of the fault, from 1 on, whatever order they are told in.
+    ///
+    /// ```text
+    /// assert_eq!(rt; SettingsFault::NoPart.number(), 1);
+    /// assert_eq!(rt; SettingsFault::NoChip.number(), 8);
+    /// ```
     pub fn number(&self) -> u8
         ensures { result ≡ settings_fault_number self.now }
     {

@@ -1,8 +1,8 @@
 //! The command line, as `clap` reads it.
 ghost use Rattle.std.specs.Prelude.{◌≡◌, IfOk, IfErr, true, false, codes, map, string_bytes};
 ghost use Rattle.clap.specs.Words.{app_of, rule_of, rows_of, found_of, matches_of, takes, kind_of, fault_of, FailsBy};
-ghost use Rattle.avr_cli.specs.Command.{avrstk, with_rules, target_rules, switch_rules, telling_rules, file_rules, value_rule};
-ghost use Rattle.avr_cli.specs.Command.{list_rule, number_rule, flag_rule, count_rule, long_rule};
+ghost use Rattle.avr_cli.specs.Command.{avrstk, with_rules, target_rules, write_rules, run_rules, telling_rules, file_rules};
+ghost use Rattle.avr_cli.specs.Command.{value_rule, list_rule, number_rule, flag_rule, count_rule, long_rule};
 
 use clap::error::ErrorKind;
 use clap::{Arg, ArgAction, ArgMatches, Command, Error, value_parser};
@@ -101,6 +101,7 @@ fn baud<'a>(alloc: Global) -> Arg<'a>
 }
 
 /// The command with the options that say what is programmed, and over what.
+#[tactic(auto, using(crate::proofs::CommandLemmas::arg_added), unfolding(crate::specs::Command::target_rules))]
 fn with_target<'a>(alloc: Global, command: Command<'a>) -> Result<Command<'a>, Error>
     ensures app { IfOk result (λ c. app_of c ≡ with_rules (app_of command.entry) target_rules) }
     ensures memory { IfErr result (λ e. kind_of e ≡ ErrorKind.OutOfMemory) }
@@ -128,9 +129,10 @@ fn with_target<'a>(alloc: Global, command: Command<'a>) -> Result<Command<'a>, E
     Ok(command)
 }
 
-/// The command with the flags that say how it is done.
-fn with_switches<'a>(alloc: Global, command: Command<'a>) -> Result<Command<'a>, Error>
-    ensures app { IfOk result (λ c. app_of c ≡ with_rules (app_of command.entry) switch_rules) }
+/// The command with the flags about what is done before and after a write.
+#[tactic(auto, using(crate::proofs::CommandLemmas::arg_added), unfolding(crate::specs::Command::write_rules))]
+fn with_write<'a>(alloc: Global, command: Command<'a>) -> Result<Command<'a>, Error>
+    ensures app { IfOk result (λ c. app_of c ≡ with_rules (app_of command.entry) write_rules) }
     ensures memory { IfErr result (λ e. kind_of e ≡ ErrorKind.OutOfMemory) }
 {
     let erase = flag(alloc, "erase", 'e', "Erase the chip");
@@ -141,6 +143,16 @@ fn with_switches<'a>(alloc: Global, command: Command<'a>) -> Result<Command<'a>,
         "Don't erase the chip because flash is written",
     );
     let no_verify = flag(alloc, "no-verify", 'V', "Don't read back what was written");
+    let command = command.arg(erase)?.arg(keep_flash)?.arg(no_verify)?;
+    Ok(command)
+}
+
+/// The command with the flags about how the whole run goes.
+#[tactic(auto, using(crate::proofs::CommandLemmas::arg_added), unfolding(crate::specs::Command::run_rules))]
+fn with_run<'a>(alloc: Global, command: Command<'a>) -> Result<Command<'a>, Error>
+    ensures app { IfOk result (λ c. app_of c ≡ with_rules (app_of command.entry) run_rules) }
+    ensures memory { IfErr result (λ e. kind_of e ≡ ErrorKind.OutOfMemory) }
+{
     let dry = flag(alloc, "dry", 'n', "Write and erase nothing");
     let force = flag(alloc, "force", 'F', "Go on with another signature");
     let all = flag(
@@ -149,17 +161,12 @@ fn with_switches<'a>(alloc: Global, command: Command<'a>) -> Result<Command<'a>,
         'A',
         "Keep trailing FF of what is read from flash",
     );
-    let command = command
-        .arg(erase)?
-        .arg(keep_flash)?
-        .arg(no_verify)?
-        .arg(dry)?
-        .arg(force)?
-        .arg(all)?;
+    let command = command.arg(dry)?.arg(force)?.arg(all)?;
     Ok(command)
 }
 
 /// The command with the options about what is told, and those without effect.
+#[tactic(auto, using(crate::proofs::CommandLemmas::arg_added), unfolding(crate::specs::Command::telling_rules))]
 fn with_telling<'a>(alloc: Global, command: Command<'a>) -> Result<Command<'a>, Error>
     ensures app { IfOk result (λ c. app_of c ≡ with_rules (app_of command.entry) telling_rules) }
     ensures memory { IfErr result (λ e. kind_of e ≡ ErrorKind.OutOfMemory) }
@@ -176,6 +183,7 @@ fn with_telling<'a>(alloc: Global, command: Command<'a>) -> Result<Command<'a>, 
 }
 
 /// The command with the options of long names.
+#[tactic(auto, using(crate::proofs::CommandLemmas::arg_added), unfolding(crate::specs::Command::file_rules))]
 fn with_files<'a>(alloc: Global, command: Command<'a>) -> Result<Command<'a>, Error>
     ensures app { IfOk result (λ c. app_of c ≡ with_rules (app_of command.entry) file_rules) }
     ensures memory { IfErr result (λ e. kind_of e ≡ ErrorKind.OutOfMemory) }
@@ -197,7 +205,15 @@ fn with_files<'a>(alloc: Global, command: Command<'a>) -> Result<Command<'a>, Er
     Ok(command)
 }
 
-/// The command with all its options. An option that is given again has its last value.
+/// The command with all its options, for its help. An option that is given again has its last
+/// value. Fails only where memory is refused.
+///
+/// ```text
+/// let mut command = make_command(alloc)?;
+/// let help = command.render_help()?;
+/// assert!(rt; help.as_str().contains("Usage: avrstk [OPTIONS]"));
+/// ```
+#[tactic(auto, unfolding(crate::specs::Command::avrstk))]
 pub fn make_command<'a>(alloc: Global) -> Result<Command<'a>, Error>
     ensures app { IfOk result (λ c. app_of c ≡ avrstk) }
     ensures memory { IfErr result (λ e. kind_of e ≡ ErrorKind.OutOfMemory) }
@@ -207,7 +223,8 @@ pub fn make_command<'a>(alloc: Global) -> Result<Command<'a>, Error>
         .after_help(AFTER)
         .args_override_self(true);
     let command = with_target(alloc, command)?;
-    let command = with_switches(alloc, command)?;
+    let command = with_write(alloc, command)?;
+    let command = with_run(alloc, command)?;
     let command = with_telling(alloc, command)?;
     with_files(alloc, command)
 }
@@ -215,7 +232,17 @@ pub fn make_command<'a>(alloc: Global) -> Result<Command<'a>, Error>
 /// Reads the words of a command line, the program's name first. What is read is a function of the
 /// words, and so is what is refused, but that memory may be refused in place of any answer.
 ///
-/// What is refused, and a request for help, is `clap`'s own error.
+/// What is refused, and a request for help, is `clap`'s own error, which tells it on the stream
+/// where it belongs.
+///
+/// ```text
+/// let mut words = Vec::new(alloc);
+/// for word in ["avrstk", "-p", "m328p", "-P", "emu:chip.bin", "-U", "a.hex"] {
+///     words.push(String::from_str(alloc, word)?)?;
+/// }
+/// let matches = read_words(alloc, words.as_slice())?;
+/// assert!(rt; matches.get_str("part") == Some("m328p"));
+/// ```
 pub fn read_words<'a>(alloc: Global, words: &'a [String]) -> Result<ArgMatches<'a>, Error>
     ensures rows { IfOk result (λ m. rows_of (found_of m) ≡ matches_of avrstk (map string_bytes words.entry.now)) }
     ensures taken { IfErr result (λ e. takes avrstk (map string_bytes words.entry.now) ≡ true → kind_of e ≡ ErrorKind.OutOfMemory) }

@@ -6,7 +6,7 @@ ghost use Rattle.avr_cli.specs.Command.{is_on, switches_of};
 use crate::chosen::Switches;
 use clap::ArgMatches;
 
-/// The text of an option that has one.
+/// The text of an option with one value, the last one given.
 pub fn text_of<'a>(matches: &ArgMatches<'a>, id: &str) -> Option<&'a str>
     ensures { option_map (λ s. s.now) result ≡ first_of id.now (rows_of (found_of matches.now)) }
 {
@@ -20,6 +20,7 @@ pub fn texts_of<'m, 'a>(matches: &'m ArgMatches<'a>, id: &str) -> Option<&'m [&'
     matches.get_strs(id)
 }
 
+/// Whether a flag is given.
 fn is_on(matches: &ArgMatches<'_>, id: &str) -> bool
     ensures { result ≡ is_on id.now (rows_of (found_of matches.now)) }
 {
@@ -29,6 +30,7 @@ fn is_on(matches: &ArgMatches<'_>, id: &str) -> bool
     }
 }
 
+/// The switches that are given.
 pub fn switches_of(matches: &ArgMatches<'_>) -> Switches
     ensures { result ≡ switches_of (rows_of (found_of matches.now)) }
 {

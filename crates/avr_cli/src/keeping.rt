@@ -6,6 +6,7 @@ use crate::chosen::SettingsFault;
 use crate::text::Text;
 use std::alloc::Global;
 
+/// The text, for settings to keep.
 pub fn kept(alloc: Global, text: &str) -> Result<Text, SettingsFault>
     ensures { GivesOrMemory (Ok text.now) result }
 {
@@ -15,6 +16,7 @@ pub fn kept(alloc: Global, text: &str) -> Result<Text, SettingsFault>
     }
 }
 
+/// The text, where there is one, for settings to keep.
 pub fn kept_option(alloc: Global, text: Option<&str>) -> Result<Option<Text>, SettingsFault>
     ensures { GivesOrMemory (Ok (option_map (λ s. s.now) text.entry)) result }
 {

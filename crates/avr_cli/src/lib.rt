@@ -27,7 +27,7 @@ mod reading;
 mod standard;
 mod update_text;
 
-// laws of both
+// laws of updates and addresses
 mod laws;
 
 pub use chosen::{Port, Settings, SettingsFault, Switches};
@@ -40,5 +40,7 @@ pub use update::{Format, Op, Update, UpdateFault};
 pub use update_text::parse_update;
 pub use updates::Updates;
 
+#[cfg(test)]
+mod examples;
 #[cfg(test)]
 mod tests;

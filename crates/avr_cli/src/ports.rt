@@ -3,20 +3,28 @@ ghost use Rattle.std.specs.Prelude.{◌≡◌, ◌⊎◌, Some, None, option_map
 ghost use Rattle.std.specs.List.{list_all};
 ghost use Rattle.std.specs.Char.{is_ascii_digit};
 ghost use Rattle.avr_cli.specs.Port.{port_number, is_address, port_after, port_of, port_given_of, served_at};
-ghost use Rattle.avr_cli.specs.Settings.{GivesOrMemory};
+ghost use Rattle.avr_cli.specs.Settings.{GivesOrMemory, TellsAnyway};
 
 use crate::chosen::{Port, SettingsFault};
 use crate::cuts::{after_front, cut_last};
 use crate::keeping::kept;
 use std::alloc::Global;
 
+/// Whether each byte is a decimal digit.
 fn has_only_digits(text: &[u8]) -> bool
     ensures { result ≡ list_all is_ascii_digit text.now }
 {
     text.iter().all(|byte| byte.is_ascii_digit())
 }
 
-/// The number of a port: decimal digits and nothing else, of a value from 1 to 65535.
+/// The number of a port: decimal digits and nothing else, of a value from 1 to 65535. Zeros may
+/// stand before it.
+///
+/// ```text
+/// assert!(rt; port_number("5000") == Some(5000) && port_number("00080") == Some(80));
+/// assert!(rt; port_number("0").is_none() && port_number("65536").is_none());
+/// assert!(rt; port_number("+80").is_none() && port_number("").is_none());
+/// ```
 pub fn port_number(text: &str) -> Option<u16>
     ensures { result ≡ port_number text.now }
 {
@@ -49,6 +57,7 @@ fn bad_port(alloc: Global, text: &str) -> SettingsFault
     }
 }
 
+/// The port over the chip file that stands behind `emu:` in a text.
 fn emulated(alloc: Global, text: &str, file: &str) -> Result<Port, SettingsFault>
     ensures { GivesOrMemory (port_after text.now (Some file.now) None) result }
 {
@@ -58,6 +67,7 @@ fn emulated(alloc: Global, text: &str, file: &str) -> Result<Port, SettingsFault
     Ok(Port::Emulated(kept(alloc, file)?))
 }
 
+/// The port of the address that stands behind `net:` in a text.
 fn network(alloc: Global, text: &str, address: &str) -> Result<Port, SettingsFault>
     ensures { GivesOrMemory (port_after text.now None (Some address.now)) result }
 {
@@ -86,7 +96,8 @@ fn port_of(alloc: Global, text: &str) -> Result<Port, SettingsFault>
 
 /// The port that `-P` gives.
 pub fn port_given(alloc: Global, text: Option<&str>) -> Result<Port, SettingsFault>
-    ensures { GivesOrMemory (port_given_of (option_map (λ s. s.now) text.entry)) result }
+    ensures gives { GivesOrMemory (port_given_of (option_map (λ s. s.now) text.entry)) result }
+    ensures tells { TellsAnyway (port_given_of (option_map (λ s. s.now) text.entry)) result }
 {
     match text {
         Some(text) => port_of(alloc, text),
@@ -94,9 +105,10 @@ pub fn port_given(alloc: Global, text: Option<&str>) -> Result<Port, SettingsFau
     }
 }
 
-/// The port that `--serve` gives, with the file of `--chip`.
+/// The port of `--serve`, with the file of `--chip`. A bad number is told before a missing file.
 pub fn served(alloc: Global, text: &str, chip: Option<&str>) -> Result<Port, SettingsFault>
-    ensures { GivesOrMemory (served_at text.now (port_number text.now) (option_map (λ s. s.now) chip.entry)) result }
+    ensures gives { GivesOrMemory (served_at text.now (port_number text.now) (option_map (λ s. s.now) chip.entry)) result }
+    ensures tells { TellsAnyway (served_at text.now (port_number text.now) (option_map (λ s. s.now) chip.entry)) result }
 {
     if port_number(text).is_none() {
         return Err(bad_port(alloc, text));

@@ -1,8 +1,8 @@
 //! The settings, from what the command line gave.
-ghost use Rattle.std.specs.Prelude.{◌≡◌, ◌≤◌, length, map, [], option_map, unwrap_or};
+ghost use Rattle.std.specs.Prelude.{◌≡◌, ◌≤◌, IsOk, length, map, [], option_map, unwrap_or};
 ghost use Rattle.clap.specs.Words.{found_of, rows_of};
 ghost use Rattle.avr_cli.specs.Command.{entries_of};
-ghost use Rattle.avr_cli.specs.Settings.{GivesOrMemory, settings_of, checked_programmer, updates_of, updates_from, update_at};
+ghost use Rattle.avr_cli.specs.Settings.{GivesOrMemory, TellsAnyway, settings_of, checked_programmer, updates_of, updates_from, update_at};
 ghost use Rattle.avr_cli.specs.Settings.{run_settings, serve_settings, no_switches};
 ghost use Rattle.avr_cli.specs.Update.{update_of};
 
@@ -22,7 +22,8 @@ const MOST_UPDATES: usize = 16;
 
 /// Refuses any programmer but the one that there is.
 fn check_programmer(alloc: Global, given: Option<&str>) -> Result<(), SettingsFault>
-    ensures { GivesOrMemory (checked_programmer (option_map (λ s. s.now) given.entry)) result }
+    ensures gives { GivesOrMemory (checked_programmer (option_map (λ s. s.now) given.entry)) result }
+    ensures passes { IsOk (checked_programmer (option_map (λ s. s.now) given.entry)) → IsOk result }
 {
     let Some(name) = given else {
         return Ok(());
@@ -33,7 +34,7 @@ fn check_programmer(alloc: Global, given: Option<&str>) -> Result<(), SettingsFa
     Err(SettingsFault::BadProgrammer(kept(alloc, name)?))
 }
 
-/// The update of this number.
+/// The update of a text; the number, from 1 on, is told where it is none.
 fn update_at(alloc: Global, number: u8, text: &str) -> Result<Update, SettingsFault>
     ensures { GivesOrMemory (update_at number (update_of text.now)) result }
 {
@@ -44,6 +45,7 @@ fn update_at(alloc: Global, number: u8, text: &str) -> Result<Update, SettingsFa
     }
 }
 
+/// The updates of at most 16 texts.
 fn read_updates(alloc: Global, texts: &[&str]) -> Result<Updates, SettingsFault>
     requires { length texts.now ≤ 16 }
     ensures { GivesOrMemory (updates_from 1 (map (λ s. s.now) texts.now)) result }
@@ -58,6 +60,7 @@ fn read_updates(alloc: Global, texts: &[&str]) -> Result<Updates, SettingsFault>
     Ok(updates)
 }
 
+/// The updates of all texts.
 fn all_updates(alloc: Global, texts: &[&str]) -> Result<Updates, SettingsFault>
     ensures { GivesOrMemory (updates_of (map (λ s. s.now) texts.now)) result }
 {
@@ -83,7 +86,8 @@ fn run_settings(
     part: &str,
     matches: &ArgMatches<'_>,
 ) -> Result<Settings, SettingsFault>
-    ensures { GivesOrMemory (run_settings part.now (entries_of (rows_of (found_of matches.now)))) result }
+    ensures gives { GivesOrMemory (run_settings part.now (entries_of (rows_of (found_of matches.now)))) result }
+    ensures tells { TellsAnyway (run_settings part.now (entries_of (rows_of (found_of matches.now)))) result }
 {
     check_programmer(alloc, text_of(matches, "programmer"))?;
     let port = port_given(alloc, text_of(matches, "port"))?;
@@ -123,7 +127,8 @@ fn serve_settings(
     port: &str,
     matches: &ArgMatches<'_>,
 ) -> Result<Settings, SettingsFault>
-    ensures { GivesOrMemory (serve_settings part.now port.now (entries_of (rows_of (found_of matches.now)))) result }
+    ensures gives { GivesOrMemory (serve_settings part.now port.now (entries_of (rows_of (found_of matches.now)))) result }
+    ensures tells { TellsAnyway (serve_settings part.now port.now (entries_of (rows_of (found_of matches.now)))) result }
 {
     let parts = text_of(matches, "parts");
     let chip = text_of(matches, "chip");
@@ -142,9 +147,18 @@ fn serve_settings(
 
 /// The settings that the command line gives. With `--serve` the options but `-p`, `--parts` and
 /// `--chip` aren't looked at. The first fault is told, in the order in which [`SettingsFault`] has
-/// them; `Memory` may come in place of any answer.
+/// them. `Memory` may come in place of any answer but of those that keep no text: no part, no port
+/// and no chip file.
+///
+/// ```text
+/// let settings = settings(alloc, &matches)?;
+/// assert!(rt; settings.part.as_str() == "m328p");
+/// assert!(rt; matches!(&settings.port, Port::Emulated(file) if file.as_str() == "chip.bin"));
+/// assert_eq!(rt; settings.updates.as_slice().len(), 1);
+/// ```
 pub fn settings(alloc: Global, matches: &ArgMatches<'_>) -> Result<Settings, SettingsFault>
-    ensures { GivesOrMemory (settings_of (entries_of (rows_of (found_of matches.now)))) result }
+    ensures gives { GivesOrMemory (settings_of (entries_of (rows_of (found_of matches.now)))) result }
+    ensures tells { TellsAnyway (settings_of (entries_of (rows_of (found_of matches.now)))) result }
 {
     let Some(part) = text_of(matches, "part") else {
         return Err(SettingsFault::NoPart);

@@ -1,7 +1,7 @@
 //! What no contract says: that command lines are read, and what is printed of them.
 use crate::{
-    Format, Op, Port, Settings, SettingsFault, UpdateFault, make_command, parse_update,
-    port_number, read_words, settings,
+    Format, Op, Port, Settings, SettingsFault, make_command, parse_update, port_number, read_words,
+    settings,
 };
 use avr_part::Mem;
 use clap::Error;
@@ -92,7 +92,6 @@ fn faults_have_numbers(rt: HostRuntime) -> Result<(), Fail> {
             Err(fault) => assert!(rt; fault.number() == number, "{line}"),
         }
     }
-    assert!(rt; UpdateFault::NoFile.number() == 4);
     Ok(())
 }
 

@@ -29,9 +29,9 @@ pub enum Format {
     Srec,
     /// `r`: the bytes themselves.
     Raw,
-    /// `m`: the values stand in the file's place. For writes and verifies.
+    /// `m`: the values stand in the file's place. For writes and comparisons.
     Immediate,
-    /// `d`: a list of decimal numbers. For files that are made, as the rest.
+    /// `d`: a list of decimal numbers. For files that are made, as are the three below.
     Decimal,
     /// `h`: a list of hexadecimal numbers.
     Hexadecimal,
@@ -41,6 +41,7 @@ pub enum Format {
     Binary,
 }
 
+/// The formats of a file that is made.
 static MADE: [Format; 7] = [
     Format::Ihex,
     Format::Srec,
@@ -51,6 +52,7 @@ static MADE: [Format; 7] = [
     Format::Binary,
 ];
 
+/// The formats of a file that is read.
 static READ: [Format; 5] = [
     Format::Ihex,
     Format::Srec,
@@ -103,10 +105,14 @@ impl Format {
 /// What is done with one memory: one `-U` of the command line.
 #[derive(Debug, Drop)]
 pub struct Update {
+    /// The memory.
     pub memory: Mem,
+    /// What is done with it.
     pub op: Op,
+    /// The format of the file, one of those that the operation has.
     pub format: Format,
-    /// The file's name, `-` for standard input or output; with [`Format::Immediate`] the values.
+    /// The file's name, which isn't empty, `-` for standard input or output; with
+    /// [`Format::Immediate`] the values.
     pub file: Text,
 }
 
@@ -116,7 +122,7 @@ pub enum UpdateFault {
     /// No memory has the name before the first colon.
     #[error("no such memory")]
     BadMemory,
-    /// The operation is none of `r`, `w` and `v`.
+    /// The operation is none of `r`, `w` and `v`, or missing.
     #[error("no such operation")]
     BadOp,
     /// The letter names no format of this operation.
@@ -131,7 +137,11 @@ pub enum UpdateFault {
 }
 
 impl UpdateFault {
-    /// The number of the fault.
+    /// The number of the fault, from 1 on, in the order in which they stand here.
+    ///
+    /// ```text
+    /// assert_eq!(rt; UpdateFault::NoFile.number(), 4);
+    /// ```
     pub fn number(&self) -> u8
         ensures { result ≡ update_fault_number self.now }
     {

@@ -20,6 +20,7 @@ static MEMORIES: [Mem; 8] = [
     Mem::Calibration,
 ];
 
+/// The memory of this name.
 fn memory_named(name: &str) -> Option<Mem>
     ensures { result ≡ memory_named name.now }
 {
@@ -29,6 +30,7 @@ fn memory_named(name: &str) -> Option<Mem>
         .find(|memory| memory.name() == name)
 }
 
+/// The operation that this letter names.
 fn op_named(name: &str) -> Option<Op>
     ensures { result ≡ op_named name.now }
 {
@@ -40,6 +42,7 @@ fn op_named(name: &str) -> Option<Op>
     }
 }
 
+/// The format among these that this letter names.
 fn format_named(formats: &[Format], letter: u8) -> Option<Format>
     ensures { result ≡ format_named formats.now letter }
 {
@@ -102,8 +105,15 @@ fn update_by(
 /// The update that a text asks for: `MEMORY:OP:FILE`, `MEMORY:OP:FILE:FORMAT`, or a file alone,
 /// which is written to flash. Colons beyond these belong to the file.
 ///
-/// The first fault is told: the memory, the operation, the file, the format; `Memory` may come in
-/// place of any answer.
+/// The first fault is told: of the memory, the operation, the file, the format. `Memory` may come
+/// in place of an update, and of nothing else.
+///
+/// ```text
+/// let update = parse_update(alloc, "lfuse:w:0xE2:m")?;
+/// assert!(rt; update.memory == Mem::Lfuse && update.op == Op::Write);
+/// assert!(rt; update.format == Format::Immediate && update.file.as_str() == "0xE2");
+/// assert!(rt; matches!(parse_update(alloc, "boot:w:a.hex"), Err(UpdateFault::BadMemory)));
+/// ```
 pub fn parse_update(alloc: Global, text: &str) -> Result<Update, UpdateFault>
     ensures { GivesUpdate (update_of text.now) result }
 {

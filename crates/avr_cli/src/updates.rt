@@ -6,6 +6,12 @@ use std::alloc::{AllocError, Global};
 use std::marker::Model;
 
 /// What is done with the memories, in the order given. Contracts see it as the list of the updates.
+///
+/// ```text
+/// let mut updates = Updates::new(alloc);
+/// updates.push(parse_update(alloc, "flash:w:a.hex")?)?;
+/// assert_eq!(rt; updates.as_slice().len(), 1);
+/// ```
 #[derive(Debug, Drop)]
 pub struct Updates {
     items: Vec<Update>,
@@ -38,6 +44,7 @@ impl Updates {
         Ok(())
     }
 
+    /// The updates, the first one first.
     pub fn as_slice(&self) -> &[Update]
         ensures { result.now ≡ self.now }
     {
