@@ -1,13 +1,13 @@
 -- What a parse of a command that is known gives.
-use Rattle.std.proofs.Common.{ap, true, false, codes, ◌≡◌, ◌∙◌, refl, List, [], ◌∷◌, ◌++◌, append_assoc}
+use Rattle.std.proofs.Common.{ap, true, false, ◌≡◌, ◌∙◌, refl, List}
 use Rattle.std.specs.Prelude.{⊤}
-use Rattle.clap.specs.Words.{App, Rule, Text, AddsArg, HasMatchesOf, app_of, is_simple, is_simple_and_free, matches_of, new_app}
+use Rattle.clap.specs.Words.{App, Rule, Text, AddsArg, HasMatchesOf, app_of, is_simple, is_simple_and_free, matches_of}
 use Rattle.clap.specs.Words.{rows_of, found_of, rule_of, with_rule}
 use Rattle.clap.specs.declared.builder.arg.Arg.{Arg}
 use Rattle.clap.specs.declared.builder.command.Command.{Command}
 use Rattle.clap.specs.declared.parser.matches.ArgMatches.{ArgMatches}
 use Rattle.clap.proofs.OnLiterals.{clap_on_literals}
-use Rattle.avr_cli.specs.Command.{avrstk, overriding, with_rules, target_rules, write_rules, run_rules, telling_rules, file_rules}
+use Rattle.avr_cli.specs.Command.{avrstk, target_rules, write_rules, run_rules, telling_rules, file_rules}
 
 -- what a proof unfolds to compute over the command
 unfoldable pub whole_command : ⊤
