@@ -5,14 +5,15 @@ what it asks of sockets.
     tests/faults.py        needs crates/avrstk/out/avrstk, as rt ci leaves it, and a C compiler (tests/refuse.c)
 
 For every run below and every kind of call the nth is refused, for n from 1 upwards until a run meets no refusal. What was
-sent and said has to be a front of what the sound run sends and says, and then the line of that fault (a front of it where
-a message couldn't be written), with status 1; or all that the sound run sends and says, with its status, where what was
+sent and said has to be a front of what the sound run sends and says, and then the line of that fault, with the name of the
+file that the call was for (a front of it where a message couldn't be written), with status 1; or all that the sound run sends and says, with its status, where what was
 refused wasn't needed. A read or a write that a signal breaks off, or that moves one byte alone, has to change nothing.
 """
 
 import subprocess
 import time
 from collections import Counter
+from pathlib import Path
 
 from line import BadLine
 from program import ANSWERS, CHIP_FILE, TOP, Room
@@ -31,14 +32,14 @@ RUNS = {
     "a part file": ([*EMULATED, "--parts", "parts.toml"], b""),
 }
 
-# The lines that a refused call of each kind may have, behind a file's name where one is named. (A device that lacks memory
-# fails like any other.)
+# The lines that a refused call of each kind may have; the file is the one that the call was for. (A device that lacks
+# memory fails like any other.)
 LINES = {
     "growth": ["out of memory", "link cannot be written", "link cannot be read"],
-    "read": ["link cannot be read", ": cannot be read"],
-    "write": ["link cannot be written", ": cannot be written"],
-    "open": [": cannot be opened", ": cannot be created"],
-    "socket": [" cannot be opened"],
+    "read": ["link cannot be read", "{file}: cannot be read"],
+    "write": ["link cannot be written", "{file}: cannot be written"],
+    "open": ["{file}: cannot be opened", "{file}: cannot be created"],
+    "socket": ["port net:127.0.0.1:PORT cannot be opened"],
 }
 
 # what has to change nothing
@@ -75,12 +76,14 @@ class Sweep:
             assert how == "fail" and self.is_told(kind, *done), fault
             counts["told"] += 1
 
-    def is_told(self, kind, status, output, messages, chip, file):
+    def is_told(self, kind, status, output, messages, chip, read_file):
         """Whether a run says that it failed, and leaves nothing that is half written without a word."""
+        file = Path(self.room.read("refused").decode()).name
+        lines = [line.format(file=file) for line in LINES[kind]]
         # (the line is whole, unless it was a message that couldn't be written)
-        is_told = any(is_front_and_line(messages, self.sound[2], line, kind == "write") for line in LINES[kind])
+        is_told = any(is_front_and_line(messages, self.sound[2], line, kind == "write") for line in lines)
         is_chip = chip is None or len(chip) == len(self.sound[3] or b"") or b"chip.bin: " in messages
-        is_front = file is None or (self.sound[4] or b"").startswith(file)
+        is_front = read_file is None or (self.sound[4] or b"").startswith(read_file)
         return status == 1 and self.sound[1].startswith(output) and is_told and is_chip and is_front
 
 
@@ -93,16 +96,9 @@ def is_front_and_line(said, sound, line, may_stop):
 
 
 def is_front_of_error(said, line, may_stop):
-    """Whether it is `avrstk: error: FILE: cannot be read`, or another line without a name, or a front of it where it may stop there."""
-    start = b"avrstk: error: "
-    if not said.startswith(start):
-        return may_stop and start.startswith(said)
-    rest = said[len(start) :]
-    name = b""
-    if line.startswith((b":", b" ")):
-        name, _, _ = rest.partition(line)
-    whole = name + line + b"\n"
-    return b"\n" not in name and (rest == whole or (may_stop and whole.startswith(rest)))
+    """Whether it is this line of an error, or a front of it where it may stop there."""
+    whole = b"avrstk: error: " + line + b"\n"
+    return said == whole or (may_stop and whole.startswith(said))
 
 
 class OverNet(Sweep):
@@ -116,7 +112,7 @@ class OverNet(Sweep):
         status, _, messages = self.room.run(self.words, self.given, environment)
         return status, b"".join(peer.end()), messages.replace(str(peer.port).encode(), b"PORT"), self.room.read("served.bin"), None
 
-    def is_told(self, kind, status, output, messages, chip, file):
+    def is_told(self, kind, status, output, messages, chip, read_file):
         return super().is_told(kind, status, output, messages, None, None) and len(chip or b"") == CHIP_FILE
 
 

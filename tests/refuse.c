@@ -1,7 +1,7 @@
 /* Lets one call of the C library fail. With LD_PRELOAD in front of a program, REFUSE names the call by its kind, its
  * number from 1, and what becomes of it: "growth 3 fail" refuses the third request for memory. A read or a write may also
  * be interrupted by a signal ("interrupt"), or move one byte alone ("one"). Whether the program came to that call is told
- * by the file REFUSED. */
+ * by the file REFUSED, which then holds the name of the file that the call was for, if it was for one. */
 #define _GNU_SOURCE
 #include <dlfcn.h>
 #include <errno.h>
@@ -20,8 +20,25 @@ static const char *const names[KINDS] = {"growth", "read", "write", "open", "soc
 
 enum fate { PASS, FAIL, INTERRUPT, ONE };
 
+/* Tells that a call was refused, and for which file: by its name, or by its descriptor; a pipe is "-". */
+static void tell_refused(const char *name, int file)
+{
+    char link[32], held[4096] = "";
+    const char *mark = getenv("REFUSED");
+    int out = mark ? creat(mark, 0600) : -1;
+    if (out < 0)
+        return;
+    if (!name && file >= 0) {
+        snprintf(link, sizeof link, "/proc/self/fd/%d", file);
+        if (readlink(link, held, sizeof held - 1) < 0 || held[0] != '/')
+            strcpy(held, "-");
+    }
+    dprintf(out, "%s", name ? name : held);
+    close(out);
+}
+
 /* What becomes of this call, which is counted. */
-static enum fate fate_of(enum kind kind)
+static enum fate fate_of(enum kind kind, const char *name, int file)
 {
     static long calls[KINDS];
     static char due[16], how[16];
@@ -33,9 +50,7 @@ static enum fate fate_of(enum kind kind)
     }
     if (number < 0 || strcmp(names[kind], due) || ++calls[kind] != number)
         return PASS;
-    const char *mark = getenv("REFUSED");
-    if (mark)
-        close(creat(mark, 0600));
+    tell_refused(name, file);
     return !strcmp(how, "interrupt") ? INTERRUPT : !strcmp(how, "one") ? ONE : FAIL;
 }
 
@@ -45,7 +60,7 @@ static enum fate fate_of(enum kind kind)
 #define REFUSABLE(kind, reason, refused, result, name, parameters, arguments) \
     result name parameters                                                    \
     {                                                                         \
-        if (fate_of(kind) != PASS) {                                          \
+        if (fate_of(kind, NULL, -1) != PASS) {                                \
             errno = reason;                                                   \
             return refused;                                                   \
         }                                                                     \
@@ -56,7 +71,7 @@ static enum fate fate_of(enum kind kind)
 #define MOVING(kind, name, bytes, parameters, arguments, one)     \
     ssize_t name parameters                                       \
     {                                                             \
-        switch (count ? fate_of(kind) : PASS) {                   \
+        switch (count ? fate_of(kind, NULL, file) : PASS) {       \
         case PASS:                                                \
             return NEXT(name) arguments;                          \
         case ONE:                                                 \
@@ -90,7 +105,7 @@ MOVING(WRITE, send, bytes, (int file, const void *bytes, size_t count, int flags
 
 static int opened(const char *name, const char *path, int flags, mode_t mode)
 {
-    if (fate_of(OPEN) != PASS) {
+    if (fate_of(OPEN, path, -1) != PASS) {
         errno = EACCES;
         return -1;
     }
