@@ -5,7 +5,7 @@ ghost use Rattle.stk_emu.specs.Wire.{AreLawful, IsLawfulFate};
 use avr_cli::{Settings, read_words, settings};
 use avr_desk::{Bytes, Desk, MemDesk};
 use avr_part::{Chip, Mem, Parts};
-use avr_tool::run;
+use avr_session::run;
 use std::alloc::{AllocError, Global};
 use std::process::Abort;
 use std::test::Fail;

@@ -19,9 +19,9 @@ use Rattle.stk_emu.specs.Leads.{Leads}
 use Rattle.stk_emu.proofs.Obeying.{settled_idle}
 use Rattle.stk_emu.proofs.Counting.{items_counted}
 use Rattle.stk_emu.proofs.LeadsOn.{leads_done, leads_wider, leads_bind, leads_closing}
-use Rattle.avr_tool.specs.declared.standing.Standing.{Standing}
-use Rattle.avr_tool.specs.declared.standing.Standing.TheVariants.{Fine, Faulty, Over}
-use Rattle.avr_tool.specs.Session.{standing, reported, closed_says, opening_part, erasing_part, tasks_part, beginning, working, ending, playing, status_of, session}
+use Rattle.avr_session.specs.declared.standing.Standing.{Standing}
+use Rattle.avr_session.specs.declared.standing.Standing.TheVariants.{Fine, Faulty, Over}
+use Rattle.avr_session.specs.Session.{standing, reported, closed_says, opening_part, erasing_part, tasks_part, beginning, working, ending, playing, status_of, session}
 use Rattle.avr_emulated.specs.Items.{erasing_items, task_items, tasks_items, items}
 use Rattle.avr_emulated.specs.Agrees.{Agrees}
 use Rattle.avr_emulated.specs.Outcome.{IsTouched, IsDone}

@@ -20,9 +20,9 @@ use Rattle.stk_emu.specs.Effect.{Image, Erase}
 use Rattle.stk_emu.specs.Strokes.{steps_of}
 use Rattle.stk_emu.proofs.Asking.{asks_bind, asks_lifted, asks_operation, asks_opening, asks_closing}
 use Rattle.stk_emu.proofs.ItemStrokes.{write_are_steps, read_are_steps, item_are_steps}
-use Rattle.avr_tool.specs.declared.standing.Standing.{Standing}
-use Rattle.avr_tool.specs.declared.standing.Standing.TheVariants.{Fine, Faulty, Over}
-use Rattle.avr_tool.specs.Session.{says, standing, reported, unless_fault, fault_or, opening_says, erased_says, written_says, verified_says, closed_says, read_says, opening_part, is_erase_due, left_out_erase, erasing_part, verifying_part, writing_part, read_back_part, left_out_write, write_part, task_part, tasks_part, beginning, working, ending, playing, status_of, session}
+use Rattle.avr_session.specs.declared.standing.Standing.{Standing}
+use Rattle.avr_session.specs.declared.standing.Standing.TheVariants.{Fine, Faulty, Over}
+use Rattle.avr_session.specs.Session.{says, standing, reported, unless_fault, fault_or, opening_says, erased_says, written_says, verified_says, closed_says, read_says, opening_part, is_erase_due, left_out_erase, erasing_part, verifying_part, writing_part, read_back_part, left_out_write, write_part, task_part, tasks_part, beginning, working, ending, playing, status_of, session}
 
 pub first_of : {X : Type 0} (P : X → Type 0) (x : X) (xs : List X) → All P (x ∷ xs) → P x
 first_of P x xs all = all 0 x (omega arith)

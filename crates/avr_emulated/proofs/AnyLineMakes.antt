@@ -23,9 +23,9 @@ use Rattle.stk_emu.proofs.Attempts.{along_bind, onward, asks≢done}
 use Rattle.stk_emu.proofs.Climbing.{along_before}
 use Rattle.stk_emu.proofs.Obeying.{settled_idle}
 use Rattle.stk_emu.proofs.Tallying.{tallies_wider, tallies_bind, steps_all, tallies_play}
-use Rattle.avr_tool.specs.declared.standing.Standing.{Standing}
-use Rattle.avr_tool.specs.declared.standing.Standing.TheVariants.{Fine, Faulty, Over}
-use Rattle.avr_tool.specs.Session.{reported, unless_fault, status_of}
+use Rattle.avr_session.specs.declared.standing.Standing.{Standing}
+use Rattle.avr_session.specs.declared.standing.Standing.TheVariants.{Fine, Faulty, Over}
+use Rattle.avr_session.specs.Session.{reported, unless_fault, status_of}
 use Rattle.avr_emulated.specs.Made.{none_made}
 use Rattle.avr_emulated.proofs.Standings.{faulty_fine, over_fine}
 use Rattle.avr_emulated.proofs.AnyLineSteps.{Rests, front, behind, struck_front, struck_behind, all_on, all_struck}

@@ -29,9 +29,9 @@ use Rattle.stk_emu.proofs.Counting.{items_counted}
 use Rattle.stk_emu.proofs.ItemStrokes.{write_are_steps, item_are_steps}
 use Rattle.stk_emu.proofs.LeadsOn.{leads_done, leads_bind, leads_closing}
 use Rattle.stk_emu.proofs.Tallying.{tallies_wider, tallies_told, tallies_bind}
-use Rattle.avr_tool.specs.declared.standing.Standing.{Standing}
-use Rattle.avr_tool.specs.declared.standing.Standing.TheVariants.{Fine, Faulty, Over}
-use Rattle.avr_tool.specs.Session.{says, standing, reported, unless_fault, erased_says, written_says, closed_says, opening_part, is_erase_due, left_out_erase, erasing_part, verifying_part, writing_part, read_back_part, left_out_write, write_part, reading_part, task_part, tasks_part, beginning, working, ending, playing, status_of, session}
+use Rattle.avr_session.specs.declared.standing.Standing.{Standing}
+use Rattle.avr_session.specs.declared.standing.Standing.TheVariants.{Fine, Faulty, Over}
+use Rattle.avr_session.specs.Session.{says, standing, reported, unless_fault, erased_says, written_says, closed_says, opening_part, is_erase_due, left_out_erase, erasing_part, verifying_part, writing_part, read_back_part, left_out_write, write_part, reading_part, task_part, tasks_part, beginning, working, ending, playing, status_of, session}
 use Rattle.avr_emulated.specs.Items.{erasing_items, task_items, tasks_items, items}
 use Rattle.avr_emulated.specs.Agrees.{Shows, Unless, TaskAgrees}
 use Rattle.avr_emulated.specs.Made.{none_made, erasing_made, task_made, tasks_made, beginning_made, made_by}

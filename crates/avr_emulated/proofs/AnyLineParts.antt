@@ -31,9 +31,9 @@ use Rattle.stk_emu.proofs.ItemStrokes.{write_are_steps, read_are_steps, item_are
 use Rattle.stk_emu.proofs.PlayGiven.{read_gives}
 use Rattle.stk_emu.proofs.Comparing.{no_difference}
 use Rattle.stk_emu.proofs.LeadsOn.{leads_done, leads_say, leads_lifted, leads_wider, leads_bind, leads_operation, leads_opening}
-use Rattle.avr_tool.specs.declared.standing.Standing.{Standing}
-use Rattle.avr_tool.specs.declared.standing.Standing.TheVariants.{Fine, Faulty, Over}
-use Rattle.avr_tool.specs.Session.{says, standing, reported, unless_fault, fault_or, opening_says, erased_says, written_says, verified_says, read_says, opening_part, is_erase_due, left_out_erase, erasing_part, verifying_part, writing_part, read_back_part, left_out_write, write_part, task_part, tasks_part}
+use Rattle.avr_session.specs.declared.standing.Standing.{Standing}
+use Rattle.avr_session.specs.declared.standing.Standing.TheVariants.{Fine, Faulty, Over}
+use Rattle.avr_session.specs.Session.{says, standing, reported, unless_fault, fault_or, opening_says, erased_says, written_says, verified_says, read_says, opening_part, is_erase_due, left_out_erase, erasing_part, verifying_part, writing_part, read_back_part, left_out_write, write_part, task_part, tasks_part}
 use Rattle.avr_emulated.specs.Items.{erasing_items, task_items, tasks_items}
 use Rattle.avr_emulated.specs.Agrees.{Shows, Unless, TaskAgrees, TasksAgree}
 use Rattle.avr_emulated.proofs.Standings.{after_fault}

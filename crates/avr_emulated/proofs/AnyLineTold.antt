@@ -11,9 +11,9 @@ use Rattle.stk_emu.specs.Device.{Device}
 use Rattle.stk_emu.specs.Along.{along}
 use Rattle.stk_emu.proofs.Attempts.{along_bind, onward, asks≢done}
 use Rattle.stk_emu.proofs.LeadsOn.{along_lifted, along_told}
-use Rattle.avr_tool.specs.declared.standing.Standing.{Standing}
-use Rattle.avr_tool.specs.declared.standing.Standing.TheVariants.{Fine}
-use Rattle.avr_tool.specs.Session.{says, standing, reported}
+use Rattle.avr_session.specs.declared.standing.Standing.{Standing}
+use Rattle.avr_session.specs.declared.standing.Standing.TheVariants.{Fine}
+use Rattle.avr_session.specs.Session.{says, standing, reported}
 use Rattle.avr_emulated.proofs.Standings.{after_fault, faulty_fine, over_fine}
 
 pub done_same : {E R : Type 0} (a b : R) → ◌≡◌ {A = Dialog E R} (Done a) (Done b) → a ≡ b

@@ -10,8 +10,8 @@ use Rattle.avr_plan.specs.Plan.{Plan}
 use Rattle.avr_plan.specs.Planning.{planned}
 use Rattle.avr_plan.specs.Playing.{Went}
 use Rattle.avr_plan.specs.Stage.{Made}
-use Rattle.avr_tool.specs.Runs.{Stops, RunsTo}
-use Rattle.avr_tool.specs.Session.{session}
+use Rattle.avr_session.specs.Runs.{Stops, RunsTo}
+use Rattle.avr_session.specs.Session.{session}
 use Rattle.stk_host.specs.Talk.{sent}
 use Rattle.stk_emu.specs.Effect.{memories_of}
 use Rattle.stk_emu.specs.Leads.{AreGood}

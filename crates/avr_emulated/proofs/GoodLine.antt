@@ -21,10 +21,10 @@ use Rattle.stk_emu.specs.Effect.{Image, Memories, memories_of, effect, memory_in
 use Rattle.stk_emu.specs.Settled.{Idle, FitsPart}
 use Rattle.stk_emu.specs.Leads.{AreGood}
 use Rattle.stk_emu.proofs.Obeying.{settled_idle}
-use Rattle.avr_tool.specs.declared.standing.Standing.{Standing}
-use Rattle.avr_tool.specs.declared.standing.Standing.TheVariants.{Fine, Faulty, Over}
-use Rattle.avr_tool.specs.Session as session
-use Rattle.avr_tool.specs.Session.{says, standing, reported, unless_fault, fault_or, opening_says, erased_says, written_says, verified_says, closed_says, read_says, is_erase_due, left_out_erase, left_out_write, status_of}
+use Rattle.avr_session.specs.declared.standing.Standing.{Standing}
+use Rattle.avr_session.specs.declared.standing.Standing.TheVariants.{Fine, Faulty, Over}
+use Rattle.avr_session.specs.Session as session
+use Rattle.avr_session.specs.Session.{says, standing, reported, unless_fault, fault_or, opening_says, erased_says, written_says, verified_says, closed_says, read_says, is_erase_due, left_out_erase, left_out_write, status_of}
 use Rattle.avr_emulated.specs.Course as course
 use Rattle.avr_emulated.specs.Course.{Course, then_from, ending_says, status_after}
 use Rattle.avr_emulated.proofs.GoodLineEnds.{Ends, ends_done, ends_says, ends_wider, ends_lifted, ends_bind}

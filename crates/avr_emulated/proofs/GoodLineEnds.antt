@@ -12,7 +12,7 @@ use Rattle.stk_emu.proofs.Attempts.{along_bind, onward, onwards, asks≢done}
 use Rattle.stk_emu.proofs.GoodFates.{others_good, fates_along}
 use Rattle.stk_emu.proofs.LeadsOn.{along_lifted}
 use Rattle.stk_emu.proofs.SaidAlong.{said_on, said_bind, said_lifted}
-use Rattle.avr_tool.specs.Session.{says}
+use Rattle.avr_session.specs.Session.{says}
 
 -- a dialog that is done has this result, has said just this, and leaves the programmer so
 pub record Came {E R : Type 0} (got want : R) (said wanted : List E) (After : Type 0) : Type 0 where

@@ -2,9 +2,9 @@
 use Rattle.std.proofs.Common.{◌≡◌, Err}
 use Rattle.stk_host.specs.declared.fault.HostFault.{HostFault}
 use Rattle.stk_host.specs.declared.fault.HostFault.TheVariants.{NoAnswer, LinkEnded, SendFailed, Babble, Refused, BadAnswer, WrongSignature, Differs, ReadOnly, Memory, RecvFailed}
-use Rattle.avr_tool.specs.declared.standing.Standing.{Standing}
-use Rattle.avr_tool.specs.declared.standing.Standing.TheVariants.{Fine, Faulty, Over}
-use Rattle.avr_tool.specs.Session.{standing}
+use Rattle.avr_session.specs.declared.standing.Standing.{Standing}
+use Rattle.avr_session.specs.declared.standing.Standing.TheVariants.{Fine, Faulty, Over}
+use Rattle.avr_session.specs.Session.{standing}
 
 -- after a fault a session is faulty or over
 pub after_fault : (A : Type 0) (P : Standing → Type 0) (fault : HostFault) → P Faulty → P Over → P (standing {A = A} (Err fault))

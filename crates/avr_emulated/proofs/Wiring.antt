@@ -8,8 +8,8 @@ use Rattle.avr_desk.specs.Record.{Record}
 use Rattle.stk_frame.specs.Cut.{frames}
 use Rattle.stk_host.specs.Play.{Plays, Breaks}
 use Rattle.stk_host.specs.Talk.{Talk, Stays, sent}
-use Rattle.avr_tool.specs.Runs.{Cause, Ran, BrokeOff, RunsTo}
-use Rattle.avr_tool.specs.Session.{session}
+use Rattle.avr_session.specs.Runs.{Cause, Ran, BrokeOff, RunsTo}
+use Rattle.avr_session.specs.Session.{session}
 use Rattle.stk_emu.specs.Along.{along, AsksBodies}
 use Rattle.stk_emu.specs.Device.{device}
 use Rattle.stk_emu.specs.Effect.{Memories, memories_of}

@@ -8,9 +8,9 @@ use Rattle.avr_part.specs.declared.mem.Mem.{Mem}
 use Rattle.avr_plan.specs.Plan.{Plan}
 use Rattle.avr_plan.specs.declared.task.Task.{Task}
 use Rattle.avr_plan.specs.declared.task.Task.TheVariants as task
-use Rattle.avr_tool.specs.declared.standing.Standing.{Standing}
-use Rattle.avr_tool.specs.declared.standing.Standing.TheVariants.{Fine, Faulty, Over}
-use Rattle.avr_tool.specs.Session.{standing, is_erase_due, left_out_erase, left_out_write, erased_says, written_says}
+use Rattle.avr_session.specs.declared.standing.Standing.{Standing}
+use Rattle.avr_session.specs.declared.standing.Standing.TheVariants.{Fine, Faulty, Over}
+use Rattle.avr_session.specs.Session.{standing, is_erase_due, left_out_erase, left_out_write, erased_says, written_says}
 use Rattle.stk_host.specs.declared.fault.HostFault.{HostFault}
 use Rattle.stk_host.specs.Operations.{Difference, difference_from, differs}
 use Rattle.stk_emu.specs.Effect.{Image, Memories, Erase, Write, effect, effects, memory_in}

@@ -11,7 +11,7 @@ use Rattle.avr_part.specs.declared.mem.Mem.{Mem}
 use Rattle.avr_part.specs.declared.mem.Mem.TheVariants.{Flash, Eeprom, Lfuse, Hfuse, Efuse, Lock}
 use Rattle.avr_plan.specs.Plan.{Plan, IsFitted}
 use Rattle.avr_plan.specs.declared.task.Task.TheVariants as task
-use Rattle.avr_tool.specs.Session.{is_erase_due, writes_flash}
+use Rattle.avr_session.specs.Session.{is_erase_due, writes_flash}
 use Rattle.stk_emu.specs.Effect.{Image, Memories, Item, Erase, keeps_eeprom, effect, effects}
 use Rattle.stk_emu.specs.Settled.{FitsPart}
 use Rattle.stk_emu.proofs.PageStrokes.{effects_on}

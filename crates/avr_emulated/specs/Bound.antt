@@ -6,7 +6,7 @@ use Rattle.avr_part.specs.Part.{Part}
 use Rattle.avr_plan.specs.Plan.{Plan}
 use Rattle.avr_plan.specs.declared.task.Task.{Task}
 use Rattle.avr_plan.specs.declared.task.Task.TheVariants as task
-use Rattle.avr_tool.specs.Session.{is_erase_due}
+use Rattle.avr_session.specs.Session.{is_erase_due}
 use Rattle.stk_frame.specs.declared.command.Command.{Command}
 use Rattle.stk_host.specs.Bound.{opening_steps, erasing_steps, closing_steps}
 use Rattle.stk_host.specs.ReadSteps.{read_steps}

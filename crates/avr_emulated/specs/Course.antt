@@ -10,9 +10,9 @@ use Rattle.avr_plan.specs.declared.task.Task.TheVariants as task
 use Rattle.stk_host.specs.declared.fault.HostFault.{HostFault}
 use Rattle.stk_host.specs.Operations.{compared}
 use Rattle.stk_emu.specs.Effect.{Image, Memories, Erase, Write, effect, memory_in}
-use Rattle.avr_tool.specs.declared.standing.Standing.{Standing}
-use Rattle.avr_tool.specs.declared.standing.Standing.TheVariants.{Fine}
-use Rattle.avr_tool.specs.Session.{standing, fault_or, opening_says, is_erase_due, left_out_erase, left_out_write, erased_says, written_says, verified_says, closed_says, read_says}
+use Rattle.avr_session.specs.declared.standing.Standing.{Standing}
+use Rattle.avr_session.specs.declared.standing.Standing.TheVariants.{Fine}
+use Rattle.avr_session.specs.Session.{standing, fault_or, opening_says, is_erase_due, left_out_erase, left_out_write, erased_says, written_says, verified_says, closed_says, read_says}
 
 -- what is said, how the session stands after it, and the memories then
 pub record Course : Type 0 where

@@ -4,7 +4,7 @@ use Rattle.avr_cli.specs.declared.chosen.Switches.{Switches}
 use Rattle.avr_plan.specs.Plan.{Plan}
 use Rattle.avr_plan.specs.declared.task.Task.{Task}
 use Rattle.avr_plan.specs.declared.task.Task.TheVariants as task
-use Rattle.avr_tool.specs.Session.{is_erase_due}
+use Rattle.avr_session.specs.Session.{is_erase_due}
 use Rattle.stk_emu.specs.Effect.{Item, Erase, Write}
 
 -- an erase, where it is due

@@ -5,7 +5,7 @@ use Rattle.avr_part.specs.Part.{Part}
 use Rattle.avr_plan.specs.Plan.{Plan}
 use Rattle.avr_plan.specs.declared.task.Task.{Task}
 use Rattle.avr_plan.specs.declared.task.Task.TheVariants as task
-use Rattle.avr_tool.specs.Session.{is_erase_due, opening_part, task_part, beginning, status_of}
+use Rattle.avr_session.specs.Session.{is_erase_due, opening_part, task_part, beginning, status_of}
 use Rattle.stk_emu.specs.Climbs.{steps_done}
 use Rattle.stk_emu.specs.Device.{device}
 use Rattle.stk_emu.specs.Effect.{Erase}

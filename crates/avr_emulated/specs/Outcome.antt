@@ -3,8 +3,8 @@ use Rattle.std.specs.Prelude.{ℕ, suc, ◌≡◌, ◌≤◌, ◌-◌, ◌⊎◌
 use Rattle.avr_desk.specs.Record.{Record}
 use Rattle.avr_message.specs.Said.{after_all}
 use Rattle.avr_plan.specs.Plan.{Plan}
-use Rattle.avr_tool.specs.Runs.{Cause, BrokeOff}
-use Rattle.avr_tool.specs.Session.{session}
+use Rattle.avr_session.specs.Runs.{Cause, BrokeOff}
+use Rattle.avr_session.specs.Session.{session}
 use Rattle.stk_host.specs.Talk.{Talk}
 use Rattle.stk_emu.specs.declared.fate.Fate.{Fate}
 use Rattle.stk_emu.specs.Effect.{Item, Memories, effects}

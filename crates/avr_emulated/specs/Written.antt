@@ -7,7 +7,7 @@ use Rattle.avr_part.specs.declared.mem.Mem.TheVariants.{Flash, Eeprom, Lfuse, Hf
 use Rattle.avr_plan.specs.Plan.{Plan}
 use Rattle.avr_plan.specs.declared.task.Task.{Task}
 use Rattle.avr_plan.specs.declared.task.Task.TheVariants.{Write, Verify, Read}
-use Rattle.avr_tool.specs.Session.{is_erase_due}
+use Rattle.avr_session.specs.Session.{is_erase_due}
 use Rattle.stk_emu.specs.Effect.{Image, Memories, keeps_eeprom, memory_in}
 use Rattle.avr_emulated.specs.Agrees.{Shows}
 

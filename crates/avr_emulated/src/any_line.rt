@@ -5,7 +5,7 @@ ghost use Rattle.std.specs.Prelude.{◌≡◌, ◌*◌, ℕ, List, All, take};
 ghost use Rattle.avr_message.specs.Said.{SaidPart};
 ghost use Rattle.avr_part.specs.Part.{IsPart};
 ghost use Rattle.avr_plan.specs.Plan.{Plan, IsFitted};
-ghost use Rattle.avr_tool.specs.Session.{session};
+ghost use Rattle.avr_session.specs.Session.{session};
 ghost use Rattle.stk_emu.specs.Along.{AsksBodies};
 ghost use Rattle.stk_emu.specs.Device.{device};
 ghost use Rattle.stk_emu.specs.Effect.{Memories, effects, memories_of};

@@ -4,7 +4,7 @@
 ghost use Rattle.std.specs.Prelude.{◌≡◌, ℕ, List, All};
 ghost use Rattle.avr_part.specs.Part.{IsPart};
 ghost use Rattle.avr_plan.specs.Plan.{Plan, IsFitted};
-ghost use Rattle.avr_tool.specs.Session.{session};
+ghost use Rattle.avr_session.specs.Session.{session};
 ghost use Rattle.stk_host.specs.Dialog.{Done};
 ghost use Rattle.stk_emu.specs.Along.{along, said_along};
 ghost use Rattle.stk_emu.specs.Device.{device};

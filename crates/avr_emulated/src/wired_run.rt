@@ -1,7 +1,7 @@
 //! A run over a wire to the emulated programmer.
 ghost use Rattle.std.specs.Prelude.{◌≡◌, Some, length};
-ghost use Rattle.avr_tool.specs.Runs.{RunsTo, Stops};
-ghost use Rattle.avr_tool.specs.Session.{session};
+ghost use Rattle.avr_session.specs.Runs.{RunsTo, Stops};
+ghost use Rattle.avr_session.specs.Session.{session};
 ghost use Rattle.stk_emu.specs.Effect.{memories_of};
 ghost use Rattle.stk_emu.specs.Leads.{AreGood};
 ghost use Rattle.stk_emu.specs.Programmer.{fresh_programmer};
@@ -12,11 +12,11 @@ ghost use Rattle.avr_emulated.specs.Outcome.{Leaves, MakesStrokes, GoesWell};
 
 use avr_desk::Desk;
 use avr_plan::Plan;
-use avr_tool::drive;
+use avr_session::drive;
 use std::alloc::Global;
 use stk_emu::Wired;
 
-/// Plays the session of a plan over a wire to the emulated programmer, as [`avr_tool::drive`] does over any link.
+/// Plays the session of a plan over a wire to the emulated programmer, as [`avr_session::drive`] does over any link.
 ///
 /// Nothing has passed over the wire yet, and its chip is of the plan's part.
 pub fn drive_wired<D: Desk>(alloc: Global, plan: &Plan, desk: &mut D, wire: &mut Wired) -> u8

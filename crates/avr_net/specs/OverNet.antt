@@ -8,8 +8,8 @@ use Rattle.avr_plan.specs.Plan.{Plan}
 use Rattle.avr_plan.specs.Planning.{planned}
 use Rattle.avr_plan.specs.Playing.{Goes, Went}
 use Rattle.avr_plan.specs.Stage.{Made}
-use Rattle.avr_tool.specs.Runs.{Stops, RunsTo}
-use Rattle.avr_tool.specs.Session.{session}
+use Rattle.avr_session.specs.Runs.{Stops, RunsTo}
+use Rattle.avr_session.specs.Session.{session}
 use Rattle.avr_net.specs.Lines.{unopened_line}
 
 -- The plan was made, and its session was run over the port. A socket doesn't show what passed over it.

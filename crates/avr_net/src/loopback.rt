@@ -6,7 +6,7 @@ use avr_cli::{Settings, read_words, settings};
 use avr_desk::{Bytes, MemDesk};
 use avr_part::{Chip, Mem, Parts};
 use avr_serve::answer_all;
-use avr_tool::run;
+use avr_session::run;
 use std::alloc::Global;
 use std::net::{OpenListener, TcpStream};
 use std::test::Fail;

@@ -6,7 +6,7 @@ use crate::refusal::refuse_unopened;
 use avr_cli::Settings;
 use avr_desk::Desk;
 use avr_plan::plan;
-use avr_tool::drive;
+use avr_session::drive;
 use std::alloc::Global;
 use std::net::Net;
 

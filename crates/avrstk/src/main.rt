@@ -5,7 +5,7 @@ use avr_cli::{Port, Settings, read_words, settings};
 use avr_desk::SystemDesk;
 use avr_emulated::run_emulated;
 use avr_net::{run_net, serve_net};
-use avr_tool::{refuse, run};
+use avr_session::{refuse, run};
 use clap::Error;
 use std::process::ExitCode;
 use std::{env, io};

@@ -1,0 +1,12 @@
+use Rattle.std.proofs.Common.{◌≡◌, ◌≤◌, take, length}
+use Rattle.avr_session.specs.FileText.{used}
+use Rattle.avr_session.proofs.file_text.used.Given as goal
+
+abbrev pub invariant-blanks : goal.invariant-blanks
+invariant-blanks l = record {
+  same : used (take l.count l.bytes) ≡ used l.bytes;
+  within : l.count ≤ length l.bytes;
+}
+
+abbrev pub decreases-blanks : goal.decreases-blanks
+decreases-blanks l = l.count

@@ -1,0 +1,14 @@
+use Rattle.std.proofs.lemmas.Result.{err_from_is_err_and}
+use Rattle.avr_session.specs.Session.{signature_says, warns_of_signature}
+use Rattle.avr_session.proofs.Reporting.{reports_then, reports_until}
+use Rattle.avr_session.proofs.reports.report_taken.Goals as goal
+
+pub returns-clause-reports : goal.returns-clause-reports
+returns-clause-reports g c =
+    reports_then _ _ (signature_says c.args.quiet c.args.found) (warns_of_signature c.args.quiet c.args.part.now c.args.found) (g.D.Desk.kept c.report_found.new.desk) _ (g.D.Desk.failures c.report_found.new.desk) _ c.warn_of_signature.result
+    c.in_ok-report_found.ensures.reports c.in_ok-report_found.ensures.counted c.warn_of_signature.ensures.reports
+
+pub returns-in_err-report_found-clause-reports : goal.returns-in_err-report_found-clause-reports
+returns-in_err-report_found-clause-reports g c =
+    let p = err_from_is_err_and c.from_residual.result c.from_residual.ensures.1 in
+    rw p.1 (reports_until (signature_says c.args.quiet c.args.found) (warns_of_signature c.args.quiet c.args.part.now c.args.found) p.0 c.in_err-report_found.ensures.reports)

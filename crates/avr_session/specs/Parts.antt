@@ -1,0 +1,27 @@
+-- How a part of a session ends. (For contracts inside this crate.)
+use Rattle.std.specs.Prelude.{ℕ, ◌≡◌, ◌≤◌, List, Option, Result, ⊤}
+use Rattle.avr_desk.specs.Record.{Record}
+use Rattle.stk_host.specs.Dialog.{Dialog}
+use Rattle.stk_host.specs.State.{HostState}
+use Rattle.stk_host.specs.Talk.{Talk}
+use Rattle.avr_message.specs.Said.{Saying}
+use Rattle.avr_session.specs.declared.standing.Standing.{Standing}
+use Rattle.avr_session.specs.declared.standing.Stopped.{Stopped}
+use Rattle.avr_session.specs.Concluding.{Serves, fine_if_said}
+use Rattle.avr_session.specs.Runs.{Stops, PrintStops, Reports, Runs}
+
+-- A part of a session was played by a host, over a link and a desk that showed this before and after it, and whose
+-- failures were counted so before and after it.
+pub record Performs (dialog : Dialog Saying Standing) (old new : HostState) (talk_before talk_now : Option Talk) (link_before link_now : ℕ) (desk_old desk_new : Option Record) (desk_before desk_now : ℕ) (result : Result Standing Stopped) : Type 0 where
+  pub runs : Runs dialog old.next old.unread talk_before talk_now desk_old desk_new (Stops link_before link_now desk_before desk_now) result new.next new.unread
+  pub serves : Serves result new.broken
+  pub part : new.part ≡ old.part
+  pub link : link_before ≤ link_now
+  pub desk : desk_before ≤ desk_now
+
+-- something was said in place of a part of a session
+pub record LeavesOut (sayings : List Saying) (desk_old desk_new : Option Record) (desk_before desk_now : ℕ) (result : Result Standing Stopped) : Type 0 where
+  pub told : Result ⊤ Stopped
+  pub reports : Reports desk_old desk_new sayings (PrintStops desk_before desk_now) told
+  pub result_is : result ≡ fine_if_said told
+  pub desk : desk_before ≤ desk_now

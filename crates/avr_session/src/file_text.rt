@@ -1,0 +1,139 @@
+//! The text of a file, in any format, to where it goes.
+ghost use Rattle.std.specs.Prelude.{◌≡◌, ◌++◌, ◌+◌, ◌<◌, ◌≤◌, ◌^◌, ◌↔◌, ℕ, List, length, take, IsTrue, option_map, OnOk, OnErr, IfErr};
+ghost use Rattle.avr_desk.specs.Fault.{Counts};
+ghost use Rattle.avr_desk.specs.Stream.{SendsPart, after_sent};
+ghost use Rattle.avr_session.specs.FileText.{file_text, used, trimmed};
+ghost use Rattle.avr_session.specs.Saving.{SendsFront};
+
+use arrayvec::ArrayVec;
+use avr_cli::Format;
+use avr_desk::{Desk, DeskFault, Stream, write_all};
+use avr_image::{Base, ListWriter};
+use avr_records::{IhexWriter, SrecWriter};
+
+/// A text that comes in pieces.
+trait Pieces {
+    ghost rest: { Self → List ℕ };
+
+    /// Makes `piece` the next piece, or empties it where nothing is left.
+    fn next_piece(&mut self, piece: &mut ArrayVec<u8, 80>) -> bool
+        ensures joined { rest self.old ≡ piece.new.items ++ rest self.new }
+        ensures some { IsTrue result ↔ (0 < length piece.new.items) }
+        ensures ends { IsTrue result ↔ (0 < length (rest self.old)) };
+}
+
+impl Pieces for IhexWriter<'_> {
+    ghost rest = { λ w. w };
+
+    fn next_piece(&mut self, piece: &mut ArrayVec<u8, 80>) -> bool {
+        IhexWriter::next_piece(self, piece)
+    }
+}
+
+impl Pieces for SrecWriter<'_> {
+    ghost rest = { λ w. w };
+
+    fn next_piece(&mut self, piece: &mut ArrayVec<u8, 80>) -> bool {
+        SrecWriter::next_piece(self, piece)
+    }
+}
+
+impl Pieces for ListWriter<'_> {
+    ghost rest = { λ w. w };
+
+    fn next_piece(&mut self, piece: &mut ArrayVec<u8, 80>) -> bool {
+        ListWriter::next_piece(self, piece)
+    }
+}
+
+/// Makes room for so many bytes behind those that wait: where they don't fit, what waits is written.
+fn make_room<D: Desk>(
+    desk: &mut D,
+    stream: Stream,
+    waiting: &mut ArrayVec<u8, 4_096>,
+    count: usize,
+) -> Result<(), DeskFault>
+    requires { count ≤ 4096 }
+    ensures sent { OnOk result
+        (SendsFront stream (D.kept desk.old) (D.kept desk.new) waiting.old.items waiting.new.items) }
+    ensures room { OnOk result (length waiting.new.items + count ≤ 4096) }
+    ensures part { OnErr result (SendsPart stream (D.kept desk.old) (D.kept desk.new) waiting.old.items) }
+    ensures counts { Counts (D.failures desk.old) (D.failures desk.new) result }
+    ensures fault { IfErr result (λ e. e ≡ DeskFault.Failed) }
+{
+    let room = waiting.remaining_capacity();
+    if count <= room {
+        return Ok(());
+    }
+    write_all(desk, stream, waiting.as_slice())?;
+    waiting.clear();
+    Ok(())
+}
+
+/// Writes all pieces of a text, many at once. After a fault a front of it was written.
+fn write_pieces<D: Desk, P: Pieces + Drop>(
+    desk: &mut D,
+    stream: Stream,
+    text: P,
+) -> Result<(), DeskFault>
+    ensures all { OnOk result (D.kept desk.new ≡ option_map (after_sent stream (P.rest text)) (D.kept desk.old)) }
+    ensures part { OnErr result (SendsPart stream (D.kept desk.old) (D.kept desk.new) (P.rest text)) }
+    ensures counts { Counts (D.failures desk.old) (D.failures desk.new) result }
+    ensures fault { IfErr result (λ e. e ≡ DeskFault.Failed) }
+{
+    let mut text = text;
+    let mut piece = ArrayVec::new();
+    let mut waiting = ArrayVec::new();
+    'pieces: while text.next_piece(&mut piece) {
+        make_room(desk, stream, &mut waiting, piece.len())?;
+        let _ = waiting.try_extend_from_slice(piece.as_slice());
+    }
+    let rest = waiting.as_slice();
+    write_all(desk, stream, rest)
+}
+
+/// Writes the text that these bytes are in a format. After a fault a front of it was written.
+#[tactic(auto, unfolding(crate::specs::FileText::file_text))]
+pub(crate) fn write_text<D: Desk>(
+    desk: &mut D,
+    stream: Stream,
+    format: Format,
+    bytes: &[u8],
+) -> Result<(), DeskFault>
+    requires { length bytes.now ≤ 2 ^ 32 }
+    ensures all { OnOk result
+        (D.kept desk.new ≡ option_map (after_sent stream (file_text format bytes.now)) (D.kept desk.old)) }
+    ensures part { OnErr result (SendsPart stream (D.kept desk.old) (D.kept desk.new) (file_text format bytes.now)) }
+    ensures counts { Counts (D.failures desk.old) (D.failures desk.new) result }
+    ensures fault { IfErr result (λ e. e ≡ DeskFault.Failed) }
+{
+    match format {
+        Format::Ihex => write_pieces(desk, stream, IhexWriter::new(0, bytes)),
+        Format::Srec => write_pieces(desk, stream, SrecWriter::new(0, bytes)),
+        Format::Decimal => write_pieces(desk, stream, ListWriter::new(Base::Dec, bytes)),
+        Format::Hexadecimal => write_pieces(desk, stream, ListWriter::new(Base::Hex, bytes)),
+        Format::Octal => write_pieces(desk, stream, ListWriter::new(Base::Oct, bytes)),
+        Format::Binary => write_pieces(desk, stream, ListWriter::new(Base::Bin, bytes)),
+        Format::Raw | Format::Auto | Format::Immediate => write_all(desk, stream, bytes),
+    }
+}
+
+/// How many bytes there are up to the last that isn't FF.
+fn used(bytes: &[u8]) -> usize
+    ensures value { result ≡ used bytes.now }
+    ensures within { result ≤ length bytes.now }
+{
+    let mut count = bytes.len();
+    'blanks: while count > 0 && bytes[count - 1] == 0xFF {
+        count -= 1;
+    }
+    count
+}
+
+/// What is kept of a flash that was read: no trailing FF, but one where the length would be odd.
+pub(crate) fn trimmed(bytes: &[u8]) -> &[u8]
+    ensures { result.now ≡ trimmed bytes.now }
+{
+    let kept = used(bytes).div_ceil(2) * 2;
+    &bytes[..kept.min(bytes.len())]
+}

@@ -1,0 +1,358 @@
+//! What a session reports.
+ghost use Rattle.std.specs.Prelude.{◌≡◌, ◌∷◌, ◌≤◌, [], map, codes, Ok, Err};
+ghost use Rattle.byteorder.specs.Endian.{big_bytes};
+ghost use Rattle.avr_message.specs.Lines.{text_of, digits, error};
+ghost use Rattle.avr_message.specs.Said.{Line};
+ghost use Rattle.avr_part.specs.Mem.{name_of};
+ghost use Rattle.avr_session.specs.Lines.{informs, warns, other_signature, fault_line};
+ghost use Rattle.avr_session.specs.Concluding.{stopped_of};
+ghost use Rattle.avr_session.specs.Runs.{Reports, PrintStops};
+ghost use Rattle.avr_session.specs.Session.{fault_or, bytes_say, signature_says, warns_of_signature, opening_says};
+
+use crate::standing::Stopped;
+use avr_desk::{Desk, DeskFault};
+use avr_message::{Piece, print_error, print_information, print_warning};
+use avr_part::{Mem, Part};
+use stk_host::HostFault;
+
+/// Where the desk failed the run stops.
+fn stopped_if_failed(printed: Result<(), DeskFault>) -> Result<(), Stopped>
+    ensures { result ≡ stopped_of printed }
+{
+    match printed {
+        Ok(()) => Ok(()),
+        Err(_) => Err(Stopped),
+    }
+}
+
+/// Prints a line of information, unless the run is quiet.
+pub(crate) fn inform<D: Desk>(desk: &mut D, quiet: u8, pieces: &[Piece<'_>]) -> Result<(), Stopped>
+    ensures reports { Reports (D.kept desk.old) (D.kept desk.new) (informs quiet (map text_of pieces.now))
+        (PrintStops (D.failures desk.old) (D.failures desk.new)) result }
+    ensures counted { D.failures desk.old ≤ D.failures desk.new }
+{
+    if quiet > 0 {
+        return Ok(());
+    }
+    stopped_if_failed(print_information(desk, pieces))
+}
+
+/// Prints a warning, unless the run is quiet twice.
+pub(crate) fn warn<D: Desk>(desk: &mut D, quiet: u8, pieces: &[Piece<'_>]) -> Result<(), Stopped>
+    ensures reports { Reports (D.kept desk.old) (D.kept desk.new) (warns quiet (map text_of pieces.now))
+        (PrintStops (D.failures desk.old) (D.failures desk.new)) result }
+    ensures counted { D.failures desk.old ≤ D.failures desk.new }
+{
+    if quiet > 1 {
+        return Ok(());
+    }
+    stopped_if_failed(print_warning(desk, pieces))
+}
+
+/// Prints an error.
+pub(crate) fn tell<D: Desk>(desk: &mut D, pieces: &[Piece<'_>]) -> Result<(), Stopped>
+    ensures reports { Reports (D.kept desk.old) (D.kept desk.new) (Line (error (map text_of pieces.now)) ∷ [])
+        (PrintStops (D.failures desk.old) (D.failures desk.new)) result }
+    ensures counted { D.failures desk.old ≤ D.failures desk.new }
+{
+    stopped_if_failed(print_error(desk, pieces))
+}
+
+/// Prints how many bytes of a memory were written, read or compared.
+pub(crate) fn report_bytes<D: Desk>(
+    desk: &mut D,
+    quiet: u8,
+    mem: Mem,
+    count: u32,
+    done: &str,
+) -> Result<(), Stopped>
+    ensures reports { Reports (D.kept desk.old) (D.kept desk.new) (bytes_say quiet mem count done.now)
+        (PrintStops (D.failures desk.old) (D.failures desk.new)) result }
+    ensures counted { D.failures desk.old ≤ D.failures desk.new }
+{
+    let pieces = [
+        Piece::Text(mem.name()),
+        Piece::Text(": "),
+        Piece::Number(count),
+        Piece::Text(done),
+    ];
+    inform(desk, quiet, &pieces)
+}
+
+/// Prints that a command was refused with this status.
+fn tell_refused<D: Desk>(desk: &mut D, command: u8, status: u8) -> Result<(), Stopped>
+    ensures reports { Reports (D.kept desk.old) (D.kept desk.new)
+        (Line (error (codes "command " ∷ digits (command ∷ [])
+        ∷ codes " refused with status " ∷ digits (status ∷ []) ∷ [])) ∷ [])
+        (PrintStops (D.failures desk.old) (D.failures desk.new)) result }
+    ensures counted { D.failures desk.old ≤ D.failures desk.new }
+{
+    let pieces = [
+        Piece::Text("command "),
+        Piece::Byte(command),
+        Piece::Text(" refused with status "),
+        Piece::Byte(status),
+    ];
+    tell(desk, &pieces)
+}
+
+/// Prints that what answered a command is no answer to it.
+fn tell_bad_answer<D: Desk>(desk: &mut D, command: u8) -> Result<(), Stopped>
+    ensures reports { Reports (D.kept desk.old) (D.kept desk.new)
+        (Line (error (codes "command " ∷ digits (command ∷ []) ∷ codes ": bad answer" ∷ [])) ∷ [])
+        (PrintStops (D.failures desk.old) (D.failures desk.new)) result }
+    ensures counted { D.failures desk.old ≤ D.failures desk.new }
+{
+    let pieces = [
+        Piece::Text("command "),
+        Piece::Byte(command),
+        Piece::Text(": bad answer"),
+    ];
+    tell(desk, &pieces)
+}
+
+/// Prints that the signature is another than the part's.
+fn tell_wrong_signature<D: Desk>(desk: &mut D, part: &Part, found: [u8; 3]) -> Result<(), Stopped>
+    ensures reports { Reports (D.kept desk.old) (D.kept desk.new) (Line (error (other_signature part.now found)) ∷ [])
+        (PrintStops (D.failures desk.old) (D.failures desk.new)) result }
+    ensures counted { D.failures desk.old ≤ D.failures desk.new }
+{
+    let pieces = [
+        Piece::Text("signature is "),
+        Piece::Signature(found),
+        Piece::Text(", "),
+        Piece::Text(part.id()),
+        Piece::Text(" has "),
+        Piece::Signature(part.signature()),
+    ];
+    tell(desk, &pieces)
+}
+
+/// Prints where a memory differs from an image.
+fn tell_differs<D: Desk>(
+    desk: &mut D,
+    mem: Mem,
+    address: u32,
+    want: u8,
+    found: u8,
+) -> Result<(), Stopped>
+    ensures reports { Reports (D.kept desk.old) (D.kept desk.new)
+        (Line (error (name_of mem ∷ codes ": address " ∷ digits (big_bytes 4 address)
+        ∷ codes ": " ∷ digits (want ∷ []) ∷ codes " expected, "
+        ∷ digits (found ∷ []) ∷ codes " found" ∷ [])) ∷ [])
+        (PrintStops (D.failures desk.old) (D.failures desk.new)) result }
+    ensures counted { D.failures desk.old ≤ D.failures desk.new }
+{
+    let pieces = [
+        Piece::Text(mem.name()),
+        Piece::Text(": address "),
+        Piece::Address(address),
+        Piece::Text(": "),
+        Piece::Byte(want),
+        Piece::Text(" expected, "),
+        Piece::Byte(found),
+        Piece::Text(" found"),
+    ];
+    tell(desk, &pieces)
+}
+
+/// Prints that a memory can't be written.
+fn tell_read_only<D: Desk>(desk: &mut D, mem: Mem) -> Result<(), Stopped>
+    ensures reports { Reports (D.kept desk.old) (D.kept desk.new)
+        (Line (error (name_of mem ∷ codes " is read-only" ∷ [])) ∷ [])
+        (PrintStops (D.failures desk.old) (D.failures desk.new)) result }
+    ensures counted { D.failures desk.old ≤ D.failures desk.new }
+{
+    tell(
+        desk,
+        &[Piece::Text(mem.name()), Piece::Text(" is read-only")],
+    )
+}
+
+/// Prints an error of one text.
+fn tell_text<D: Desk>(desk: &mut D, text: &str) -> Result<(), Stopped>
+    ensures reports { Reports (D.kept desk.old) (D.kept desk.new) (Line (error (text.now ∷ [])) ∷ [])
+        (PrintStops (D.failures desk.old) (D.failures desk.new)) result }
+    ensures counted { D.failures desk.old ≤ D.failures desk.new }
+{
+    tell(desk, &[Piece::Text(text)])
+}
+
+/// Prints the line of a fault of the host.
+#[tactic(auto, unfolding(crate::specs::Lines::fault_line))]
+pub(crate) fn tell_fault<D: Desk>(
+    desk: &mut D,
+    part: &Part,
+    fault: HostFault,
+) -> Result<(), Stopped>
+    ensures reports { Reports (D.kept desk.old) (D.kept desk.new) (Line (fault_line part.now fault) ∷ [])
+        (PrintStops (D.failures desk.old) (D.failures desk.new)) result }
+    ensures counted { D.failures desk.old ≤ D.failures desk.new }
+{
+    match fault {
+        HostFault::NoAnswer => tell_text(desk, "no answer"),
+        HostFault::LinkEnded => tell_text(desk, "link ended"),
+        HostFault::SendFailed => tell_text(desk, "link cannot be written"),
+        HostFault::Babble => tell_text(desk, "no answer in 4096 bytes"),
+        HostFault::Refused(command, status) => tell_refused(desk, command, status),
+        HostFault::BadAnswer(command) => tell_bad_answer(desk, command),
+        HostFault::WrongSignature(found) => tell_wrong_signature(desk, part, found),
+        HostFault::Differs(mem, address, want, found) => {
+            tell_differs(desk, mem, address, want, found)
+        }
+        HostFault::ReadOnly(mem) => tell_read_only(desk, mem),
+        HostFault::Memory => tell_text(desk, "out of memory"),
+        HostFault::RecvFailed => tell_text(desk, "link cannot be read"),
+    }
+}
+
+/// Prints the signature that was found.
+fn report_found<D: Desk>(desk: &mut D, quiet: u8, found: [u8; 3]) -> Result<(), Stopped>
+    ensures reports { Reports (D.kept desk.old) (D.kept desk.new) (signature_says quiet found)
+        (PrintStops (D.failures desk.old) (D.failures desk.new)) result }
+    ensures counted { D.failures desk.old ≤ D.failures desk.new }
+{
+    let pieces = [Piece::Text("device signature = "), Piece::Signature(found)];
+    inform(desk, quiet, &pieces)
+}
+
+/// Warns that the signature is another than the part's.
+fn warn_other<D: Desk>(desk: &mut D, quiet: u8, part: &Part, found: [u8; 3]) -> Result<(), Stopped>
+    ensures reports { Reports (D.kept desk.old) (D.kept desk.new) (warns quiet (other_signature part.now found))
+        (PrintStops (D.failures desk.old) (D.failures desk.new)) result }
+    ensures counted { D.failures desk.old ≤ D.failures desk.new }
+{
+    let pieces = [
+        Piece::Text("signature is "),
+        Piece::Signature(found),
+        Piece::Text(", "),
+        Piece::Text(part.id()),
+        Piece::Text(" has "),
+        Piece::Signature(part.signature()),
+    ];
+    warn(desk, quiet, &pieces)
+}
+
+/// Warns of a signature if it is another than the part's.
+fn warn_of_signature<D: Desk>(
+    desk: &mut D,
+    quiet: u8,
+    part: &Part,
+    found: [u8; 3],
+) -> Result<(), Stopped>
+    ensures reports { Reports (D.kept desk.old) (D.kept desk.new) (warns_of_signature quiet part.now found)
+        (PrintStops (D.failures desk.old) (D.failures desk.new)) result }
+    ensures counted { D.failures desk.old ≤ D.failures desk.new }
+{
+    if found == part.signature() {
+        Ok(())
+    } else {
+        warn_other(desk, quiet, part, found)
+    }
+}
+
+/// Prints the signature that was taken, with a warning if it isn't the part's.
+fn report_taken<D: Desk>(
+    desk: &mut D,
+    quiet: u8,
+    part: &Part,
+    found: [u8; 3],
+) -> Result<(), Stopped>
+    ensures reports { Reports (D.kept desk.old) (D.kept desk.new) (opening_says quiet part.now (Ok found))
+        (PrintStops (D.failures desk.old) (D.failures desk.new)) result }
+    ensures counted { D.failures desk.old ≤ D.failures desk.new }
+{
+    report_found(desk, quiet, found)?;
+    warn_of_signature(desk, quiet, part, found)
+}
+
+/// Prints the signature that was refused, and the error.
+fn report_refused<D: Desk>(
+    desk: &mut D,
+    quiet: u8,
+    part: &Part,
+    found: [u8; 3],
+) -> Result<(), Stopped>
+    ensures reports { Reports (D.kept desk.old) (D.kept desk.new)
+        (opening_says quiet part.now (Err (HostFault.WrongSignature found)))
+        (PrintStops (D.failures desk.old) (D.failures desk.new)) result }
+    ensures counted { D.failures desk.old ≤ D.failures desk.new }
+{
+    report_found(desk, quiet, found)?;
+    tell_fault(desk, part, HostFault::WrongSignature(found))
+}
+
+/// Reports what opening a session came to.
+pub(crate) fn report_opening<D: Desk>(
+    desk: &mut D,
+    quiet: u8,
+    part: &Part,
+    opened: &Result<[u8; 3], HostFault>,
+) -> Result<(), Stopped>
+    ensures reports { Reports (D.kept desk.old) (D.kept desk.new) (opening_says quiet part.now opened.now)
+        (PrintStops (D.failures desk.old) (D.failures desk.new)) result }
+    ensures counted { D.failures desk.old ≤ D.failures desk.new }
+{
+    match opened {
+        Ok(found) => report_taken(desk, quiet, part, *found),
+        Err(HostFault::WrongSignature(found)) => report_refused(desk, quiet, part, *found),
+        Err(fault) => tell_fault(desk, part, *fault),
+    }
+}
+
+/// Reports that the chip was erased, or the fault.
+pub(crate) fn report_erased<D: Desk>(
+    desk: &mut D,
+    quiet: u8,
+    part: &Part,
+    erased: &Result<(), HostFault>,
+) -> Result<(), Stopped>
+    ensures reports { Reports (D.kept desk.old) (D.kept desk.new)
+        (fault_or part.now (λ _. informs quiet (codes "chip erased" ∷ [])) erased.now)
+        (PrintStops (D.failures desk.old) (D.failures desk.new)) result }
+    ensures counted { D.failures desk.old ≤ D.failures desk.new }
+{
+    match erased {
+        Ok(()) => inform(desk, quiet, &[Piece::Text("chip erased")]),
+        Err(fault) => tell_fault(desk, part, *fault),
+    }
+}
+
+/// Reports that so many bytes of a memory were written or compared, or the fault.
+pub(crate) fn report_done<D: Desk>(
+    desk: &mut D,
+    quiet: u8,
+    part: &Part,
+    mem: Mem,
+    count: u32,
+    done: &str,
+    outcome: &Result<(), HostFault>,
+) -> Result<(), Stopped>
+    ensures reports { Reports (D.kept desk.old) (D.kept desk.new)
+        (fault_or part.now (λ _. bytes_say quiet mem count done.now) outcome.now)
+        (PrintStops (D.failures desk.old) (D.failures desk.new)) result }
+    ensures counted { D.failures desk.old ≤ D.failures desk.new }
+{
+    match outcome {
+        Ok(()) => report_bytes(desk, quiet, mem, count, done),
+        Err(fault) => tell_fault(desk, part, *fault),
+    }
+}
+
+/// Reports what closing a session came to in which no fault was told.
+pub(crate) fn report_closing<D: Desk>(
+    desk: &mut D,
+    quiet: u8,
+    part: &Part,
+    closed: &Result<(), HostFault>,
+) -> Result<(), Stopped>
+    ensures reports { Reports (D.kept desk.old) (D.kept desk.new)
+        (fault_or part.now (λ _. informs quiet (codes "done" ∷ [])) closed.now)
+        (PrintStops (D.failures desk.old) (D.failures desk.new)) result }
+    ensures counted { D.failures desk.old ≤ D.failures desk.new }
+{
+    match closed {
+        Ok(()) => inform(desk, quiet, &[Piece::Text("done")]),
+        Err(fault) => tell_fault(desk, part, *fault),
+    }
+}

@@ -1,0 +1,144 @@
+//! What was read of a memory becomes a file.
+ghost use Rattle.std.specs.Prelude.{◌≡◌, ◌∷◌, ◌≤◌, ◌<◌, ◌^◌, [], length, OnErr};
+ghost use Rattle.avr_message.specs.Lines.{error};
+ghost use Rattle.avr_message.specs.Said.{Creates, Writes, Tells};
+ghost use Rattle.avr_session.specs.FileText.{file_text};
+ghost use Rattle.avr_session.specs.Runs.{Reports, PrintStops, DeskStops};
+ghost use Rattle.avr_session.specs.Saving.{sent_says, SaveStops};
+ghost use Rattle.avr_session.specs.Session.{saved, kept_of, read_says, fault_or};
+ghost use Rattle.stk_host.specs.Calls.{given};
+
+use crate::file_text::{trimmed, write_text};
+use crate::reports::{report_bytes, tell_fault};
+use crate::standing::Stopped;
+use avr_cli::{Format, Switches};
+use avr_desk::{Desk, Stream};
+use avr_message::{Piece, print_error};
+use avr_part::Mem;
+use avr_plan::Plan;
+use stk_host::HostFault;
+
+/// Where bytes are saved: the name of a file, `-` for standard output, and the format.
+#[derive(Clone, Copy)]
+pub(crate) struct Target<'a> {
+    pub(crate) file: &'a str,
+    pub(crate) format: Format,
+}
+
+/// Prints what can't be done with a file, as far as the desk prints it.
+fn tell_trouble<D: Desk>(desk: &mut D, file: &str, trouble: &str)
+    ensures told { Tells (D.kept desk.old) (D.kept desk.new) (error (file.now ∷ trouble.now ∷ []))
+        (D.failures desk.old) (D.failures desk.new) }
+    ensures counted { D.failures desk.old ≤ D.failures desk.new }
+{
+    let _ = print_error(desk, &[Piece::Text(file), Piece::Text(trouble)]);
+}
+
+/// Writes the text that these bytes are in a format to the file that was created, or to standard output.
+fn write_file<D: Desk>(
+    desk: &mut D,
+    stream: Stream,
+    target: Target<'_>,
+    bytes: &[u8],
+) -> Result<(), Stopped>
+    requires { length bytes.now ≤ 2 ^ 32 }
+    ensures reports { Reports (D.kept desk.old) (D.kept desk.new)
+        (sent_says stream (file_text target.entry.format bytes.now))
+        (SaveStops target.entry.file.now (D.failures desk.old) (D.failures desk.new)) result }
+    ensures counted { D.failures desk.old ≤ D.failures desk.new }
+{
+    match write_text(desk, stream, target.format, bytes) {
+        Ok(()) => Ok(()),
+        Err(_) => {
+            tell_trouble(desk, target.file, ": cannot be written");
+            Err(Stopped)
+        }
+    }
+}
+
+/// Creates the file of this name and writes it.
+fn create_file<D: Desk>(desk: &mut D, target: Target<'_>, bytes: &[u8]) -> Result<(), Stopped>
+    requires { length bytes.now ≤ 2 ^ 32 }
+    ensures reports { Reports (D.kept desk.old) (D.kept desk.new)
+        (Creates target.entry.file.now ∷ Writes (file_text target.entry.format bytes.now) ∷ [])
+        (SaveStops target.entry.file.now (D.failures desk.old) (D.failures desk.new)) result }
+    ensures counted { D.failures desk.old ≤ D.failures desk.new }
+{
+    match desk.create(target.file) {
+        Ok(()) => write_file(desk, Stream::File, target, bytes),
+        Err(_) => {
+            tell_trouble(desk, target.file, ": cannot be created");
+            Err(Stopped)
+        }
+    }
+}
+
+/// Saves bytes in a format: in the file of the target's name, or on standard output.
+pub(crate) fn save<D: Desk>(desk: &mut D, target: Target<'_>, bytes: &[u8]) -> Result<(), Stopped>
+    requires { length bytes.now ≤ 2 ^ 32 }
+    ensures reports { Reports (D.kept desk.old) (D.kept desk.new)
+        (saved target.entry.file.now (file_text target.entry.format bytes.now))
+        (SaveStops target.entry.file.now (D.failures desk.old) (D.failures desk.new)) result }
+    ensures counted { D.failures desk.old ≤ D.failures desk.new }
+{
+    if target.file == "-" {
+        write_file(desk, Stream::Output, target, bytes)
+    } else {
+        create_file(desk, target, bytes)
+    }
+}
+
+/// What is kept of what was read: trailing FF of flash are dropped, unless `all` is wanted.
+fn kept_of(mem: Mem, all: bool, bytes: &[u8]) -> &[u8]
+    ensures { result.now ≡ kept_of mem all bytes.now }
+{
+    match (mem, all) {
+        (Mem::Flash, false) => trimmed(bytes),
+        _ => bytes,
+    }
+}
+
+/// Saves what was read of a memory, and reports it.
+fn report_bytes_read<D: Desk>(
+    desk: &mut D,
+    switches: Switches,
+    mem: Mem,
+    target: Target<'_>,
+    bytes: &[u8],
+) -> Result<(), Stopped>
+    requires { length bytes.now < 2 ^ 32 }
+    ensures reports { Reports (D.kept desk.old) (D.kept desk.new)
+        (read_says switches mem target.entry.format target.entry.file.now bytes.now)
+        (DeskStops (D.failures desk.old) (D.failures desk.new)) result }
+    ensures counted { D.failures desk.old ≤ D.failures desk.new }
+{
+    let kept = kept_of(mem, switches.all, bytes);
+    save(desk, target, kept)?;
+    report_bytes(desk, switches.quiet, mem, kept.len() as u32, " bytes read")
+}
+
+/// Reports what reading a memory came to.
+pub(crate) fn report_read<D: Desk>(
+    desk: &mut D,
+    plan: &Plan,
+    mem: Mem,
+    target: Target<'_>,
+    bytes: &[u8],
+    outcome: &Result<(), HostFault>,
+) -> Result<(), Stopped>
+    requires { length bytes.now < 2 ^ 32 }
+    ensures reports { Reports (D.kept desk.old) (D.kept desk.new)
+        (fault_or plan.now.part (read_says plan.now.switches mem target.entry.format target.entry.file.now)
+        (given bytes.now outcome.now))
+        (DeskStops (D.failures desk.old) (D.failures desk.new)) result }
+    ensures told { OnErr outcome.now (Reports (D.kept desk.old) (D.kept desk.new)
+        (fault_or plan.now.part (read_says plan.now.switches mem target.entry.format target.entry.file.now)
+        (given bytes.now outcome.now))
+        (PrintStops (D.failures desk.old) (D.failures desk.new)) result) }
+    ensures counted { D.failures desk.old ≤ D.failures desk.new }
+{
+    match outcome {
+        Ok(()) => report_bytes_read(desk, plan.switches(), mem, target, bytes),
+        Err(fault) => tell_fault(desk, plan.part(), *fault),
+    }
+}

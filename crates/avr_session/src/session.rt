@@ -1,0 +1,152 @@
+//! The session of a plan: what it asks of a programmer, and what it reports at the desk.
+ghost use Rattle.std.specs.Prelude.{◌≡◌, ◌∷◌, [], None, Ok, codes};
+ghost use Rattle.avr_session.specs.declared.standing.Standing.TheVariants.{Fine, Faulty};
+ghost use Rattle.avr_session.specs.Concluding.{Serves};
+ghost use Rattle.avr_session.specs.Parts.{Performs};
+ghost use Rattle.avr_session.specs.Runs.{RunsTo, Stops};
+ghost use Rattle.avr_session.specs.Session.{beginning, working, ending, playing, session};
+ghost use Rattle.stk_host.specs.Talk.{Stays};
+
+use crate::parts::{erase_if_due, open_session, perform_all};
+use crate::reports::report_closing;
+use crate::standing::{Standing, Stopped, conclude, status_of};
+use avr_desk::Desk;
+use avr_plan::Plan;
+use std::alloc::Global;
+use stk_host::{Host, Link};
+
+/// Opens a session, and erases the chip where that is due.
+fn open_and_erase<D: Desk, L: Link>(
+    host: &mut Host,
+    desk: &mut D,
+    link: &mut L,
+    plan: &Plan,
+) -> Result<Standing, Stopped>
+    requires sound { host.old.broken ≡ None }
+    requires signature { host.old.signature ≡ plan.now.part.signature }
+    ensures performs { Performs (beginning plan.now) host.old host.new
+        (L.talk link.old) (L.talk link.new) (L.failures link.old) (L.failures link.new)
+        (D.kept desk.old) (D.kept desk.new) (D.failures desk.old) (D.failures desk.new) result }
+    ensures comes { Stays L.comes_of link.old link.new }
+{
+    match open_session(host, desk, link, plan)? {
+        Standing::Fine => erase_if_due(host, desk, link, plan),
+        fault => Ok(fault),
+    }
+}
+
+/// Plays all of a session but its end.
+fn work<D: Desk, L: Link>(
+    alloc: Global,
+    host: &mut Host,
+    desk: &mut D,
+    link: &mut L,
+    plan: &Plan,
+) -> Result<Standing, Stopped>
+    requires sound { host.old.broken ≡ None }
+    requires signature { host.old.signature ≡ plan.now.part.signature }
+    requires part { host.old.part ≡ plan.now.part }
+    ensures performs { Performs (working plan.now) host.old host.new
+        (L.talk link.old) (L.talk link.new) (L.failures link.old) (L.failures link.new)
+        (D.kept desk.old) (D.kept desk.new) (D.failures desk.old) (D.failures desk.new) result }
+    ensures comes { Stays L.comes_of link.old link.new }
+{
+    match open_and_erase(host, desk, link, plan)? {
+        Standing::Fine => perform_all(alloc, host, desk, link, plan, plan.tasks()),
+        fault => Ok(fault),
+    }
+}
+
+/// Ends a session in which no fault came.
+fn close<D: Desk, L: Link>(
+    host: &mut Host,
+    desk: &mut D,
+    link: &mut L,
+    plan: &Plan,
+) -> Result<Standing, Stopped>
+    requires { host.old.broken ≡ None }
+    ensures performs { Performs (ending plan.now.part plan.now.switches Fine) host.old host.new
+        (L.talk link.old) (L.talk link.new) (L.failures link.old) (L.failures link.new)
+        (D.kept desk.old) (D.kept desk.new) (D.failures desk.old) (D.failures desk.new) result }
+    ensures comes { Stays L.comes_of link.old link.new }
+{
+    let closed = host.close(link);
+    let reported = report_closing(desk, plan.switches().quiet, plan.part(), &closed);
+    conclude(&closed, reported)
+}
+
+/// Ends a session in which a fault was told; a second one is not told.
+fn close_after_fault<D: Desk, L: Link>(
+    host: &mut Host,
+    desk: &mut D,
+    link: &mut L,
+    plan: &Plan,
+) -> Result<Standing, Stopped>
+    requires { host.old.broken ≡ None }
+    ensures performs { Performs (ending plan.now.part plan.now.switches Faulty) host.old host.new
+        (L.talk link.old) (L.talk link.new) (L.failures link.old) (L.failures link.new)
+        (D.kept desk.old) (D.kept desk.new) (D.failures desk.old) (D.failures desk.new) result }
+    ensures comes { Stays L.comes_of link.old link.new }
+{
+    let closed = host.close(link);
+    conclude(&closed, Ok(()))?;
+    Ok(Standing::Over)
+}
+
+/// Ends a session, as it stands.
+fn end<D: Desk, L: Link>(
+    host: &mut Host,
+    desk: &mut D,
+    link: &mut L,
+    plan: &Plan,
+    standing: Standing,
+) -> Result<Standing, Stopped>
+    requires { Serves (Ok standing) host.old.broken }
+    ensures performs { Performs (ending plan.now.part plan.now.switches standing) host.old host.new
+        (L.talk link.old) (L.talk link.new) (L.failures link.old) (L.failures link.new)
+        (D.kept desk.old) (D.kept desk.new) (D.failures desk.old) (D.failures desk.new) result }
+    ensures comes { Stays L.comes_of link.old link.new }
+{
+    match standing {
+        Standing::Fine => close(host, desk, link, plan),
+        Standing::Faulty => close_after_fault(host, desk, link, plan),
+        Standing::Over => Ok(Standing::Over),
+    }
+}
+
+/// Plays a session.
+fn play<D: Desk, L: Link>(
+    alloc: Global,
+    host: &mut Host,
+    desk: &mut D,
+    link: &mut L,
+    plan: &Plan,
+) -> Result<Standing, Stopped>
+    requires sound { host.old.broken ≡ None }
+    requires signature { host.old.signature ≡ plan.now.part.signature }
+    requires part { host.old.part ≡ plan.now.part }
+    ensures performs { Performs (playing plan.now) host.old host.new
+        (L.talk link.old) (L.talk link.new) (L.failures link.old) (L.failures link.new)
+        (D.kept desk.old) (D.kept desk.new) (D.failures desk.old) (D.failures desk.new) result }
+    ensures comes { Stays L.comes_of link.old link.new }
+{
+    let standing = work(alloc, host, desk, link, plan)?;
+    end(host, desk, link, plan, standing)
+}
+
+/// Plays the session of a plan over a link, reports it at the desk, writes the files that were read, and answers the
+/// status: 0 where no fault came, else 1.
+///
+/// After a fault of the link or the desk, or where memory was refused, its line is printed, as far as the desk prints, and
+/// nothing more is sent or said.
+pub fn drive<D: Desk, L: Link>(alloc: Global, plan: &Plan, desk: &mut D, link: &mut L) -> u8
+    ensures runs { RunsTo (session plan.now) (L.talk link.old) (L.talk link.new) (D.kept desk.old) (D.kept desk.new)
+        (Stops (L.failures link.old) (L.failures link.new) (D.failures desk.old) (D.failures desk.new)) result }
+    ensures comes { Stays L.comes_of link.old link.new }
+{
+    let mut host = Host::new(plan.part());
+    match play(alloc, &mut host, desk, link, plan) {
+        Ok(standing) => status_of(standing),
+        Err(_) => 1,
+    }
+}

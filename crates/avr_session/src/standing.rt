@@ -1,0 +1,57 @@
+//! How a session stands after a part of it.
+ghost use Rattle.std.specs.Prelude.{◌≡◌};
+ghost use Rattle.avr_session.specs.Concluding.{concluded, fine_if_said};
+ghost use Rattle.avr_session.specs.Session.{status_of};
+
+use stk_host::HostFault;
+
+/// How a session stands.
+#[derive(Clone, Copy, Debug, PartialEq, Eq)]
+pub enum Standing {
+    /// No fault has come.
+    Fine,
+    /// A fault was told; the line still serves.
+    Faulty,
+    /// Nothing more goes over the line: it has ended, or programming mode was left.
+    Over,
+}
+
+/// The run stops where it stands, since the link or the desk failed or memory was refused: nothing more is sent or said.
+#[derive(Clone, Copy, Debug, PartialEq, Eq)]
+pub(crate) struct Stopped;
+
+/// How a session stands after an operation of the host whose outcome was reported.
+pub(crate) fn conclude<T>(
+    outcome: &Result<T, HostFault>,
+    reported: Result<(), Stopped>,
+) -> Result<Standing, Stopped>
+    ensures { result ≡ concluded outcome.now reported }
+{
+    if reported.is_err() {
+        return Err(Stopped);
+    }
+    match outcome {
+        Ok(_) => Ok(Standing::Fine),
+        Err(HostFault::LinkEnded) => Ok(Standing::Over),
+        Err(HostFault::SendFailed | HostFault::RecvFailed | HostFault::Memory) => Err(Stopped),
+        Err(_) => Ok(Standing::Faulty),
+    }
+}
+
+/// How a session stands after something was said in place of an operation.
+pub(crate) fn fine_if_said(said: Result<(), Stopped>) -> Result<Standing, Stopped>
+    ensures { result ≡ fine_if_said said }
+{
+    said?;
+    Ok(Standing::Fine)
+}
+
+/// The status of a run whose session stands so at its end.
+pub(crate) fn status_of(standing: Standing) -> u8
+    ensures { result ≡ status_of standing }
+{
+    match standing {
+        Standing::Fine => 0,
+        Standing::Faulty | Standing::Over => 1,
+    }
+}

@@ -1,4 +1,0 @@
-use Rattle.avr_tool.proofs.reports.tell_differs.Goals as goal
-
-pub returns-clause-reports : goal.returns-clause-reports
-returns-clause-reports g c = rw (← c.name.ensures) c.tell.ensures.reports

@@ -1,4 +1,0 @@
-use Rattle.avr_tool.proofs.reports.warn_other.Goals as goal
-
-pub returns-clause-reports : goal.returns-clause-reports
-returns-clause-reports g c = rw (← c.id.ensures, ← c.signature.ensures) c.warn.ensures.reports

@@ -1,5 +1,0 @@
-use Rattle.avr_tool.proofs.Performing.{over_performs}
-use Rattle.avr_tool.proofs.session.end.Goals as goal
-
-pub returns-in-Over-clause-performs : goal.returns-in-Over-clause-performs
-returns-in-Over-clause-performs g c = rw c.in-Over.is (over_performs _ _ _ _ _)
