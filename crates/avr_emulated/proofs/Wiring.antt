@@ -1,6 +1,6 @@
 -- A session that was played over a wire, as it went along the line of its fates.
 use Rattle.std.proofs.Common.{◌≡◌, ℕ, List, [], ◌++◌, All, length, sym, ap, ◌∙◌, subst, inl, inr, Option, Some, option_map}
-use Rattle.avr_message.specs.Said.{SaidPart, after_all}
+use Rattle.avr_message.specs.Said.{Bytes, Saying, SaidPart, after_all}
 use Rattle.avr_part.specs.Part.{IsPart}
 use Rattle.avr_part.specs.Sound.{IsSound}
 use Rattle.avr_plan.specs.Plan.{Plan, IsFitted}
@@ -89,7 +89,7 @@ module _ (plan : Plan) (w v : State) (fresh : IsFresh w) (stays : Stays ComesOf 
         }
 
   -- one that broke off stands on the line all the same
-  module _ (old new : Option Record) (StopsBy : Cause → Type 0) (broke : BrokeOff (session plan) 1 [] (Some w.talk) (Some v.talk) old new StopsBy) where
+  module _ (old new : Option Record) (StopsBy : List Saying → Cause → Bytes → Type 0) (broke : BrokeOff (session plan) 1 [] (Some w.talk) (Some v.talk) old new StopsBy) where
     breaks : Breaks SaidPart (session plan) 1 [] v.talk broke.shown
     breaks = subst (λ talk. Breaks SaidPart (session plan) 1 [] talk broke.shown) (all_passed w.talk v.talk broke.during fresh.silent broke.grows) broke.breaks
 
@@ -99,17 +99,17 @@ module _ (plan : Plan) (w v : State) (fresh : IsFresh w) (stays : Stays ComesOf 
   one_no : ◌≡◌ {A = ℕ} 1 0 → ⊥
   one_no e = cc
 
-  on_line : (old new : Option Record) (StopsBy : Cause → Type 0) (status : ℕ) → RunsTo (session plan) (Some w.talk) (Some v.talk) old new StopsBy status
+  on_line : (old new : Option Record) (StopsBy : List Saying → Cause → Bytes → Type 0) (status : ℕ) → RunsTo (session plan) (Some w.talk) (Some v.talk) old new StopsBy status
       → v.wire.programmer ≡ (along device count (session plan) begun w.wire.fates).programmer
   on_line old new StopsBy status (inl ran) = (goes old new status ran.0 ran.1 ran.2).programmer
   on_line old new StopsBy status (inr broke) = broke_stands old new StopsBy broke.0
 
-  is_done : (old new : Option Record) (StopsBy : Cause → Type 0) (status : ℕ) → RunsTo (session plan) (Some w.talk) (Some v.talk) old new StopsBy status → status ≡ 0 → IsDone plan before after
+  is_done : (old new : Option Record) (StopsBy : List Saying → Cause → Bytes → Type 0) (status : ℕ) → RunsTo (session plan) (Some w.talk) (Some v.talk) old new StopsBy status → status ≡ 0 → IsDone plan before after
   is_done old new StopsBy status (inl ran) zero = ran_done old new status ran.0 ran.1 ran.2 zero
   is_done old new StopsBy status (inr broke) zero = absurd (one_no (sym broke.1 ∙ zero))
 
   -- whatever the line did
-  pub wired_leaves : (old new : Option Record) (StopsBy : Cause → Type 0) (status : ℕ) → RunsTo (session plan) (Some w.talk) (Some v.talk) old new StopsBy status → Leaves plan before after status
+  pub wired_leaves : (old new : Option Record) (StopsBy : List Saying → Cause → Bytes → Type 0) (status : ℕ) → RunsTo (session plan) (Some w.talk) (Some v.talk) old new StopsBy status → Leaves plan before after status
   wired_leaves old new StopsBy status runs = record {
     touched = subst (λ (q : Programmer). IsTouched plan before (memories_of q.chip)) (sym (on_line old new StopsBy status runs)) (leads.during count);
     done = is_done old new StopsBy status runs;
@@ -117,7 +117,7 @@ module _ (plan : Plan) (w v : State) (fresh : IsFresh w) (stays : Stays ComesOf 
   }
 
   -- so many strokes, by the frames that went out
-  pub wired_makes : (old new : Option Record) (StopsBy : Cause → Type 0) (status : ℕ) → RunsTo (session plan) (Some w.talk) (Some v.talk) old new StopsBy status → MakesStrokes plan begun w.wire.fates count before after
+  pub wired_makes : (old new : Option Record) (StopsBy : List Saying → Cause → Bytes → Type 0) (status : ℕ) → RunsTo (session plan) (Some w.talk) (Some v.talk) old new StopsBy status → MakesStrokes plan begun w.wire.fates count before after
   wired_makes old new StopsBy status runs =
       let makes = session_makes plan sound fitted before sizes begun w.wire.fates idle in
       record {
@@ -128,7 +128,7 @@ module _ (plan : Plan) (w v : State) (fresh : IsFresh w) (stays : Stays ComesOf 
       }
 
   -- over a good line
-  pub wired_goes_well : (old new : Option Record) (StopsBy : Cause → Type 0) (status : ℕ) → RunsTo (session plan) (Some w.talk) (Some v.talk) old new StopsBy status → AreGood w.wire.fates
+  pub wired_goes_well : (old new : Option Record) (StopsBy : List Saying → Cause → Bytes → Type 0) (status : ℕ) → RunsTo (session plan) (Some w.talk) (Some v.talk) old new StopsBy status → AreGood w.wire.fates
       → GoesWell plan before after old new (Some v.talk) StopsBy status
   wired_goes_well old new StopsBy status (inl ran) good = inl (ran_course old new status ran.0 ran.1 ran.2 good)
   wired_goes_well old new StopsBy status (inr broke) good = inr (subst (λ talk. BrokeOff (session plan) 1 [] (Some talk) (Some v.talk) old new StopsBy) fresh.silent broke.0)

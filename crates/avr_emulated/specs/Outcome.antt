@@ -1,7 +1,7 @@
 -- What a run leaves in a chip, whatever the line did.
 use Rattle.std.specs.Prelude.{ℕ, suc, ◌≡◌, ◌≤◌, ◌-◌, ◌⊎◌, false, List, [], Option, Some, option_map, take}
 use Rattle.avr_desk.specs.Record.{Record}
-use Rattle.avr_message.specs.Said.{after_all}
+use Rattle.avr_message.specs.Said.{Bytes, Saying, after_all}
 use Rattle.avr_plan.specs.Plan.{Plan}
 use Rattle.avr_session.specs.Runs.{Cause, BrokeOff}
 use Rattle.avr_session.specs.Session.{session}
@@ -52,6 +52,6 @@ pub record IsCourse (plan : Plan) (before after : Memories) (old new : Option Re
   pub memories : after ≡ (course plan before).memories
 
 -- over a good line: its course, unless a device failed or memory was refused
-abbrev pub GoesWell : Plan → Memories → Memories → Option Record → Option Record → Option Talk → (Cause → Type 0) → ℕ → Type 0
+abbrev pub GoesWell : Plan → Memories → Memories → Option Record → Option Record → Option Talk → (List Saying → Cause → Bytes → Type 0) → ℕ → Type 0
 GoesWell plan before after old new talk StopsBy status =
     IsCourse plan before after old new status ⊎ BrokeOff (session plan) 1 [] (Some []) talk old new StopsBy

@@ -8,7 +8,7 @@ use Rattle.avr_desk.specs.declared.fault.DeskFault.{DeskFault}
 use Rattle.avr_desk.specs.declared.fault.DeskFault.TheVariants.{NotFound, Failed}
 use Rattle.avr_message.specs.Said.{Saying, Opens, Line, Creates, Writes, Outs, SaysFront, IsBegun, IsPrefixOf, IsPrinted, after_all}
 use Rattle.avr_message.proofs.Saying.{line_part, front_behind, front_of, kept_append, kept_none}
-use Rattle.avr_session.specs.Runs.{cause_line, Cause, OfSending, OfListening, OfFile, OfPrinting, OfMemory, Trouble, SaidSome, Reports, PrintStops, DeskStops, PrintsSome}
+use Rattle.avr_session.specs.Runs.{cause_line, Cause, OfSending, OfListening, OfFile, OfPrinting, OfMemory, Trouble, TellsLine, SaidSome, Reports, PrintStops, FileStops, DeskStops, PrintsSome}
 use Rattle.avr_session.specs.declared.standing.Stopped.{Stopped}
 use Rattle.avr_session.specs.Concluding.{stopped_of}
 
@@ -22,26 +22,33 @@ pub failed_before : (a b c : ℕ) → a ≤ b → b ≤ c → HasFailed a b → 
 failed_before a b c first then (inl lt) = inl (omega arith)
 failed_before a b c first then (inr end) = elim (cases_lt a c) [ inl lt ↦ inl lt | inr le ↦ inr (omega arith) ]
 
-pub print_stops_later : (a b c : ℕ) → a ≤ b → (cause : Cause) → PrintStops b c cause → PrintStops a c cause
-print_stops_later a b c le OfSending stops = absurd stops
-print_stops_later a b c le OfListening stops = absurd stops
-print_stops_later a b c le (OfFile file trouble) stops = absurd stops
-print_stops_later a b c le OfPrinting stops = failed_later a b c le stops
-print_stops_later a b c le OfMemory stops = absurd stops
+pub print_stops_later : (a b c : ℕ) → a ≤ b → (cause : Cause) (told : List ℕ) → PrintStops b c cause told → PrintStops a c cause told
+print_stops_later a b c le OfSending told stops = absurd stops
+print_stops_later a b c le OfListening told stops = absurd stops
+print_stops_later a b c le (OfFile file trouble) told stops = absurd stops
+print_stops_later a b c le OfPrinting told stops = (failed_later a b c le stops.0, stops.1)
+print_stops_later a b c le OfMemory told stops = absurd stops
 
-pub desk_stops_later : (a b c : ℕ) → a ≤ b → (cause : Cause) → DeskStops b c cause → DeskStops a c cause
-desk_stops_later a b c le OfSending stops = stops
-desk_stops_later a b c le OfListening stops = stops
-desk_stops_later a b c le (OfFile file trouble) stops = failed_later a b c le stops
-desk_stops_later a b c le OfPrinting stops = failed_later a b c le stops
-desk_stops_later a b c le OfMemory stops = stops
+pub print_is_desk : (a b : ℕ) (cause : Cause) (told : List ℕ) → PrintStops a b cause told → DeskStops a b cause told
+print_is_desk a b OfSending told stops = stops
+print_is_desk a b OfListening told stops = stops
+print_is_desk a b (OfFile file trouble) told stops = absurd stops
+print_is_desk a b OfPrinting told stops = stops
+print_is_desk a b OfMemory told stops = stops
 
-pub print_is_desk : (a b : ℕ) (cause : Cause) → PrintStops a b cause → DeskStops a b cause
-print_is_desk a b OfSending stops = absurd stops
-print_is_desk a b OfListening stops = absurd stops
-print_is_desk a b (OfFile file trouble) stops = absurd stops
-print_is_desk a b OfPrinting stops = stops
-print_is_desk a b OfMemory stops = absurd stops
+-- what was told of a line is told of it still
+pub tells_longer : (line told : List ℕ) (a b c : ℕ) → a ≤ b → b ≤ c → TellsLine line told a b → TellsLine line told a c
+tells_longer line told a b c first then (inl whole) = inl whole
+tells_longer line told a b c first then (inr part) = inr (part.0, failed_before a b c first then part.1)
+
+pub file_stops_in : (a b c d : ℕ) (file : List ℕ) (trouble : Trouble) (told : List ℕ) → a ≤ b → c ≤ d → FileStops b c file trouble told → FileStops a d file trouble told
+file_stops_in a b c d file trouble told first last stops = record {
+  count = stops.count;
+  failed = failed_later a b stops.count first stops.failed;
+  tells = tells_longer (cause_line (OfFile file trouble)) told stops.count c d stops.until last stops.tells;
+  since = omega (arith, first, stops.since);
+  until = omega (arith, last, stops.until);
+}
 
 pub nothing_printed : (r : Record) → after_err [] r ≡ r
 nothing_printed r = ap (λ bytes. record r { messages = bytes }) (append-nil r.messages)
@@ -52,14 +59,12 @@ kept_nothing (Some r) = ap Some (sym (nothing_printed r))
 
 -- nothing more is printed where printing failed
 said_until : {old new : Option Record} (sayings : List Saying) (before now : ℕ) → SaysFront old new sayings → HasFailed before now → SaidSome old new sayings (PrintStops before now)
-unfolding cause_line
 said_until {new = new} sayings before now front failed = record {
   between = new;
   front = front;
   cause = OfPrinting;
   told = [];
-  stops = failed;
-  of_line = ([], refl);
+  stops = (failed, refl);
   kept = kept_nothing new;
 }
 
@@ -85,8 +90,7 @@ reports_then old new first more mid a b c (Err stopped) kept le then = record {
   front = front_behind first more kept then.front;
   cause = then.cause;
   told = then.told;
-  stops = print_stops_later a b c le then.cause then.stops;
-  of_line = then.of_line;
+  stops = print_stops_later a b c le then.cause then.told then.stops;
   kept = then.kept;
 }
 
@@ -98,19 +102,17 @@ reports_until first more stopped some = record {
   cause = some.cause;
   told = some.told;
   stops = some.stops;
-  of_line = some.of_line;
   kept = some.kept;
 }
 
 -- the same for any stop
-pub stops_for : {old new : Option Record} {sayings : List Saying} (A B : Cause → Type 0) → ((cause : Cause) → A cause → B cause) → SaidSome old new sayings A → SaidSome old new sayings B
+pub stops_for : {old new : Option Record} {sayings : List Saying} (A B : Cause → List ℕ → Type 0) → ((cause : Cause) (told : List ℕ) → A cause told → B cause told) → SaidSome old new sayings A → SaidSome old new sayings B
 stops_for A B why some = record {
   between = some.between;
   front = some.front;
   cause = some.cause;
   told = some.told;
-  stops = why some.cause some.stops;
-  of_line = some.of_line;
+  stops = why some.cause some.told some.stops;
   kept = some.kept;
 }
 
@@ -123,7 +125,7 @@ IsOther saying = Unit {0}
 not_line : (l : List ℕ) (x : Saying) (later : List Saying) → Line l ∷ [] ≡ x ∷ later → IsOther x → ⊥
 not_line l x later is other = let e : Line l ≡ x = cc in subst IsOther (sym e) other
 
-one_line : (d e : Option Record) (l : List ℕ) (whole begun later : List Saying) → Line l ∷ [] ≡ whole ++ later → IsBegun begun later → e ≡ option_map (after_all (whole ++ begun)) d → PrintsSome d e l
+one_line : (d e : Option Record) (l : List ℕ) (whole begun later : List Saying) → Line l ∷ [] ≡ whole ++ later → IsBegun begun later → e ≡ option_map (after_all (whole ++ begun)) d → (front : List ℕ) × IsPrefixOf front l × (e ≡ option_map (after_err front) d)
 one_line d e l [] [] later is part kept = ([], (l, refl), kept ∙ (sym (kept_none d) ∙ kept_nothing d))
 one_line d e l [] (Line some ∷ []) (Line all ∷ later) is part kept = (some, (part.0, part.1 ∙ cc), kept)
 one_line d e l [] (x ∷ []) [] is part kept = absurd part
@@ -145,35 +147,31 @@ one_line d e l (x ∷ []) (y ∷ []) (z ∷ later) is part kept = cc
 one_line d e l (x ∷ []) (y ∷ z ∷ begun) later is part kept = absurd part
 one_line d e l (x ∷ y ∷ whole) begun later is part kept = cc
 
-nothing_told : (cause : Cause) (told : List ℕ) (a b : ℕ) → PrintStops a b cause → IsPrefixOf told (cause_line cause) → told ≡ []
-unfolding cause_line
-nothing_told OfPrinting [] a b stops front = refl
-nothing_told OfPrinting (x ∷ told) a b stops front = let e : x ∷ (told ++ front.0) ≡ [] = front.1 in cc
-nothing_told OfSending told a b stops front = absurd stops
-nothing_told OfListening told a b stops front = absurd stops
-nothing_told (OfFile file trouble) told a b stops front = absurd stops
-nothing_told OfMemory told a b stops front = absurd stops
-
-between_is : {old new : Option Record} {sayings : List Saying} (a b : ℕ) (some : SaidSome old new sayings (PrintStops a b)) → new ≡ some.between
-between_is a b some = some.kept ∙ (ap (λ told. option_map (after_err told) some.between) (nothing_told some.cause some.told a b some.stops some.of_line) ∙ sym (kept_nothing some.between))
+between_is : (cause : Cause) (told : List ℕ) (between new : Option Record) (a b : ℕ) → PrintStops a b cause told → new ≡ option_map (after_err told) between → (new ≡ between) × HasFailed a b
+between_is OfPrinting told between new a b stops kept = (kept ∙ (ap (λ told. option_map (after_err told) between) stops.1 ∙ sym (kept_nothing between)), stops.0)
+between_is OfSending told between new a b stops kept = absurd stops
+between_is OfListening told between new a b stops kept = absurd stops
+between_is (OfFile file trouble) told between new a b stops kept = absurd stops
+between_is OfMemory told between new a b stops kept = absurd stops
 
 -- what was printed of a line that was told
-pub told_some : (old new : Option Record) (l : List ℕ) (a b : ℕ) (result : Result (Unit {0}) Stopped) → Reports old new (Line l ∷ []) (PrintStops a b) result → PrintsSome old new l
-told_some old new l a b (Ok done) kept = (l, ([], append-nil l), kept)
+pub told_some : (old new : Option Record) (l : List ℕ) (a b : ℕ) (result : Result (Unit {0}) Stopped) → Reports old new (Line l ∷ []) (PrintStops a b) result → PrintsSome old new l a b
+told_some old new l a b (Ok done) kept = (l, inl refl, kept)
 told_some old new l a b (Err stopped) some =
     let f = some.front in
-    one_line old new l f.whole f.begun f.later f.sayings_are f.part (between_is a b some ∙ f.kept)
+    let same = between_is some.cause some.told some.between new a b some.stops some.kept in
+    let front = one_line old new l f.whole f.begun f.later f.sayings_are f.part (same.0 ∙ f.kept) in
+    (front.0, inr (front.1, same.1), front.2)
 
 -- a file's trouble is told behind what was done
-pub file_stops : (old mid new : Option Record) (sayings : List Saying) (file : List ℕ) (trouble : Trouble) (S : Cause → Type 0) → SaysFront old mid sayings → S (OfFile file trouble)
-    → PrintsSome mid new (cause_line (OfFile file trouble)) → SaidSome old new sayings S
-file_stops old mid new sayings file trouble S front stops some = record {
+pub file_stops : (old mid new : Option Record) (sayings : List Saying) (file : List ℕ) (trouble : Trouble) (a b c : ℕ) (S : Cause → List ℕ → Type 0) → SaysFront old mid sayings → HasFailed a b → a ≤ b → b ≤ c
+    → ((told : List ℕ) → FileStops a c file trouble told → S (OfFile file trouble) told) → PrintsSome mid new (cause_line (OfFile file trouble)) b c → SaidSome old new sayings S
+file_stops old mid new sayings file trouble a b c S front failed first then why some = record {
   between = mid;
   front = front;
   cause = OfFile file trouble;
   told = some.0;
-  stops = stops;
-  of_line = some.1;
+  stops = why some.0 (record { count = b; failed = failed; tells = some.1; since = first; until = then });
   kept = some.2;
 }
 

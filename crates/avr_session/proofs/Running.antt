@@ -10,10 +10,10 @@ use Rattle.stk_host.specs.Reach.{Leads}
 use Rattle.stk_host.proofs.Talks.{grows_none, grows_on}
 use Rattle.stk_host.proofs.Leading.{leads_here, leads_on, leads_bind, leads_say, leads_from, plays_from, breaks_on, breaks_bind, breaks_here, front_more}
 use Rattle.stk_host.proofs.Lifting.{raised, plays_lifted, breaks_lifted, sayings_raised}
-use Rattle.avr_message.specs.Said.{Saying, SaidPart, IsBegun, IsPrefixOf, after_all}
+use Rattle.avr_message.specs.Said.{Saying, SaidPart, SaysFront, IsBegun, after_all}
 use Rattle.avr_message.proofs.Saying.{kept_on, kept_none, after_append}
 use Rattle.avr_session.specs.Session.{says}
-use Rattle.avr_session.specs.Runs.{Cause, cause_line, Ran, BrokeOff, SaidSome, PrintsSome}
+use Rattle.avr_session.specs.Runs.{Cause, Ran, BrokeOff, SaidSome}
 
 -- a call has come so far: what is left of its dialog, and what was sent and said
 pub record Came {R : Type 0} (dialog : Dialog Saying R) (seq : ℕ) (unread : List ℕ) (old new : Option Talk) (old_desk new_desk : Option Record) (rest : Dialog Saying R) (next : ℕ) (left : List ℕ) : Type 0 where
@@ -98,22 +98,34 @@ ran_on x y = ran_from (came_on x (came_from y))
 
 -- breaking off
 
-pub broke_on : {R : Type 0} {a b : Dialog Saying R} {m n : ℕ} {u v : List ℕ} {o p q : Option Talk} {d e f : Option Record} {S T : Cause → Type 0} → Came a m u o p d e b n v → ((cause : Cause) → S cause → T cause) → BrokeOff b n v p q e f S → BrokeOff a m u o q d f T
-broke_on {o = o} {p = p} {q = q} {d = d} {e = e} {f = f} x why y = record {
+pub broke_on : {R : Type 0} {a b : Dialog Saying R} {m n : ℕ} {u v : List ℕ} {o p q : Option Talk} {d e f : Option Record} {S T : List Saying → Cause → List ℕ → Type 0} (x : Came a m u o p d e b n v)
+    → ((said : List Saying) (cause : Cause) (told : List ℕ) → S said cause told → T (sayings x.events ++ said) cause told) → BrokeOff b n v p q e f S → BrokeOff a m u o q d f T
+broke_on {o = o} {p = p} {q = q} {d = d} {e = e} {f = f} {T = T} x why y = record {
   during = x.during ++ y.during;
   shown = x.events ++ y.shown;
   cause = y.cause;
   told = y.told;
   grows = grows_on o p q x.during y.during x.grows y.grows;
   breaks = breaks_on SaidPart x.leads y.breaks;
-  stops = why y.cause y.stops;
-  of_line = y.of_line;
+  stops = subst (λ said. T said y.cause y.told) (sym (sayings_append x.events y.shown)) (why (sayings y.shown) y.cause y.told y.stops);
   kept = kept_on (after_all (sayings x.events)) (λ r. after_err y.told (after_all (sayings y.shown) r)) (λ r. after_err y.told (after_all (sayings (x.events ++ y.shown)) r)) d e f
       (λ r. ap (after_err y.told) (after_both x.events y.shown r)) x.kept y.kept;
 }
 
+-- behind an operation of the host
+pub broke_lifted : {A R : Type 0} {dialog : Dialog ⊥ A} {m n : ℕ} {u v : List ℕ} {o p q : Option Talk} {result : A} {d e : Option Record} {S : List Saying → Cause → List ℕ → Type 0} (go_on : A → Dialog Saying R)
+    → PlaysOver dialog m u o p result n v → length v ≤ 281 → BrokeOff (go_on result) n v p q d e S → BrokeOff (lifted dialog >>= go_on) m u o q d e S
+unfolding came_lifted
+broke_lifted {d = d} {S = S} go_on f few y = broke_on (came_lifted go_on d f few) (λ said cause told s. subst (λ (ss : List Saying). S (ss ++ said) cause told) (sym (sayings_raised f.events)) s) y
+
+-- behind a part that was played whole
+pub broke_after : {A R : Type 0} {a : Dialog Saying A} {m n : ℕ} {u v : List ℕ} {o p q : Option Talk} {d e f : Option Record} {result : A} {S T : List Saying → Cause → List ℕ → Type 0} (go_on : A → Dialog Saying R) (ran : Ran a m u o p d e result n v)
+    → ((said : List Saying) (cause : Cause) (told : List ℕ) → S said cause told → T (sayings ran.events ++ said) cause told) → BrokeOff (go_on result) n v p q e f S → BrokeOff (a >>= go_on) m u o q d f T
+unfolding came_part
+broke_after go_on ran why y = broke_on (came_part go_on ran) why y
+
 -- in a part of a dialog
-pub broke_part : {A R : Type 0} {a : Dialog Saying A} {m : ℕ} {u : List ℕ} {o p : Option Talk} {d e : Option Record} {S T : Cause → Type 0} (go_on : A → Dialog Saying R) → ((cause : Cause) → S cause → T cause)
+pub broke_part : {A R : Type 0} {a : Dialog Saying A} {m : ℕ} {u : List ℕ} {o p : Option Talk} {d e : Option Record} {S T : List Saying → Cause → List ℕ → Type 0} (go_on : A → Dialog Saying R) → ((said : List Saying) (cause : Cause) (told : List ℕ) → S said cause told → T said cause told)
     → BrokeOff a m u o p d e S → BrokeOff (a >>= go_on) m u o p d e T
 broke_part go_on why f = record {
   during = f.during;
@@ -122,23 +134,21 @@ broke_part go_on why f = record {
   told = f.told;
   grows = f.grows;
   breaks = breaks_bind SaidPart go_on f.breaks;
-  stops = why f.cause f.stops;
-  of_line = f.of_line;
+  stops = why (sayings f.shown) f.cause f.told f.stops;
   kept = f.kept;
 }
 
--- in an operation of the host; a front of the line that tells why stands behind it
-pub broke_operation : {A R : Type 0} {dialog : Dialog ⊥ A} {m : ℕ} {u : List ℕ} {o p : Option Talk} {d e : Option Record} {S : Cause → Type 0} (go_on : A → Dialog Saying R) (cause : Cause) (told : List ℕ)
-    → BreaksOver dialog m u o p → S cause → IsPrefixOf told (cause_line cause) → e ≡ option_map (after_err told) d → BrokeOff (lifted dialog >>= go_on) m u o p d e S
-broke_operation {d = d} {e = e} go_on cause told f stops of_line kept = record {
+-- in an operation of the host; what was told of it stands behind it
+pub broke_operation : {A R : Type 0} {dialog : Dialog ⊥ A} {m : ℕ} {u : List ℕ} {o p : Option Talk} {d e : Option Record} {S : List Saying → Cause → List ℕ → Type 0} (go_on : A → Dialog Saying R) (cause : Cause) (told : List ℕ)
+    → BreaksOver dialog m u o p → S [] cause told → e ≡ option_map (after_err told) d → BrokeOff (lifted dialog >>= go_on) m u o p d e S
+broke_operation {d = d} {e = e} {S = S} go_on cause told f stops kept = record {
   during = f.during;
   shown = raised f.shown;
   cause = cause;
   told = told;
   grows = f.grows;
   breaks = breaks_bind SaidPart go_on (breaks_lifted SaidPart f.breaks);
-  stops = stops;
-  of_line = of_line;
+  stops = subst (λ said. S said cause told) (sym (sayings_raised f.shown)) stops;
   kept = subst (λ ss. e ≡ option_map (λ r. after_err told (after_all ss r)) d) (sym (sayings_raised f.shown)) kept;
 }
 
@@ -162,8 +172,9 @@ begun_said (x ∷ []) [] part = absurd part
 begun_said (x ∷ []) (y ∷ later) part = part
 begun_said (x ∷ y ∷ begun) later part = absurd part
 
-pub broke_saying : {R : Type 0} {S T : Cause → Type 0} {d e : Option Record} (xs : List Saying) (dialog : Dialog Saying R) (seq : ℕ) (u : List ℕ) (o : Option Talk) → ((cause : Cause) → S cause → T cause) → SaidSome d e xs S → BrokeOff (says xs dialog) seq u o o d e T
-broke_saying {d = d} {e = e} xs dialog seq u o why f =
+pub broke_saying : {R : Type 0} {S : Cause → List ℕ → Type 0} {T : List Saying → Cause → List ℕ → Type 0} {d e : Option Record} (xs : List Saying) (dialog : Dialog Saying R) (seq : ℕ) (u : List ℕ) (o : Option Talk)
+    → ((mid : Option Record) (front : SaysFront d mid xs) (cause : Cause) (told : List ℕ) → S cause told → T (front.whole ++ front.begun) cause told) → SaidSome d e xs S → BrokeOff (says xs dialog) seq u o o d e T
+broke_saying {T = T} {d = d} {e = e} xs dialog seq u o why f =
     let shown : List Saying = f.front.whole ++ f.front.begun in
     record {
       during = [];
@@ -184,22 +195,24 @@ broke_saying {d = d} {e = e} xs dialog seq u o why f =
         all_sent = no_bytes shown;
         in_turn = tt;
       };
-      stops = why f.cause f.stops;
-      of_line = f.of_line;
+      stops = subst (λ said. T said f.cause f.told) (sym (sayings_said shown)) (why f.between f.front f.cause f.told f.stops);
       kept = kept_on (after_all shown) (after_err f.told) (λ r. after_err f.told (after_all (sayings (map Said shown)) r)) d f.between e
           (λ r. ap (after_err f.told) (ap (λ ss. after_all ss r) (sayings_said shown))) f.front.kept f.kept;
     }
 
+-- of a cause this was told, behind nothing that was said
+abbrev pub ToldBy : (List Saying → Cause → List ℕ → Type 0) → Cause → Option Record → Option Record → Type 0
+ToldBy S cause d e = (told : List ℕ) × S [] cause told × (e ≡ option_map (after_err told) d)
+
 -- at once
-pub broke_here : {R : Type 0} {S : Cause → Type 0} {d e : Option Record} (dialog : Dialog Saying R) (seq : ℕ) (u : List ℕ) (o : Option Talk) (cause : Cause) → S cause → PrintsSome d e (cause_line cause) → BrokeOff dialog seq u o o d e S
-broke_here dialog seq u o cause stops some = record {
+pub broke_here : {R : Type 0} {S : List Saying → Cause → List ℕ → Type 0} {d e : Option Record} (dialog : Dialog Saying R) (seq : ℕ) (u : List ℕ) (o : Option Talk) (cause : Cause) → ToldBy S cause d e → BrokeOff dialog seq u o o d e S
+broke_here dialog seq u o cause some = record {
   during = [];
   shown = [];
   cause = cause;
   told = some.0;
   grows = grows_none o;
   breaks = breaks_here SaidPart dialog seq u;
-  stops = stops;
-  of_line = some.1;
+  stops = some.1;
   kept = some.2;
 }

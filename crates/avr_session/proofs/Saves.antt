@@ -1,5 +1,5 @@
 -- Files that are created and written.
-use Rattle.std.proofs.Common.{◌≡◌, ◌≤◌, ℕ, List, [], ◌∷◌, ◌++◌, Option, option_map, Result, Ok, Err, IfErr, ◌∙◌, subst, sym, refl, Some, None, inl, inr, append-nil, take, drop}
+use Rattle.std.proofs.Common.{◌≡◌, ◌≤◌, ℕ, List, [], ◌∷◌, ◌++◌, Option, option_map, Result, Ok, Err, IfErr, ◌∙◌, subst, sym, refl, arith, Some, None, inl, inr, take, drop}
 use Rattle.std.proofs.lemmas.List.{take-append-drop}
 use Rattle.avr_desk.specs.Record.{Record, after_create}
 use Rattle.avr_desk.specs.Fault.{Counts, HasFailed}
@@ -14,7 +14,7 @@ use Rattle.avr_session.specs.Runs.{Cause, OfSending, OfListening, OfFile, OfPrin
 use Rattle.avr_session.specs.Saving.{sent_says, SaveStops}
 use Rattle.avr_session.specs.declared.standing.Stopped.{Stopped}
 use Rattle.avr_message.proofs.Saying.{kept_append, front_behind, front_of}
-use Rattle.avr_session.proofs.Reporting.{failed_later, desk_stops_later, print_is_desk}
+use Rattle.avr_session.proofs.Reporting.{file_stops_in, print_stops_later, print_is_desk}
 
 pub sent_front : (old new : Option Record) (stream : Stream) (bytes : List ℕ) → SendsPart stream old new bytes → SaysFront old new (sent_says stream bytes)
 sent_front old new File bytes part = write_part old new bytes [] part
@@ -42,30 +42,30 @@ tells_line old new line before now (Ok done) is counts only = inl is
 tells_line old new line before now (Err NotFound) is counts only = cc
 tells_line old new line before now (Err Failed) is counts only = inr (is, counts.1)
 
-pub tells_some : (old new : Option Record) (line : List ℕ) (before now : ℕ) → Tells old new line before now → PrintsSome old new line
-tells_some old new line before now (inl whole) = (line, ([], append-nil line), whole)
-tells_some old new line before now (inr part) = (take part.0.0 line, (drop part.0.0 line, take-append-drop part.0.0 line), part.0.2)
+pub tells_some : (old new : Option Record) (line : List ℕ) (before now : ℕ) → Tells old new line before now → PrintsSome old new line before now
+tells_some old new line before now (inl whole) = (line, inl refl, whole)
+tells_some old new line before now (inr part) = (take part.0.0 line, inr ((drop part.0.0 line, take-append-drop part.0.0 line), part.1), part.0.2)
 
 -- where a file can't be saved the desk has failed
-pub save_is_desk : (file : List ℕ) (before now : ℕ) (cause : Cause) → SaveStops file before now cause → DeskStops before now cause
-save_is_desk file before now OfSending stops = absurd stops
-save_is_desk file before now OfListening stops = absurd stops
-save_is_desk file before now (OfFile named NotOpened) stops = absurd stops
-save_is_desk file before now (OfFile named NotRead) stops = absurd stops
-save_is_desk file before now (OfFile named NotCreated) stops = stops.1
-save_is_desk file before now (OfFile named NotWritten) stops = stops.1
-save_is_desk file before now OfPrinting stops = absurd stops
-save_is_desk file before now OfMemory stops = absurd stops
+pub save_is_desk : (file : List ℕ) (before now : ℕ) (cause : Cause) (told : List ℕ) → SaveStops file before now cause told → DeskStops before now cause told
+save_is_desk file before now OfSending told stops = absurd stops
+save_is_desk file before now OfListening told stops = absurd stops
+save_is_desk file before now (OfFile named NotOpened) told stops = absurd stops
+save_is_desk file before now (OfFile named NotRead) told stops = absurd stops
+save_is_desk file before now (OfFile named NotCreated) told stops = stops.1
+save_is_desk file before now (OfFile named NotWritten) told stops = stops.1
+save_is_desk file before now OfPrinting told stops = absurd stops
+save_is_desk file before now OfMemory told stops = absurd stops
 
-save_stops_later : (file : List ℕ) (a b c : ℕ) → a ≤ b → (cause : Cause) → SaveStops file b c cause → SaveStops file a c cause
-save_stops_later file a b c le OfSending stops = absurd stops
-save_stops_later file a b c le OfListening stops = absurd stops
-save_stops_later file a b c le (OfFile named NotOpened) stops = absurd stops
-save_stops_later file a b c le (OfFile named NotRead) stops = absurd stops
-save_stops_later file a b c le (OfFile named NotCreated) stops = (stops.0, failed_later a b c le stops.1)
-save_stops_later file a b c le (OfFile named NotWritten) stops = (stops.0, failed_later a b c le stops.1)
-save_stops_later file a b c le OfPrinting stops = absurd stops
-save_stops_later file a b c le OfMemory stops = absurd stops
+save_stops_later : (file : List ℕ) (a b c : ℕ) → a ≤ b → (cause : Cause) (told : List ℕ) → SaveStops file b c cause told → SaveStops file a c cause told
+save_stops_later file a b c le OfSending told stops = absurd stops
+save_stops_later file a b c le OfListening told stops = absurd stops
+save_stops_later file a b c le (OfFile named NotOpened) told stops = absurd stops
+save_stops_later file a b c le (OfFile named NotRead) told stops = absurd stops
+save_stops_later file a b c le (OfFile named NotCreated) told stops = (stops.0, file_stops_in a b c c named NotCreated told le (omega arith) stops.1)
+save_stops_later file a b c le (OfFile named NotWritten) told stops = (stops.0, file_stops_in a b c c named NotWritten told le (omega arith) stops.1)
+save_stops_later file a b c le OfPrinting told stops = absurd stops
+save_stops_later file a b c le OfMemory told stops = absurd stops
 
 -- the file was created, and then more was done
 pub created_then : (old mid new : Option Record) (file : List ℕ) (more : List Saying) (a b c : ℕ) (created : Result (Unit {0}) DeskFault) (result : Result (Unit {0}) Stopped) {done : Unit {0}} → created ≡ Ok done
@@ -77,8 +77,7 @@ created_then old mid new file more a b c (Ok ok) (Err stopped) is kept le then =
   front = front_behind (Creates file ∷ []) more kept then.front;
   cause = then.cause;
   told = then.told;
-  stops = save_stops_later file a b c le then.cause then.stops;
-  of_line = then.of_line;
+  stops = save_stops_later file a b c le then.cause then.told then.stops;
   kept = then.kept;
 }
 
@@ -91,8 +90,7 @@ reports_then old new first more e a b c (Err stopped) kept le then = record {
   front = front_behind first more kept then.front;
   cause = then.cause;
   told = then.told;
-  stops = desk_stops_later a b c le then.cause (print_is_desk b c then.cause then.stops);
-  of_line = then.of_line;
+  stops = print_is_desk a c then.cause then.told (print_stops_later a b c le then.cause then.told then.stops);
   kept = then.kept;
 }
 
@@ -103,6 +101,5 @@ reports_until first more stopped some = record {
   cause = some.cause;
   told = some.told;
   stops = some.stops;
-  of_line = some.of_line;
   kept = some.kept;
 }

@@ -1,5 +1,6 @@
 -- What a call over a link and a desk comes to: its dialog played whole, or broken off.
-use Rattle.std.specs.Prelude.{ℕ, List, [], ◌∷◌, ◌≡◌, ◌≤◌, ◌⊎◌, length, Option, option_map, Result, Ok, Err, codes, ⊤}
+use Rattle.std.specs.Prelude.{ℕ, Bool, true, false, ◌||◌, List, [], ◌∷◌, ◌≡◌, ◌≤◌, ◌⊎◌, length, nat_eq, Option, option_map, Result, Ok, Err, codes, ⊤}
+use Rattle.std.specs.List.{list_any, starts_with}
 use Rattle.avr_desk.specs.Record.{Record, after_err}
 use Rattle.avr_desk.specs.Fault as desk
 use Rattle.stk_host.specs.Talk as link
@@ -7,7 +8,7 @@ use Rattle.stk_host.specs.Talk.{Talk, Grows}
 use Rattle.stk_host.specs.Dialog.{Dialog, Event, sayings}
 use Rattle.stk_host.specs.Play.{Plays, Breaks}
 use Rattle.avr_message.specs.Lines.{Bytes, error}
-use Rattle.avr_message.specs.Said.{Saying, SaidPart, SaysFront, IsPrefixOf, after_all}
+use Rattle.avr_message.specs.Said.{Saying, Line, SaidPart, SaysFront, IsPrefixOf, after_all}
 use Rattle.avr_session.specs.declared.standing.Stopped.{Stopped}
 
 -- what a desk can't do with a file
@@ -40,12 +41,46 @@ cause_line (OfFile file trouble) = error (file ∷ trouble_text trouble ∷ [])
 cause_line OfPrinting = []
 cause_line OfMemory = error (codes "out of memory" ∷ [])
 
--- A device has failed by the count of its failures before and now. (No count shows that memory was refused.)
-abbrev pub Stops : ℕ → ℕ → ℕ → ℕ → Cause → Type 0
-Stops link_before link_now desk_before desk_now OfSending = link.HasFailed link_before link_now
-Stops link_before link_now desk_before desk_now OfListening = link.HasFailed link_before link_now
-Stops link_before link_now desk_before desk_now OfMemory = Unit {0}
-Stops link_before link_now desk_before desk_now cause = desk.HasFailed desk_before desk_now
+-- whether it is the line of an error
+abbrev pub is_error : Saying → Bool
+is_error (Line bytes) = starts_with nat_eq bytes (codes "avrstk: error: ")
+is_error saying = false
+
+-- whether a fault is told among these sayings
+abbrev pub tells_fault : List Saying → Bool
+tells_fault sayings = list_any is_error sayings
+
+-- The cause has come: a device has failed, by the count of its failures before and then. (No count shows that memory was
+-- refused.)
+abbrev pub HasCome : ℕ → ℕ → ℕ → ℕ → Cause → Type 0
+HasCome link_before link_then desk_before desk_then OfSending = link.HasFailed link_before link_then
+HasCome link_before link_then desk_before desk_then OfListening = link.HasFailed link_before link_then
+HasCome link_before link_then desk_before desk_then OfMemory = Unit {0}
+HasCome link_before link_then desk_before desk_then cause = desk.HasFailed desk_before desk_then
+
+-- The line was told whole; or the desk has failed, and a front of it was.
+abbrev pub TellsLine : Bytes → Bytes → ℕ → ℕ → Type 0
+TellsLine line told before now = (told ≡ line) ⊎ (IsPrefixOf told line × desk.HasFailed before now)
+
+-- The cause's line was told. But behind the line of a fault only the link or the printing fails, and nothing more is told.
+abbrev pub TellsCause : Bool → Cause → Bytes → ℕ → ℕ → Type 0
+TellsCause false cause told before now = TellsLine (cause_line cause) told before now
+TellsCause true OfSending told before now = told ≡ []
+TellsCause true OfListening told before now = told ≡ []
+TellsCause true OfPrinting told before now = told ≡ []
+TellsCause true cause told before now = ⊥
+
+-- Why it stops behind these sayings, and what is told of it: the cause has come by some count of the desk's failures, and
+-- from then on it was told. `was_told`: a fault was told before these sayings.
+pub record StopsBehind (was_told : Bool) (link_before link_now desk_before desk_now : ℕ) (said : List Saying) (cause : Cause) (told : Bytes) : Type 0 where
+  pub count : ℕ
+  pub has_come : HasCome link_before link_now desk_before count cause
+  pub tells : TellsCause (was_told || tells_fault said) cause told count desk_now
+  pub since : desk_before ≤ count
+  pub until : count ≤ desk_now
+
+abbrev pub Stops : ℕ → ℕ → ℕ → ℕ → List Saying → Cause → Bytes → Type 0
+Stops link_before link_now desk_before desk_now = StopsBehind false link_before link_now desk_before desk_now
 
 -- The dialog was played whole over what was unread and what was heard: what was sent, said and answered is its play's,
 -- whatever may follow on the line, and at most one piece heard is left.
@@ -58,54 +93,63 @@ pub record Ran {R : Type 0} (dialog : Dialog Saying R) (seq : ℕ) (unread : Lis
   pub kept : new_desk ≡ option_map (after_all (sayings events)) old_desk
 
 -- The dialog broke off: what was sent and said is a front of its events, the last one perhaps in part, and behind it
--- stands a front, perhaps an empty one, of the line that tells why.
-pub record BrokeOff {R : Type 0} (dialog : Dialog Saying R) (seq : ℕ) (unread : List ℕ) (old new : Option Talk) (old_desk new_desk : Option Record) (StopsBy : Cause → Type 0) : Type 0 where
+-- stands what was told of the cause.
+pub record BrokeOff {R : Type 0} (dialog : Dialog Saying R) (seq : ℕ) (unread : List ℕ) (old new : Option Talk) (old_desk new_desk : Option Record) (StopsBy : List Saying → Cause → Bytes → Type 0) : Type 0 where
   pub during : Talk
   pub shown : List (Event Saying)
   pub cause : Cause
   pub told : Bytes
   pub grows : Grows old during new
   pub breaks : Breaks SaidPart dialog seq unread during shown
-  pub stops : StopsBy cause
-  pub of_line : IsPrefixOf told (cause_line cause)
+  pub stops : StopsBy (sayings shown) cause told
   pub kept : new_desk ≡ option_map (λ r. after_err told (after_all (sayings shown) r)) old_desk
 
 -- the one or the other, as a call answers
-abbrev pub Runs : {R : Type 0} → Dialog Saying R → ℕ → List ℕ → Option Talk → Option Talk → Option Record → Option Record → (Cause → Type 0) → Result R Stopped → ℕ → List ℕ → Type 0
+abbrev pub Runs : {R : Type 0} → Dialog Saying R → ℕ → List ℕ → Option Talk → Option Talk → Option Record → Option Record → (List Saying → Cause → Bytes → Type 0) → Result R Stopped → ℕ → List ℕ → Type 0
 Runs dialog seq unread old new old_desk new_desk StopsBy (Ok result) next left = Ran dialog seq unread old new old_desk new_desk result next left
 Runs dialog seq unread old new old_desk new_desk StopsBy (Err stopped) next left = BrokeOff dialog seq unread old new old_desk new_desk StopsBy
 
 -- A whole run: it was played to its status, or it broke off, and then the status is 1.
-abbrev pub RunsTo : Dialog Saying ℕ → Option Talk → Option Talk → Option Record → Option Record → (Cause → Type 0) → ℕ → Type 0
+abbrev pub RunsTo : Dialog Saying ℕ → Option Talk → Option Talk → Option Record → Option Record → (List Saying → Cause → Bytes → Type 0) → ℕ → Type 0
 RunsTo dialog old new old_desk new_desk StopsBy status =
     ((next : ℕ) × (left : List ℕ) × Ran dialog 1 [] old new old_desk new_desk status next left) ⊎ (BrokeOff dialog 1 [] old new old_desk new_desk StopsBy × (status ≡ 1))
 
--- Sayings were done, or a front of them, and behind it a front of the line that tells why.
-pub record SaidSome (old new : Option Record) (sayings : List Saying) (StopsBy : Cause → Type 0) : Type 0 where
+-- Sayings were done, or a front of them, and behind it stands what was told of the cause.
+pub record SaidSome (old new : Option Record) (sayings : List Saying) (StopsBy : Cause → Bytes → Type 0) : Type 0 where
   pub between : Option Record
   pub front : SaysFront old between sayings
   pub cause : Cause
   pub told : Bytes
-  pub stops : StopsBy cause
-  pub of_line : IsPrefixOf told (cause_line cause)
+  pub stops : StopsBy cause told
   pub kept : new ≡ option_map (after_err told) between
 
-abbrev pub Reports : Option Record → Option Record → List Saying → (Cause → Type 0) → Result ⊤ Stopped → Type 0
+abbrev pub Reports : Option Record → Option Record → List Saying → (Cause → Bytes → Type 0) → Result ⊤ Stopped → Type 0
 Reports old new sayings StopsBy (Ok done) = new ≡ option_map (after_all sayings) old
 Reports old new sayings StopsBy (Err stopped) = SaidSome old new sayings StopsBy
 
--- the desk failed as it printed
-abbrev pub PrintStops : ℕ → ℕ → Cause → Type 0
-PrintStops before now OfPrinting = desk.HasFailed before now
-PrintStops before now cause = ⊥
+-- the desk failed as it printed, and nothing is told of that
+abbrev pub PrintStops : ℕ → ℕ → Cause → Bytes → Type 0
+PrintStops before now OfPrinting told = desk.HasFailed before now × (told ≡ [])
+PrintStops before now cause told = ⊥
+
+-- the desk failed at a file, by some count, and from then on that was told
+pub record FileStops (before now : ℕ) (file : Bytes) (trouble : Trouble) (told : Bytes) : Type 0 where
+  pub count : ℕ
+  pub failed : desk.HasFailed before count
+  pub tells : TellsLine (cause_line (OfFile file trouble)) told count now
+  pub since : before ≤ count
+  pub until : count ≤ now
 
 -- the desk failed, at a file or as it printed
-abbrev pub DeskStops : ℕ → ℕ → Cause → Type 0
-DeskStops before now OfSending = ⊥
-DeskStops before now OfListening = ⊥
-DeskStops before now OfMemory = ⊥
-DeskStops before now cause = desk.HasFailed before now
+abbrev pub DeskStops : ℕ → ℕ → Cause → Bytes → Type 0
+DeskStops before now (OfFile file trouble) told = FileStops before now file trouble told
+DeskStops before now cause told = PrintStops before now cause told
 
--- a front of a line was printed, perhaps all of it
-abbrev pub PrintsSome : Option Record → Option Record → Bytes → Type 0
-PrintsSome old new line = (front : Bytes) × IsPrefixOf front line × (new ≡ option_map (after_err front) old)
+-- at a file only where there is something to save
+abbrev pub ReadStops : {A Fault : Type 0} → Result A Fault → ℕ → ℕ → Cause → Bytes → Type 0
+ReadStops (Ok read) before now = DeskStops before now
+ReadStops (Err fault) before now = PrintStops before now
+
+-- a line was printed, or a front of it, and then the desk has failed
+abbrev pub PrintsSome : Option Record → Option Record → Bytes → ℕ → ℕ → Type 0
+PrintsSome old new line before now = (told : Bytes) × TellsLine line told before now × (new ≡ option_map (after_err told) old)

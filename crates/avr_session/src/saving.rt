@@ -1,9 +1,9 @@
 //! What was read of a memory becomes a file.
-ghost use Rattle.std.specs.Prelude.{◌≡◌, ◌∷◌, ◌≤◌, ◌<◌, ◌^◌, [], length, OnErr};
+ghost use Rattle.std.specs.Prelude.{◌≡◌, ◌∷◌, ◌≤◌, ◌<◌, ◌^◌, [], length};
 ghost use Rattle.avr_message.specs.Lines.{error};
 ghost use Rattle.avr_message.specs.Said.{Creates, Writes, Tells};
 ghost use Rattle.avr_session.specs.FileText.{file_text};
-ghost use Rattle.avr_session.specs.Runs.{Reports, PrintStops, DeskStops};
+ghost use Rattle.avr_session.specs.Runs.{Reports, DeskStops, ReadStops};
 ghost use Rattle.avr_session.specs.Saving.{sent_says, SaveStops};
 ghost use Rattle.avr_session.specs.Session.{saved, kept_of, read_says, fault_or};
 ghost use Rattle.stk_host.specs.Calls.{given};
@@ -130,11 +130,7 @@ pub(crate) fn report_read<D: Desk>(
     ensures reports { Reports (D.kept desk.old) (D.kept desk.new)
         (fault_or plan.now.part (read_says plan.now.switches mem target.entry.format target.entry.file.now)
         (given bytes.now outcome.now))
-        (DeskStops (D.failures desk.old) (D.failures desk.new)) result }
-    ensures told { OnErr outcome.now (Reports (D.kept desk.old) (D.kept desk.new)
-        (fault_or plan.now.part (read_says plan.now.switches mem target.entry.format target.entry.file.now)
-        (given bytes.now outcome.now))
-        (PrintStops (D.failures desk.old) (D.failures desk.new)) result) }
+        (ReadStops outcome.now (D.failures desk.old) (D.failures desk.new)) result }
     ensures counted { D.failures desk.old ≤ D.failures desk.new }
 {
     match outcome {

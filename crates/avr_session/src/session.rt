@@ -1,8 +1,8 @@
 //! The session of a plan: what it asks of a programmer, and what it reports at the desk.
-ghost use Rattle.std.specs.Prelude.{◌≡◌, ◌∷◌, [], None, Ok, codes};
+ghost use Rattle.std.specs.Prelude.{◌≡◌, ◌∷◌, [], None, Ok, codes, true};
 ghost use Rattle.avr_session.specs.declared.standing.Standing.TheVariants.{Fine, Faulty};
 ghost use Rattle.avr_session.specs.Concluding.{Serves};
-ghost use Rattle.avr_session.specs.Parts.{Performs};
+ghost use Rattle.avr_session.specs.Parts.{is_told, Performs, PerformsBehind};
 ghost use Rattle.avr_session.specs.Runs.{RunsTo, Stops};
 ghost use Rattle.avr_session.specs.Session.{beginning, working, ending, playing, session};
 ghost use Rattle.stk_host.specs.Talk.{Stays};
@@ -83,7 +83,7 @@ fn close_after_fault<D: Desk, L: Link>(
     plan: &Plan,
 ) -> Result<Standing, Stopped>
     requires { host.old.broken ≡ None }
-    ensures performs { Performs (ending plan.now.part plan.now.switches Faulty) host.old host.new
+    ensures performs { PerformsBehind true (ending plan.now.part plan.now.switches Faulty) host.old host.new
         (L.talk link.old) (L.talk link.new) (L.failures link.old) (L.failures link.new)
         (D.kept desk.old) (D.kept desk.new) (D.failures desk.old) (D.failures desk.new) result }
     ensures comes { Stays L.comes_of link.old link.new }
@@ -102,7 +102,7 @@ fn end<D: Desk, L: Link>(
     standing: Standing,
 ) -> Result<Standing, Stopped>
     requires { Serves (Ok standing) host.old.broken }
-    ensures performs { Performs (ending plan.now.part plan.now.switches standing) host.old host.new
+    ensures performs { PerformsBehind (is_told standing) (ending plan.now.part plan.now.switches standing) host.old host.new
         (L.talk link.old) (L.talk link.new) (L.failures link.old) (L.failures link.new)
         (D.kept desk.old) (D.kept desk.new) (D.failures desk.old) (D.failures desk.new) result }
     ensures comes { Stays L.comes_of link.old link.new }

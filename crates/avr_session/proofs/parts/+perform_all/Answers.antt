@@ -1,6 +1,7 @@
 use Rattle.std.proofs.Common.{drop}
 use Rattle.std.proofs.lemmas.Result.{err_from_is_err_and}
 use Rattle.avr_session.specs.Session.{tasks_part}
+use Rattle.avr_session.proofs.Foretelling.{task_foretells}
 use Rattle.avr_session.proofs.Performing.{nothing_performs, performs_then, performs_last, first_task, no_task, tasks_behind}
 use Rattle.avr_session.proofs.parts.+perform_all.Goals as goal
 
@@ -15,7 +16,7 @@ returns-in_err-fault-in-len1-up-clause-performs g t c =
 
 pub returns-in-Fine-clause-performs : goal.returns-in-Fine-clause-performs
 returns-in-Fine-clause-performs g t c =
-    rw (← first_task c.args.tasks.now c.task-item.result c.in-len1-up.len_at_least c.task-item.is) (performs_then c.perform_all.result (rw c.in-Fine.is at c.in_ok-fault-in-len1-up.ensures.performs) (rw (tasks_behind c.args.tasks.now) at c.perform_all.ensures.performs))
+    rw (← first_task c.args.tasks.now c.task-item.result c.in-len1-up.len_at_least c.task-item.is) (performs_then c.perform_all.result (task_foretells c.args.plan.now.part c.args.plan.now.switches c.task-item.result) (rw c.in-Fine.is at c.in_ok-fault-in-len1-up.ensures.performs) (rw (tasks_behind c.args.tasks.now) at c.perform_all.ensures.performs))
 
 pub returns-in_default-clause-performs : goal.returns-in_default-clause-performs
 returns-in_default-clause-performs g t c =

@@ -1,5 +1,6 @@
 use Rattle.std.proofs.lemmas.Result.{err_from_is_err_and}
 use Rattle.avr_session.specs.Session.{left_out_write, read_back_part}
+use Rattle.avr_session.proofs.Foretelling.{writing_foretells}
 use Rattle.avr_session.proofs.Performing.{left_out_performs, performs_then, performs_last}
 use Rattle.avr_session.proofs.parts.write_and_verify.Goals as goal
 
@@ -18,7 +19,7 @@ returns-in_err-fault-clause-performs g c =
 pub returns-in-Fine-clause-performs : goal.returns-in-Fine-clause-performs
 returns-in-Fine-clause-performs g c =
     let is_not_dry = rw c.switches.ensures at c.if-switches.false in
-    rw is_not_dry (performs_then c.read_back.result (rw c.in-Fine.is at c.in_ok-fault.ensures.performs) c.read_back.ensures.performs)
+    rw is_not_dry (performs_then c.read_back.result (writing_foretells c.args.plan.now.part c.args.plan.now.switches c.args.mem c.args.image.now) (rw c.in-Fine.is at c.in_ok-fault.ensures.performs) c.read_back.ensures.performs)
 
 pub returns-in_default-clause-performs : goal.returns-in_default-clause-performs
 returns-in_default-clause-performs g c =

@@ -1,5 +1,6 @@
 use Rattle.std.proofs.lemmas.Result.{err_from_is_err_and}
 use Rattle.avr_session.specs.Session.{erasing_part}
+use Rattle.avr_session.proofs.Foretelling.{opening_foretells}
 use Rattle.avr_session.proofs.Performing.{performs_then, performs_last}
 use Rattle.avr_session.proofs.session.open_and_erase.Goals as goal
 
@@ -10,7 +11,7 @@ returns-in_err-fault-clause-performs g c =
     rw p.1 (performs_last more _ (λ e. cc) c.in_err-fault.ensures.performs)
 
 pub returns-in-Fine-clause-performs : goal.returns-in-Fine-clause-performs
-returns-in-Fine-clause-performs g c = performs_then c.erase_if_due.result (rw c.in-Fine.is at c.in_ok-fault.ensures.performs) c.erase_if_due.ensures.performs
+returns-in-Fine-clause-performs g c = performs_then c.erase_if_due.result (opening_foretells c.args.plan.now.part c.args.plan.now.switches) (rw c.in-Fine.is at c.in_ok-fault.ensures.performs) c.erase_if_due.ensures.performs
 
 pub returns-in_default-clause-performs : goal.returns-in_default-clause-performs
 returns-in_default-clause-performs g c =
