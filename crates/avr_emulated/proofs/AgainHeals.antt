@@ -1,5 +1,5 @@
 -- A second run over what the first one left: its status, and its memories.
-use Rattle.std.proofs.Common.{◌≡◌, ℕ, arith, subst, sym, ◌∙◌, take, true, false}
+use Rattle.std.proofs.Common.{◌≡◌, ℕ, arith, ap, subst, sym, ◌∙◌, take, true, false}
 use Rattle.std.proofs.lemmas.List.{length-replicate}
 use Rattle.std.proofs.lemmas.List.Elements.{All-replicate}
 use Rattle.std.specs.Prelude.{◌<◌, All}
@@ -10,10 +10,11 @@ use Rattle.stk_emu.specs.Effect.{Memories, keeps_eeprom, effects}
 use Rattle.stk_emu.specs.Settled.{FitsPart}
 use Rattle.avr_emulated.specs.Again.{AreKeeping, chip_of, AgreesAnyway, Heals}
 use Rattle.avr_emulated.specs.Agrees.{Agrees}
+use Rattle.avr_emulated.specs.Course.{course}
 use Rattle.avr_emulated.specs.Items.{items}
-use Rattle.avr_emulated.specs.Outcome.{strokes, IsTouched}
+use Rattle.avr_emulated.specs.Outcome.{strokes, IsTouched, IsDone}
 use Rattle.avr_emulated.proofs.AgainAgrees.{agrees_anyway}
-use Rattle.avr_emulated.proofs.AgainStrokes.{all_sizes, strokes_again}
+use Rattle.avr_emulated.proofs.AgainStrokes.{all_sizes, strokes_again, plan_again}
 use Rattle.avr_emulated.proofs.WrittenCourse.{course_status, course_memories}
 
 chip_fits : (part : Part) (byte : ℕ) → byte < 256 → FitsPart part (chip_of part byte)
@@ -49,3 +50,17 @@ pub touched_healed : (plan : Plan) (before after : Memories) → IsPart plan.par
     → IsTouched plan before after → Heals plan before after
 touched_healed plan before after sound fitted f wet due both kept touched =
     subst (Heals plan before) (sym touched.memories) (healed plan touched.count before sound fitted f wet due both kept)
+
+-- a second run that did all comes to what the first one would have come to
+pub done_again : (plan : Plan) (before left after : Memories) → IsPart plan.part → All (IsFitted plan.part) plan.tasks → FitsPart plan.part before
+    → (is_erase_due plan.switches plan.tasks ≡ true → keeps_eeprom plan.part before ≡ true → AreKeeping plan.part (items plan))
+    → IsTouched plan before left → IsDone plan left after → after ≡ effects plan.part (items plan) before
+done_again plan before left after sound fitted f kept touched all =
+    all.memories ∙ (ap (effects plan.part (items plan)) touched.memories ∙ plan_again plan touched.count before sound fitted f kept)
+
+-- a course that succeeds, whatever the chip was
+pub succeeds : (plan : Plan) (before after : Memories) (status : ℕ) → FitsPart plan.part before → plan.switches.dry ≡ false → is_erase_due plan.switches plan.tasks ≡ true → AgreesAnyway plan
+    → status ≡ (course plan before).status → after ≡ (course plan before).memories → (status ≡ 0) × IsDone plan before after
+succeeds plan before after status f wet due both status_is memories_are =
+    let agrees : Agrees plan before = agrees_anyway plan before f wet due both in
+    (status_is ∙ (course_status plan before).1 agrees, record { memories = memories_are ∙ course_memories plan before agrees; agrees = agrees })

@@ -11,7 +11,7 @@ ghost use Rattle.avr_emulated.specs.Again.{AreWrites, AreKeeping, AgreesAnyway, 
 ghost use Rattle.avr_emulated.specs.Agrees.{Agrees};
 ghost use Rattle.avr_emulated.specs.Course.{course};
 ghost use Rattle.avr_emulated.specs.Items.{items};
-ghost use Rattle.avr_emulated.specs.Outcome.{strokes, IsTouched};
+ghost use Rattle.avr_emulated.specs.Outcome.{strokes, IsTouched, IsDone};
 
 /// An erase and writes behind any first ones of them come to what they come to alone, unless these took the EEPROM's keeping away.
 pub fn first_items_and_then_all_are_all()
@@ -35,7 +35,7 @@ pub fn a_second_run_heals_the_first()
 {}
 
 /// A plan that erases, and whose comparisons agree on a chip of nothing but 00 and on one of nothing but FF, agrees on every chip:
-/// so over a good line its run ends with status 0, whatever the chip was.
+/// so its course has status 0, whatever the chip was. What agrees on every chip agrees on these two.
 pub fn what_agrees_on_two_chips_agrees_on_all()
     ensures agrees { (plan : Plan) (m : Memories) → FitsPart plan.part m
         → plan.switches.dry ≡ false → is_erase_due plan.switches plan.tasks ≡ true → AgreesAnyway plan → Agrees plan m }
@@ -44,8 +44,8 @@ pub fn what_agrees_on_two_chips_agrees_on_all()
     ensures needed { (plan : Plan) → ((m : Memories) → FitsPart plan.part m → Agrees plan m) → AgreesAnyway plan }
 {}
 
-/// Whatever a run left that was broken off: the same run again, over a good line, ends with status 0, and leaves what one run would
-/// have left.
+/// Whatever a run left that was broken off: the course of the same run again has status 0, and the memories that one run would
+/// have left. And a second run of status 0, whatever its line does, has left what a first one does that is not broken off.
 pub fn the_same_run_again_heals()
     ensures touched { (plan : Plan) (before after : Memories) → IsPart plan.part → All (IsFitted plan.part) plan.tasks → FitsPart plan.part before
         → plan.switches.dry ≡ false → is_erase_due plan.switches plan.tasks ≡ true → AgreesAnyway plan
@@ -55,4 +55,7 @@ pub fn the_same_run_again_heals()
         → plan.switches.dry ≡ false → is_erase_due plan.switches plan.tasks ≡ true → AgreesAnyway plan
         → (keeps_eeprom plan.part m ≡ true → AreKeeping plan.part (items plan))
         → Heals plan m (effects plan.part (take k (strokes plan)) m) }
+    ensures done { (plan : Plan) (before left after : Memories) → IsPart plan.part → All (IsFitted plan.part) plan.tasks → FitsPart plan.part before
+        → (is_erase_due plan.switches plan.tasks ≡ true → keeps_eeprom plan.part before ≡ true → AreKeeping plan.part (items plan))
+        → IsTouched plan before left → IsDone plan left after → after ≡ effects plan.part (items plan) before }
 {}
