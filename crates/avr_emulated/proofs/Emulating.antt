@@ -14,7 +14,7 @@ use Rattle.avr_session.specs.Runs.{Stops, RunsTo}
 use Rattle.avr_session.specs.Session.{session}
 use Rattle.stk_host.specs.Talk.{sent}
 use Rattle.stk_emu.specs.Effect.{memories_of}
-use Rattle.stk_emu.specs.Leads.{AreGood}
+use Rattle.stk_emu.specs.Few.{AreFew}
 use Rattle.stk_emu.specs.Programmer.{fresh_programmer}
 use Rattle.stk_emu.specs.Wire.{fresh}
 use Rattle.stk_emu.specs.Wired.{State}
@@ -25,14 +25,14 @@ module _ (settings : Settings) (file : Bytes) (plan : Plan) (chip : chips.State)
   its_chip : w.wire.programmer.chip ≡ chip
   its_chip = ap (λ x. x.programmer.chip) begun
 
-  good : AreGood w.wire.fates
-  good = subst AreGood (sym (ap (λ x. x.fates) begun)) tt
+  all_good : AreFew w.wire.fates
+  all_good = subst AreFew (sym (ap (λ x. x.fates) begun)) tt
 
   pub plays_emulated : (old planned_desk loaded_desk played_desk new : Option Record) (before loaded played now ran status : ℕ)
       → Went (planned settings) old planned_desk (Made plan) → Went (chip_stage plan.part file) planned_desk loaded_desk (Made chip) → before ≤ loaded
       → RunsTo (session plan) (Some w.talk) (Some v.talk) loaded_desk played_desk (Stops w.failures v.failures loaded played) ran
       → Leaves plan (memories_of w.wire.programmer.chip) (memories_of v.wire.programmer.chip) ran
-      → (AreGood w.wire.fates → GoesWell plan (memories_of w.wire.programmer.chip) (memories_of v.wire.programmer.chip) loaded_desk played_desk (Some v.talk) (Stops w.failures v.failures loaded played) ran)
+      → (AreFew w.wire.fates → GoesWell plan (memories_of w.wire.programmer.chip) (memories_of v.wire.programmer.chip) loaded_desk played_desk (Some v.talk) (Stops w.failures v.failures loaded played) ran)
       → IsSaved (sent v.talk) played_desk new file (chip_file v.wire.programmer.chip) played now ran status → played ≤ now
       → PlaysEmulated settings file old new before now status
   plays_emulated old planned_desk loaded_desk played_desk new before loaded played now ran status made is_loaded rises runs leaves goes_well saved counted = record {
@@ -54,7 +54,7 @@ module _ (settings : Settings) (file : Bytes) (plan : Plan) (chip : chips.State)
         (subst (λ n. RunsTo (session plan) (Some w.talk) (Some v.talk) loaded_desk played_desk (Stops n v.failures loaded played) ran) unfailed runs);
     leaves = subst (λ (c : chips.State). Leaves plan (memories_of c) (memories_of v.wire.programmer.chip) ran) its_chip leaves;
     goes_well = subst (λ n. GoesWell plan (memories_of chip) (memories_of v.wire.programmer.chip) loaded_desk played_desk (Some v.talk) (Stops n v.failures loaded played) ran) unfailed
-        (subst (λ (c : chips.State). GoesWell plan (memories_of c) (memories_of v.wire.programmer.chip) loaded_desk played_desk (Some v.talk) (Stops w.failures v.failures loaded played) ran) its_chip (goes_well good));
+        (subst (λ (c : chips.State). GoesWell plan (memories_of c) (memories_of v.wire.programmer.chip) loaded_desk played_desk (Some v.talk) (Stops w.failures v.failures loaded played) ran) its_chip (goes_well all_good));
     saved = saved;
     counted = counted;
   }

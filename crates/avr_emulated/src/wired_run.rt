@@ -1,13 +1,14 @@
 //! A run over a wire to the emulated programmer.
-ghost use Rattle.std.specs.Prelude.{◌≡◌, Some, length};
+ghost use Rattle.std.specs.Prelude.{◌≡◌, true, false, Some, length};
 ghost use Rattle.avr_session.specs.Runs.{RunsTo, Stops};
-ghost use Rattle.avr_session.specs.Session.{session};
+ghost use Rattle.avr_session.specs.Session.{session, is_erase_due};
 ghost use Rattle.stk_emu.specs.Effect.{memories_of};
-ghost use Rattle.stk_emu.specs.Leads.{AreGood};
+ghost use Rattle.stk_emu.specs.Few.{AreFew};
 ghost use Rattle.stk_emu.specs.Programmer.{fresh_programmer};
 ghost use Rattle.stk_emu.specs.Wired.{IsFresh};
 ghost use Rattle.stk_frame.specs.Cut.{frames};
 ghost use Rattle.stk_host.specs.Talk.{sent};
+ghost use Rattle.avr_emulated.specs.Again.{AgreesAnyway, Succeeds};
 ghost use Rattle.avr_emulated.specs.Outcome.{Leaves, MakesStrokes, GoesWell};
 
 use avr_desk::Desk;
@@ -30,8 +31,12 @@ pub fn drive_wired<D: Desk>(alloc: Global, plan: &Plan, desk: &mut D, wire: &mut
     // Of its strokes the first ones were made: by the frames that went out, all that have come to data and perhaps one more.
     ensures in_order { MakesStrokes plan.now (fresh_programmer wire.old.wire.programmer.chip) wire.old.wire.fates (length (frames (sent wire.new.talk)))
         (memories_of wire.old.wire.programmer.chip) (memories_of wire.new.wire.programmer.chip) }
-    // Over a good line it goes as its course says.
-    ensures good { AreGood wire.old.wire.fates → GoesWell plan.now (memories_of wire.old.wire.programmer.chip) (memories_of wire.new.wire.programmer.chip)
+    // Where of any seven frames in a row at most three go wrong, it goes as its course says.
+    ensures few_bad { AreFew wire.old.wire.fates → GoesWell plan.now (memories_of wire.old.wire.programmer.chip) (memories_of wire.new.wire.programmer.chip)
+        (D.kept desk.old) (D.kept desk.new) (Some wire.new.talk) (Stops wire.old.failures wire.new.failures (D.failures desk.old) (D.failures desk.new)) result }
+    // And where the plan erases, and agrees on a chip of 00 and on one of FF, it succeeds whatever the chip was.
+    ensures succeeds { AreFew wire.old.wire.fates → plan.now.switches.dry ≡ false → is_erase_due plan.now.switches plan.now.tasks ≡ true → AgreesAnyway plan.now
+        → Succeeds plan.now (memories_of wire.old.wire.programmer.chip) (memories_of wire.new.wire.programmer.chip)
         (D.kept desk.old) (D.kept desk.new) (Some wire.new.talk) (Stops wire.old.failures wire.new.failures (D.failures desk.old) (D.failures desk.new)) result }
 {
     // What the clauses rest on: each image has the size of its memory, and the chip's memories those of its part.
