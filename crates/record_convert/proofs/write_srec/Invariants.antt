@@ -1,0 +1,5 @@
+use Rattle.std.proofs.Common.{length}
+use Rattle.record_convert.proofs.write_srec.Given as goal
+
+abbrev pub decreases-loop-writer : goal.decreases-loop-writer
+decreases-loop-writer g l = length l.writer
