@@ -1,0 +1,196 @@
+#!/usr/bin/env python3
+"""Holds the page of manual to docs/USAGE, and both to the options of the program.
+
+    tests/manual.py            docs/avrstk.1 is what is made of docs/USAGE.md; USAGE, the completions and docs/PART name the options
+                               and parts that the program's --help names: needs crates/avrstk/out/avrstk, as rt ci leaves it
+    tests/manual.py --write    makes docs/avrstk.1 of docs/USAGE.md
+"""
+
+import re
+import shutil
+import subprocess
+import sys
+
+from program import PROGRAM, TOP
+
+USAGE = TOP / "docs/USAGE.md"
+PAGE = TOP / "docs/avrstk.1"
+
+HEAD = r""".\" Made of docs/USAGE.md by tests/manual.py --write.
+.TH AVRSTK 1 "" "" "Programming AVR parts"
+.SH NAME
+avrstk \- programs AVR parts through an STK500v2 programmer
+.SH SYNOPSIS
+.B avrstk
+.RI \-p\~ PART
+.RI \-P\~ PORT
+.RI [ option ]..
+.RI [\-U\~ UPDATE ]..
+.br
+.B avrstk
+.RI \-p\~ PART
+.RI \-\-serve\~ PORT
+.RI \-\-chip\~ FILE
+.SH DESCRIPTION
+Reads every image, opens a session with the programmer, erases, writes, reads back, compares, reads memories into files, and
+leaves.
+"""
+
+
+def escaped(text):
+    return text.replace("\\", "\\e").replace("-", "\\-").replace("'", "\\(aq").replace("`", "\\(ga").replace("^", "\\(ha").replace("~", "\\(ti")
+
+
+def inline(text):
+    """A text with its code and strong words bold."""
+    pieces = re.split(r"(``? .*? ``?|`[^`]*`)", text)
+    made = []
+    for piece in pieces:
+        if piece.startswith("`"):
+            made.append(f"\\fB{escaped(piece.strip('`').strip())}\\fR")
+        else:
+            piece = re.sub(r"\[([^]]*)\]\([^)]*\)", r"\1", piece)
+            strong = escaped(piece).replace("\\(ga", "")
+            made.append(strong)
+    return re.sub(r"\*\*(.*?)\*\*", lambda it: "\\fB" + it[1].replace("\\fB", "").replace("\\fR", "\\fB") + "\\fR", "".join(made))
+
+
+def line(text):
+    """A line of text, which is no request of roff's whatever it begins with."""
+    return f"\\&{text}" if text[:1] in (".", "'") else text
+
+
+def cells(row):
+    return [it.strip() for it in row.strip().strip("|").split(" | ")]
+
+
+def table(rows):
+    """A paragraph for each row: its first cell as the tag, then the others, the third and later ones by their heading."""
+    heads = cells(rows[0])
+    for row in rows[2:]:
+        tag, *rest = cells(row)
+        said = [f"{it}." if at == 0 and len(rest) > 1 and it else it for at, it in enumerate(rest)]
+        said = [said[0], *(f"{head}: {it}".rstrip("?") + ("?" if it[-1] == "?" else ".") for head, it in zip(heads[2:], said[1:]) if it)]
+        yield from [".TP", line(inline(tag)), line(inline(" ".join(it for it in said if it))) or "\\&"]
+
+
+def code(rows):
+    yield from [".RS 4", ".nf", *(line(escaped(it)) for it in rows), ".fi", ".RE"]
+
+
+def item(rows):
+    """An item of a list, with its code."""
+    mark, first = re.match(r"(-|\d+\.) +(.*)", rows[0]).groups()
+    yield ".IP \\(bu 2" if mark == "-" else f".IP {mark} 4"
+    texts, blocks = [first], []
+    for it in rows[1:]:
+        if it.startswith("      "):
+            blocks.append(it[6:])
+            continue
+        if blocks and it.strip():
+            yield from [line(inline(" ".join(texts))), *code(blocks), ".IP \"\" 2"]
+            texts, blocks = [], []
+        texts += [it.strip()] if it.strip() else []
+    yield from [line(inline(" ".join(texts)))] if texts else []
+    yield from code(blocks) if blocks else []
+
+
+def blocks_of(text):
+    """The paragraphs of a page: headings, tables, code, items and text, each with its lines."""
+    kind, held = None, []
+    for row in text.splitlines():
+        is_more = kind == "item" and (row.startswith("  ") or not row)
+        found = (
+            "head" if row.startswith("#") else "table" if row.startswith("|") else "item" if re.match(r"(-|\d+\.) ", row)
+            else kind if is_more else "code" if row.startswith("    ") else None if not row else "text"
+        )
+        if held and (found != kind or found == "head" or found == "item" and not is_more):
+            yield kind, held
+            held = []
+        kind = found
+        held += [row] if found else []
+    if held:
+        yield kind, held
+
+
+def page():
+    """The page of manual."""
+    # the title and the synopsis are those of the head
+    _, _, *blocks = blocks_of(USAGE.read_text())
+    first = next(at for at, (kind, _) in enumerate(blocks) if kind == "table")
+    blocks.insert(first, ("head", ["## Options"]))
+    made = []
+    for kind, rows in blocks:
+        if kind == "head":
+            deep, name = rows[0].split(" ", 1)
+            made.append(f".SH {escaped(name).upper()}" if deep == "##" else f".SS {escaped(name)}")
+        elif kind == "table":
+            made += table(rows)
+        elif kind == "item":
+            while rows and not rows[-1].strip():
+                rows.pop()
+            made += item(rows)
+        elif kind == "code":
+            made += [".PP", *code([it[4:] for it in rows])]
+        else:
+            made += [".PP", line(inline(" ".join(it.strip() for it in rows)))]
+    return HEAD + "\n".join(made) + "\n"
+
+
+def of_help():
+    """The options that the program's help names, each with its value's name, and its text."""
+    ran = subprocess.run([PROGRAM, "--help"], capture_output=True, text=True)
+    if ran.returncode:
+        sys.exit(f"--help ends with status {ran.returncode}: {ran.stderr}")
+    rows = ran.stdout.split("Options:\n")[1].split("\n\n")[0].splitlines()
+    found = [re.match(r" +(?:(-\w)(?:, )?)?(--[\w-]+)?(?:\.\.\.)?(?: <(\w+)>)?  ", it).groups() for it in rows]
+    return {(name, value) for short, long, value in found for name in (short, long) if name}, ran.stdout
+
+
+def of_usage():
+    """The options that the table of USAGE names, each with its value's name."""
+    rows = USAGE.read_text().split("| Option |")[1].split("\n\n")[0].splitlines()[2:]
+    named = [it for row in rows for it in re.findall(r"`(-[^`]*)`", cells(row)[0])]
+    return {(name, value or None) for name, _, value in (it.partition(" ") for it in named)}
+
+
+def parts():
+    """The ids of the built-in parts, by their table."""
+    rows = (TOP / "docs/PART.md").read_text().split("## Built-in parts")[1].split("| Id |")[1].split("\n\n")[0].splitlines()[2:]
+    return [cells(row)[0].strip("`") for row in rows]
+
+
+def main():
+    if sys.argv[1:] == ["--write"]:
+        PAGE.write_text(page())
+        return
+    if not PROGRAM.exists():
+        sys.exit(__doc__)
+    options, shown = of_help()
+    completions = (TOP / "completions/avrstk.bash").read_text()
+    completed = re.search(r'"(-p [^"]*)"', completions)[1].split()
+    rows = [
+        ("docs/avrstk.1 is made of docs/USAGE.md (tests/manual.py --write)", PAGE.read_text() == page()),
+        (f"the options of USAGE are those of --help: {of_usage() ^ options}", of_usage() == options),
+        (f"the completions are those of --help: {completed}", set(completed) == {name for name, _ in options}),
+        ("--help names the built-in parts", ", ".join(parts()[:-1]) in shown and parts()[-1] in shown),
+        ("USAGE names the built-in parts", all(f"`{it}` (AT" in USAGE.read_text() for it in parts())),
+        ("the completions have the built-in parts", f'"{" ".join(parts())}"' in completions),
+    ]
+    skipped = 0
+    if shutil.which("groff"):
+        ran = subprocess.run(["groff", "-ww", "-man", "-Tutf8", "-rLL=100n", PAGE], capture_output=True, text=True)
+        rows.append((f"the page is without warnings: {ran.stderr[:300]}", not ran.returncode and not ran.stderr))
+        plain = re.sub(r"\x1b\[[0-9;]*m|.\x08", "", ran.stdout)
+        rows.append(("the page shows a recipe as it is typed", "examples/serial.sh /dev/ttyACM0 115200 -- -p m328p" in plain))
+    else:
+        skipped = 2
+    failed = [what for what, holds in rows if not holds]
+    for what in failed:
+        print(f"not so: {what}")
+    print(f"{len(rows) - len(failed)} passed, {len(failed)} failed, {skipped} skipped")
+    sys.exit(bool(failed))
+
+
+if __name__ == "__main__":
+    main()
