@@ -1,15 +1,18 @@
 #!/usr/bin/env python3
 """Holds the page of manual to docs/USAGE, and both to the options of the program.
 
-    tests/manual.py            docs/avrstk.1 is what is made of docs/USAGE.md; USAGE, the completions and docs/PART name the options
-                               and parts that the program's --help names: needs crates/avrstk/out/avrstk, as rt ci leaves it
+    tests/manual.py            docs/avrstk.1 is what is made of docs/USAGE.md; USAGE, the completions and docs/PART name
+                               the options and parts that the program's --help names; runs over `emu:` print what README
+                               and USAGE show of them: needs crates/avrstk/out/avrstk, as rt ci leaves it
     tests/manual.py --write    makes docs/avrstk.1 of docs/USAGE.md
 """
 
 import re
+import shlex
 import shutil
 import subprocess
 import sys
+import tempfile
 
 from program import PROGRAM, TOP
 
@@ -32,13 +35,17 @@ avrstk \- programs AVR parts through an STK500v2 programmer
 .RI \-\-serve\~ PORT
 .RI \-\-chip\~ FILE
 .SH DESCRIPTION
-Reads every image, opens a session with the programmer, erases, writes, reads back, compares, reads memories into files, and
-leaves.
+Reads every image, opens a session with the programmer, erases, writes, reads back, compares, reads memories into files,
+and leaves.
 """
 
 
+# what roff would take for something else
+ESCAPES = str.maketrans({"\\": "\\e", "-": "\\-", "'": "\\(aq", "`": "\\(ga", "^": "\\(ha", "~": "\\(ti"})
+
+
 def escaped(text):
-    return text.replace("\\", "\\e").replace("-", "\\-").replace("'", "\\(aq").replace("`", "\\(ga").replace("^", "\\(ha").replace("~", "\\(ti")
+    return text.translate(ESCAPES)
 
 
 def inline(text):
@@ -50,9 +57,9 @@ def inline(text):
             made.append(f"\\fB{escaped(piece.strip('`').strip())}\\fR")
         else:
             piece = re.sub(r"\[([^]]*)\]\([^)]*\)", r"\1", piece)
-            strong = escaped(piece).replace("\\(ga", "")
-            made.append(strong)
-    return re.sub(r"\*\*(.*?)\*\*", lambda it: "\\fB" + it[1].replace("\\fB", "").replace("\\fR", "\\fB") + "\\fR", "".join(made))
+            made.append(escaped(piece).replace("\\(ga", ""))
+    strong = lambda it: "\\fB" + it[1].replace("\\fB", "").replace("\\fR", "\\fB") + "\\fR"
+    return re.sub(r"\*\*(.*?)\*\*", strong, "".join(made))
 
 
 def line(text):
@@ -65,13 +72,20 @@ def cells(row):
 
 
 def table(rows):
-    """A paragraph for each row: its first cell as the tag, then the others, the third and later ones by their heading."""
+    """A paragraph for each row: its first cell as the tag, then the others, from the third on behind their headings."""
     heads = cells(rows[0])
     for row in rows[2:]:
         tag, *rest = cells(row)
-        said = [f"{it}." if at == 0 and len(rest) > 1 and it else it for at, it in enumerate(rest)]
-        said = [said[0], *(f"{head}: {it}".rstrip("?") + ("?" if it[-1] == "?" else ".") for head, it in zip(heads[2:], said[1:]) if it)]
+        more = [ended(it, head) for head, it in zip(heads[2:], rest[1:])]
+        said = [ended(rest[0]), *more] if more else rest
         yield from [".TP", line(inline(tag)), line(inline(" ".join(it for it in said if it))) or "\\&"]
+
+
+def ended(text, head=""):
+    """A cell as a sentence, behind its heading."""
+    if not text:
+        return ""
+    return (f"{head}: " if head else "") + text + ("" if text.endswith("?") else ".")
 
 
 def code(rows):
@@ -100,10 +114,10 @@ def blocks_of(text):
     kind, held = None, []
     for row in text.splitlines():
         is_more = kind == "item" and (row.startswith("  ") or not row)
-        found = (
-            "head" if row.startswith("#") else "table" if row.startswith("|") else "item" if re.match(r"(-|\d+\.) ", row)
-            else kind if is_more else "code" if row.startswith("    ") else None if not row else "text"
-        )
+        starts = [("#", "head"), ("|", "table"), ("- ", "item"), ("    ", "code")]
+        begun = next((name for mark, name in starts if row.startswith(mark)), None)
+        begun = "item" if re.match(r"\d+\. ", row) else begun
+        found = kind if is_more else begun or ("text" if row else None)
         if held and (found != kind or found == "head" or found == "item" and not is_more):
             yield kind, held
             held = []
@@ -156,8 +170,26 @@ def of_usage():
 
 def parts():
     """The ids of the built-in parts, by their table."""
-    rows = (TOP / "docs/PART.md").read_text().split("## Built-in parts")[1].split("| Id |")[1].split("\n\n")[0].splitlines()[2:]
-    return [cells(row)[0].strip("`") for row in rows]
+    table = (TOP / "docs/PART.md").read_text().split("## Built-in parts")[1].split("| Id |")[1].split("\n\n")[0]
+    return [cells(row)[0].strip("`") for row in table.splitlines()[2:]]
+
+
+def shown_runs(file):
+    """Runs the commands over `emu:` that a document shows, in turn in one folder: each prints what is shown, or not."""
+    blocks = [rows for kind, rows in blocks_of((TOP / file).read_text()) if kind == "code"]
+    with tempfile.TemporaryDirectory() as folder:
+        shutil.copytree(TOP / "examples", f"{folder}/examples")
+        commands = [it for rows in blocks for it in "\n".join(row[4:] for row in rows).split("$ ")[1:]]
+        for row, *shown in map(str.splitlines, commands):
+            words = shlex.split(row)
+            if words[0] not in ("avrstk", "./avrstk") or "emu:" not in row:
+                continue
+            words = [it for it in words[1:] if it != "--unproved"]
+            how = {"stdout": subprocess.PIPE, "stderr": subprocess.STDOUT, "text": True}
+            ran = subprocess.run([PROGRAM, *words], cwd=folder, **how)
+            wanted = [it for it in shown if "avrstk: unproved: " not in it]
+            printed = ran.stdout.splitlines()
+            yield f"{file}: {row}: {printed}", not ran.returncode and wanted in ([], printed)
 
 
 def main():
@@ -176,13 +208,16 @@ def main():
         ("--help names the built-in parts", ", ".join(parts()[:-1]) in shown and parts()[-1] in shown),
         ("USAGE names the built-in parts", all(f"`{it}` (AT" in USAGE.read_text() for it in parts())),
         ("the completions have the built-in parts", f'"{" ".join(parts())}"' in completions),
+        *shown_runs("README.md"),
+        *shown_runs("docs/USAGE.md"),
     ]
     skipped = 0
     if shutil.which("groff"):
         ran = subprocess.run(["groff", "-ww", "-man", "-Tutf8", "-rLL=100n", PAGE], capture_output=True, text=True)
         rows.append((f"the page is without warnings: {ran.stderr[:300]}", not ran.returncode and not ran.stderr))
         plain = re.sub(r"\x1b\[[0-9;]*m|.\x08", "", ran.stdout)
-        rows.append(("the page shows a recipe as it is typed", "examples/serial.sh /dev/ttyACM0 115200 -- -p m328p" in plain))
+        recipe = "examples/serial.sh /dev/ttyACM0 115200 -- -p m328p"
+        rows.append(("the page shows a recipe as it is typed", recipe in plain))
     else:
         skipped = 2
     failed = [what for what, holds in rows if not holds]

@@ -29,8 +29,8 @@ def main():
     if not PROGRAM.exists():
         sys.exit(__doc__)
     wanted = rows((TOP / "docs/WHY.md").read_text())
-    environment = os.environ | {"AVRSTK": str(PROGRAM)}
-    ran = subprocess.run([TOP / "examples/lossy/compare.py"], capture_output=True, text=True, env=environment, timeout=300)
+    how = {"capture_output": True, "text": True, "env": os.environ | {"AVRSTK": str(PROGRAM)}, "timeout": 300}
+    ran = subprocess.run([TOP / "examples/lossy/compare.py"], **how)
     found = rows(ran.stdout)
     judged, found = ([it for it in table if is_known() or "`avrdude" not in it] for table in (wanted, found))
     failed = [it for it in judged if it not in found] + [it for it in found if it not in judged]

@@ -1,12 +1,12 @@
 #!/usr/bin/env python3
-"""Flashes one firmware over a line that loses one frame, with AVRDUDE, where it is installed, and with avrstk, and looks at the
-chip afterwards.
+"""Flashes one firmware over a line that loses one frame, with AVRDUDE, where it is installed, and with avrstk, and
+looks at the chip afterwards.
 
     compare.py          AVRSTK names another program than the one of this repository
 
-The programmer and the ATmega328P are the emulated ones of `avrstk --serve`. The chip has an older firmware above the new one,
-so that an erase that never came is seen. Prints a row for each run; the status is 1 where a run of avrstk ended with status 0
-and another chip than was asked for.
+The programmer and the ATmega328P are the emulated ones of `avrstk --serve`. The chip has an older firmware above the
+new one, so that an erase that never came is seen. Prints a row for each run; the status is 1 where a run of avrstk
+ended with status 0 and another chip than was asked for.
 """
 
 import os

@@ -1,11 +1,12 @@
 #!/usr/bin/env python3
 """A line between a tool and a programmer that loses one frame.
 
-    line.py FROM TO COMMAND NTH     listens at port FROM of 127.0.0.1, serves one caller, and passes everything on to the
-                                    programmer at port TO, but for the NTH frame that has this command (as 13, hexadecimal)
+    line.py FROM TO COMMAND NTH     listens at port FROM of 127.0.0.1, serves one caller, and passes everything on to
+                                    the programmer at port TO, but for the NTH frame with this command (as 13,
+                                    hexadecimal)
 
-A frame of STK500v2 is 1B, a sequence number, the length of its body in two bytes, 0E, the body and the XOR of all that; the
-body of a command begins with its number.
+A frame of STK500v2 is 1B, a sequence number, the length of its body in two bytes, 0E, the body and the XOR of all that;
+the body of a command begins with its number.
 """
 
 import socket
