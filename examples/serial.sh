@@ -34,16 +34,21 @@ group=$(stat -L -c %G "$device")
 [ -r "$device" ] && [ -w "$device" ] ||
     fail "$device: you may not read and write it (often: adduser $(id -un) $group, and log in again)"
 avrstk=${AVRSTK:-$(dirname "$(readlink -f "$0")")/../avrstk}
+# a build, where one is due, comes before the device is opened
+unproved=()
+[ "${1:-}" != --unproved ] || unproved=(--unproved)
+"$avrstk" "${unproved[@]}" --help >/dev/null || fail "$avrstk does not run"
 
-# The bridge ends with this script, whatever ends that.
-bridge=
+# The bridge and the tool end with this script, whatever ends that.
+started=()
 told=$(mktemp)
-trap '[ -z "$bridge" ] || kill "$bridge" 2>/dev/null || true; rm -f "$told"' EXIT
+trap 'kill "${started[@]}" 2>/dev/null || true; rm -f "$told"' EXIT
 trap 'exit 1' INT TERM HUP
 
 # The second address of socat is opened once the first one is, and its line tells the port that the system chose.
 socat -d -d "FILE:$device,nonblock,cfmakeraw,clocal=1,b$baud" TCP-LISTEN:0,bind=127.0.0.1 2>"$told" &
 bridge=$!
+started+=("$bridge")
 until port=$(sed -n 's/.* listening on .*:\([0-9]*\)$/\1/p' "$told") && [ -n "$port" ]; do
     kill -0 "$bridge" 2>/dev/null ||
         fail "$device: cannot be opened at $baud baud: $(sed -n 's/.* [EF] //p' "$told" | head -1)"
@@ -51,6 +56,9 @@ until port=$(sed -n 's/.* listening on .*:\([0-9]*\)$/\1/p' "$told") && [ -n "$p
 done
 sleep "$wait"
 
+# (in the background, so that a signal ends it at once)
+"$avrstk" "$@" -P "net:127.0.0.1:$port" <&0 &
+started+=("$!")
 status=0
-"$avrstk" "$@" -P "net:127.0.0.1:$port" || status=$?
+wait "$!" || status=$?
 exit "$status"

@@ -3,7 +3,8 @@
 
     tests/manual.py            docs/avrstk.1 is what is made of docs/USAGE.md; USAGE, the completions and docs/PART name
                                the options and parts that the program's --help names; runs over `emu:` print what README
-                               and USAGE show of them: needs crates/avrstk/out/avrstk, as rt ci leaves it
+                               and USAGE show of them, and what USAGE tells of differences from AVRDUDE holds: needs
+                               crates/avrstk/out/avrstk, as rt ci leaves it
     tests/manual.py --write    makes docs/avrstk.1 of docs/USAGE.md
 """
 
@@ -13,6 +14,7 @@ import shutil
 import subprocess
 import sys
 import tempfile
+from pathlib import Path
 
 from program import PROGRAM, TOP
 
@@ -192,6 +194,48 @@ def shown_runs(file):
             yield f"{file}: {row}: {printed}", not ran.returncode and wanted in ([], printed)
 
 
+def differences():
+    """What USAGE tells those who know AVRDUDE, as far as single runs show it: each with what came, and if it had to."""
+    usage = USAGE.read_text()
+    table = re.search(r"^ +\$ cat parts.toml\n((?: +.*\n)+?) +\$ avrstk", usage, re.M)[1]
+    byte, end = re.search(r"`(:0100.*?)` and then\s+`(:.*?)`", usage).groups()
+    emulated = ["-p", "m328p", "-P", "emu:chip.bin"]
+    files = {
+        "parts.toml": "".join(it.strip() + "\n" for it in table.splitlines()),
+        "byte.hex": f"{byte}\n{end}\n",
+        "noted.hex": f"# a note\n{byte}\n{end}\n",
+        "cut.hex": f"{byte}\n",
+        "a:b.hex": f"{byte}\n{end}\n",
+        "x.elf": "\x7fELF\x01\x01\x01",
+    }
+    glued = "--parts parts.toml -patmega328p -cstk500v2 -b115200 -Pemu:chip.bin -Uflash:w:byte.hex:i".split()
+    runs = [
+        (glued, 0, "flash: 1 bytes verified"),
+        ([*emulated, "-U", "eeprom:w:byte.hex"], 0, "eeprom: 1 bytes verified"),
+        ([*emulated, "-U", "eeprom:v:byte.hex", "-U", "eeprom:r:read.bin:r"], 0, "eeprom: 1 bytes verified"),
+        ([*emulated, "-q", "-U", "flash:w:cut.hex"], 0, "warning: cut.hex: no end record"),
+        ([*emulated, "-qq", "-U", "flash:w:cut.hex"], 0, ""),
+        ([*emulated, "-n", "-U", "flash:w:noted.hex"], 0, f"flash: {len(files['noted.hex'])} bytes not written"),
+        ([*emulated, "-U", "flash:w:noted.hex:i"], 1, "error: noted.hex: line 1: no record mark"),
+        ([*emulated, "-U", "flash:w:x.elf"], 1, "error: x.elf: ELF is not read"),
+        ([*emulated, "-U", "a:b.hex"], 1, "error: update 1: no such memory"),
+        ([*emulated, "-U", "eeprom:w:a:b.hex:a"], 0, "eeprom: 1 bytes verified"),
+        ([*emulated, "-C", "avrdude.conf"], 1, "'-C'"),
+        ([*emulated, "-B", "10"], 1, "'-B'"),
+        (["-p", "m328p", "-P", "/dev/ttyACM0"], 1, "error: port /dev/ttyACM0 is not known"),
+        (["-p", "atmega328p", "-P", "emu:chip.bin"], 1, "error: no part atmega328p"),
+    ]
+    with tempfile.TemporaryDirectory() as folder:
+        for name, text in files.items():
+            Path(folder, name).write_text(text)
+        for words, status, told in runs:
+            ran = subprocess.run([PROGRAM, *words], cwd=folder, capture_output=True, text=True)
+            is_told = told in ran.stderr if told else not ran.stderr
+            yield f"{' '.join(words)}: {ran.returncode}, {ran.stderr}", ran.returncode == status and is_told
+        eeprom = Path(folder, "read.bin").read_bytes()
+        yield f"one byte of EEPROM: {eeprom.hex()}", eeprom == b"\xff" * 100 + b"\x2a" + b"\xff" * 923
+
+
 def main():
     if sys.argv[1:] == ["--write"]:
         PAGE.write_text(page())
@@ -210,6 +254,7 @@ def main():
         ("the completions have the built-in parts", f'"{" ".join(parts())}"' in completions),
         *shown_runs("README.md"),
         *shown_runs("docs/USAGE.md"),
+        *differences(),
     ]
     skipped = 0
     if shutil.which("groff"):

@@ -157,8 +157,9 @@ def the_script(firmware):
     silent = typed(command, board.device)
     time.sleep(1)
     silent.terminate()
+    begun = time.monotonic()
     silent.communicate(timeout=60)
-    see("a script that is ended", silent.returncode, 1)
+    see("a script that is ended", (silent.returncode, time.monotonic() - begun < 2), (1, True))
     see("and its bridge with it", board.end(), b"\xff" * 32_768)
 
 
@@ -244,7 +245,8 @@ def what_is_missing(_):
 def scripted(words, environment=None):
     """The status and messages of the script, for which nothing is run; as nobody where this is root, who may do all."""
     how = {"user": 65534, "group": 65534, "extra_groups": []} if os.geteuid() == 0 else {}
-    how |= {"capture_output": True, "text": True, "timeout": 60, "cwd": "/", "env": os.environ | (environment or {})}
+    how |= {"capture_output": True, "text": True, "timeout": 60, "cwd": "/"}
+    how["env"] = os.environ | {"AVRSTK": shutil.which("true")} | (environment or {})
     with open(SCRIPT, "rb") as script:
         ran = subprocess.run([shutil.which("bash"), "-s", "--", *words], stdin=script, **how)
     return ran.returncode, ran.stderr
