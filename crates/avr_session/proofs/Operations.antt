@@ -15,6 +15,7 @@ use Rattle.stk_host.specs.Dialog.{Dialog, Done, ◌>>=◌, played}
 use Rattle.stk_host.specs.Play.{NoPart, PlaysOver, BreaksOver}
 use Rattle.stk_host.specs.Calls.{EndsCall, EndsOrLacks, IsBroken}
 use Rattle.stk_host.proofs.Talks.{grows_none}
+use Rattle.stk_host.proofs.Reaching.{broken_any}
 use Rattle.stk_host.proofs.Leading.{continued, played_bind, breaks_here}
 use Rattle.avr_message.specs.Said.{Saying, SaysFront}
 use Rattle.avr_session.specs.declared.standing.Stopped.{Stopped}
@@ -45,7 +46,7 @@ pub call_ended : {A : Type 0} (dialog : Dialog ⊥ (Result A HostFault)) (m : �
 call_ended dialog m u o p (Ok a) n v ends = inl ends
 call_ended dialog m u o p (Err NoAnswer) n v ends = inl ends
 call_ended dialog m u o p (Err LinkEnded) n v ends = inl ends
-call_ended dialog m u o p (Err SendFailed) n v ends = inr (tt, ends)
+call_ended dialog m u o p (Err SendFailed) n v ends = inr (tt, broken_any ends)
 call_ended dialog m u o p (Err Babble) n v ends = inl ends
 call_ended dialog m u o p (Err (Refused command status)) n v ends = inl ends
 call_ended dialog m u o p (Err (BadAnswer command)) n v ends = inl ends
@@ -53,7 +54,7 @@ call_ended dialog m u o p (Err (WrongSignature found)) n v ends = inl ends
 call_ended dialog m u o p (Err (Differs mem address want found)) n v ends = inl ends
 call_ended dialog m u o p (Err (ReadOnly mem)) n v ends = inl ends
 call_ended dialog m u o p (Err Memory) n v ends = inl ends
-call_ended dialog m u o p (Err RecvFailed) n v ends = inr (tt, ends)
+call_ended dialog m u o p (Err RecvFailed) n v ends = inr (tt, broken_any ends)
 
 -- leaving programming mode takes no memory
 ended_not : (outcome : Outcome) → ended outcome ≡ Err Memory → ⊥
@@ -103,7 +104,7 @@ pub lack_ended : {A : Type 0} (dialog : Dialog ⊥ (Result A HostFault)) (m : �
 lack_ended dialog m u o p (Ok a) n v ends = inl ends
 lack_ended dialog m u o p (Err NoAnswer) n v ends = inl ends
 lack_ended dialog m u o p (Err LinkEnded) n v ends = inl ends
-lack_ended dialog m u o p (Err SendFailed) n v ends = inr (tt, ends)
+lack_ended dialog m u o p (Err SendFailed) n v ends = inr (tt, broken_any ends)
 lack_ended dialog m u o p (Err Babble) n v ends = inl ends
 lack_ended dialog m u o p (Err (Refused command status)) n v ends = inl ends
 lack_ended dialog m u o p (Err (BadAnswer command)) n v ends = inl ends
@@ -111,7 +112,7 @@ lack_ended dialog m u o p (Err (WrongSignature found)) n v ends = inl ends
 lack_ended dialog m u o p (Err (Differs mem address want found)) n v ends = inl ends
 lack_ended dialog m u o p (Err (ReadOnly mem)) n v ends = inl ends
 lack_ended dialog m u o p (Err Memory) n v ends = inr (tt, breaks_none dialog m u o p ends.0)
-lack_ended dialog m u o p (Err RecvFailed) n v ends = inr (tt, ends)
+lack_ended dialog m u o p (Err RecvFailed) n v ends = inr (tt, broken_any ends)
 
 -- an outcome stops the run, or the session stands as it says
 goes : {A : Type 0} (outcome : Result A HostFault) → (after_outcome outcome ≡ Ok (standing outcome)) ⊎ (IsStop outcome × (after_outcome outcome ≡ Err (record {})))
