@@ -3,7 +3,7 @@ use Rattle.std.proofs.Common.{◌≡◌, ◌≤◌, ◌*◌, ◌⊎◌, ℕ, Lis
 use Rattle.std.proofs.lemmas.List.{append-nil}
 use Rattle.avr_cli.specs.declared.chosen.Settings.{Settings}
 use Rattle.avr_desk.specs.Record.{Record}
-use Rattle.avr_message.specs.Said.{SaidPart, after_all}
+use Rattle.avr_message.specs.Said.{Bytes, Saying, SaidPart, after_all}
 use Rattle.avr_part.specs.Part.{IsPart}
 use Rattle.avr_part.specs.Sound.{IsSound}
 use Rattle.avr_plan.specs.Plan.{Plan, IsFitted}
@@ -11,7 +11,7 @@ use Rattle.avr_plan.specs.Planning.{planned}
 use Rattle.avr_plan.specs.Playing as planning
 use Rattle.avr_plan.specs.Playing.{Went}
 use Rattle.avr_plan.specs.Stage.{Made, Refused}
-use Rattle.avr_session.specs.Runs.{Stops, Ran, BrokeOff, RunsTo}
+use Rattle.avr_session.specs.Runs.{Cause, Stops, Ran, BrokeOff, RunsTo}
 use Rattle.avr_session.specs.Session.{session}
 use Rattle.stk_frame.specs.Cut.{frames}
 use Rattle.stk_host.specs.Dialog.{played, bytes_sent}
@@ -25,9 +25,8 @@ use Rattle.stk_emu.specs.Programmer.{Programmer, fresh_programmer}
 use Rattle.stk_emu.specs.Settled.{Idle, FitsPart}
 use Rattle.stk_emu.specs.Wire as wire
 use Rattle.stk_emu.specs.Wire.{Wire, wire_after}
-use Rattle.stk_emu.specs.Wired.{State, Keeps, ComesOf, NeverIdle, IsFresh}
+use Rattle.stk_emu.specs.Wired.{State, Keeps, ComesOf, IsFresh}
 use Rattle.stk_frame.specs.Reader.{Stands}
-use Rattle.stk_host.specs.declared.link.Item.{Item}
 use Rattle.stk_emu.proofs.Beginning.{fresh_idle, fresh_fits}
 use Rattle.stk_emu.proofs.SaidAlong.{whole_said}
 use Rattle.stk_emu.proofs.Turning.{whole_along}
@@ -68,8 +67,8 @@ is_fresh w new = record {
     as_begun x p l = ap (λ q. record x { programmer = q }) p ∙ ap (λ late. record { programmer = fresh_programmer x.programmer.chip; fates = x.fates; late = late }) l
 
 module _ (plan : Plan) (w v : State) (fresh : IsFresh w) (stays : Stays ComesOf w v) (is_sound : IsSound w.wire.programmer.chip)
-    (fitted : All (IsFitted plan.part) plan.tasks) (old new : Option Record) (before now status : ℕ)
-    (runs : RunsTo (session plan) (Some w.talk) (Some v.talk) old new (Stops w.failures v.failures before now) status)
+    (fitted : All (IsFitted plan.part) plan.tasks) (old new : Option Record) (StopsBy : List Saying → Cause → Bytes → Type 0) (status : ℕ)
+    (runs : RunsTo (session plan) (Some w.talk) (Some v.talk) old new StopsBy status)
     (part_is : w.wire.programmer.chip.part ≡ plan.part) where
   abbrev begun : Programmer
   begun = fresh_programmer w.wire.programmer.chip
@@ -112,7 +111,7 @@ module _ (plan : Plan) (w v : State) (fresh : IsFresh w) (stays : Stays ComesOf 
         let over = ap (λ t. bytes_sent (played (session plan) 1 t).events) (sym (append-nil (heard v.talk))) ∙ ap (λ x. bytes_sent x.events) (plays.plays []) in
         ([], append-nil (sent v.talk) ∙ (sym plays.all_sent ∙ sym over))
 
-  broke_front : BrokeOff (session plan) 1 [] (Some w.talk) (Some v.talk) old new (Stops w.failures v.failures before now)
+  broke_front : BrokeOff (session plan) 1 [] (Some w.talk) (Some v.talk) old new StopsBy
       → IsPrefixOf (sent v.talk) (bytes_sent (played (session plan) 1 (heard v.talk)).events)
   broke_front broke =
       let breaks : Breaks SaidPart (session plan) 1 [] v.talk broke.shown =
@@ -120,24 +119,24 @@ module _ (plan : Plan) (w v : State) (fresh : IsFresh w) (stays : Stays ComesOf 
       let front = shown_front SaidPart broke.shown (played (session plan) 1 (heard v.talk)).events breaks.front in
       (front.0, ap (λ bs. bs ++ front.0) (sym breaks.all_sent) ∙ front.1)
 
-  is_front : RunsTo (session plan) (Some w.talk) (Some v.talk) old new (Stops w.failures v.failures before now) status
+  is_front : RunsTo (session plan) (Some w.talk) (Some v.talk) old new StopsBy status
       → IsPrefixOf (sent v.talk) (bytes_sent (played (session plan) 1 (heard v.talk)).events)
   is_front (inl ran) = ran_front ran.0 ran.1 ran.2
   is_front (inr broke) = broke_front broke.0
 
-  has_course : RunsTo (session plan) (Some w.talk) (Some v.talk) old new (Stops w.failures v.failures before now) status → status ≡ 0 → IsItsCourse plan (memories w) (memories v) old new
+  has_course : RunsTo (session plan) (Some w.talk) (Some v.talk) old new StopsBy status → status ≡ 0 → IsItsCourse plan (memories w) (memories v) old new
   has_course (inl ran) zero = ran_course ran.0 ran.1 ran.2 zero
   has_course (inr broke) zero = absurd (one_no (sym broke.1 ∙ zero))
 
   pub over_any_line : OverAnyLine plan w v old new status
   over_any_line =
       let leaves : Leaves plan (memories w) (memories v) status =
-      wired_leaves plan w v fresh stays is_sound part_is fitted old new (Stops w.failures v.failures before now) status runs in
+      wired_leaves plan w v fresh stays is_sound part_is fitted old new StopsBy status runs in
       record {
         success = has_course runs;
         done = leaves.done;
         images = λ zero wet verified. leaves.written wet verified zero;
-        strokes = wired_makes plan w v fresh stays is_sound part_is fitted old new (Stops w.failures v.failures before now) status runs;
+        strokes = wired_makes plan w v fresh stays is_sound part_is fitted old new StopsBy status runs;
         untouched = λ none. ap (λ x. memories_of x.programmer.chip) (keeps.stands ∙ ap (λ fs. wire_after device fs (wire.fresh begun w.wire.fates)) none);
         four = λ weight. front_weighs weight (4 * weighed weight (bodies_in (run_steps plan))) (session plan) 1 (heard v.talk) (sent v.talk) asks (session_weighs weight plan) (is_front runs);
       }
@@ -158,7 +157,7 @@ module _ (settings : Settings) (old new : Option Record) (before now status : �
       between = between;
       made = made;
       runs = run_or_stop runs;
-      line = λ part_is. over_any_line plan w v fresh stays is_sound fitted between new count now status runs part_is;
+      line = λ part_is. over_any_line plan w v fresh stays is_sound fitted between new (Stops w.failures v.failures count now) status runs part_is;
     }
 
   -- no plan

@@ -1,13 +1,12 @@
 -- Outcomes that the page refuses.
 use Rattle.std.proofs.Common.{◌≡◌, ◌<◌, ◌*◌, ℕ, List, [], ◌++◌, map, ap, sym, ◌∙◌, subst, refl, arith, Option, Some}
-use Rattle.avr_cli.specs.declared.chosen.Settings.{Settings}
 use Rattle.avr_desk.specs.Record.{Record}
 use Rattle.avr_desk.specs.declared.record.Opening.{Opening}
-use Rattle.avr_message.specs.Said.{Saying, after_all}
+use Rattle.avr_message.specs.Said.{after_all}
 use Rattle.avr_plan.specs.Plan.{Plan}
 use Rattle.avr_session.specs.Session.{session}
 use Rattle.stk_frame.specs.Cut.{body_of}
-use Rattle.stk_host.specs.Dialog.{Event, bytes_sent, sayings}
+use Rattle.stk_host.specs.Dialog.{bytes_sent, sayings}
 use Rattle.stk_host.specs.Operations.{beginning, opening, closing, operation}
 use Rattle.stk_host.specs.Steps.{exchange, attempt, tries, play}
 use Rattle.stk_host.specs.Talk.{Talk, sent, heard}
