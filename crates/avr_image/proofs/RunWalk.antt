@@ -1,12 +1,15 @@
 -- The runs of an image, and a walk over them.
-use Rattle.std.proofs.Common.{◌≡◌, ◌∙◌, sym, ap, ap₂, refl, arith, ℕ, zero, suc, ◌+◌, ◌-◌, ◌<◌, ◌≤◌, ◌==◌, Bool, true, false, cond, not, List, [], ◌∷◌, ◌++◌, length, take, drop, fold, min, Option, Some, None, is_some, inl, inr, add-zero}
+use Rattle.std.proofs.Common.{◌≡◌, ◌∙◌, sym, ap, ap₂, refl, arith, ℕ, zero, suc, ◌+◌, ◌-◌, ◌<◌, ◌≤◌, ◌==◌, Bool, true, false, cond, not, List, [], ◌∷◌, ◌++◌, length, take, drop, fold, min, Option, Some, None, is_some, inl, inr, add-zero, get_or, All, ◌⊎◌}
 use Rattle.std.specs.List.{position_from, prefix_len, flat_map, enumerate_from, slice_range}
-use Rattle.std.proofs.lemmas.Bool.{cases_eq}
+use Rattle.std.proofs.lemmas.Bool.{cases_eq, cases_lt, true≢false}
 use Rattle.std.proofs.lemmas.Bool.Decides.{nat_tests}
 use Rattle.std.proofs.lemmas.List.{append_assoc, drop-drop, get_or-drop, length-drop, length-append, set_at, take_all}
 use Rattle.avr_image.specs.Image.{empty, byte_at, with_byte, first_from, run_end, filled, or_blank, laid, laid_over, over, held}
 use Rattle.avr_image.specs.Runs.{onto_runs, runs, lead, places_of}
 use Rattle.avr_image.proofs.Laying.{laid_over_laid, laid_over-append}
+use Rattle.avr_image.specs.Walk.{IsLongestRun, IsRun}
+use Rattle.avr_image.proofs.Shown.{byte_at-past}
+use Rattle.avr_image.proofs.Walking.{next_held, run_ends, is_filled}
 
 -- ---- the first run, and what stands behind it
 
@@ -315,3 +318,73 @@ empty-held image (Some place) false is told =
     let some : 0 < held image = some-held 0 place image (sym is) in
     let test : (held image == 0) ≡ false = grind (arith, nat_tests, some) in
     sym test
+
+-- ---- the runs are the longest
+
+gives_byte : (byte : Option ℕ) → is_some byte ≡ true → byte ≡ Some (or_blank byte)
+gives_byte None some = absurd (cc some)
+gives_byte (Some b) some = refl
+
+longest_run : (addr place end : ℕ) (image : List (Option ℕ)) → (addr ≡ 0) ⊎ (byte_at image addr ≡ None) → first_from image addr ≡ Some place
+    → end ≡ run_end image place (length image) → IsLongestRun image (place, slice_range (filled image 0 (length image)) place end)
+longest_run addr place end image gap found is =
+    let next = next_held image addr place found in
+    let stepped = next_run addr place end image found is in
+    let run : IsRun image place (length image) end = rw is (run_ends image place (length image) (omega (arith, next.within))) in
+    let cut = range-filled image place end (omega (arith, stepped.rises)) stepped.within in
+    let bytes = is_filled image place (end - place) in
+    let size : length (slice_range (filled image 0 (length image)) place end) ≡ end - place = ap length cut ∙ bytes.size in
+    record {
+      some = omega (arith, size, stepped.rises);
+      bytes = λ i l.
+          gives_byte (byte_at image (place + i)) (run.held (place + i) (omega arith) (omega (arith, l, size)))
+          ∙ ap (λ (b : ℕ). Some b) (sym (ap (λ (xs : List ℕ). get_or xs i 0) cut ∙ bytes.byte i (omega (arith, l, size))));
+      before = λ k at. elim (cases_lt k addr) [
+        | inl low ↦ elim gap [
+          | inl zero_is ↦ absurd (omega (arith, low, zero_is))
+          | inr none ↦
+              let here : place ≡ addr = omega (arith, next.after, low, at) in
+              let held : is_some (byte_at image place) ≡ true = next.held in
+              let bad : is_some (byte_at image addr) ≡ true = rw here at held in
+              absurd (true≢false (sym bad ∙ ap is_some none))
+        ]
+        | inr from ↦ next.gap k from (omega (arith, at))
+      ];
+      behind =
+          let there : place + length (slice_range (filled image 0 (length image)) place end) ≡ end = omega (arith, size, stepped.rises) in
+          rw there (elim (cases_lt end (length image)) [
+            | inl inside ↦ run.stop inside
+            | inr past ↦ byte_at-past image end past
+          ]);
+    }
+
+none-behind : (addr place end : ℕ) (image : List (Option ℕ)) → IsLongestRun image (place, slice_range (filled image 0 (length image)) place end)
+    → place < end → end ≤ length image → byte_at image end ≡ None
+none-behind addr place end image longest rises within =
+    let cut = range-filled image place end (omega (arith, rises)) within in
+    let there : place + length (slice_range (filled image 0 (length image)) place end) ≡ end = omega (arith, ap length cut, length-filled image place (end - place), rises) in
+    rw there at longest.behind
+
+all-cons : {X : Type 0} (P : X → Type 0) (x : X) (xs : List X) → P x → All P xs → All P (x ∷ xs)
+all-cons P x xs first rest zero d l = first
+all-cons P x xs first rest (suc k) d l = rest k d (omega (arith, l))
+
+longest-from : (n addr : ℕ) (image : List (Option ℕ)) → length image ≤ addr + n → (addr ≡ 0) ⊎ (byte_at image addr ≡ None)
+    → (found : Option ℕ) → first_from image addr ≡ found → All (IsLongestRun image) (runs addr (drop addr image))
+longest-from n addr image room gap None found = rw (walk-none addr (drop addr image) found) (λ k d l. absurd (omega (arith, l)))
+longest-from zero addr image room gap (Some place) found =
+    let next = next_held image addr place found in
+    absurd (omega (arith, next.after, next.within, room))
+longest-from (suc n) addr image room gap (Some place) found =
+    let end : ℕ = run_end image place (length image) in
+    let stepped = next_run addr place end image found refl in
+    let next = next_held image addr place found in
+    let run : List ℕ = slice_range (filled image 0 (length image)) place end in
+    let longest = longest_run addr place end image gap found refl in
+    let none = none-behind addr place end image longest stepped.rises stepped.within in
+    rw stepped.is
+    (all-cons (IsLongestRun image) (place, run) (runs end (drop end image)) longest
+    (longest-from n end image (omega (arith, room, next.after, stepped.rises)) (inr none) (first_from image end) refl))
+
+pub runs-longest : (image : List (Option ℕ)) → All (IsLongestRun image) (runs 0 image)
+runs-longest image = longest-from (length image) 0 image (omega arith) (inl refl) (first_from image 0) refl

@@ -4,6 +4,7 @@ use crate::base::Base;
 use crate::fault::ImageFault;
 use crate::image::Image;
 use crate::list::ListWriter;
+use crate::pieces::Pieces;
 use crate::raw::RawReader;
 use crate::values::parse_immediate;
 use arrayvec::ArrayVec;

@@ -190,8 +190,8 @@ impl Image {
         }
     }
 
-    /// Lays a byte down at a byte address, over one that it may hold. Outside the memory the fault is `OutOfRange` with the
-    /// address, and the image is unchanged.
+    /// Lays a byte down at a byte address, over one that it may hold. Outside the memory the fault is `OutOfRange` with
+    /// the address, and the image is unchanged.
     ///
     /// ```text
     /// let mut image = Image::new(alloc, 64)?;
@@ -215,8 +215,9 @@ impl Image {
         Ok(())
     }
 
-    /// Lays bytes down at the byte addresses from `addr` on, as `put` of each in their order, and answers the address behind
-    /// them. Where one lies outside the memory the fault is `OutOfRange` with the first that does, and the image is unchanged.
+    /// Lays bytes down at the byte addresses from `addr` on, as `put` of each in their order, and answers the address
+    /// behind them. Where one lies outside the memory the fault is `OutOfRange` with the first that does, and the image
+    /// is unchanged.
     ///
     /// ```text
     /// let mut image = Image::new(alloc, 64)?;
@@ -284,8 +285,9 @@ impl Image {
         }
     }
 
-    /// The end of the run of byte addresses that hold a byte and begins at `addr`, at most `end`; `addr` where it holds none.
-    /// The end is the address behind the last one. `end` has to be `addr` or above; it may lie outside the memory.
+    /// The end of the run of byte addresses that hold a byte and begins at `addr`, at most `end`; `addr` where it holds
+    /// none. The end is the address behind the last one. `end` has to be `addr` or above; it may lie outside the
+    /// memory.
     ///
     /// ```text
     /// let mut image = Image::new(alloc, 64)?;
@@ -309,8 +311,8 @@ impl Image {
         ) as u32
     }
 
-    /// Makes `out` the bytes from the byte address `start` on, FF in gaps and outside the memory. The last address has to be
-    /// below 2 to the power 32.
+    /// Makes `out` the bytes from the byte address `start` on, FF in gaps and outside the memory. The last address has
+    /// to be below 2 to the power 32.
     ///
     /// ```text
     /// let mut image = Image::new(alloc, 64)?;

@@ -7,7 +7,7 @@ ghost use Rattle.avr_image.specs.Runs.{places_of, runs};
 ghost use Rattle.avr_image.specs.Values.{values};
 ghost use Rattle.avr_image.specs.declared.base.Base.{Base};
 ghost use Rattle.avr_image.specs.ByAddress.{last_at};
-ghost use Rattle.avr_image.specs.Walk.{IsFilled, IsNextHeld, IsRun};
+ghost use Rattle.avr_image.specs.Walk.{IsFilled, IsLongestRun, IsNextHeld, IsRun};
 
 use crate::fault::ImageFault;
 
@@ -29,8 +29,8 @@ pub fn laying_over_groups()
     ensures { (first second third : List (Option ℕ)) → length second ≡ length third → over (over first second) third ≡ over first (over second third) }
 {}
 
-/// Of images of one size, laid over each other, each address has the second's byte, if it holds one, else the first's; and where
-/// bytes were laid onto an image, the last one for the address, if there is one, else the image's.
+/// Of images of one size, laid over each other, each address has the second's byte, if it holds one, else the first's;
+/// and where bytes were laid onto an image, the last one for the address, if there is one, else the image's.
 pub fn over_is_by_address()
     ensures over { (first second : List (Option ℕ)) (addr : ℕ) → length first ≡ length second → byte_at (over first second) addr ≡ either (byte_at second addr) (byte_at first addr) }
     ensures laid { (image : List (Option ℕ)) (places : List (ℕ × ℕ)) (addr : ℕ) → addr < length image → byte_at (laid_over image places) addr ≡ either (last_at addr places) (byte_at image addr) }
@@ -53,14 +53,14 @@ pub fn filled_is_by_address()
     ensures { (image : List (Option ℕ)) (start n : ℕ) → IsFilled image start n (filled image start n) }
 {}
 
-/// An image is that of its runs.
-#[tactic(auto, using(crate::proofs::RunWalk::runs_image))]
+/// An image is that of its runs, and each of them is a longest one.
 pub fn an_image_is_its_runs()
-    ensures { (image : List (Option ℕ)) → laid (length image) (flat_map places_of (runs 0 image)) ≡ image }
+    ensures longest { (image : List (Option ℕ)) → All (IsLongestRun image) (runs 0 image) }
+    ensures whole { (image : List (Option ℕ)) → laid (length image) (flat_map places_of (runs 0 image)) ≡ image }
 {}
 
-/// A list that was written of some bytes, in any base and without its line end, gives them as values: they stand from address 0
-/// on in each memory that they fit in. Of no bytes it is a bad first value.
+/// A list that was written of some bytes, in any base and without its line end, gives them as values: they stand from
+/// address 0 on in each memory that they fit in. Of no bytes it is a bad first value.
 pub fn a_list_reads_back()
     ensures some { (base : Base) (bytes : List ℕ) (size : ℕ) → 0 < length bytes → length bytes ≤ size → All (λ byte. byte < 256) bytes → values (list_line base bytes) size ≡ Ok (from_zero bytes size) }
     ensures none { (base : Base) (size : ℕ) → values (list_line base []) size ≡ Err (ImageFault.BadNumber 1) }

@@ -3,8 +3,8 @@
 //! The ways to name the bytes of a memory are those of AVRDUDE's `-U`: raw files (`r`), values in the command line (`m`), and
 //! lists of numbers (`d`, `h`, `o`, `b`).
 //!
-//! An image is the list of its optional bytes, one for each byte address. `parse_immediate(alloc, "0x12, 0b101", 4)` is the image
-//! that holds 12 at address 0 and 05 at address 1.
+//! An image is the list of its optional bytes, one for each byte address. `parse_immediate(alloc, "0x12, 0b101", 4)` is
+//! the image that holds 0x12 at address 0 and 0x05 at address 1.
 #![tactic(auto)]
 
 mod base;
@@ -14,6 +14,7 @@ mod fault;
 mod image;
 mod laws;
 mod list;
+mod pieces;
 mod raw;
 mod runs;
 mod values;
@@ -27,6 +28,7 @@ pub use laws::{
     run_end_is_the_longest_run,
 };
 pub use list::ListWriter;
+pub use pieces::Pieces;
 pub use raw::RawReader;
 pub use runs::Runs;
 pub use values::parse_immediate;

@@ -7,8 +7,8 @@ ghost use Rattle.avr_image.specs.Runs.{runs};
 use crate::image::Image;
 use std::marker::Model;
 
-/// The longest runs of bytes that follow each other without a gap, by rising address: the byte address of each with its bytes,
-/// which are lent. Contracts see it as the list of those that are left.
+/// The longest runs of bytes that follow each other without a gap, by rising address: the byte address of each with its
+/// bytes, which are lent. Contracts see it as the list of those that are left.
 ///
 /// ```text
 /// let mut image = Image::new(alloc, 64)?;

@@ -5,7 +5,7 @@ use crate::{
     SrecWriter, detect, read_records,
 };
 use arrayvec::ArrayVec;
-use avr_image::Image;
+use avr_image::{Image, Pieces};
 use std::test::Fail;
 
 #[test]

@@ -12,7 +12,7 @@ ghost use Rattle.avr_records.specs.Text.{IsLine};
 use crate::ihex_writer::{new_upper, put_end, put_row, put_upper, row_size};
 use crate::kind::{Ending, Kind};
 use arrayvec::ArrayVec;
-use avr_image::Image;
+use avr_image::{Image, Pieces};
 use std::marker::Model;
 
 /// The end of a row of at most so many bytes that begins at an address.
@@ -23,8 +23,8 @@ pub(crate) fn row_end(image: &Image, place: u32, most: u32) -> u32
     image.run_from(place, place + room)
 }
 
-/// Writes the bytes of an image at their addresses as Intel HEX, record by record: rows of at most 32 bytes, none over a gap or
-/// a multiple of 65,536. Contracts see it as the text still to come.
+/// Writes the bytes of an image at their addresses as Intel HEX, record by record: rows of at most 32 bytes, none over
+/// a gap or a multiple of 65,536. Each piece is a line. Contracts see it as the text still to come.
 ///
 /// ```text
 /// let mut image = Image::new(alloc, 8)?;
@@ -85,23 +85,16 @@ impl<'a> IhexImageWriter<'a> {
             ended: false,
         }
     }
+}
 
-    /// Makes `out` the next piece of the text, which is a line, and answers true; or empties it, where nothing is left.
-    ///
-    /// ```text
-    /// let image = Image::new(alloc, 8)?;
-    /// let mut piece = ArrayVec::new();
-    /// let mut writer = IhexImageWriter::new(&image);
-    /// assert!(rt; writer.next_piece(&mut piece));
-    /// assert_eq!(rt; piece.as_slice(), b":00000001FF\n".as_slice());
-    /// assert!(rt; !writer.next_piece(&mut piece));
-    /// ```
-    pub fn next_piece(&mut self, out: &mut ArrayVec<u8, 80>) -> bool
-        ensures joined { self.old ≡ out.new.items ++ self.new }
-        ensures some { IsTrue result ↔ (0 < length out.new.items) }
-        ensures ends { IsTrue result ↔ (0 < length self.old) }
-        ensures line { IsTrue result → IsLine out.new.items }
-    {
+impl Pieces for IhexImageWriter<'_> {
+    ghost use Rattle.avr_records.specs.Text.{IsLine};
+
+    ghost rest = { λ w. w };
+
+    ghost IsPiece = { IsLine };
+
+    fn next_piece(&mut self, out: &mut ArrayVec<u8, 80>) -> bool {
         if self.ended {
             out.clear();
             return false;

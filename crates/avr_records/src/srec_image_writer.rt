@@ -1,6 +1,7 @@
 //! A writer of S-records for an image with gaps: only the bytes that are there.
 //!
-//! Rows of at most 32 bytes that cross no gap, with addresses as short as the last byte that is there allows; else as `SrecWriter`.
+//! Rows of at most 32 bytes that cross no gap, with addresses as short as the last byte that is there allows; else as
+//! `SrecWriter`.
 #![tactic(auto)]
 
 ghost use Rattle.std.specs.Prelude.{◌≡◌, ◌-◌, ◌<◌, ◌↔◌, ◌++◌, length, drop, IsTrue, Ok};
@@ -12,7 +13,7 @@ use crate::ihex_image_writer::row_end;
 use crate::kind::{Ending, Kind};
 use crate::srec_writer::{ROW_SIZE, address_size_of, put_end, put_row};
 use arrayvec::ArrayVec;
-use avr_image::Image;
+use avr_image::{Image, Pieces};
 use std::marker::Model;
 
 /// The last address that holds a byte, or 0.
@@ -28,8 +29,8 @@ fn last_held_of(image: &Image) -> u32
     last
 }
 
-/// Writes the bytes of an image at their addresses as S-records, record by record: rows of at most 32 bytes, none over a gap.
-/// Contracts see it as the text still to come.
+/// Writes the bytes of an image at their addresses as S-records, record by record: rows of at most 32 bytes, none over
+/// a gap. Each piece is a line. Contracts see it as the text still to come.
 ///
 /// ```text
 /// let mut image = Image::new(alloc, 8)?;
@@ -67,8 +68,8 @@ impl<'a> Model for SrecImageWriter<'a> {
 }
 
 impl<'a> SrecImageWriter<'a> {
-    /// A writer of an image, with addresses as short as the last byte that is there allows. It borrows the image and takes no
-    /// memory.
+    /// A writer of an image, with addresses as short as the last byte that is there allows. It borrows the image and
+    /// takes no memory.
     ///
     /// ```text
     /// let mut piece = ArrayVec::new();
@@ -91,23 +92,16 @@ impl<'a> SrecImageWriter<'a> {
             ended: false,
         }
     }
+}
 
-    /// Makes `out` the next piece of the text, which is a line, and answers true; or empties it, where nothing is left.
-    ///
-    /// ```text
-    /// let image = Image::new(alloc, 8)?;
-    /// let mut piece = ArrayVec::new();
-    /// let mut writer = SrecImageWriter::new(&image);
-    /// assert!(rt; writer.next_piece(&mut piece));
-    /// assert_eq!(rt; piece.as_slice(), b"S9030000FC\n".as_slice());
-    /// assert!(rt; !writer.next_piece(&mut piece));
-    /// ```
-    pub fn next_piece(&mut self, out: &mut ArrayVec<u8, 80>) -> bool
-        ensures joined { self.old ≡ out.new.items ++ self.new }
-        ensures some { IsTrue result ↔ (0 < length out.new.items) }
-        ensures ends { IsTrue result ↔ (0 < length self.old) }
-        ensures line { IsTrue result → IsLine out.new.items }
-    {
+impl Pieces for SrecImageWriter<'_> {
+    ghost use Rattle.avr_records.specs.Text.{IsLine};
+
+    ghost rest = { λ w. w };
+
+    ghost IsPiece = { IsLine };
+
+    fn next_piece(&mut self, out: &mut ArrayVec<u8, 80>) -> bool {
         if self.ended {
             out.clear();
             return false;

@@ -10,6 +10,7 @@ ghost use Rattle.avr_records.specs.Text.{IsLine, srec_text, srec_record as spec_
 use crate::checksum::low_sum_of;
 use crate::written_line::{Fields, append, put_line};
 use arrayvec::ArrayVec;
+use avr_image::Pieces;
 use std::marker::Model;
 
 /// How many bytes of data a row has, but for the last one.
@@ -82,7 +83,8 @@ pub(crate) fn address_size_of(last: u32) -> usize
     }
 }
 
-/// Writes bytes that stand from an address on as S-records, record by record. Contracts see it as the text still to come.
+/// Writes bytes that stand from an address on as S-records, record by record: each piece is a line. Contracts see it as
+/// the text still to come.
 ///
 /// ```text
 /// let mut text = Vec::new(alloc);
@@ -115,7 +117,8 @@ impl<'a> Model for SrecWriter<'a> {
 }
 
 impl<'a> SrecWriter<'a> {
-    /// A writer of bytes whose first one stands at the byte address `base`. It borrows the bytes and takes no memory.
+    /// A writer of bytes whose first one stands at the byte address `base`, and the last one below 2 to the power 32.
+    /// It borrows the bytes and takes no memory.
     ///
     /// ```text
     /// let mut piece = ArrayVec::new();
@@ -138,22 +141,16 @@ impl<'a> SrecWriter<'a> {
             ended: false,
         }
     }
+}
 
-    /// Makes `out` the next piece of the text, which is a line, and answers true; or empties it, where nothing is left.
-    ///
-    /// ```text
-    /// let mut piece = ArrayVec::new();
-    /// let mut writer = SrecWriter::new(0, &[]);
-    /// assert!(rt; writer.next_piece(&mut piece));
-    /// assert_eq!(rt; piece.as_slice(), b"S9030000FC\n".as_slice());
-    /// assert!(rt; !writer.next_piece(&mut piece));
-    /// ```
-    pub fn next_piece(&mut self, out: &mut ArrayVec<u8, 80>) -> bool
-        ensures joined { self.old ≡ out.new.items ++ self.new }
-        ensures some { IsTrue result ↔ (0 < length out.new.items) }
-        ensures ends { IsTrue result ↔ (0 < length self.old) }
-        ensures line { IsTrue result → IsLine out.new.items }
-    {
+impl Pieces for SrecWriter<'_> {
+    ghost use Rattle.avr_records.specs.Text.{IsLine};
+
+    ghost rest = { λ w. w };
+
+    ghost IsPiece = { IsLine };
+
+    fn next_piece(&mut self, out: &mut ArrayVec<u8, 80>) -> bool {
         if self.ended {
             out.clear();
             return false;

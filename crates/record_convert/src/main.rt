@@ -1,5 +1,5 @@
-//! Converts a record file: reads Intel HEX or S-records on standard input, and writes the same bytes at the same addresses on
-//! standard output, only those that are there. It shows avr_image and avr_records used alone.
+//! Converts a record file: reads Intel HEX or S-records on standard input, and writes the same bytes at the same
+//! addresses on standard output, only those that are there. It shows avr_image and avr_records used alone.
 //!
 //! ```text
 //! record_convert ihex 65536 < blink.srec > blink.hex
@@ -8,7 +8,7 @@
 
 use anyhow::{Result, bail};
 use arrayvec::ArrayVec;
-use avr_image::Image;
+use avr_image::{Image, Pieces};
 use avr_records::{Found, IhexImageWriter, Kind, SrecImageWriter, detect, read_records};
 use std::alloc::Global;
 use std::env;
@@ -25,8 +25,8 @@ fn main(rt: HostRuntime) -> Result<()> {
     let image = read_image(rt.alloc(), size, text.as_slice())?;
     let mut out = BufWriter::new(rt.alloc(), io::writer(&rt))?;
     match format.as_str() {
-        "ihex" => write_ihex(&mut out, &image)?,
-        "srec" => write_srec(&mut out, &image)?,
+        "ihex" => write_pieces(&mut out, &mut IhexImageWriter::new(&image))?,
+        "srec" => write_pieces(&mut out, &mut SrecImageWriter::new(&image))?,
         _ => bail!("the format is ihex or srec"),
     }
     out.flush()?;
@@ -47,19 +47,10 @@ fn read_image(alloc: Global, size: u32, text: &[u8]) -> Result<Image> {
     Ok(image)
 }
 
-fn write_ihex<W: Write>(out: &mut W, image: &Image) -> io::Result<()> {
-    let mut writer = IhexImageWriter::new(image);
+/// Writes all pieces of a text.
+fn write_pieces<W: Write, P: Pieces>(out: &mut W, pieces: &mut P) -> io::Result<()> {
     let mut piece = ArrayVec::new();
-    while writer.next_piece(&mut piece) {
-        out.write_all(piece.as_slice())?;
-    }
-    Ok(())
-}
-
-fn write_srec<W: Write>(out: &mut W, image: &Image) -> io::Result<()> {
-    let mut writer = SrecImageWriter::new(image);
-    let mut piece = ArrayVec::new();
-    while writer.next_piece(&mut piece) {
+    while pieces.next_piece(&mut piece) {
         out.write_all(piece.as_slice())?;
     }
     Ok(())

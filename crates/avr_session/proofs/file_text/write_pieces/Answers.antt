@@ -48,7 +48,7 @@ pieces-preserved g c =
     record {
       sent = (
         i.0 ++ w.0,
-        behind _ i.0 c.pieces.waiting.items c.next_piece.new.piece.items _ w.0 c.make_room.new.waiting.items _ _ i.1 c.next_piece.ensures.joined w.1 (rw c.as_slice.ensures.value at put),
+        behind _ i.0 c.pieces.waiting.items c.next_piece.new.out.items _ w.0 c.make_room.new.waiting.items _ _ i.1 c.next_piece.ensures.joined w.1 (rw c.as_slice.ensures.value at put),
         sent_next c.args.stream _ _ _ i.0 w.0 i.2 w.2,
       );
       counted = c.in_ok-make_room.ensures.counts.1 ∙ c.pieces.invariant.counted;

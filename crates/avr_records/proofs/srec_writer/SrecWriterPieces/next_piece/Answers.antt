@@ -3,7 +3,7 @@ use Rattle.std.proofs.lemmas.Bool.Decides.{nat_tests}
 use Rattle.std.proofs.lemmas.List.{take_rest}
 use Rattle.avr_records.specs.Writing.{srec_rest}
 use Rattle.avr_records.proofs.Pieces.{srec_rest-row}
-use Rattle.avr_records.proofs.srec_writer.SrecWriter.next_piece.Goals as goal
+use Rattle.avr_records.proofs.srec_writer.SrecWriterPieces.next_piece.Goals as goal
 
 pub returns-clause-joined : goal.returns-clause-joined
 returns-clause-joined c =

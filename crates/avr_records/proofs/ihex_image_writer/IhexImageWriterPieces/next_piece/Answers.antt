@@ -8,7 +8,7 @@ use Rattle.avr_image.specs.Runs.{lead}
 use Rattle.avr_records.specs.Writing.{ihex_image_rest}
 use Rattle.avr_records.proofs.Pieces.{upper-new, upper-same}
 use Rattle.avr_records.proofs.SparseWalk.{ihex_image-end, ihex_image-row, ihex_image-upper, row-part}
-use Rattle.avr_records.proofs.ihex_image_writer.IhexImageWriter.next_piece.Goals as goal
+use Rattle.avr_records.proofs.ihex_image_writer.IhexImageWriterPieces.next_piece.Goals as goal
 
 pub returns-in_default-clause-joined : goal.returns-in_default-clause-joined
 returns-in_default-clause-joined c =

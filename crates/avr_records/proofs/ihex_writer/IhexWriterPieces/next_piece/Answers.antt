@@ -4,7 +4,7 @@ use Rattle.std.proofs.lemmas.List.{take_rest}
 use Rattle.avr_records.specs.Text.{ihex_record, ihex_row_size, two}
 use Rattle.avr_records.specs.Writing.{ihex_rest}
 use Rattle.avr_records.proofs.Pieces.{ihex_rest-row, ihex_rest-upper, upper-new, upper-same}
-use Rattle.avr_records.proofs.ihex_writer.IhexWriter.next_piece.Goals as goal
+use Rattle.avr_records.proofs.ihex_writer.IhexWriterPieces.next_piece.Goals as goal
 
 pub returns-in-Some-clause-joined : goal.returns-in-Some-clause-joined
 returns-in-Some-clause-joined c =

@@ -1,5 +1,5 @@
 use Rattle.std.proofs.Common.{◌≡◌, ◌++◌, length}
-use Rattle.avr_image.proofs.list.ListWriter.next_piece.Given as goal
+use Rattle.avr_image.proofs.list.ListWriterPieces.next_piece.Given as goal
 
 abbrev pub decreases-loop-out : goal.decreases-loop-out
 decreases-loop-out l = length l.self

@@ -5,7 +5,7 @@ use Rattle.avr_image.specs.Runs.{lead}
 use Rattle.avr_records.specs.Text.{srec_record, low_bytes}
 use Rattle.avr_records.specs.Writing.{srec_image_rest}
 use Rattle.avr_records.proofs.SparseWalk.{srec_image-end, srec_image-row, row-part}
-use Rattle.avr_records.proofs.srec_image_writer.SrecImageWriter.next_piece.Goals as goal
+use Rattle.avr_records.proofs.srec_image_writer.SrecImageWriterPieces.next_piece.Goals as goal
 
 pub returns-in_default-clause-joined : goal.returns-in_default-clause-joined
 returns-in_default-clause-joined c =
