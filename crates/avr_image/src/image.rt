@@ -260,6 +260,7 @@ impl Image {
         ensures { self.new ≡ over self.old other.now }
     {
         for (addr, bytes) in other.runs() {
+            // Each run lies inside, since both images have one size.
             let _ = self.put_slice(addr, bytes);
         }
     }
