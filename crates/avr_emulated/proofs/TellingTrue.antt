@@ -8,7 +8,7 @@ use Rattle.avr_image.specs.Image.{held}
 use Rattle.avr_message.specs.Lines.{Bytes, spaced, information, warning}
 use Rattle.avr_message.specs.Said.{Saying, Line, Creates, Writes, Outs}
 use Rattle.avr_part.specs.Mem.{is_writable, name_of}
-use Rattle.avr_part.specs.Part.{Part, IsPart, size_of}
+use Rattle.avr_part.specs.Part.{IsPart, size_of}
 use Rattle.avr_part.specs.declared.mem.Mem.{Mem}
 use Rattle.avr_plan.specs.Plan.{Plan, IsFitted}
 use Rattle.avr_plan.specs.declared.task.Task.{Task}
