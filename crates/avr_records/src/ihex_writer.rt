@@ -5,7 +5,7 @@
 #![tactic(auto)]
 
 ghost use Rattle.std.specs.Prelude.{◌≡◌, ◌+◌, ◌/◌, ◌%◌, ◌^◌, ◌<◌, ◌≤◌, ◌==◌, ◌↔◌, [], ◌++◌, length, IsTrue, if◌then◌else◌};
-ghost use Rattle.avr_records.specs.Text.{ihex_text, ihex_record as spec_record, ihex_row_size, two};
+ghost use Rattle.avr_records.specs.Text.{IsLine, ihex_text, ihex_record as spec_record, ihex_row_size, two};
 
 use crate::checksum::low_sum_of;
 use crate::written_line::{Fields, append, put_line};
@@ -24,7 +24,8 @@ const EXTENDED_LINEAR_ADDRESS: u8 = 4;
 /// Makes `out` a record of Intel HEX.
 fn put_record(kind: u8, offset: u16, row: &[u8], out: &mut ArrayVec<u8, 80>)
     requires { length row.now ≤ 32 }
-    ensures { out.new.items ≡ spec_record kind offset row.now }
+    ensures text { out.new.items ≡ spec_record kind offset row.now }
+    ensures line { IsLine out.new.items }
 {
     let mut fields = Fields::new();
     fields.push(row.len() as u8);
@@ -37,29 +38,32 @@ fn put_record(kind: u8, offset: u16, row: &[u8], out: &mut ArrayVec<u8, 80>)
 }
 
 /// Makes `out` the record that sets the upper 16 bits of the addresses behind it.
-fn put_upper(upper: u16, out: &mut ArrayVec<u8, 80>)
-    ensures { out.new.items ≡ spec_record 4 0 (two upper) }
+pub(crate) fn put_upper(upper: u16, out: &mut ArrayVec<u8, 80>)
+    ensures text { out.new.items ≡ spec_record 4 0 (two upper) }
+    ensures line { IsLine out.new.items }
 {
     put_record(EXTENDED_LINEAR_ADDRESS, 0, &upper.to_be_bytes(), out);
 }
 
 /// Makes `out` a record of data whose first byte stands at this address, under its upper 16 bits.
-fn put_row(addr: u64, row: &[u8], out: &mut ArrayVec<u8, 80>)
+pub(crate) fn put_row(addr: u64, row: &[u8], out: &mut ArrayVec<u8, 80>)
     requires { length row.now ≤ 32 }
-    ensures { out.new.items ≡ spec_record 0 (addr % 65536) row.now }
+    ensures text { out.new.items ≡ spec_record 0 (addr % 65536) row.now }
+    ensures line { IsLine out.new.items }
 {
     put_record(DATA, (addr % 65536) as u16, row, out);
 }
 
 /// Makes `out` the record that ends a file.
-fn put_end(out: &mut ArrayVec<u8, 80>)
-    ensures { out.new.items ≡ spec_record 1 0 [] }
+pub(crate) fn put_end(out: &mut ArrayVec<u8, 80>)
+    ensures text { out.new.items ≡ spec_record 1 0 [] }
+    ensures line { IsLine out.new.items }
 {
     put_record(END, 0, &[], out);
 }
 
 /// The upper 16 bits of an address, where they are not the ones in force.
-fn new_upper(addr: u64, in_force: u16) -> Option<u16>
+pub(crate) fn new_upper(addr: u64, in_force: u16) -> Option<u16>
     requires { addr < 2 ^ 32 }
     ensures { result ≡ (if addr / 65536 == in_force then None else Some (addr / 65536)) }
 {
@@ -68,7 +72,7 @@ fn new_upper(addr: u64, in_force: u16) -> Option<u16>
 }
 
 /// How many bytes a row at this address has: at most 32, and none past a multiple of 65,536.
-fn row_size(addr: u64) -> usize
+pub(crate) fn row_size(addr: u64) -> usize
     ensures { result ≡ ihex_row_size addr }
 {
     (65536 - addr as usize % 65536).min(32)
@@ -140,6 +144,7 @@ impl<'a> IhexWriter<'a> {
         ensures joined { self.old ≡ out.new.items ++ self.new }
         ensures some { IsTrue result ↔ (0 < length out.new.items) }
         ensures ends { IsTrue result ↔ (0 < length self.old) }
+        ensures line { IsTrue result → IsLine out.new.items }
     {
         if self.ended {
             out.clear();

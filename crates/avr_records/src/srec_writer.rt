@@ -5,7 +5,7 @@
 #![tactic(auto)]
 
 ghost use Rattle.std.specs.Prelude.{◌≡◌, ◌+◌, ◌-◌, ◌*◌, ◌^◌, ◌<◌, ◌≤◌, ◌↔◌, ◌++◌, length, IsTrue};
-ghost use Rattle.avr_records.specs.Text.{srec_text, srec_record as spec_record, low_bytes, address_size};
+ghost use Rattle.avr_records.specs.Text.{IsLine, srec_text, srec_record as spec_record, low_bytes, address_size};
 
 use crate::checksum::low_sum_of;
 use crate::written_line::{Fields, append, put_line};
@@ -13,7 +13,7 @@ use arrayvec::ArrayVec;
 use std::marker::Model;
 
 /// How many bytes of data a row has, but for the last one.
-const ROW_SIZE: usize = 32;
+pub(crate) const ROW_SIZE: usize = 32;
 
 /// Puts the low bytes of an address behind the fields that stand there, the high one first.
 fn append_address(fields: &mut Fields, size: usize, addr: u32)
@@ -30,7 +30,8 @@ fn append_address(fields: &mut Fields, size: usize, addr: u32)
 fn put_record(kind: u8, body: &[u8], out: &mut ArrayVec<u8, 80>)
     requires digit { kind ≤ 9 }
     requires bytes { length body.now ≤ 36 }
-    ensures { out.new.items ≡ spec_record kind body.now }
+    ensures text { out.new.items ≡ spec_record kind body.now }
+    ensures line { IsLine out.new.items }
 {
     let mut fields = Fields::new();
     fields.push(body.len() as u8 + 1);
@@ -41,11 +42,12 @@ fn put_record(kind: u8, body: &[u8], out: &mut ArrayVec<u8, 80>)
 }
 
 /// Makes `out` a record of data whose first byte stands at this address.
-fn put_row(size: usize, addr: u32, row: &[u8], out: &mut ArrayVec<u8, 80>)
+pub(crate) fn put_row(size: usize, addr: u32, row: &[u8], out: &mut ArrayVec<u8, 80>)
     requires least { 2 ≤ size }
     requires most { size ≤ 4 }
     requires bytes { length row.now ≤ 32 }
-    ensures { out.new.items ≡ spec_record (size - 1) (low_bytes size addr ++ row.now) }
+    ensures text { out.new.items ≡ spec_record (size - 1) (low_bytes size addr ++ row.now) }
+    ensures line { IsLine out.new.items }
 {
     let mut body = Fields::new();
     append_address(&mut body, size, addr);
@@ -54,10 +56,11 @@ fn put_row(size: usize, addr: u32, row: &[u8], out: &mut ArrayVec<u8, 80>)
 }
 
 /// Makes `out` the record that ends a file whose addresses have so many bytes.
-fn put_end(size: usize, out: &mut ArrayVec<u8, 80>)
+pub(crate) fn put_end(size: usize, out: &mut ArrayVec<u8, 80>)
     requires least { 2 ≤ size }
     requires most { size ≤ 4 }
-    ensures { out.new.items ≡ spec_record (11 - size) (low_bytes size 0) }
+    ensures text { out.new.items ≡ spec_record (11 - size) (low_bytes size 0) }
+    ensures line { IsLine out.new.items }
 {
     let mut body = Fields::new();
     append_address(&mut body, size, 0);
@@ -65,7 +68,7 @@ fn put_end(size: usize, out: &mut ArrayVec<u8, 80>)
 }
 
 /// How many bytes an address needs, at least two.
-fn address_size_of(last: u32) -> usize
+pub(crate) fn address_size_of(last: u32) -> usize
     ensures size { result ≡ address_size last }
     ensures least { 2 ≤ result }
     ensures most { result ≤ 4 }
@@ -149,6 +152,7 @@ impl<'a> SrecWriter<'a> {
         ensures joined { self.old ≡ out.new.items ++ self.new }
         ensures some { IsTrue result ↔ (0 < length out.new.items) }
         ensures ends { IsTrue result ↔ (0 < length self.old) }
+        ensures line { IsTrue result → IsLine out.new.items }
     {
         if self.ended {
             out.clear();

@@ -14,7 +14,7 @@ returns-in-Some-clause-joined c =
     let told = upper-new w.upper w.addr new c.new_upper.result c.new_upper.ensures c.in-Some.is in
     let piece : List ℕ = c.put_upper.new.out.items in
     let same : ihex_record 4 0 (two (w.addr / 65536)) ≡ piece =
-    ap (λ (upper : ℕ). ihex_record 4 0 (two upper)) told.0 ∙ sym c.put_upper.ensures in
+    ap (λ (upper : ℕ). ihex_record 4 0 (two upper)) told.0 ∙ sym c.put_upper.ensures.text in
     sym c.self.view_is
     ∙ ap (λ (ended : Bool). ihex_rest ended w.upper w.addr w.bytes.now) c.if-self.false
     ∙ ihex_rest-upper w.upper w.addr w.bytes.now some told.1
@@ -24,7 +24,7 @@ returns-in-Some-clause-joined c =
 
 pub returns-in-Some-clause-ends : goal.returns-in-Some-clause-ends
 returns-in-Some-clause-ends c =
-    (λ _. rw (returns-in-Some-clause-joined c, c.put_upper.ensures) (omega arith), λ _. search)
+    (λ _. rw (returns-in-Some-clause-joined c, c.put_upper.ensures.text) (omega arith), λ _. search)
 
 pub returns-clause-joined : goal.returns-clause-joined
 returns-clause-joined c =
@@ -38,6 +38,6 @@ returns-clause-joined c =
     sym c.self.view_is
     ∙ ap (λ (ended : Bool). ihex_rest ended w.upper w.addr w.bytes.now) c.if-self.false
     ∙ ihex_rest-row w.upper w.addr n w.bytes.now some in_force size
-    ∙ ap (λ (front : List ℕ). front ++ ihex_rest false w.upper (w.addr + n) (drop n w.bytes.now)) (sym c.put_row.ensures)
+    ∙ ap (λ (front : List ℕ). front ++ ihex_rest false w.upper (w.addr + n) (drop n w.bytes.now)) (sym c.put_row.ensures.text)
     ∙ ap (λ (bytes : List ℕ). piece ++ ihex_rest false w.upper (w.addr + n) bytes) (sym (take_rest w.bytes.now n))
     ∙ ap (λ (ended : Bool). piece ++ ihex_rest ended w.upper (w.addr + n) (take (length w.bytes.now - n) (drop n w.bytes.now))) (sym c.if-self.false)
