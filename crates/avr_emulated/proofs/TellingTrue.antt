@@ -31,7 +31,6 @@ use Rattle.stk_host.specs.declared.fault.HostFault.TheVariants.{Differs, ReadOnl
 use Rattle.stk_host.specs.declared.fault.StepFault.{StepFault}
 use Rattle.stk_host.specs.declared.fault.StepFault.TheVariants as of_step
 use Rattle.stk_emu.specs.declared.fate.Fate.{Fate}
-use Rattle.stk_emu.specs.Along as line
 use Rattle.stk_emu.specs.Along.{reading_of, along}
 use Rattle.stk_emu.specs.Device.{Device, device}
 use Rattle.stk_emu.specs.Effect.{Memories, Image, Item, Erase, Write, effect, effects, memories_of, memory_in}

@@ -1,5 +1,5 @@
 -- Worked rows: what may not be told. Nothing was sent, so neither that the chip is erased nor that a byte is written.
-use Rattle.std.proofs.Common.{◌≡◌, ℕ, List, [], ◌∷◌, ◌++◌, Option, Some, None, length, take, refl, sym, ap, ◌∙◌, arith, ◌⊎◌, inl, inr, true, false}
+use Rattle.std.proofs.Common.{◌≡◌, ℕ, List, [], ◌∷◌, ◌++◌, Some, None, length, take, sym, ap, ◌∙◌, arith, ◌⊎◌, inl, inr, true, false}
 use Rattle.std.proofs.lemmas.List.{append-nil, reverse-append, take-append-le}
 use Rattle.std.specs.Prelude.{◌≤◌, codes, decimal, reverse, slice_index}
 use Rattle.avr_image.specs.Image.{held}
