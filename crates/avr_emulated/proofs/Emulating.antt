@@ -11,7 +11,7 @@ use Rattle.avr_plan.specs.Planning.{planned}
 use Rattle.avr_plan.specs.Playing.{Went}
 use Rattle.avr_plan.specs.Stage.{Made}
 use Rattle.avr_session.specs.Runs.{Stops, RunsTo}
-use Rattle.avr_session.specs.Session.{session}
+use Rattle.avr_session.specs.Session.{session, takes_memory}
 use Rattle.stk_host.specs.Talk.{sent}
 use Rattle.stk_emu.specs.Effect.{memories_of}
 use Rattle.stk_emu.specs.Leads.{AreGood}
@@ -30,9 +30,9 @@ module _ (settings : Settings) (file : Bytes) (plan : Plan) (chip : chips.State)
 
   pub plays_emulated : (old planned_desk loaded_desk played_desk new : Option Record) (before loaded played now ran status : ℕ)
       → Went (planned settings) old planned_desk (Made plan) → Went (chip_stage plan.part file) planned_desk loaded_desk (Made chip) → before ≤ loaded
-      → RunsTo (session plan) (Some w.talk) (Some v.talk) loaded_desk played_desk (Stops w.failures v.failures loaded played) ran
+      → RunsTo (session plan) (Some w.talk) (Some v.talk) loaded_desk played_desk (Stops (takes_memory plan) w.failures v.failures loaded played) ran
       → Leaves plan (memories_of w.wire.programmer.chip) (memories_of v.wire.programmer.chip) ran
-      → (AreGood w.wire.fates → GoesWell plan (memories_of w.wire.programmer.chip) (memories_of v.wire.programmer.chip) loaded_desk played_desk (Some v.talk) (Stops w.failures v.failures loaded played) ran)
+      → (AreGood w.wire.fates → GoesWell plan (memories_of w.wire.programmer.chip) (memories_of v.wire.programmer.chip) loaded_desk played_desk (Some v.talk) (Stops (takes_memory plan) w.failures v.failures loaded played) ran)
       → IsSaved (sent v.talk) played_desk new file (chip_file v.wire.programmer.chip) played now ran status → played ≤ now
       → PlaysEmulated settings file old new before now status
   plays_emulated old planned_desk loaded_desk played_desk new before loaded played now ran status made is_loaded rises runs leaves goes_well saved counted = record {
@@ -50,11 +50,11 @@ module _ (settings : Settings) (file : Bytes) (plan : Plan) (chip : chips.State)
     talk = v.talk;
     left = v.wire.programmer.chip;
     ran = ran;
-    runs = subst (λ talk. RunsTo (session plan) (Some talk) (Some v.talk) loaded_desk played_desk (Stops 0 v.failures loaded played) ran) silent
-        (subst (λ n. RunsTo (session plan) (Some w.talk) (Some v.talk) loaded_desk played_desk (Stops n v.failures loaded played) ran) unfailed runs);
+    runs = subst (λ talk. RunsTo (session plan) (Some talk) (Some v.talk) loaded_desk played_desk (Stops (takes_memory plan) 0 v.failures loaded played) ran) silent
+        (subst (λ n. RunsTo (session plan) (Some w.talk) (Some v.talk) loaded_desk played_desk (Stops (takes_memory plan) n v.failures loaded played) ran) unfailed runs);
     leaves = subst (λ (c : chips.State). Leaves plan (memories_of c) (memories_of v.wire.programmer.chip) ran) its_chip leaves;
-    goes_well = subst (λ n. GoesWell plan (memories_of chip) (memories_of v.wire.programmer.chip) loaded_desk played_desk (Some v.talk) (Stops n v.failures loaded played) ran) unfailed
-        (subst (λ (c : chips.State). GoesWell plan (memories_of c) (memories_of v.wire.programmer.chip) loaded_desk played_desk (Some v.talk) (Stops w.failures v.failures loaded played) ran) its_chip (goes_well good));
+    goes_well = subst (λ n. GoesWell plan (memories_of chip) (memories_of v.wire.programmer.chip) loaded_desk played_desk (Some v.talk) (Stops (takes_memory plan) n v.failures loaded played) ran) unfailed
+        (subst (λ (c : chips.State). GoesWell plan (memories_of c) (memories_of v.wire.programmer.chip) loaded_desk played_desk (Some v.talk) (Stops (takes_memory plan) w.failures v.failures loaded played) ran) its_chip (goes_well good));
     saved = saved;
     counted = counted;
   }

@@ -12,7 +12,7 @@ use Rattle.avr_plan.specs.Planning.{planned}
 use Rattle.avr_plan.specs.Playing.{Goes, Went}
 use Rattle.avr_plan.specs.Stage.{Made}
 use Rattle.avr_session.specs.Runs.{Stops, RunsTo}
-use Rattle.avr_session.specs.Session.{session}
+use Rattle.avr_session.specs.Session.{session, takes_memory}
 use Rattle.stk_host.specs.Talk.{Talk, sent}
 use Rattle.stk_emu.specs.Effect.{memories_of}
 use Rattle.avr_emulated.specs.Outcome.{Leaves, GoesWell}
@@ -40,9 +40,9 @@ pub record PlaysEmulated (settings : Settings) (file : Bytes) (old new : Option 
   pub talk : Talk
   pub left : chips.State
   pub ran : ℕ
-  pub runs : RunsTo (session plan) (Some []) (Some talk) loaded_desk played_desk (Stops 0 wire_failures loaded_failures played_failures) ran
+  pub runs : RunsTo (session plan) (Some []) (Some talk) loaded_desk played_desk (Stops (takes_memory plan) 0 wire_failures loaded_failures played_failures) ran
   pub leaves : Leaves plan (memories_of chip) (memories_of left) ran
-  pub goes_well : GoesWell plan (memories_of chip) (memories_of left) loaded_desk played_desk (Some talk) (Stops 0 wire_failures loaded_failures played_failures) ran
+  pub goes_well : GoesWell plan (memories_of chip) (memories_of left) loaded_desk played_desk (Some talk) (Stops (takes_memory plan) 0 wire_failures loaded_failures played_failures) ran
   pub saved : IsSaved (sent talk) played_desk new file (chip_file left) played_failures now ran status
   pub counted : played_failures ≤ now
 

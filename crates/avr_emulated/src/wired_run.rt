@@ -1,7 +1,7 @@
 //! A run over a wire to the emulated programmer.
 ghost use Rattle.std.specs.Prelude.{◌≡◌, Some, length};
 ghost use Rattle.avr_session.specs.Runs.{RunsTo, Stops};
-ghost use Rattle.avr_session.specs.Session.{session};
+ghost use Rattle.avr_session.specs.Session.{session, takes_memory};
 ghost use Rattle.stk_emu.specs.Effect.{memories_of};
 ghost use Rattle.stk_emu.specs.Leads.{AreGood};
 ghost use Rattle.stk_emu.specs.Programmer.{fresh_programmer};
@@ -24,7 +24,7 @@ pub fn drive_wired<D: Desk>(alloc: Global, plan: &Plan, desk: &mut D, wire: &mut
     requires part { wire.old.wire.programmer.chip.part ≡ plan.now.part }
     // What is sent, said and answered is the play of the session.
     ensures runs { RunsTo (session plan.now) (Some wire.old.talk) (Some wire.new.talk) (D.kept desk.old) (D.kept desk.new)
-        (Stops wire.old.failures wire.new.failures (D.failures desk.old) (D.failures desk.new)) result }
+        (Stops (takes_memory plan.now) wire.old.failures wire.new.failures (D.failures desk.old) (D.failures desk.new)) result }
     // Whatever the line loses, delays and spoils, this is what the run leaves in the chip.
     ensures leaves { Leaves plan.now (memories_of wire.old.wire.programmer.chip) (memories_of wire.new.wire.programmer.chip) result }
     // Of its strokes the first ones were made: by the frames that went out, all that have come to data and perhaps one more.
@@ -32,7 +32,8 @@ pub fn drive_wired<D: Desk>(alloc: Global, plan: &Plan, desk: &mut D, wire: &mut
         (memories_of wire.old.wire.programmer.chip) (memories_of wire.new.wire.programmer.chip) }
     // Over a good line it goes as its course says.
     ensures good { AreGood wire.old.wire.fates → GoesWell plan.now (memories_of wire.old.wire.programmer.chip) (memories_of wire.new.wire.programmer.chip)
-        (D.kept desk.old) (D.kept desk.new) (Some wire.new.talk) (Stops wire.old.failures wire.new.failures (D.failures desk.old) (D.failures desk.new)) result }
+        (D.kept desk.old) (D.kept desk.new) (Some wire.new.talk)
+        (Stops (takes_memory plan.now) wire.old.failures wire.new.failures (D.failures desk.old) (D.failures desk.new)) result }
 {
     // What the clauses rest on: each image has the size of its memory, and the chip's memories those of its part.
     let _tasks = plan.tasks();
