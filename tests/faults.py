@@ -6,17 +6,20 @@ what it asks of sockets.
 
 For every run below and every kind of call the nth is refused, for n from 1 upwards until a run meets no refusal. What was
 sent and said has to be a front of what the sound run sends and says, and then the line of that fault, with the name of the
-file that the call was for (a front of it where a message couldn't be written), with status 1; or all that the sound run sends and says, with its status, where what was
-refused wasn't needed. A read or a write that a signal breaks off, or that moves one byte alone, has to change nothing.
+file that the call was for (a front of it where a message couldn't be written), with status 1; or all that the sound run
+sends and says, with its status, where what was refused wasn't needed. A read or a write that a signal breaks off, or that
+moves one byte alone, has to change nothing.
 """
 
+import os
+import socket
 import subprocess
 import time
 from collections import Counter
 from pathlib import Path
 
 from line import BadLine
-from program import ANSWERS, CHIP_FILE, TOP, Room
+from program import ANSWERS, CHIP_FILE, ENDS, FRAMES, TOP, Room, free_port
 
 EMULATED = ["-p", "m328p", "-P", "emu:chip.bin"]
 
@@ -39,7 +42,7 @@ LINES = {
     "read": ["link cannot be read", "{file}: cannot be read"],
     "write": ["link cannot be written", "{file}: cannot be written"],
     "open": ["{file}: cannot be opened", "{file}: cannot be created"],
-    "socket": ["port net:127.0.0.1:PORT cannot be opened"],
+    "socket": ["port net:127.0.0.1:PORT cannot be opened", "port PORT cannot be opened"],
 }
 
 # what has to change nothing
@@ -85,6 +88,46 @@ class Sweep:
         is_chip = chip is None or len(chip) == len(self.sound[3] or b"") or b"chip.bin: " in messages
         is_front = read_file is None or (self.sound[4] or b"").startswith(read_file)
         return status == 1 and self.sound[1].startswith(output) and is_told and is_chip and is_front
+
+
+class Serving(Sweep):
+    """The emulated programmer served to a caller who plays a session, and the chip file that it leaves."""
+
+    def done(self, refused=None):
+        self.room.clear()
+        port = free_port()
+        environment = {"LD_PRELOAD": str(self.shim), "REFUSE": refused, "REFUSED": "refused"} if refused else {}
+        started = self.room.start([*self.words, "--serve", str(port)], env=os.environ | environment)
+        heard = heard_from(started, port)
+        _, messages = started.communicate(timeout=60)
+        return started.returncode, heard, messages.replace(str(port).encode(), b"PORT"), self.room.read("chip.bin"), None
+
+
+def heard_from(started, port):
+    """What a program that serves at a port answers to the frames of a session, as far as it does."""
+    heard = b""
+    try:
+        with caller_of(started, port) as caller:
+            for frame, end in zip(FRAMES, ENDS):
+                caller.sendall(frame)
+                while len(heard) < end:
+                    piece = caller.recv(4096)
+                    if not piece:
+                        return heard
+                    heard += piece
+    except OSError:
+        pass
+    return heard
+
+
+def caller_of(started, port):
+    """A connection to a program that will serve at a port, unless it ends before."""
+    while started.poll() is None:
+        try:
+            return socket.create_connection(("127.0.0.1", port), 30)
+        except ConnectionRefusedError:
+            time.sleep(0.002)
+    raise ConnectionRefusedError(f"nobody serves at {port}")
 
 
 def is_front_and_line(said, sound, line, may_stop):
@@ -135,6 +178,12 @@ def main():
     for kind in ["growth", "open", "socket"]:
         counts = late.through(kind, "fail")
         print(f"{counts['told']:6} told, {counts['unneeded']:5} of no effect: {kind}, fail: {late.label}", flush=True)
+        total += counts
+    served = Serving(room, shim, "a session served at a port", ["-p", "m328p", "--chip", "chip.bin"], b"")
+    assert served.sound[1] == ANSWERS, served.sound
+    for kind, how in [*((kind, "fail") for kind in LINES), *HARMLESS]:
+        counts = served.through(kind, how)
+        print(f"{counts['told']:6} told, {counts['unneeded']:5} of no effect: {kind}, {how}: {served.label}", flush=True)
         total += counts
     seconds = time.monotonic() - begun
     print(f"{total['told']} refusals told, {total['unneeded']} of no effect, 0 failed, in {seconds:.0f} s")

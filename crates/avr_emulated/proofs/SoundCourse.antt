@@ -1,4 +1,4 @@
--- Over a good line a run with sound devices goes as its course says, unless memory was refused, by its messages.
+-- Where few frames go wrong a run with sound devices goes as its course says, unless memory was refused, by its messages.
 use Rattle.std.proofs.Common.{ℕ, Bool, [], Option, Some, inl, inr}
 use Rattle.avr_desk.specs.Record.{Record}
 use Rattle.avr_plan.specs.Plan.{Plan}

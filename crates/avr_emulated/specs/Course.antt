@@ -1,4 +1,4 @@
--- The course of a run over a good line: no frames, no answers, only what is said and what becomes of the memories.
+-- The course of a run over a line on which few frames go wrong: no frames, no answers, only what is said and what becomes of the memories.
 use Rattle.std.specs.Prelude.{ℕ, List, [], ◌∷◌, ◌++◌, Result, Ok, if◌then◌else◌}
 use Rattle.avr_cli.specs.declared.chosen.Switches.{Switches}
 use Rattle.avr_message.specs.Said.{Saying}

@@ -51,7 +51,7 @@ pub record IsCourse (plan : Plan) (before after : Memories) (old new : Option Re
   pub status_is : status ≡ (course plan before).status
   pub memories : after ≡ (course plan before).memories
 
--- over a good line: its course, unless a device failed or memory was refused
+-- over a line on which few frames go wrong: its course, unless a device failed or memory was refused
 abbrev pub GoesWell : Plan → Memories → Memories → Option Record → Option Record → Option Talk → (List Saying → Cause → Bytes → Type 0) → ℕ → Type 0
 GoesWell plan before after old new talk StopsBy status =
     IsCourse plan before after old new status ⊎ BrokeOff (session plan) 1 [] (Some []) talk old new StopsBy

@@ -15,7 +15,7 @@ ghost use Rattle.stk_emu.specs.Settled.{Idle, FitsPart};
 ghost use Rattle.stk_emu.specs.Tallies.{Tallies};
 ghost use Rattle.stk_emu.specs.declared.fate.Fate.{Fate};
 ghost use Rattle.stk_host.specs.Bound.{SendsAtMost, commands_in};
-ghost use Rattle.avr_emulated.specs.Bound.{run_steps};
+ghost use Rattle.avr_emulated.specs.Bound.{run_steps, ListensAtMost};
 ghost use Rattle.avr_emulated.specs.Made.{made_by};
 ghost use Rattle.avr_emulated.specs.Outcome.{strokes, IsTouched, IsDone};
 
@@ -40,4 +40,10 @@ pub fn a_run_makes_its_strokes_in_order()
 /// may take, also where it breaks off.
 pub fn a_run_sends_at_most_four_times_its_commands()
     ensures { (plan : Plan) → SendsAtMost SaidPart (4 * commands_in (run_steps plan)) (session plan) }
+{}
+
+/// How long a run can take, without a clock: whatever the line does, at most one silence comes for each frame sent, so at most
+/// four times as many as its steps have commands; and at most 4,096 bytes are read for each.
+pub fn a_run_listens_at_most_once_for_each_frame()
+    ensures { (plan : Plan) → IsPart plan.part → All (IsFitted plan.part) plan.tasks → ListensAtMost (4 * commands_in (run_steps plan)) (session plan) }
 {}

@@ -12,7 +12,8 @@ use Rattle.avr_session.specs.Runs.{Stops, RunsTo}
 use Rattle.avr_session.specs.Session.{session, takes_memory}
 use Rattle.avr_net.specs.Lines.{unopened_line}
 
--- The plan was made, and its session was run over the port. A socket doesn't show what passed over it.
+-- The plan was made, and its session was run over the port. A socket doesn't show what passed over it, and the failures that
+-- the connection counts, from 0, are its own.
 pub record PlaysOverNet (settings : Settings) (old new : Option Record) (before now status : ℕ) : Type 0 where
   pub plan : Plan
   pub planned_desk : Option Record

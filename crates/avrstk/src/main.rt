@@ -1,15 +1,13 @@
 //! Programs AVR parts through an STK500v2 programmer, as AVRDUDE does with `-c stk500v2`.
 #![tactic(auto)]
 
-use avr_cli::{Port, Settings, read_words, settings};
-use avr_desk::SystemDesk;
-use avr_emulated::run_emulated;
-use avr_net::{run_net, serve_net};
-use avr_session::{refuse, run};
+use avr_tool::{
+    Port, Settings, StreamLink, SystemDesk, read_words, refuse, run, run_emu, run_net, serve_net,
+    settings,
+};
 use clap::Error;
 use std::process::ExitCode;
 use std::{env, io};
-use stk_host::StreamLink;
 
 fn main(rt: HostRuntime) -> ExitCode {
     ExitCode::from(status(&rt))
@@ -62,15 +60,8 @@ fn run_settings(rt: &HostRuntime, settings: &Settings) -> u8 {
             let mut link = StreamLink::new(rt.stdin(), rt.stdout());
             run(rt.alloc(), settings, &mut desk, &mut link)
         }
-        Port::Emulated(file) => run_emulated(rt.alloc(), settings, file.as_str(), &mut desk),
-        Port::Network(address) => run_net(rt, rt.alloc(), settings, address.as_str(), &mut desk),
-        Port::Served { port, chip } => serve_net(
-            rt,
-            rt.alloc(),
-            settings,
-            port.as_str(),
-            chip.as_str(),
-            &mut desk,
-        ),
+        Port::Emulated(_) => run_emu(rt.alloc(), settings, &mut desk),
+        Port::Network(_) => run_net(rt, rt.alloc(), settings, &mut desk),
+        Port::Served { .. } => serve_net(rt, rt.alloc(), settings, &mut desk),
     }
 }

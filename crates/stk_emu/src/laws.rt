@@ -2,7 +2,7 @@
 //! and what is read of them. No code.
 #![tactic(auto)]
 
-ghost use Rattle.std.specs.Prelude.{◌≡◌, ◌++◌, ℕ, List, [], ◌∷◌, Some, Ok, Result, Bool, None, length, take, replicate, slice_index, ◌<◌, ◌↔◌};
+ghost use Rattle.std.specs.Prelude.{◌≡◌, ◌++◌, ℕ, List, [], ◌∷◌, Some, Ok, Result, Bool, None, length, take, replicate, slice_index, ◌<◌, ◌≤◌, ◌↔◌, Err};
 ghost use Rattle.avr_image.specs.Image.{byte_at, or_blank};
 ghost use Rattle.avr_part.specs.State as chip;
 ghost use Rattle.avr_part.specs.Part.{Part, IsPart};
@@ -32,8 +32,12 @@ ghost use Rattle.stk_emu.specs.Strokes.{IsStep, AreSteps, struck, struck_by, str
 ghost use Rattle.stk_emu.specs.Given.{given_by, all_given, Holds};
 ghost use Rattle.stk_emu.specs.Wired.{State, Keeps, NeverIdle};
 ghost use Rattle.stk_emu.specs.Leads.{Leads, Reached, AfterOperation, AfterOpening, AreGood, GoesAlong};
+ghost use Rattle.stk_emu.specs.Few.{AreFew, FewOf, each_second};
 ghost use Rattle.stk_emu.specs.Climbs.{Climbs};
 ghost use Rattle.stk_emu.specs.declared.fate.Fate.{Fate};
+ghost use Rattle.stk_emu.specs.declared.fate.Fate.TheVariants.{LostCommand};
+ghost use Rattle.stk_host.specs.declared.fault.StepFault.TheVariants.{NoAnswer};
+ghost use Rattle.stk_frame.specs.declared.command.Command.TheVariants.{LoadAddress};
 
 /// Whatever is asked, the programmer answers with a body that a frame can carry.
 pub fn every_answer_fits_a_frame()
@@ -125,12 +129,25 @@ pub fn steps_are_counted_as_strokes()
         → struck_by part count (all_steps part items) m ≡ effects part (take count (strokes_of (all_steps part items))) m }
 {}
 
-/// Over good fates a play of steps comes to all that they give, whenever it is done: no fault.
-pub fn good_fates_bring_all_data()
-    ensures { (part : Part) (steps : List (List Command)) (m : Memories) (k : ℕ) (before : List ℕ) (p : Programmer) (fates : List Fate)
+/// Where of any seven frames in a row at most three go wrong, a step comes to what it gives, and the line behind it is such
+/// a line; so a play of steps comes to all that they give. A good line is the simplest one. The bound is sharp: four lost
+/// commands in a row are too many, and of any six frames three are, where each second one is lost.
+pub fn few_bad_fates_bring_all_data()
+    ensures step { (part : Part) (commands : List Command) (m : Memories) (k : ℕ) (p : Programmer) (fates : List Fate)
+        → IsPart part → IsStep part commands → FitsPart part m → Settled part m p → AreFew fates → 8 ≤ k
+        → (along device k (step commands) p fates).dialog ≡ Done (Ok (given_by part commands m)) }
+    ensures rest { (k : ℕ) (commands : List Command) (p : Programmer) (fates : List Fate)
+        → AreFew fates → AreFew (along device k (step commands) p fates).fates }
+    ensures play { (part : Part) (steps : List (List Command)) (m : Memories) (k : ℕ) (before : List ℕ) (p : Programmer) (fates : List Fate)
         (o : Outcome)
-        → IsPart part → AreSteps part steps → FitsPart part m → Settled part m p → AreGood fates
+        → IsPart part → AreSteps part steps → FitsPart part m → Settled part m p → AreFew fates
         → (along device k (play steps before) p fates).dialog ≡ Done o → o ≡ Ok (before ++ all_given part steps m) }
+    ensures good { (fates : List Fate) → AreGood fates → AreFew fates }
+    ensures four { (command : Command) (commands : List Command) (p : Programmer)
+        → (along device 4 (step (command ∷ commands)) p (LostCommand ∷ LostCommand ∷ LostCommand ∷ LostCommand ∷ [])).dialog ≡ Done (Err NoAnswer) }
+    ensures six { FewOf 6 each_second }
+    ensures six_fail { (address : ℕ) (command : Command) (commands : List Command) (p : Programmer)
+        → (along device 7 (step (LoadAddress address ∷ command ∷ commands)) p each_second).dialog ≡ Done (Err NoAnswer) }
 {}
 
 /// To open a session keeps the memories at each moment, and where a signature is answered it is the part's and the

@@ -1,4 +1,4 @@
--- Dialogs over a good line, by what they come to, what they say and where they leave the programmer.
+-- Dialogs over a line on which few frames go wrong, by what they come to, what they say and where they leave the programmer.
 use Rattle.std.proofs.Common.{◌≡◌, ℕ, List, [], ◌∷◌, ◌++◌, refl, sym, ap, ap₂, ◌∙◌, subst}
 use Rattle.avr_message.specs.Said.{Saying}
 use Rattle.stk_host.specs.Dialog.{Dialog, Done, Say, Ask, ◌>>=◌, lifted}
@@ -7,9 +7,9 @@ use Rattle.stk_emu.specs.Programmer.{Programmer}
 use Rattle.stk_emu.specs.Device.{device}
 use Rattle.stk_emu.specs.Along as line
 use Rattle.stk_emu.specs.Along.{along, said_along}
-use Rattle.stk_emu.specs.Leads.{AreGood}
+use Rattle.stk_emu.specs.Few.{AreFew}
 use Rattle.stk_emu.proofs.Attempts.{along_bind, onward, onwards, asks≢done}
-use Rattle.stk_emu.proofs.GoodFates.{others_good, fates_along}
+use Rattle.stk_emu.proofs.FewFates.{others_few, fates_along}
 use Rattle.stk_emu.proofs.LeadsOn.{along_lifted}
 use Rattle.stk_emu.proofs.SaidAlong.{said_on, said_bind, said_lifted}
 use Rattle.avr_session.specs.Session.{says}
@@ -86,15 +86,15 @@ module _ {E A B : Type 0} (next : A → Dialog E B) (a : A) (b : B) (x y : List 
   ends_on said left fates q (Ask bytes go_on) first more got e = absurd (asks≢done bytes (λ reading. go_on reading >>= next) got e)
 
   -- one dialog, and the next one from where it leaves the programmer
-  pub ends_bind : (d : Dialog E A) (p : Programmer) (fates : List Fate) → AreGood fates → Ends d a x Between p fates
-      → ((q : Programmer) (fs : List Fate) → AreGood fs → Between q → Ends (next a) b y After q fs) → Ends (d >>= next) b (x ++ y) After p fates
-  ends_bind d p fates good first more = record {
+  pub ends_bind : (d : Dialog E A) (p : Programmer) (fates : List Fate) → AreFew fates → Ends d a x Between p fates
+      → ((q : Programmer) (fs : List Fate) → AreFew fs → Between q → Ends (next a) b y After q fs) → Ends (d >>= next) b (x ++ y) After p fates
+  ends_bind d p fates few first more = record {
     ends = λ k got e.
         let s = along device k d p fates in
         let bound = along_bind device k d next p fates in
         let c : Came got b (said_along device k d p fates ++ said_on device next s.left s.fates s.programmer s.dialog) (x ++ y) (After (onwards device next s).programmer) =
         ends_on (said_along device k d p fates) s.left s.fates s.programmer s.dialog (λ c is. first.ends k c is)
-        (more s.programmer s.fates (fates_along device AreGood others_good k d p fates good)) got (sym (ap (λ (z : line.Standing E B Programmer). z.dialog) bound) ∙ e) in record {
+        (more s.programmer s.fates (fates_along device AreFew others_few k d p fates few)) got (sym (ap (λ (z : line.Standing E B Programmer). z.dialog) bound) ∙ e) in record {
           result = c.result;
           sayings = said_bind device k d next p fates ∙ c.sayings;
           after = subst (λ (z : line.Standing E B Programmer). After z.programmer) (sym bound) c.after;

@@ -1,5 +1,5 @@
--- A session over a good line goes as its course, part by part.
-use Rattle.std.proofs.Common.{◌≡◌, List, [], ◌∷◌, ◌++◌, refl, sym, ap, ◌∙◌, subst, arith, Bool, true, false, Result, Ok, All}
+-- A session over a line on which few frames go wrong goes as its course, part by part.
+use Rattle.std.proofs.Common.{◌≡◌, ℕ, ◌*◌, ◌≤◌, List, [], ◌∷◌, ◌++◌, refl, sym, ap, ◌∙◌, subst, arith, Bool, true, false, Result, Ok, All}
 use Rattle.std.proofs.lemmas.List.{append-nil}
 use Rattle.std.proofs.lemmas.List.Elements.{All-head, All-tail}
 use Rattle.std.specs.Prelude.{if◌then◌else◌}
@@ -12,35 +12,41 @@ use Rattle.avr_plan.specs.declared.task.Task.{Task}
 use Rattle.avr_plan.specs.declared.task.Task.TheVariants.{Write, Verify, Read}
 use Rattle.stk_host.specs.declared.fault.HostFault.{HostFault}
 use Rattle.stk_host.specs.Dialog.{Dialog, Done, ◌>>=◌, lifted}
+use Rattle.stk_host.specs.Bound.{commands_in}
 use Rattle.stk_host.specs.Operations as host
 use Rattle.stk_host.specs.Operations.{compared}
 use Rattle.stk_emu.specs.declared.fate.Fate.{Fate}
+use Rattle.stk_emu.specs.Along.{along}
+use Rattle.stk_emu.specs.Device.{device}
 use Rattle.stk_emu.specs.Programmer.{Programmer}
 use Rattle.stk_emu.specs.Effect as item
 use Rattle.stk_emu.specs.Effect.{Image, Memories, memories_of, effect, memory_in}
 use Rattle.stk_emu.specs.Settled.{Idle, FitsPart}
-use Rattle.stk_emu.specs.Leads.{AreGood}
+use Rattle.stk_emu.specs.Few.{AreFew}
+use Rattle.stk_emu.proofs.FewFates.{done_within}
 use Rattle.stk_emu.proofs.Obeying.{settled_idle}
 use Rattle.avr_session.specs.declared.standing.Standing.{Standing}
 use Rattle.avr_session.specs.declared.standing.Standing.TheVariants.{Fine, Faulty, Over}
 use Rattle.avr_session.specs.Session as session
 use Rattle.avr_session.specs.Session.{says, standing, reported, unless_fault, fault_or, opening_says, erased_says, written_says, verified_says, closed_says, read_says, is_erase_due, left_out_erase, left_out_write, status_of}
+use Rattle.avr_emulated.specs.Bound.{run_steps}
 use Rattle.avr_emulated.specs.Course as course
 use Rattle.avr_emulated.specs.Course.{Course, then_from, ending_says, status_after}
-use Rattle.avr_emulated.proofs.GoodLineEnds.{Ends, ends_done, ends_says, ends_wider, ends_lifted, ends_bind}
-use Rattle.avr_emulated.proofs.GoodLineCalls.{Stands, ends_opening, ends_erasing, ends_writing, ends_reading, ends_verifying, ends_closing}
+use Rattle.avr_emulated.proofs.RunBound.{session_most}
+use Rattle.avr_emulated.proofs.FewBadEnds.{Ends, ends_done, ends_says, ends_wider, ends_lifted, ends_bind}
+use Rattle.avr_emulated.proofs.FewBadCalls.{Stands, ends_opening, ends_erasing, ends_writing, ends_reading, ends_verifying, ends_closing}
 
 -- a part of a session goes as this course
 abbrev Follows : Part → Dialog Saying Standing → Course → Programmer → List Fate → Type 0
 Follows part d c p fates = Ends d c.standing c.says (Stands part c.memories) p fates
 
--- over any good line, from a programmer that stands in programming mode with these memories
+-- over any such line, from a programmer that stands in programming mode with these memories
 abbrev Goes : Part → Dialog Saying Standing → Memories → Course → Type 0
-Goes part d m c = (p : Programmer) (fates : List Fate) → AreGood fates → Stands part m p → Follows part d c p fates
+Goes part d m c = (p : Programmer) (fates : List Fate) → AreFew fates → Stands part m p → Follows part d c p fates
 
 -- an operation, and what is said of its outcome
 ends_reported : {A : Type 0} (operation : Dialog ⊥ (Result A HostFault)) (tells : Result A HostFault → List Saying) (outcome : Result A HostFault)
-    (After : Programmer → Type 0) (p : Programmer) (fates : List Fate) → AreGood fates → Ends operation outcome [] After p fates
+    (After : Programmer → Type 0) (p : Programmer) (fates : List Fate) → AreFew fates → Ends operation outcome [] After p fates
     → Ends (reported operation tells) (standing outcome) (tells outcome) After p fates
 ends_reported operation tells outcome After p fates good l =
     ends_bind (λ o. says (tells o) (Done (standing o))) outcome (standing outcome) [] (tells outcome) After After (lifted operation) p fates good
@@ -49,7 +55,7 @@ ends_reported operation tells outcome After p fates good l =
 
 module _ (part : Part) (sound : IsPart part) (s : Switches) where
   -- after a fault nothing more is done or said
-  left_out : (c : Course) (d next : Dialog Saying Standing) (p : Programmer) (fates : List Fate) → AreGood fates → unless_fault next c.standing ≡ Done c.standing → Follows part d c p fates
+  left_out : (c : Course) (d next : Dialog Saying Standing) (p : Programmer) (fates : List Fate) → AreFew fates → unless_fault next c.standing ≡ Done c.standing → Follows part d c p fates
       → Follows part (d >>= unless_fault next) c p fates
   left_out c d next p fates good is first =
       let After = Stands part c.memories in
@@ -57,7 +63,7 @@ module _ (part : Part) (sound : IsPart part) (s : Switches) where
       (ends_bind (unless_fault next) c.standing c.standing c.says [] After After d p fates good first
       (λ q fs g t. subst (λ (e : Dialog Saying Standing). Ends e c.standing [] After q fs) (sym is) (ends_done c.standing After q fs t)))
 
-  follows_from : (c : Course) (at : Standing) (more : Memories → Course) (d next : Dialog Saying Standing) (p : Programmer) (fates : List Fate) → AreGood fates → c.standing ≡ at
+  follows_from : (c : Course) (at : Standing) (more : Memories → Course) (d next : Dialog Saying Standing) (p : Programmer) (fates : List Fate) → AreFew fates → c.standing ≡ at
       → Follows part d c p fates → Goes part next c.memories (more c.memories) → Follows part (d >>= unless_fault next) (then_from c at more) p fates
   follows_from c Fine more d next p fates good is first rest =
       let later = more c.memories in
@@ -67,11 +73,11 @@ module _ (part : Part) (sound : IsPart part) (s : Switches) where
   follows_from c Over more d next p fates good is first rest = left_out c d next p fates good (ap (unless_fault next) is ∙ ap (λ at. Done at) (sym is)) first
 
   -- a part, and the next one unless a fault came
-  follows_then : (c : Course) (more : Memories → Course) (d next : Dialog Saying Standing) (p : Programmer) (fates : List Fate) → AreGood fates
+  follows_then : (c : Course) (more : Memories → Course) (d next : Dialog Saying Standing) (p : Programmer) (fates : List Fate) → AreFew fates
       → Follows part d c p fates → Goes part next c.memories (more c.memories) → Follows part (d >>= unless_fault next) (then_from c c.standing more) p fates
   follows_then c more d next p fates good first rest = follows_from c c.standing more d next p fates good refl first rest
 
-  opening_follows : (m : Memories) (p : Programmer) (fates : List Fate) → FitsPart part m → Idle part m p → AreGood fates
+  opening_follows : (m : Memories) (p : Programmer) (fates : List Fate) → FitsPart part m → Idle part m p → AreFew fates
       → Follows part (session.opening_part part s) (course.opening part s m) p fates
   opening_follows m p fates sizes idle good =
       ends_reported (host.opening part.signature s.force) (opening_says s.quiet part) (Ok part.signature) (Stands part m) p fates good
@@ -144,7 +150,7 @@ status_is Faulty = refl
 status_is Over = refl
 
 module _ (plan : Plan) (sound : IsPart plan.part) (fitted : All (IsFitted plan.part) plan.tasks) where
-  working_follows : (m : Memories) (p : Programmer) (fates : List Fate) → FitsPart plan.part m → Idle plan.part m p → AreGood fates
+  working_follows : (m : Memories) (p : Programmer) (fates : List Fate) → FitsPart plan.part m → Idle plan.part m p → AreFew fates
       → Follows plan.part (session.working plan) (course.working plan m) p fates
   working_follows m p fates sizes idle good =
       let part = plan.part in
@@ -158,7 +164,7 @@ module _ (plan : Plan) (sound : IsPart plan.part) (fitted : All (IsFitted plan.p
       (tasks_go part sound s plan.tasks begun.memories fitted)
 
   -- programming mode is left, unless the line has ended; of a fault after a fault nothing is said
-  ending_ends : (at : Standing) (m : Memories) (p : Programmer) (fates : List Fate) → Idle plan.part m p → AreGood fates
+  ending_ends : (at : Standing) (m : Memories) (p : Programmer) (fates : List Fate) → Idle plan.part m p → AreFew fates
       → Ends (session.ending plan.part plan.switches at) (at_end at) (ending_says plan at) (Idle plan.part m) p fates
   ending_ends Fine m p fates idle good =
       ends_reported host.closing (closed_says plan.switches.quiet plan.part) (Ok tt) (Idle plan.part m) p fates good (ends_closing plan.part m p fates idle good)
@@ -169,7 +175,7 @@ module _ (plan : Plan) (sound : IsPart plan.part) (fitted : All (IsFitted plan.p
   ending_ends Over m p fates idle good = ends_done Over (Idle plan.part m) p fates idle
 
   -- the whole session
-  pub session_ends : (m : Memories) (p : Programmer) (fates : List Fate) → FitsPart plan.part m → Idle plan.part m p → AreGood fates
+  pub session_ends : (m : Memories) (p : Programmer) (fates : List Fate) → FitsPart plan.part m → Idle plan.part m p → AreFew fates
       → Ends (session.session plan) (course.course plan m).status (course.course plan m).says (λ q. memories_of q.chip ≡ (course.course plan m).memories) p fates
   unfolding session.session
   session_ends m p fates sizes idle good =
@@ -187,3 +193,10 @@ module _ (plan : Plan) (sound : IsPart plan.part) (fitted : All (IsFitted plan.p
       ends_wider (session.session plan) (status_after c.standing) said rest (λ q. memories_of q.chip ≡ c.memories) p fates (λ q i. i.memories)
       (subst (λ status. Ends (session.session plan) status said rest p fates) (status_is c.standing)
       (subst (λ x. Ends (session.session plan) (status_of (at_end c.standing)) x rest p fates) (append-nil said) told))
+
+  -- it is done after at most four times its commands
+  pub session_done : (m : Memories) (k : ℕ) (p : Programmer) (fates : List Fate) → FitsPart plan.part m → Idle plan.part m p → AreFew fates → 4 * commands_in (run_steps plan) ≤ k
+      → (along device k (session.session plan) p fates).dialog ≡ Done (course.course plan m).status
+  session_done m k p fates sizes idle few le =
+      let within : (r : ℕ) × ((along device k (session.session plan) p fates).dialog ≡ Done r) = done_within device (4 * commands_in (run_steps plan)) k (session.session plan) p fates (session_most plan) le in
+      within.1 ∙ ap (λ r. Done r) ((session_ends m p fates sizes idle few).ends k within.0 within.1).result

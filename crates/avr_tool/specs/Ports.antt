@@ -1,0 +1,29 @@
+-- What a port of the settings says.
+use Rattle.std.specs.Prelude.{ℕ, List, []}
+use Rattle.avr_cli.specs.declared.chosen.Port.{Port}
+use Rattle.avr_cli.specs.declared.chosen.Port.TheVariants.{Emulated, Network, Served}
+
+-- the emulator; a connection; a service
+abbrev pub IsEmulated : Port → Type 0
+IsEmulated (Emulated file) = Unit {0}
+IsEmulated port = ⊥
+
+abbrev pub IsNetwork : Port → Type 0
+IsNetwork (Network address) = Unit {0}
+IsNetwork port = ⊥
+
+abbrev pub IsServed : Port → Type 0
+IsServed (Served port chip) = Unit {0}
+IsServed port = ⊥
+
+-- the name of its chip file
+abbrev pub chip_file_of : Port → List ℕ
+chip_file_of (Emulated file) = file
+chip_file_of (Served port chip) = chip
+chip_file_of port = []
+
+-- where it is: HOST:PORT of a connection, the digits of a service
+abbrev pub name_of : Port → List ℕ
+name_of (Network address) = address
+name_of (Served port chip) = port
+name_of port = []

@@ -1,0 +1,37 @@
+//! The front door: AVRDUDE over a programmer of the STK500 protocol, version 2, as one crate.
+//!
+//! The words of a command line become settings, the settings a plan, and the plan a run over a line, which answers a status:
+//! 0 where no fault came, else 1. All of it is made by the crates below; here their calls have one roof, and those that need
+//! a port take it from the settings, so that no caller can pass another.
+//!
+//! ```text
+//! let settings = settings(alloc, &read_words(alloc, &words)?)?;
+//! let status = match &settings.port {
+//!     Port::Stdio => run(alloc, &settings, &mut desk, &mut link),
+//!     Port::Emulated(_) => run_emu(alloc, &settings, &mut desk),
+//!     Port::Network(_) => run_net(rt, alloc, &settings, &mut desk),
+//!     Port::Served { .. } => serve_net(rt, alloc, &settings, &mut desk),
+//! };
+//! ```
+#![tactic(auto)]
+
+// the calls that take their port from the settings
+mod of_port;
+
+// from words to settings
+pub use avr_cli::{
+    Format, Op, Port, Settings, SettingsFault, Switches, Text, Update, UpdateFault, Updates,
+    make_command, parse_update, port_number, read_words, settings,
+};
+pub use avr_session::refuse;
+// what a run reads and writes beside its line
+pub use avr_desk::{Desk, DeskFault, MemDesk, SystemDesk};
+// from settings to status, over any line
+pub use avr_emulated::drive_wired;
+pub use avr_net::{accept, listen};
+pub use avr_plan::{Plan, plan};
+pub use avr_session::{drive, run};
+pub use of_port::{run_emu, run_net, serve, serve_net, serve_on};
+// lines
+pub use stk_emu::{Fate, Wired, noise_is_lawful};
+pub use stk_host::{Heard, Item, Link, LinkFault, StreamLink, TapeLink};

@@ -1,0 +1,119 @@
+//! Runs over the port that the settings name, and services at it.
+ghost use Rattle.avr_emulated.specs.Emulated.{RunsEmulated};
+ghost use Rattle.avr_net.specs.OverNet.{RunsOverNet};
+ghost use Rattle.avr_net.specs.ServedNet.{ServesNet};
+ghost use Rattle.avr_serve.specs.ServedRun.{RunsServed};
+ghost use Rattle.avr_tool.specs.Ports.{IsEmulated, IsNetwork, IsServed, name_of, chip_file_of};
+ghost use Rattle.avr_tool.specs.ServedOn.{ServesListener};
+
+use avr_cli::{Port, Settings};
+use avr_desk::Desk;
+use avr_emulated::run_emulated;
+use avr_net::{run_net as run_at, serve_net as serve_at, serve_on as serve_caller};
+use avr_serve::{find_chip, serve as serve_over};
+use std::alloc::Global;
+use std::io::{Read, Write};
+use std::net::{Net, OpenListener, OpenStream};
+use stk_host::Link;
+
+/// Runs what the settings ask for over the emulator, as [`run_emulated`] does with the chip file of their port.
+pub fn run_emu<D: Desk>(alloc: Global, settings: &Settings, desk: &mut D) -> u8
+    requires port { IsEmulated settings.now.port }
+    ensures runs { RunsEmulated settings.now (chip_file_of settings.now.port) (D.kept desk.old) (D.kept desk.new)
+        (D.failures desk.old) (D.failures desk.new) result }
+{
+    let Port::Emulated(file) = &settings.port else {
+        unreachable!()
+    };
+    run_emulated(alloc, settings, file.as_str(), desk)
+}
+
+/// Runs what the settings ask for over the network, as [`avr_net::run_net`] does with the address of their port.
+pub fn run_net<R: Net, D: Desk>(rt: &R, alloc: Global, settings: &Settings, desk: &mut D) -> u8
+    requires port { IsNetwork settings.now.port }
+    ensures runs { RunsOverNet settings.now (name_of settings.now.port) (D.kept desk.old) (D.kept desk.new)
+        (D.failures desk.old) (D.failures desk.new) result }
+{
+    let Port::Network(address) = &settings.port else {
+        unreachable!()
+    };
+    run_at(rt, alloc, settings, address.as_str(), desk)
+}
+
+/// Serves the emulator over a link, as [`avr_serve::serve`] does with the chip file of the settings.
+pub fn serve<D: Desk, L: Link>(alloc: Global, settings: &Settings, desk: &mut D, link: &mut L) -> u8
+    requires port { IsServed settings.now.port }
+    ensures runs { RunsServed settings.now (chip_file_of settings.now.port) 16777216 (L.talk link.old) (L.talk link.new)
+        (L.failures link.old) (L.failures link.new) (D.kept desk.old) (D.kept desk.new)
+        (D.failures desk.old) (D.failures desk.new) result }
+{
+    let Port::Served { chip, .. } = &settings.port else {
+        unreachable!()
+    };
+    serve_over(alloc, settings, chip.as_str(), desk, link)
+}
+
+/// Loads the chip of this file, accepts one connection and serves the chip over it.
+fn serve_first<L: OpenListener, D: Desk>(
+    alloc: Global,
+    settings: &Settings,
+    port: &str,
+    file: &str,
+    listener: &L,
+    desk: &mut D,
+) -> u8
+where
+    L::Stream: Read + Write + OpenStream,
+    ensures serves { ServesListener settings.now port.now file.now (D.kept desk.old) (D.kept desk.new)
+        (D.failures desk.old) (D.failures desk.new) result }
+{
+    let chip = match find_chip(alloc, settings, file, desk) {
+        Ok(chip) => chip,
+        Err(status) => return status,
+    };
+    serve_caller(alloc, chip, port, file, listener, desk)
+}
+
+/// Serves the emulator to the first caller of a listener, in at most 16,777,216 reads.
+///
+/// The part and the chip file of the settings are judged before a connection is accepted: where they are refused nobody is
+/// waited for. A connection that can't be accepted is told of the settings' port, and then no file is written.
+///
+/// The status is 0 where the caller ended it and the chip was saved, else 1.
+pub fn serve_on<L: OpenListener, D: Desk>(
+    alloc: Global,
+    settings: &Settings,
+    listener: &L,
+    desk: &mut D,
+) -> u8
+where
+    L::Stream: Read + Write + OpenStream,
+    requires port { IsServed settings.now.port }
+    ensures serves { ServesListener settings.now (name_of settings.now.port) (chip_file_of settings.now.port)
+        (D.kept desk.old) (D.kept desk.new) (D.failures desk.old) (D.failures desk.new) result }
+{
+    let Port::Served { port, chip } = &settings.port else {
+        unreachable!()
+    };
+    serve_first(
+        alloc,
+        settings,
+        port.as_str(),
+        chip.as_str(),
+        listener,
+        desk,
+    )
+}
+
+/// Serves the emulator at the port of 127.0.0.1 that the settings name, as [`avr_net::serve_net`] does with that port and the
+/// chip file of the settings.
+pub fn serve_net<R: Net, D: Desk>(rt: &R, alloc: Global, settings: &Settings, desk: &mut D) -> u8
+    requires port { IsServed settings.now.port }
+    ensures serves { ServesNet settings.now (name_of settings.now.port) (chip_file_of settings.now.port)
+        (D.kept desk.old) (D.kept desk.new) (D.failures desk.old) (D.failures desk.new) result }
+{
+    let Port::Served { port, chip } = &settings.port else {
+        unreachable!()
+    };
+    serve_at(rt, alloc, settings, port.as_str(), chip.as_str(), desk)
+}
