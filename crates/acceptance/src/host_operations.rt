@@ -30,7 +30,7 @@ fn programs(rt: &impl Abort, alloc: Global, mem: Mem, bytes: &[u8]) -> Result<()
     host.open(&mut wire, false)?;
     host.erase(&mut wire)?;
     host.write(&mut wire, mem, &image)?;
-    host.verify(&mut wire, alloc, mem, &image)?;
+    host.verify(alloc, &mut wire, mem, &image)?;
     let mut read = Vec::new(alloc);
     host.read(&mut wire, mem, &mut read)?;
     host.close(&mut wire)?;
@@ -150,7 +150,7 @@ fn write_unerased(alloc: Global, part: &Part, wire: &mut Wired) -> Result<Option
     let mut host = Host::new(part);
     host.open(wire, false)?;
     host.write(wire, Mem::Flash, &image)?;
-    let fault = host.verify(wire, alloc, Mem::Flash, &image).err();
+    let fault = host.verify(alloc, wire, Mem::Flash, &image).err();
     host.close(wire)?;
     Ok(fault)
 }

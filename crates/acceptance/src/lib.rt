@@ -16,7 +16,7 @@
 //! host.open(&mut wire, false)?;
 //! host.erase(&mut wire)?;
 //! host.write(&mut wire, Mem::Flash, &image)?;
-//! host.verify(&mut wire, alloc, Mem::Flash, &image)?;
+//! host.verify(alloc, &mut wire, Mem::Flash, &image)?;
 //! host.close(&mut wire)?;
 //! ```
 #![tactic(auto)]

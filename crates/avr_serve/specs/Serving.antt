@@ -83,8 +83,10 @@ pub record Serves (old : Machine) (turns : ℕ) (served : Served) (before after 
   pub in_turn : (p : Programmer) (text : List ℕ) → IsFed p text old → AnswersInTurn p text (emulate p text) during
   pub leaves : (p : Programmer) (text : List ℕ) → IsFed p text old → Leaves served p text during now
 
--- where the link is said to have failed, its count of failures rose or stands at its end
+-- Where the link is said to have failed, its count of failures rose or stands at its end; where it isn't, the count is what it
+-- was.
 abbrev pub FailsBy : Served → ℕ → ℕ → Type 0
+FailsBy Ended before now = now ≡ before
 FailsBy RecvFailed before now = HasFailed before now
 FailsBy SendFailed before now = HasFailed before now
-FailsBy _ before now = Unit {0}
+FailsBy TooManyReads before now = now ≡ before

@@ -12,7 +12,6 @@
 #![tactic(auto)]
 
 // the answers to what is heard
-mod send;
 mod serving;
 // from settings to status
 mod ending;

@@ -272,10 +272,8 @@ of_frame : (begun later : List Saying) → AtFrame (map Said begun) (map Said la
 of_frame begun later x = quiet_by begun (Frame x.done ∷ []) x.part refl
 
 begun_none : (cause : Cause) (whole begun later : List Saying) → StopsAt cause (map Said whole) (map Said begun) (map Said later) → tells_fault later ≡ false → tells_fault begun ≡ false
-begun_none OfSending whole begun later (inl x) none = of_frame begun later x
-begun_none OfSending whole begun later (inr x) none = quiet_by begun [] x refl
-begun_none OfListening whole begun later (inl x) none = of_frame begun later x
-begun_none OfListening whole begun later (inr x) none = quiet_by begun [] x refl
+begun_none OfSending whole begun later x none = of_frame begun later x
+begun_none OfListening whole begun later x none = quiet_by begun [] x.0 refl
 begun_none (OfFile file NotCreated) whole begun later x none = quiet_by begun [] x.none refl
 begun_none (OfFile file NotWritten) whole begun later (inl x) none = quiet_by begun (Said (Writes x.done) ∷ []) x.part refl
 begun_none (OfFile file NotWritten) whole begun later (inr x) none = quiet_by begun (Said (Outs x.done) ∷ []) x.part refl

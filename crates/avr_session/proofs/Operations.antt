@@ -17,7 +17,9 @@ use Rattle.stk_host.specs.WriteSteps.{write_steps}
 use Rattle.stk_host.specs.Operations.{host_fault, signature_judged, ended, beginning, opening, closing, operation, judged_by, done, erasing, writing}
 use Rattle.stk_host.specs.Talk.{Talk, heard}
 use Rattle.stk_host.specs.Dialog.{Dialog, Done, ◌>>=◌, Played, played}
-use Rattle.stk_host.specs.Play.{PlaysOver, BreaksOver}
+use Rattle.stk_host.specs.declared.fault.Broken.{Broken}
+use Rattle.stk_host.specs.declared.fault.Broken.TheVariants.{Send, Recv}
+use Rattle.stk_host.specs.Play.{PlaysOver, FailsOver}
 use Rattle.stk_host.specs.Calls.{EndsCall, EndsOrLacks, IsBroken}
 use Rattle.stk_host.proofs.Leading.{continued, played_bind}
 use Rattle.avr_message.specs.Said.{Saying}
@@ -27,7 +29,7 @@ use Rattle.avr_session.specs.Lines.{fault_line}
 use Rattle.avr_session.specs.Session.{says, standing, reported, fault_or}
 use Rattle.avr_session.specs.Runs.{Cause, OfSending, OfListening, OfMemory, cause_line, HasCome, PrintStops, PrintsSome, SaysFront, Reports, BrokeOff, Runs}
 use Rattle.avr_session.proofs.Reporting.{told_some}
-use Rattle.avr_session.proofs.Running.{came_lifted, came_said, came_on, ran_from, broke_lifted, broke_saying, broke_operation, broke_lacking, IsOfLink, ToldBy}
+use Rattle.avr_session.proofs.Running.{came_lifted, came_said, came_on, ran_from, broke_lifted, broke_saying, broke_operation, broke_lacking, broken_cause, ToldBy}
 
 -- the outcome stops the run
 abbrev pub IsStop : {A : Type 0} → Result A HostFault → Type 0
@@ -75,50 +77,39 @@ stop_kind (Err (ReadOnly mem)) stop = absurd stop
 stop_kind (Err Memory) stop = inr tt
 stop_kind (Err RecvFailed) stop = inl tt
 
-broken_stops : {A : Type 0} (outcome : Result A HostFault) → IsBroken outcome → IsStop outcome
-broken_stops (Ok a) broken = absurd broken
-broken_stops (Err NoAnswer) broken = absurd broken
-broken_stops (Err LinkEnded) broken = absurd broken
-broken_stops (Err SendFailed) broken = tt
-broken_stops (Err Babble) broken = absurd broken
-broken_stops (Err (Refused command status)) broken = absurd broken
-broken_stops (Err (BadAnswer command)) broken = absurd broken
-broken_stops (Err (WrongSignature found)) broken = absurd broken
-broken_stops (Err (Differs mem address want found)) broken = absurd broken
-broken_stops (Err (ReadOnly mem)) broken = absurd broken
-broken_stops (Err Memory) broken = absurd broken
-broken_stops (Err RecvFailed) broken = tt
-
 memory_stops : {A : Type 0} (outcome : Result A HostFault) → IsMemory outcome → IsStop outcome
 memory_stops outcome is = subst IsStop (sym (memory_is outcome is)) tt
 
-of_link : {A : Type 0} (outcome : Result A HostFault) → IsBroken outcome → IsOfLink (cause_of outcome)
-of_link (Ok a) broken = absurd broken
-of_link (Err NoAnswer) broken = absurd broken
-of_link (Err LinkEnded) broken = absurd broken
-of_link (Err SendFailed) broken = tt
-of_link (Err Babble) broken = absurd broken
-of_link (Err (Refused command status)) broken = absurd broken
-of_link (Err (BadAnswer command)) broken = absurd broken
-of_link (Err (WrongSignature found)) broken = absurd broken
-of_link (Err (Differs mem address want found)) broken = absurd broken
-of_link (Err (ReadOnly mem)) broken = absurd broken
-of_link (Err Memory) broken = absurd broken
-of_link (Err RecvFailed) broken = tt
+-- the link failed at this
+abbrev fault_of : Broken → HostFault
+fault_of Send = SendFailed
+fault_of Recv = RecvFailed
+
+link_stops : {A : Type 0} (by : Broken) (outcome : Result A HostFault) → outcome ≡ Err (fault_of by) → IsStop outcome
+link_stops Send outcome is = subst IsStop (sym is) tt
+link_stops Recv outcome is = subst IsStop (sym is) tt
+
+link_cause : {A : Type 0} (by : Broken) (outcome : Result A HostFault) → outcome ≡ Err (fault_of by) → cause_of outcome ≡ broken_cause by
+link_cause Send outcome is = ap cause_of is
+link_cause Recv outcome is = ap cause_of is
+
+link_not : {A : Type 0} (by : Broken) (outcome : Result A HostFault) → outcome ≡ Err (fault_of by) → outcome ≡ Err Memory → ⊥
+link_not Send outcome is other = cc
+link_not Recv outcome is other = cc
 
 -- How a call ended: it was played whole to an outcome that does not stop the run; or the link broke it off; or memory was
 -- refused before anything was sent or heard, where memory is taken.
 abbrev pub Ended : {A : Type 0} → Bool → Dialog ⊥ (Result A HostFault) → ℕ → List ℕ → Option Talk → Option Talk → Result A HostFault → ℕ → List ℕ → Type 0
 Ended takes dialog m u o p outcome n v =
     (PlaysOver dialog m u o p outcome n v × (after_outcome outcome ≡ Ok (standing outcome)))
-    ⊎ ((IsBroken outcome × BreaksOver dialog m u o p) ⊎ ((takes ≡ true) × IsMemory outcome × (p ≡ o)))
+    ⊎ (((by : Broken) × (outcome ≡ Err (fault_of by)) × FailsOver by dialog m u o p) ⊎ ((takes ≡ true) × IsMemory outcome × (p ≡ o)))
 
 -- memory is refused only where it is taken
 pub lacks_where : {A : Type 0} (takes : Bool) (dialog : Dialog ⊥ (Result A HostFault)) (m : ℕ) (u : List ℕ) (o p : Option Talk) (outcome : Result A HostFault) (n : ℕ) (v : List ℕ) → Ended takes dialog m u o p outcome n v → IsMemory outcome → takes ≡ true
 lacks_where takes dialog m u o p outcome n v (inl played) is =
     let e = subst (λ x. after_outcome x ≡ Ok (standing x)) (memory_is outcome is) played.1 in
     cc
-lacks_where takes dialog m u o p outcome n v (inr (inl broke)) is = absurd (subst IsBroken (memory_is outcome is) broke.0)
+lacks_where takes dialog m u o p outcome n v (inr (inl broke)) is = absurd (link_not broke.0 outcome broke.1 (memory_is outcome is))
 lacks_where takes dialog m u o p outcome n v (inr (inr lacks)) is = lacks.0
 
 -- where none is taken, only the link breaks off a call
@@ -132,7 +123,7 @@ pub call_ended : {A : Type 0} (dialog : Dialog ⊥ (Result A HostFault)) (m : �
 call_ended dialog m u o p (Ok a) n v never ends = inl (ends, refl)
 call_ended dialog m u o p (Err NoAnswer) n v never ends = inl (ends, refl)
 call_ended dialog m u o p (Err LinkEnded) n v never ends = inl (ends, refl)
-call_ended dialog m u o p (Err SendFailed) n v never ends = inr (inl (tt, ends))
+call_ended dialog m u o p (Err SendFailed) n v never ends = inr (inl (Send, refl, ends))
 call_ended dialog m u o p (Err Babble) n v never ends = inl (ends, refl)
 call_ended dialog m u o p (Err (Refused command status)) n v never ends = inl (ends, refl)
 call_ended dialog m u o p (Err (BadAnswer command)) n v never ends = inl (ends, refl)
@@ -140,13 +131,13 @@ call_ended dialog m u o p (Err (WrongSignature found)) n v never ends = inl (end
 call_ended dialog m u o p (Err (Differs mem address want found)) n v never ends = inl (ends, refl)
 call_ended dialog m u o p (Err (ReadOnly mem)) n v never ends = inl (ends, refl)
 call_ended dialog m u o p (Err Memory) n v never ends = absurd (never ends)
-call_ended dialog m u o p (Err RecvFailed) n v never ends = inr (inl (tt, ends))
+call_ended dialog m u o p (Err RecvFailed) n v never ends = inr (inl (Recv, refl, ends))
 
 pub lack_ended : {A : Type 0} (dialog : Dialog ⊥ (Result A HostFault)) (m : ℕ) (u : List ℕ) (o p : Option Talk) (outcome : Result A HostFault) (n : ℕ) (v : List ℕ) → EndsOrLacks dialog m u o p outcome n v → Ended true dialog m u o p outcome n v
 lack_ended dialog m u o p (Ok a) n v ends = inl (ends, refl)
 lack_ended dialog m u o p (Err NoAnswer) n v ends = inl (ends, refl)
 lack_ended dialog m u o p (Err LinkEnded) n v ends = inl (ends, refl)
-lack_ended dialog m u o p (Err SendFailed) n v ends = inr (inl (tt, ends))
+lack_ended dialog m u o p (Err SendFailed) n v ends = inr (inl (Send, refl, ends))
 lack_ended dialog m u o p (Err Babble) n v ends = inl (ends, refl)
 lack_ended dialog m u o p (Err (Refused command status)) n v ends = inl (ends, refl)
 lack_ended dialog m u o p (Err (BadAnswer command)) n v ends = inl (ends, refl)
@@ -154,7 +145,7 @@ lack_ended dialog m u o p (Err (WrongSignature found)) n v ends = inl (ends, ref
 lack_ended dialog m u o p (Err (Differs mem address want found)) n v ends = inl (ends, refl)
 lack_ended dialog m u o p (Err (ReadOnly mem)) n v ends = inl (ends, refl)
 lack_ended dialog m u o p (Err Memory) n v ends = inr (inr (refl, tt, ends.0))
-lack_ended dialog m u o p (Err RecvFailed) n v ends = inr (inl (tt, ends))
+lack_ended dialog m u o p (Err RecvFailed) n v ends = inr (inl (Recv, refl, ends))
 
 -- no step answers that memory was refused: what is judged of its outcome doesn't either
 
@@ -270,22 +261,23 @@ stop_is (Err RecvFailed) takes k l a b failed lacks stop = failed tt
 
 -- An operation and its report are a part of a session.
 pub operation_runs : {A : Type 0} {operation : Dialog ⊥ (Result A HostFault)} (takes : Bool) (outcome_says : Result A HostFault → List Saying) {m n : ℕ} {u v : List ℕ} {o p : Option Talk} (outcome : Result A HostFault) (d e : Option Record)
-    (told : Result (Unit {0}) Stopped) (S : List Saying → Cause → List ℕ → Type 0) (T : Cause → List ℕ → Type 0)
+    (said : Result (Unit {0}) Stopped) (S : List Saying → Cause → List ℕ → Type 0) (T : Cause → List ℕ → Type 0)
     → ((mid : Option Record) (cause : Cause) (front : SaysFront cause d mid (outcome_says outcome)) (told : List ℕ) → T cause told → S (front.whole ++ front.begun) cause told)
-    → Ended takes operation m u o p outcome n v → length v ≤ 281 → Reports d e (outcome_says outcome) T told → (IsStop outcome → ToldBy S (cause_of outcome) d e)
-    → Runs (reported operation outcome_says) m u o p d e S (concluded outcome told) n v
+    → Ended takes operation m u o p outcome n v → length v ≤ 281 → Reports d e (outcome_says outcome) T said → (IsStop outcome → ToldBy S (cause_of outcome) d e)
+    → Runs (reported operation outcome_says) m u o p d e S (concluded outcome said) n v
 operation_runs {operation = operation} takes outcome_says {m = m} {n = n} {u = u} {v = v} {o = o} {p = p} outcome d e (Ok done) S T why (inl played) few reports some =
     subst (λ r. Runs (reported operation outcome_says) m u o p d e S r n v) (sym played.1)
     (ran_from (came_on (came_lifted (λ outcome. says (outcome_says outcome) (Done (standing outcome))) d played.0 few) (came_said (outcome_says outcome) (Done (standing outcome)) n v p reports)))
 operation_runs {operation = operation} takes outcome_says {n = n} {v = v} {p = p} outcome d e (Err stopped) S T why (inl played) few reports some =
     broke_lifted (λ outcome. says (outcome_says outcome) (Done (standing outcome))) played.0 few
     (broke_saying (outcome_says outcome) (Done (standing outcome)) n v p why reports)
-operation_runs {operation = operation} takes outcome_says {m = m} {n = n} {u = u} {v = v} {o = o} {p = p} outcome d e told S T why (inr (inl broke)) few reports some =
-    let stop = broken_stops outcome broke.0 in
-    subst (λ r. Runs (reported operation outcome_says) m u o p d e S r n v) (sym (stop_goes outcome told stop))
-    (broke_operation (λ outcome. says (outcome_says outcome) (Done (standing outcome))) (cause_of outcome) (of_link outcome broke.0) broke.1 (some stop))
-operation_runs {operation = operation} takes outcome_says {m = m} {n = n} {u = u} {v = v} {o = o} {p = p} outcome d e told S T why (inr (inr lacks)) few reports some =
+operation_runs {operation = operation} takes outcome_says {m = m} {n = n} {u = u} {v = v} {o = o} {p = p} outcome d e said S T why (inr (inl broke)) few reports some =
+    let stop = link_stops broke.0 outcome broke.1 in
+    let why_not : ToldBy S (broken_cause broke.0) d e = subst (λ cause. ToldBy S cause d e) (link_cause broke.0 outcome broke.1) (some stop) in
+    subst (λ r. Runs (reported operation outcome_says) m u o p d e S r n v) (sym (stop_goes outcome said stop))
+    (broke_operation broke.0 (λ outcome. says (outcome_says outcome) (Done (standing outcome))) broke.2 why_not)
+operation_runs {operation = operation} takes outcome_says {m = m} {n = n} {u = u} {v = v} {o = o} {p = p} outcome d e said S T why (inr (inr lacks)) few reports some =
     let stop = memory_stops outcome lacks.1 in
     let why_not : ToldBy S OfMemory d e = subst (λ cause. ToldBy S cause d e) (ap cause_of (memory_is outcome lacks.1)) (some stop) in
-    subst (λ r. Runs (reported operation outcome_says) m u o p d e S r n v) (sym (stop_goes outcome told stop))
+    subst (λ r. Runs (reported operation outcome_says) m u o p d e S r n v) (sym (stop_goes outcome said stop))
     (subst (λ q. BrokeOff (reported operation outcome_says) m u o q d e S) (sym lacks.2) (broke_lacking (reported operation outcome_says) m u o why_not))

@@ -9,26 +9,24 @@ use Rattle.stk_host.specs.Play as play
 use Rattle.avr_message.specs.Lines.{Bytes}
 use Rattle.avr_message.specs.Said.{Saying, Line, Creates, Writes, Outs, SaidPart, after_all}
 use Rattle.avr_message.proofs.Saying.{kept_append}
-use Rattle.avr_session.specs.Runs.{Cause, OfSending, OfListening, OfFile, OfPrinting, OfMemory, NotCreated, NotWritten, AtFrame, AtLine, AtCreation, AtFile, AtOutput, StopsAt, SaysFront}
+use Rattle.avr_session.specs.Runs.{Cause, OfSending, OfListening, OfFile, OfPrinting, OfMemory, NotCreated, NotWritten, AtFrame, AtLine, AtCreation, AtFile, AtOutput, StopsAt, Listens, IsOfDesk, SaysFront}
 
 -- ---- events
 
 frame_more : {begun later : List (Event Saying)} (more : List (Event Saying)) → AtFrame begun later → AtFrame begun (later ++ more)
-frame_more more x = record { bytes = x.bytes; done = x.done; more = x.more ++ more; due = ap (λ es. es ++ more) x.due; part = x.part; front = x.front }
+frame_more more x = record { done = x.done; unsent = x.unsent; more = x.more ++ more; due = ap (λ es. es ++ more) x.due; part = x.part; not_whole = x.not_whole }
 
--- more that is due behind it
-pub place_more : (cause : Cause) (whole begun later more : List (Event Saying)) → StopsAt cause whole begun later → StopsAt cause whole begun (later ++ more)
-place_more OfSending whole begun later more (inl x) = inl (frame_more more x)
-place_more OfSending whole begun later more (inr none) = inr none
-place_more OfListening whole begun later more (inl x) = inl (frame_more more x)
-place_more OfListening whole begun later more (inr none) = inr none
-place_more (OfFile file NotCreated) whole begun later more x = record { more = x.more ++ more; due = ap (λ es. es ++ more) x.due; none = x.none }
-place_more (OfFile file NotWritten) whole begun later more (inl x) =
+-- more that is due behind it, unless it listens
+pub place_more : (cause : Cause) (whole begun later more : List (Event Saying)) → (cause ≡ OfListening → more ≡ []) → StopsAt cause whole begun later → StopsAt cause whole begun (later ++ more)
+place_more OfSending whole begun later more none x = frame_more more x
+place_more OfListening whole begun later more none x = (x.0, ap (λ es. es ++ more) x.1 ∙ none refl)
+place_more (OfFile file NotCreated) whole begun later more none x = record { more = x.more ++ more; due = ap (λ es. es ++ more) x.due; none = x.none }
+place_more (OfFile file NotWritten) whole begun later more none (inl x) =
     inl (record { bytes = x.bytes; done = x.done; before = x.before; more = x.more ++ more; created = x.created; due = ap (λ es. es ++ more) x.due; part = x.part; front = x.front })
-place_more (OfFile file NotWritten) whole begun later more (inr x) =
+place_more (OfFile file NotWritten) whole begun later more none (inr x) =
     inr (record { bytes = x.bytes; done = x.done; more = x.more ++ more; named = x.named; due = ap (λ es. es ++ more) x.due; part = x.part; front = x.front })
-place_more OfPrinting whole begun later more x = record { bytes = x.bytes; done = x.done; more = x.more ++ more; due = ap (λ es. es ++ more) x.due; part = x.part; front = x.front }
-place_more OfMemory whole begun later more none = none
+place_more OfPrinting whole begun later more none x = record { bytes = x.bytes; done = x.done; more = x.more ++ more; due = ap (λ es. es ++ more) x.due; part = x.part; front = x.front }
+place_more OfMemory whole begun later more none x = x
 
 -- more that happened before it
 pub place_behind : (cause : Cause) (before whole begun later : List (Event Saying)) → StopsAt cause whole begun later → StopsAt cause (before ++ whole) begun later
@@ -51,18 +49,32 @@ place_behind OfMemory before whole begun later none = none
 
 -- what was done in part is a part of what was due
 frame_part : (begun later : List (Event Saying)) → AtFrame begun later → play.IsBegun SaidPart begun later
-frame_part begun later x = rw (x.part, x.due) x.front
+frame_part begun later x = rw (x.part, x.due) (x.unsent, refl)
 
 pub place_part : (cause : Cause) (whole begun later : List (Event Saying)) → StopsAt cause whole begun later → play.IsBegun SaidPart begun later
-place_part OfSending whole begun later (inl x) = frame_part begun later x
-place_part OfSending whole begun later (inr none) = rw none tt
-place_part OfListening whole begun later (inl x) = frame_part begun later x
-place_part OfListening whole begun later (inr none) = rw none tt
+place_part OfSending whole begun later x = frame_part begun later x
+place_part OfListening whole begun later x = rw (x.0) tt
 place_part (OfFile file NotCreated) whole begun later x = rw (x.none) tt
 place_part (OfFile file NotWritten) whole begun later (inl x) = rw (x.part, x.due) x.front
 place_part (OfFile file NotWritten) whole begun later (inr x) = rw (x.part, x.due) x.front
 place_part OfPrinting whole begun later x = rw (x.part, x.due) x.front
 place_part OfMemory whole begun later none = rw none tt
+
+-- a desk doesn't listen
+
+pub desk_says : (cause : Cause) → IsOfDesk cause → cause ≡ OfListening → ⊥
+desk_says OfSending desk is = desk
+desk_says OfListening desk is = desk
+desk_says (OfFile file trouble) desk is = cc
+desk_says OfPrinting desk is = cc
+desk_says OfMemory desk is = desk
+
+pub desk_listens : {A : Type 0} (cause : Cause) (outcome : Option A) → IsOfDesk cause → Listens cause outcome
+desk_listens OfSending outcome desk = tt
+desk_listens OfListening outcome desk = absurd desk
+desk_listens (OfFile file trouble) outcome desk = tt
+desk_listens OfPrinting outcome desk = tt
+desk_listens OfMemory outcome desk = tt
 
 -- ---- sayings
 
@@ -87,6 +99,7 @@ front_behind {cause = cause} {d = d} {e = e} {f = f} done more kept x = record {
   sayings_are = ap (λ (ss : List Saying). done ++ ss) x.sayings_are ∙ sym (append_assoc done x.whole x.later);
   place = subst (λ (whole : List (Event Saying)). StopsAt cause whole (map Said x.begun) (map Said x.later)) (sym (map_append done x.whole))
       (place_behind cause (map Said done) (map Said x.whole) (map Said x.begun) (map Said x.later) x.place);
+  by_desk = x.by_desk;
   kept = subst (λ ss. f ≡ option_map (after_all ss) d) (sym (append_assoc done x.whole x.begun)) (kept_append done (x.whole ++ x.begun) d e f kept x.kept);
 }
 
@@ -98,7 +111,8 @@ front_of {cause = cause} some more x = record {
   later = x.later ++ more;
   sayings_are = ap (λ (ss : List Saying). ss ++ more) x.sayings_are ∙ append_assoc x.whole x.later more;
   place = subst (λ (later : List (Event Saying)). StopsAt cause (map Said x.whole) (map Said x.begun) later) (sym (map_append x.later more))
-      (place_more cause (map Said x.whole) (map Said x.begun) (map Said x.later) (map Said more) x.place);
+      (place_more cause (map Said x.whole) (map Said x.begun) (map Said x.later) (map Said more) (λ listens. absurd (desk_says cause x.by_desk listens)) x.place);
+  by_desk = x.by_desk;
   kept = x.kept;
 }
 
@@ -110,6 +124,7 @@ line_part old new bytes part = record {
   later = Line bytes ∷ [];
   sayings_are = refl;
   place = record { bytes = bytes; done = take part.0 bytes; more = []; due = refl; part = refl; front = (drop part.0 bytes, take-append-drop part.0 bytes) };
+  by_desk = tt;
   kept = part.2;
 }
 
@@ -122,6 +137,7 @@ file_part old mid new file bytes created part = record {
   later = Writes bytes ∷ [];
   sayings_are = refl;
   place = inl (record { bytes = bytes; done = take part.0 bytes; before = []; more = []; created = refl; due = refl; part = refl; front = (drop part.0 bytes, take-append-drop part.0 bytes) });
+  by_desk = tt;
   kept = kept_append (Creates file ∷ []) (Writes (take part.0 bytes) ∷ []) old mid new created part.2;
 }
 
@@ -133,5 +149,6 @@ output_part old new file bytes named part = record {
   later = Outs bytes ∷ [];
   sayings_are = refl;
   place = inr (record { bytes = bytes; done = take part.0 bytes; more = []; named = named; due = refl; part = refl; front = (drop part.0 bytes, take-append-drop part.0 bytes) });
+  by_desk = tt;
   kept = part.2;
 }

@@ -1,20 +1,22 @@
 -- How a call over a link and a desk goes on in its dialog.
-use Rattle.std.proofs.Common.{◌≡◌, ◌⊎◌, ℕ, ◌≤◌, List, [], ◌∷◌, ◌++◌, append_assoc, length, map, refl, sym, ap, ◌∙◌, subst, Option, option_map, inl, inr}
+use Rattle.std.proofs.Common.{◌≡◌, ℕ, ◌≤◌, List, [], ◌∷◌, ◌++◌, append_assoc, append-nil, length, map, refl, sym, ap, ◌∙◌, subst, Option, None, option_map}
 use Rattle.avr_desk.specs.Record.{Record, after_err}
-use Rattle.stk_host.specs.Tape.{on_tape}
+use Rattle.stk_host.specs.declared.fault.Broken.{Broken}
+use Rattle.stk_host.specs.declared.fault.Broken.TheVariants.{Send, Recv}
+use Rattle.stk_host.specs.Tape.{Tape, on_tape}
 use Rattle.stk_host.specs.Talk.{Talk, Grows, heard}
 use Rattle.stk_host.specs.Dialog.{Dialog, Done, ◌>>=◌, lifted, Event, Frame, Said, Played, played, bytes_sent, sayings}
-use Rattle.stk_host.specs.Play.{Plays, PlaysOver, BreaksOver, NoPart, IsBegun}
+use Rattle.stk_host.specs.Play.{Plays, PlaysOver, FailsOver}
 use Rattle.stk_host.specs.Reach.{Leads}
 use Rattle.stk_host.proofs.Talks.{grows_none, grows_on}
 use Rattle.stk_host.proofs.Leading.{continued, played_bind, leads_here, leads_on, leads_bind, leads_say, leads_from, plays_from, breaks_on, breaks_bind}
-use Rattle.stk_host.proofs.Lifting.{raised, played_lifted, plays_lifted, breaks_lifted, sayings_raised}
+use Rattle.stk_host.proofs.Lifting.{raised, plays_lifted, by_lifted, sayings_raised}
 use Rattle.stk_host.proofs.Talks.{heard_append}
 use Rattle.avr_message.specs.Said.{Saying, SaidPart, after_all}
 use Rattle.avr_message.proofs.Saying.{kept_on, kept_none, after_append}
 use Rattle.avr_session.specs.Session.{says}
-use Rattle.avr_session.specs.Runs.{Cause, OfSending, OfListening, OfFile, OfPrinting, OfMemory, AtFrame, StopsAt, SaysFront, Ran, BrokeOff, SaidSome}
-use Rattle.avr_session.proofs.Places.{place_more, place_behind, place_part, sayings_said, map_append}
+use Rattle.avr_session.specs.Runs.{Cause, OfSending, OfListening, OfFile, OfPrinting, OfMemory, Listens, SaysFront, Ran, BrokeOff, SaidSome}
+use Rattle.avr_session.proofs.Places.{place_more, place_behind, place_part, desk_says, desk_listens, sayings_said, map_append}
 
 -- a call has come so far: what is left of its dialog, and what was sent and said
 pub record Came {R : Type 0} (dialog : Dialog Saying R) (seq : ℕ) (unread : List ℕ) (old new : Option Talk) (old_desk new_desk : Option Record) (rest : Dialog Saying R) (next : ℕ) (left : List ℕ) : Type 0 where
@@ -100,6 +102,7 @@ pub broke_on : {R : Type 0} {a b : Dialog Saying R} {m n : ℕ} {u v : List ℕ}
 broke_on {a = a} {m = m} {u = u} {o = o} {p = p} {q = q} {d = d} {e = e} {f = f} {T = T} x why y =
     let front = y.breaks.front in
     let whole = breaks_on SaidPart x.leads y.breaks in
+    let play = ap (λ t. played a m (on_tape u ++ t)) (heard_append x.during y.during) ∙ x.leads.goes_on (heard y.during) in
     record {
       during = x.during ++ y.during;
       shown = x.events ++ y.shown;
@@ -112,7 +115,7 @@ broke_on {a = a} {m = m} {u = u} {o = o} {p = p} {q = q} {d = d} {e = e} {f = f}
           begun = front.begun;
           later = front.later;
           shown_is = ap (λ es. x.events ++ es) front.shown_is ∙ sym (append_assoc x.events front.whole front.begun);
-          events_are = ap (λ (play : Played Saying _). play.events) (ap (λ t. played a m (on_tape u ++ t)) (heard_append x.during y.during) ∙ x.leads.goes_on (heard y.during))
+          events_are = ap (λ (play : Played Saying _). play.events) play
               ∙ (ap (λ es. x.events ++ es) front.events_are ∙ sym (append_assoc x.events front.whole front.later));
           part = front.part;
         };
@@ -120,6 +123,7 @@ broke_on {a = a} {m = m} {u = u} {o = o} {p = p} {q = q} {d = d} {e = e} {f = f}
         in_turn = whole.in_turn;
       };
       place = place_behind y.cause x.events front.whole front.begun front.later y.place;
+      listens = subst (Listens y.cause) (sym (ap (λ (play : Played Saying _). play.outcome) play)) y.listens;
       stops = subst (λ said. T said y.cause y.told) (sym (sayings_append x.events y.shown)) (why (sayings y.shown) y.cause y.told y.stops);
       kept = kept_on (after_all (sayings x.events)) (λ r. after_err y.told (after_all (sayings y.shown) r)) (λ r. after_err y.told (after_all (sayings (x.events ++ y.shown)) r)) d e f
           (λ r. ap (after_err y.told) (after_both x.events y.shown r)) x.kept y.kept;
@@ -137,6 +141,19 @@ pub broke_after : {A R : Type 0} {a : Dialog Saying A} {m n : ℕ} {u v : List �
 unfolding came_part
 broke_after go_on ran why y = broke_on (came_part go_on ran) why y
 
+-- a dialog that listens has nothing behind it yet
+none_behind : {A R : Type 0} (cause : Cause) (outcome : Option (A × ℕ × Tape)) (go_on : A → ℕ → Tape → Played Saying R) → Listens cause outcome → cause ≡ OfListening → (continued outcome go_on).events ≡ []
+none_behind cause outcome go_on listens is =
+    let waits : outcome ≡ None = subst (λ (c : Cause). Listens c outcome) is listens in
+    ap (λ o. (continued o go_on).events) waits
+
+listens_behind : {A R : Type 0} (cause : Cause) (outcome : Option (A × ℕ × Tape)) (go_on : A → ℕ → Tape → Played Saying R) → Listens cause outcome → Listens cause (continued outcome go_on).outcome
+listens_behind OfSending outcome go_on listens = tt
+listens_behind OfListening outcome go_on listens = ap (λ o. (continued o go_on).outcome) listens
+listens_behind (OfFile file trouble) outcome go_on listens = tt
+listens_behind OfPrinting outcome go_on listens = tt
+listens_behind OfMemory outcome go_on listens = tt
+
 -- in a part of a dialog
 pub broke_part : {A R : Type 0} {a : Dialog Saying A} {m : ℕ} {u : List ℕ} {o p : Option Talk} {d e : Option Record} {S T : List Saying → Cause → List ℕ → Type 0} (go_on : A → Dialog Saying R) → ((said : List Saying) (cause : Cause) (told : List ℕ) → S said cause told → T said cause told)
     → BrokeOff a m u o p d e S → BrokeOff (a >>= go_on) m u o p d e T
@@ -144,7 +161,8 @@ broke_part {a = a} {m = m} {u = u} go_on why f =
     let front = f.breaks.front in
     let tape = on_tape u ++ heard f.during in
     let more = (continued (played a m tape).outcome (λ r. played (go_on r))).events in
-    let place = place_more f.cause front.whole front.begun front.later more f.place in
+    let quiet = none_behind f.cause (played a m tape).outcome (λ r. played (go_on r)) f.listens in
+    let place = place_more f.cause front.whole front.begun front.later more quiet f.place in
     record {
       during = f.during;
       shown = f.shown;
@@ -164,64 +182,67 @@ broke_part {a = a} {m = m} {u = u} go_on why f =
         in_turn = (breaks_bind SaidPart go_on f.breaks).in_turn;
       };
       place = place;
+      listens = subst (Listens f.cause) (sym (ap (λ (play : Played Saying _). play.outcome) (played_bind a go_on m tape))) (listens_behind f.cause (played a m tape).outcome (λ r. played (go_on r)) f.listens);
       stops = why (sayings f.shown) f.cause f.told f.stops;
       kept = f.kept;
     }
 
 -- in an operation of the host; what was told of it stands behind it
 
--- the link failed at a frame, or as its answer was awaited
-abbrev pub IsOfLink : Cause → Type 0
-IsOfLink OfSending = Unit {0}
-IsOfLink OfListening = Unit {0}
-IsOfLink cause = ⊥
+abbrev pub broken_cause : Broken → Cause
+broken_cause Send = OfSending
+broken_cause Recv = OfListening
 
-raised_append : (x y : List (Event ⊥)) → raised {E = Saying} (x ++ y) ≡ raised x ++ raised y
-raised_append [] y = refl
-raised_append (Frame bytes ∷ x) y = ap (λ es. Frame bytes ∷ es) (raised_append x y)
-raised_append (Said e ∷ x) y = absurd e
-
-of_frame : (begun later : List (Event ⊥)) → IsBegun NoPart begun later → AtFrame (raised begun) (raised later) ⊎ (raised {E = Saying} begun ≡ [])
-of_frame [] later part = inr refl
-of_frame (Said e ∷ begun) later part = absurd e
-of_frame (Frame x ∷ []) [] part = absurd part
-of_frame (Frame x ∷ []) (Frame y ∷ later) part = inl (record { bytes = y; done = x; more = raised later; due = refl; part = refl; front = part })
-of_frame (Frame x ∷ []) (Said e ∷ later) part = absurd e
-of_frame (Frame x ∷ e ∷ begun) later part = absurd part
-
-place_raised : (cause : Cause) (whole : List (Event Saying)) (begun later : List (Event ⊥)) → IsOfLink cause → IsBegun NoPart begun later → StopsAt cause whole (raised begun) (raised later)
-place_raised OfSending whole begun later is part = of_frame begun later part
-place_raised OfListening whole begun later is part = of_frame begun later part
-place_raised (OfFile file trouble) whole begun later is part = absurd is
-place_raised OfPrinting whole begun later is part = absurd is
-place_raised OfMemory whole begun later is part = absurd is
-
-broke_raised : {A : Type 0} {dialog : Dialog ⊥ A} {m : ℕ} {u : List ℕ} {o p : Option Talk} {d e : Option Record} {S : List Saying → Cause → List ℕ → Type 0} (cause : Cause) (told : List ℕ)
-    → IsOfLink cause → BreaksOver dialog m u o p → S [] cause told → e ≡ option_map (after_err told) d → BrokeOff (lifted dialog) m u o p d e S
-broke_raised {dialog = dialog} {m = m} {u = u} {d = d} {e = e} {S = S} cause told is f stops kept =
-    let front = f.breaks.front in
-    let lifted_breaks = breaks_lifted SaidPart f.breaks in
-    let place = place_raised cause (raised front.whole) front.begun front.later is front.part in
+broke_raised : {A : Type 0} (by : Broken) {dialog : Dialog ⊥ A} {m : ℕ} {u : List ℕ} {o p : Option Talk} {d e : Option Record} {S : List Saying → Cause → List ℕ → Type 0} (told : List ℕ)
+    → FailsOver by dialog m u o p → S [] (broken_cause by) told → e ≡ option_map (after_err told) d → BrokeOff (lifted dialog) m u o p d e S
+broke_raised Send {dialog = dialog} {m = m} {u = u} {d = d} {e = e} {S = S} told f stops kept =
+    let g = by_lifted Saying Send dialog m u f.during f.shown f.breaks in
     record {
       during = f.during;
       shown = raised f.shown;
-      cause = cause;
+      cause = OfSending;
       told = told;
       grows = f.grows;
       breaks = record {
         front = record {
-          whole = raised front.whole;
-          begun = raised front.begun;
-          later = raised front.later;
-          shown_is = ap raised front.shown_is ∙ raised_append front.whole front.begun;
-          events_are = ap (λ (play : Played Saying _). play.events) (played_lifted {E = Saying} dialog m (on_tape u ++ heard f.during)) ∙ (ap raised front.events_are ∙ raised_append front.whole front.later);
-          part = place_part cause (raised front.whole) (raised front.begun) (raised front.later) place;
+          whole = g.whole;
+          begun = Frame g.part ∷ [];
+          later = Frame (g.part ++ g.unsent) ∷ g.later;
+          shown_is = g.shown_is;
+          events_are = g.events_are;
+          part = (g.unsent, refl);
         };
-        all_sent = lifted_breaks.all_sent;
-        in_turn = lifted_breaks.in_turn;
+        all_sent = g.all_sent;
+        in_turn = g.in_turn;
       };
-      place = place;
-      stops = subst (λ said. S said cause told) (sym (sayings_raised f.shown)) stops;
+      place = record { done = g.part; unsent = g.unsent; more = g.later; due = refl; part = refl; not_whole = g.not_whole };
+      listens = tt;
+      stops = subst (λ said. S said OfSending told) (sym (sayings_raised f.shown)) stops;
+      kept = subst (λ ss. e ≡ option_map (λ r. after_err told (after_all ss r)) d) (sym (sayings_raised f.shown)) kept;
+    }
+broke_raised Recv {dialog = dialog} {m = m} {u = u} {d = d} {e = e} {S = S} told f stops kept =
+    let g = by_lifted Saying Recv dialog m u f.during f.shown f.breaks in
+    record {
+      during = f.during;
+      shown = raised f.shown;
+      cause = OfListening;
+      told = told;
+      grows = f.grows;
+      breaks = record {
+        front = record {
+          whole = raised f.shown;
+          begun = [];
+          later = [];
+          shown_is = sym (append-nil (raised f.shown));
+          events_are = sym g.shown_is ∙ sym (append-nil (raised f.shown));
+          part = tt;
+        };
+        all_sent = g.all_sent;
+        in_turn = g.in_turn;
+      };
+      place = (refl, refl);
+      listens = g.waits;
+      stops = subst (λ said. S said OfListening told) (sym (sayings_raised f.shown)) stops;
       kept = subst (λ ss. e ≡ option_map (λ r. after_err told (after_all ss r)) d) (sym (sayings_raised f.shown)) kept;
     }
 
@@ -229,9 +250,9 @@ broke_raised {dialog = dialog} {m = m} {u = u} {d = d} {e = e} {S = S} cause tol
 abbrev pub ToldBy : (List Saying → Cause → List ℕ → Type 0) → Cause → Option Record → Option Record → Type 0
 ToldBy S cause d e = (told : List ℕ) × S [] cause told × (e ≡ option_map (after_err told) d)
 
-pub broke_operation : {A R : Type 0} {dialog : Dialog ⊥ A} {m : ℕ} {u : List ℕ} {o p : Option Talk} {d e : Option Record} {S : List Saying → Cause → List ℕ → Type 0} (go_on : A → Dialog Saying R) (cause : Cause)
-    → IsOfLink cause → BreaksOver dialog m u o p → ToldBy S cause d e → BrokeOff (lifted dialog >>= go_on) m u o p d e S
-broke_operation go_on cause is f some = broke_part go_on (λ said cause told s. s) (broke_raised cause some.0 is f some.1 some.2)
+pub broke_operation : {A R : Type 0} (by : Broken) {dialog : Dialog ⊥ A} {m : ℕ} {u : List ℕ} {o p : Option Talk} {d e : Option Record} {S : List Saying → Cause → List ℕ → Type 0} (go_on : A → Dialog Saying R)
+    → FailsOver by dialog m u o p → ToldBy S (broken_cause by) d e → BrokeOff (lifted dialog >>= go_on) m u o p d e S
+broke_operation by go_on f some = broke_part go_on (λ said cause told s. s) (broke_raised by some.0 f some.1 some.2)
 
 -- in what is said
 
@@ -249,7 +270,7 @@ broke_saying {T = T} {d = d} {e = e} xs dialog seq u o why f =
     let front = f.front in
     let shown : List Saying = front.whole ++ front.begun in
     let more = (played dialog seq (on_tape u ++ [])).events in
-    let place = place_more f.cause (map Said front.whole) (map Said front.begun) (map Said front.later) more front.place in
+    let place = place_more f.cause (map Said front.whole) (map Said front.begun) (map Said front.later) more (λ listens. absurd (desk_says f.cause front.by_desk listens)) front.place in
     record {
       during = [];
       shown = map Said shown;
@@ -270,6 +291,7 @@ broke_saying {T = T} {d = d} {e = e} xs dialog seq u o why f =
         in_turn = tt;
       };
       place = place;
+      listens = desk_listens f.cause (played (says xs dialog) seq (on_tape u ++ [])).outcome front.by_desk;
       stops = subst (λ said. T said f.cause f.told) (sym (sayings_said shown)) (why f.between f.cause f.front f.told f.stops);
       kept = kept_on (after_all shown) (after_err f.told) (λ r. after_err f.told (after_all (sayings (map Said shown)) r)) d f.between e
           (λ r. ap (after_err f.told) (ap (λ ss. after_all ss r) (sayings_said shown))) f.front.kept f.kept;
@@ -289,6 +311,7 @@ broke_lacking dialog seq u o some = record {
     in_turn = tt;
   };
   place = refl;
+  listens = tt;
   stops = some.1;
   kept = some.2;
 }

@@ -38,6 +38,7 @@ not_created old new file (Err other) fault more is kept = record {
   later = Creates file ∷ more;
   sayings_are = refl;
   place = record { more = map Said more; due = refl; none = refl };
+  by_desk = tt;
   kept = kept ∙ (same_record old file other ∙ kept_none old);
 }
 

@@ -155,10 +155,8 @@ its_own_file file named whole begun later place =
 
 -- a line stands in part only where printing failed
 pub half_a_line : (cause : Cause) (bytes : Bytes) (whole begun later : List (Event Saying)) → StopsAt cause whole (Said (Line bytes) ∷ begun) later → cause ≡ OfPrinting
-half_a_line OfSending bytes whole begun later (inl place) = let part = place.part in absurd (cc)
-half_a_line OfSending bytes whole begun later (inr none) = absurd (cc)
-half_a_line OfListening bytes whole begun later (inl place) = let part = place.part in absurd (cc)
-half_a_line OfListening bytes whole begun later (inr none) = absurd (cc)
+half_a_line OfSending bytes whole begun later place = let part = place.part in absurd (cc)
+half_a_line OfListening bytes whole begun later place = let none = place.0 in absurd (cc)
 half_a_line (OfFile file NotCreated) bytes whole begun later place = let none = place.none in absurd (cc)
 half_a_line (OfFile file NotWritten) bytes whole begun later (inl place) = let part = place.part in absurd (not_written bytes place.done begun part)
   where

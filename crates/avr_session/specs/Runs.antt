@@ -1,11 +1,12 @@
 -- What a call over a link and a desk comes to: its dialog played whole, or broken off.
-use Rattle.std.specs.Prelude.{ℕ, Bool, true, false, ◌||◌, List, [], ◌∷◌, ◌++◌, map, ◌≡◌, ◌≤◌, ◌⊎◌, length, nat_eq, Option, option_map, Result, Ok, Err, codes, ⊤}
+use Rattle.std.specs.Prelude.{ℕ, Bool, true, false, ◌||◌, List, [], ◌∷◌, ◌++◌, map, ◌≡◌, ◌<◌, ◌≤◌, ◌⊎◌, length, nat_eq, Option, None, option_map, Result, Ok, Err, codes, ⊤}
 use Rattle.std.specs.List.{list_any, starts_with}
 use Rattle.avr_desk.specs.Record.{Record, after_err}
 use Rattle.avr_desk.specs.Fault as desk
 use Rattle.stk_host.specs.Talk as link
-use Rattle.stk_host.specs.Talk.{Talk, Grows}
-use Rattle.stk_host.specs.Dialog.{Dialog, Event, Frame, Said, sayings}
+use Rattle.stk_host.specs.Tape.{on_tape}
+use Rattle.stk_host.specs.Talk.{Talk, heard, Grows}
+use Rattle.stk_host.specs.Dialog.{Dialog, Event, Frame, Said, played, sayings}
 use Rattle.stk_host.specs.Play.{Plays, Breaks}
 use Rattle.avr_message.specs.Lines.{Bytes, error}
 use Rattle.avr_message.specs.Said.{Saying, Line, Creates, Writes, Outs, SaidPart, IsPrefixOf, after_all}
@@ -46,14 +47,14 @@ is_error saying = false
 abbrev pub tells_fault : List Saying → Bool
 tells_fault sayings = list_any is_error sayings
 
--- a front of a frame was sent, and the frame was due
+-- of a frame that was due a front was sent, perhaps nothing, and not the whole
 pub record AtFrame (begun later : List (Event Saying)) : Type 0 where
-  pub bytes : Bytes
   pub done : Bytes
+  pub unsent : Bytes
   pub more : List (Event Saying)
-  pub due : later ≡ Frame bytes ∷ more
+  pub due : later ≡ Frame (done ++ unsent) ∷ more
   pub part : begun ≡ Frame done ∷ []
-  pub front : IsPrefixOf done bytes
+  pub not_whole : 0 < length unsent
 
 -- a front of a line was printed, and the line was due
 pub record AtLine (begun later : List (Event Saying)) : Type 0 where
@@ -94,12 +95,23 @@ pub record AtOutput (file : Bytes) (begun later : List (Event Saying)) : Type 0 
 -- Where a cause stops a run: behind the events that happened whole, in the first of those that were due, of which a part
 -- may have happened.
 abbrev pub StopsAt : Cause → List (Event Saying) → List (Event Saying) → List (Event Saying) → Type 0
-StopsAt OfSending whole begun later = AtFrame begun later ⊎ (begun ≡ [])
-StopsAt OfListening whole begun later = AtFrame begun later ⊎ (begun ≡ [])
+StopsAt OfSending whole begun later = AtFrame begun later
+StopsAt OfListening whole begun later = (begun ≡ []) × (later ≡ [])
 StopsAt (OfFile file NotCreated) whole begun later = AtCreation file begun later
 StopsAt (OfFile file NotWritten) whole begun later = AtFile file whole begun later ⊎ AtOutput file begun later
 StopsAt OfPrinting whole begun later = AtLine begun later
 StopsAt OfMemory whole begun later = begun ≡ []
+
+-- where listening failed, all that was due has happened, and the play waits
+abbrev pub Listens : {A : Type 0} → Cause → Option A → Type 0
+Listens OfListening outcome = outcome ≡ None
+Listens cause outcome = Unit {0}
+
+-- only the desk stops what is said
+abbrev pub IsOfDesk : Cause → Type 0
+IsOfDesk (OfFile file trouble) = Unit {0}
+IsOfDesk OfPrinting = Unit {0}
+IsOfDesk cause = ⊥
 
 -- The cause has come: a device has failed, by the count of its failures before and then. No count shows that memory was
 -- refused; that comes only where memory is taken (`takes`).
@@ -153,6 +165,7 @@ pub record BrokeOff {R : Type 0} (dialog : Dialog Saying R) (seq : ℕ) (unread 
   pub grows : Grows old during new
   pub breaks : Breaks SaidPart dialog seq unread during shown
   pub place : StopsAt cause breaks.front.whole breaks.front.begun breaks.front.later
+  pub listens : Listens cause (played dialog seq (on_tape unread ++ heard during)).outcome
   pub stops : StopsBy (sayings shown) cause told
   pub kept : new_desk ≡ option_map (λ r. after_err told (after_all (sayings shown) r)) old_desk
 
@@ -173,6 +186,7 @@ pub record SaysFront (cause : Cause) (old new : Option Record) (sayings : List S
   pub later : List Saying
   pub sayings_are : sayings ≡ whole ++ later
   pub place : StopsAt cause (map Said whole) (map Said begun) (map Said later)
+  pub by_desk : IsOfDesk cause
   pub kept : new ≡ option_map (after_all (whole ++ begun)) old
 
 -- A front of the sayings was done, and behind it stands what was told of the cause.

@@ -143,7 +143,7 @@ fn verify<D: Desk, L: Link>(
         (D.kept desk.old) (D.kept desk.new) (D.failures desk.old) (D.failures desk.new) result }
     ensures comes { Stays L.comes_of link.old link.new }
 {
-    let verified = host.verify(link, alloc, mem, image);
+    let verified = host.verify(alloc, link, mem, image);
     let count = image.len();
     let reported = report_done(
         desk,

@@ -1,15 +1,15 @@
 //! Commands and their answers, attempts and steps.
 #![tactic(auto)]
 
-ghost use Rattle.std.specs.Prelude.{◌≡◌, ◌<◌, ◌≤◌, ◌++◌, ◌∷◌, [], length, IfOk, IsOkAnd, OnOk, OnErr, All};
+ghost use Rattle.std.specs.Prelude.{◌≡◌, ◌<◌, ◌≤◌, ◌++◌, ◌∷◌, [], length, IfOk, IfErr, IsOkAnd, OnOk, OnErr, All};
 ghost use Rattle.stk_frame.specs.Frame.{frame};
 ghost use Rattle.stk_frame.specs.Commands.{body, judge, shape, SizedBy};
 ghost use Rattle.stk_host.specs.Talk.{HasFailed, Stays};
-ghost use Rattle.stk_host.specs.Play.{PlaysOver, BreaksOver};
-ghost use Rattle.stk_host.specs.Reach.{Says};
+ghost use Rattle.stk_host.specs.Play.{PlaysOver, FailsOver};
+ghost use Rattle.stk_host.specs.Reach.{Says, SaysPart};
 ghost use Rattle.stk_host.specs.Steps.{exchange, attempt, step, judged, replied};
 ghost use Rattle.stk_host.specs.State.{data_in, data_held};
-ghost use Rattle.stk_host.specs.Calls.{SaysFront, HoldsAnswer, reading_of, reply_of, EndsSteps, CountsLink, Fits, IsQuiet};
+ghost use Rattle.stk_host.specs.Calls.{HoldsAnswer, reading_of, reply_of, EndsSteps, CountsLink, Fits, IsQuiet};
 
 use crate::fault::{Broken, StepFault, Stop};
 use crate::link::{Link, LinkFault};
@@ -56,9 +56,10 @@ impl Model for Conversation {
 fn send_command<L: Link>(link: &mut L, seq: u8, command: &Command<'_>) -> Result<(), LinkFault>
     requires { Fits command.now }
     ensures ok { OnOk result (Says (frame seq (body command.now)) (L.talk link.old) (L.talk link.new)) }
-    ensures err { OnErr result (SaysFront (frame seq (body command.now)) (L.talk link.old) (L.talk link.new)) }
+    ensures err { OnErr result (SaysPart (frame seq (body command.now)) (L.talk link.old) (L.talk link.new)) }
     ensures counted { L.failures link.old ≤ L.failures link.new }
     ensures comes { Stays L.comes_of link.old link.new }
+    ensures sound { OnOk result (L.failures link.new ≡ L.failures link.old) }
     ensures failed { OnErr result (HasFailed (L.failures link.old) (L.failures link.new)) }
 {
     let mut frame = ArrayVec::new();
@@ -123,9 +124,10 @@ impl Conversation {
             (reply_of reply (data_held command.now self.new.held)) self.new.next self.new.unread) }
         ensures sized { IsOkAnd result (λ reply. reply ≡ Reply.Data) → SizedBy (shape command.now) (data_held command.now self.new.held) }
         ensures quiet { IsQuiet command.now → IsOkAnd result (λ reply. reply ≡ Reply.Data) → data_held command.now self.new.held ≡ [] }
-        ensures err { OnErr result (BreaksOver (exchange command.now) self.old.next self.old.unread (L.talk link.old) (L.talk link.new)) }
+        ensures err { IfErr result (λ broken. FailsOver broken (exchange command.now) self.old.next self.old.unread (L.talk link.old) (L.talk link.new)) }
         ensures counted { L.failures link.old ≤ L.failures link.new }
         ensures comes { Stays L.comes_of link.old link.new }
+        ensures sound { OnOk result (L.failures link.new ≡ L.failures link.old) }
         ensures failed { OnErr result (HasFailed (L.failures link.old) (L.failures link.new)) }
         ensures bound { length self.new.unread ≤ 281 }
     {
@@ -151,10 +153,11 @@ impl Conversation {
         requires fits { Fits last.now }
         ensures ok { IfOk result (λ reply. PlaysOver (attempt (first.now ++ last.now ∷ []) []) self.old.next self.old.unread (L.talk link.old) (L.talk link.new)
             (reply_of reply (data_held last.now self.new.held)) self.new.next self.new.unread) }
-        ensures err { OnErr result (BreaksOver (attempt (first.now ++ last.now ∷ []) []) self.old.next self.old.unread (L.talk link.old) (L.talk link.new)) }
+        ensures err { IfErr result (λ broken. FailsOver broken (attempt (first.now ++ last.now ∷ []) []) self.old.next self.old.unread (L.talk link.old) (L.talk link.new)) }
         ensures sized { IsOkAnd result (λ reply. reply ≡ Reply.Data) → SizedBy (shape last.now) (data_held last.now self.new.held) }
         ensures counted { L.failures link.old ≤ L.failures link.new }
         ensures comes { Stays L.comes_of link.old link.new }
+        ensures sound { OnOk result (L.failures link.new ≡ L.failures link.old) }
         ensures failed { OnErr result (HasFailed (L.failures link.old) (L.failures link.new)) }
         ensures bound { length self.new.unread ≤ 281 }
     {

@@ -1,7 +1,7 @@
 //! A link that fails once, at a call that is chosen: for tests of what stands on links.
 #![tactic(auto)]
 
-ghost use Rattle.std.specs.Prelude.{◌≡◌, ◌==◌, ◌≢◌, ◌<◌, ◌≤◌, ◌+◌, ◌-◌, ◌^◌, ◌∷◌, [], ℕ, length, take, min, Err, IfOk, OnErr};
+ghost use Rattle.std.specs.Prelude.{◌≡◌, ◌==◌, ◌≢◌, ◌<◌, ◌≤◌, ◌+◌, ◌-◌, ◌^◌, ◌∷◌, [], ℕ, length, take, min, Err, IfOk, OnOk, OnErr};
 ghost use Rattle.stk_host.specs.declared.link.LinkFault.TheVariants.{Failed};
 ghost use Rattle.stk_host.specs.Links.{total_failures};
 ghost use Rattle.stk_host.specs.Talk.{Sent, Got, Grows, HasFailed, Stays, FitsBuffer, items_of};
@@ -90,6 +90,8 @@ impl<L: Link + Drop> Link for FailingLink<L> {
         ensures counted { total_failures (L.failures self.old.inner) self.old.failed ≤ total_failures (L.failures self.new.inner) self.new.failed }
         ensures failed { OnErr result (HasFailed (total_failures (L.failures self.old.inner) self.old.failed) (total_failures (L.failures self.new.inner) self.new.failed)) }
         ensures stuck { IfOk result (λ n. n ≡ 0 → 0 < length bytes.now → HasFailed (total_failures (L.failures self.old.inner) self.old.failed) (total_failures (L.failures self.new.inner) self.new.failed)) }
+        ensures sound { IfOk result (λ n. 0 < n → total_failures (L.failures self.new.inner) self.new.failed ≡ total_failures (L.failures self.old.inner) self.old.failed) }
+        ensures idle { OnOk result (length bytes.now ≡ 0 → total_failures (L.failures self.new.inner) self.new.failed ≡ total_failures (L.failures self.old.inner) self.old.failed) }
         ensures comes { Stays L.comes_of self.old.inner self.new.inner }
         ensures due { self.new.due ≡ self.old.due - 1 }
         ensures cut { self.new.cut ≡ self.old.cut }
@@ -113,6 +115,7 @@ impl<L: Link + Drop> Link for FailingLink<L> {
         ensures err { OnErr result (Grows (L.talk self.old.inner) [] (L.talk self.new.inner)) }
         ensures counted { total_failures (L.failures self.old.inner) self.old.failed ≤ total_failures (L.failures self.new.inner) self.new.failed }
         ensures failed { OnErr result (HasFailed (total_failures (L.failures self.old.inner) self.old.failed) (total_failures (L.failures self.new.inner) self.new.failed)) }
+        ensures sound { OnOk result (total_failures (L.failures self.new.inner) self.new.failed ≡ total_failures (L.failures self.old.inner) self.old.failed) }
         ensures comes { Stays L.comes_of self.old.inner self.new.inner }
         ensures due { self.new.due ≡ self.old.due - 1 }
         ensures cut { self.new.cut ≡ self.old.cut }

@@ -7,7 +7,8 @@ ghost use Rattle.stk_host.specs.Calls.{fault_number};
 use avr_part::Mem;
 use thiserror::Error;
 
-/// Why a step came to no data.
+/// Why a step came to no data. No call answers it: a [`crate::Host`] tells it as its [`HostFault`]. It is public as a word of
+/// the definitions of steps, which contracts of other crates cite.
 #[derive(Clone, Copy, Debug, Drop, PartialEq, Eq)]
 pub enum StepFault {
     /// No answer came to the last attempt.
@@ -22,10 +23,12 @@ pub enum StepFault {
     BadAnswer(u8),
 }
 
-/// What the link could not do.
+/// What the link could not do. It is public, as [`StepFault`] is, for definitions: of where a call breaks off.
 #[derive(Clone, Copy, Debug, Drop, PartialEq, Eq)]
-pub(crate) enum Broken {
+pub enum Broken {
+    /// Send a frame whole.
     Send,
+    /// Hear the answer to one.
     Recv,
 }
 

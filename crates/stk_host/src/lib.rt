@@ -40,10 +40,11 @@ mod writing;
 mod laws;
 
 pub use failing_link::FailingLink;
-pub use fault::{HostFault, StepFault};
+pub use fault::{Broken, HostFault, StepFault};
 pub use host::Host;
 pub use laws::a_call_sends_at_most_four_times_its_commands;
 pub use link::{Heard, Item, Link, LinkFault};
 pub use log::Log;
+pub use send::send_all;
 pub use stream_link::StreamLink;
 pub use tape_link::TapeLink;
