@@ -13,7 +13,7 @@ import sys
 import time
 
 from line import Peer, frames_of
-from program import ANSWERS, CHIP_FILE, PROGRAM, TOP, Room, free_port, lines
+from program import ANSWERS, CHIP_FILE, PROGRAM, TOP, Room, frame, free_port, lines
 
 PART = ["-p", "m328p"]
 EMULATED = [*PART, "-P", "emu:chip.bin"]
@@ -251,15 +251,6 @@ def nothing_is_written():
     chip = bytes([0x0F]) + b"\xff" * (CHIP_FILE - 1)
     told = [SIGNATURE, "flash: 1 bytes written", "error: flash: address 00000000: F0 expected, 00 found"]
     run("flash that was not erased", [*EMULATED, "-D", "-U", "flash:w:0xF0:m"], told, chip=chip)
-
-
-def frame(number, *body):
-    """The frame of a sequence number and a body."""
-    head = bytes([0x1B, number, 0, len(body), 0x0E, *body])
-    check = 0
-    for byte in head:
-        check ^= byte
-    return head + bytes([check])
 
 
 def answers_are_bad():

@@ -10,7 +10,7 @@ import sys
 from dataclasses import dataclass, field
 
 from line import BadLine
-from program import CHIP_FILE, FRAMES, Room, lines
+from program import CHIP_FILE, FRAMES, Room, frame, lines
 
 # where the memories of an ATmega328P begin in its chip file
 EEPROM, LFUSE, HFUSE, LOCK = 32_768, 33_792, 33_793, 33_795
@@ -39,17 +39,7 @@ class Run:
     after: dict | None = field(default_factory=dict)
     written: dict = field(default_factory=dict)
     fates: dict = field(default_factory=dict)
-    sent: object = None
-
-
-def frame(number, *body):
-    """The frame of a sequence number and a body."""
-    body = b"".join(bytes([it]) if isinstance(it, int) else it for it in body)
-    whole = bytes([0x1B, number % 256]) + len(body).to_bytes(2, "big") + b"\x0e" + body
-    check = 0
-    for byte in whole:
-        check ^= byte
-    return whole + bytes([check])
+    sent: list | None = None
 
 
 def load_address(number, address):

@@ -1,8 +1,9 @@
 #!/usr/bin/env python3
-"""Runs the recipes of docs/USAGE for a serial line, as they stand there, over a pseudo terminal to an emulated programmer, and
-examples/serial.sh to one that is deaf for a while after its device was opened, as a board that resets then.
+"""Runs the recipes of docs/USAGE for a serial line, as they stand there, over a pseudo terminal to an emulated
+programmer, and examples/serial.sh to one that is deaf for a while after its device was opened, as a board that resets
+then.
 
-    tests/serial.py        needs crates/avrstk/out/avrstk, as rt ci leaves it; socat and ser2net, or their runs are skipped
+    tests/serial.py        needs crates/avrstk/out/avrstk, as rt ci leaves it; socat and ser2net, or runs are skipped
 """
 
 import os
@@ -19,7 +20,9 @@ import tty
 from program import PROGRAM, TOP, Room, free_port, lines
 
 SCRIPT = TOP / "examples/serial.sh"
-FIRMWARE = ["device signature = 1E 95 0F", "chip erased", "flash: 228 bytes written", "flash: 228 bytes verified", "done"]
+SIGNATURE = "device signature = 1E 95 0F"
+FIRMWARE = [SIGNATURE, "chip erased", "flash: 228 bytes written", "flash: 228 bytes verified", "done"]
+CALL = "avrstk -p m328p -P net:127.0.0.1:5000 -U flash:w:firmware.hex"
 passed = skipped = 0
 room = Room()
 
@@ -39,8 +42,8 @@ def skip(what):
 
 
 class Board:
-    """An emulated programmer behind a pseudo terminal. It starts when its device is opened, hears nothing for its first so many
-    seconds, and where nobody has called so many seconds after its start it hears nothing any more."""
+    """An emulated programmer behind a pseudo terminal. It starts when its device is opened, hears nothing for its first
+    so many seconds, and where nobody has called so many seconds after its start it hears nothing any more."""
 
     def __init__(self, deaf=0.0, gone=None):
         self.deaf, self.gone = deaf, gone
@@ -136,24 +139,32 @@ def the_script(firmware):
     if not shutil.which("socat"):
         return skip("examples/serial.sh: no socat")
     command = recipe("examples/serial.sh /dev/ttyACM0")
-    for board in [Board(), Board(deaf=0.25, gone=0.8)]:
-        see("the script", (*ended(typed(command, board.device)), board.end() == firmware), (0, lines(*FIRMWARE), True))
+    wanted = (0, lines(*FIRMWARE), True)
+    for deaf, gone in [(0, None), (0.25, 0.8)]:
+        # the window of half a second can be missed where the machine is busy, as a person can miss it
+        for _ in range(3):
+            board = Board(deaf, gone)
+            found = (*ended(typed(command, board.device)), board.end() == firmware)
+            if found == wanted:
+                break
+        see("the script", found, wanted)
     board = Board()
     other = typed(f"examples/serial.sh --wait 0 {board.device} 115200 -- -p t85 -e", board.device)
-    told = lines("error: signature is 1E 95 0F, t85 has 1E 93 0B").replace(b"avrstk: ", lines(FIRMWARE[0]) + b"avrstk: ", 1)
+    told = lines(SIGNATURE, "error: signature is 1E 95 0F, t85 has 1E 93 0B")
     see("the tool's status", ended(other), (1, told))
     see("the chip is as it was", board.end(), b"\xff" * 32_768)
     board = Board(deaf=1000)
     silent = typed(command, board.device)
     time.sleep(1)
     silent.terminate()
+    begun = time.monotonic()
     silent.communicate(timeout=60)
-    see("a script that is ended", silent.returncode, 1)
+    see("a script that is ended", (silent.returncode, time.monotonic() - begun < 2), (1, True))
     see("and its bridge with it", board.end(), b"\xff" * 32_768)
 
 
 def the_plain_bridge(firmware):
-    """socat alone, which opens the device when the tool calls: well for a programmer that hears at once, never for the other."""
+    """socat alone, which opens the device when the tool calls: too late for a board that resets then."""
     if not shutil.which("socat"):
         return skip("socat before the tool: no socat")
     for board, wanted in [
@@ -163,7 +174,7 @@ def the_plain_bridge(firmware):
         port = free_port()
         bridge = typed(recipe("socat TCP-LISTEN"), board.device, port)
         wait_for(port)
-        found = ended(typed(recipe("avrstk -p m328p -P net:127.0.0.1:5000 -U flash:w:firmware.hex"), board.device, port))
+        found = ended(typed(recipe(CALL), board.device, port))
         bridge.communicate(timeout=30)
         see("a plain bridge", (*found, board.end() == firmware), wanted)
 
@@ -199,7 +210,7 @@ def ser2net(firmware):
     server = subprocess.Popen(["ser2net", "-n", "-c", room.folder / "ser2net.yaml"], stderr=subprocess.DEVNULL)
     try:
         wait_for(port)
-        found = ended(typed(recipe("avrstk -p m328p -P net:127.0.0.1:5000 -U flash:w:firmware.hex"), board.device, port))
+        found = ended(typed(recipe(CALL), board.device, port))
         see("ser2net", (*found, board.end() == firmware), (0, lines(*FIRMWARE), True))
     finally:
         server.terminate()
@@ -234,12 +245,11 @@ def what_is_missing(_):
 def scripted(words, environment=None):
     """The status and messages of the script, for which nothing is run; as nobody where this is root, who may do all."""
     how = {"user": 65534, "group": 65534, "extra_groups": []} if os.geteuid() == 0 else {}
+    how |= {"capture_output": True, "text": True, "timeout": 60, "cwd": "/"}
+    how["env"] = os.environ | {"AVRSTK": shutil.which("true")} | (environment or {})
     with open(SCRIPT, "rb") as script:
-        ran = subprocess.run(
-            [shutil.which("bash"), "-s", "--", *words],
-            stdin=script, capture_output=True, text=True, timeout=60, cwd="/", env=os.environ | (environment or {}), **how,
-        )
-    return ran.returncode, ran.stderr.replace("bash: ", "", 1)
+        ran = subprocess.run([shutil.which("bash"), "-s", "--", *words], stdin=script, **how)
+    return ran.returncode, ran.stderr
 
 
 def main():

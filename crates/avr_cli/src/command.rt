@@ -106,7 +106,13 @@ fn with_target<'a>(alloc: Global, command: Command<'a>) -> Result<Command<'a>, E
     ensures app { IfOk result (λ c. app_of c ≡ with_rules (app_of command.entry) target_rules) }
     ensures memory { IfErr result (λ e. kind_of e ≡ ErrorKind.OutOfMemory) }
 {
-    let part = value(alloc, "part", 'p', "ID", "The part, as m328p; needed");
+    let part = value(
+        alloc,
+        "part",
+        'p',
+        "ID",
+        "The part: m328p, t85, m2560, or one of a part file; needed",
+    );
     let programmer = value(
         alloc,
         "programmer",

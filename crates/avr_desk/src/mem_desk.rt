@@ -1,5 +1,5 @@
 //! A desk in memory.
-ghost use Rattle.std.specs.Prelude.{◌≡◌, ◌≤◌, ◌++◌, ◌∷◌, [], min, take, drop, length, Some, None, IfOk, IfErr, OnOk, is_ok, true, if◌then◌else◌};
+ghost use Rattle.std.specs.Prelude.{◌≡◌, ◌≤◌, ◌++◌, ◌∷◌, [], min, take, drop, length, Some, None, IfOk, IfErr, OnOk, OnErr, is_ok, true, if◌then◌else◌};
 ghost use Rattle.std.specs.Option.{option_copied};
 
 use crate::bytes::Bytes;
@@ -148,7 +148,7 @@ impl MemDesk {
 
 impl Desk for MemDesk {
     ghost use Rattle.avr_desk.specs.Record.{after_open, after_create, after_read, after_write, after_out, after_err, taken, is_to_read, is_to_write};
-    ghost use Rattle.avr_desk.specs.Fault.{Counts, HasFailed};
+    ghost use Rattle.avr_desk.specs.Fault.{Counts, WriteCounts};
     ghost use Rattle.avr_desk.specs.Memory.{contents, unread};
 
     ghost kept = { λ d. Some d.kept };
@@ -159,6 +159,7 @@ impl Desk for MemDesk {
         ensures kept { self.new ≡ record self.old { kept = after_open name.now result self.old.kept; failures = self.new.failures; opened = self.new.opened } }
         ensures found { OnOk result (contents name.now self.old ≡ Some self.new.opened) }
         ensures absent { result ≡ Err DeskFault.NotFound → contents name.now self.old ≡ None }
+        ensures leaves { OnErr result (self.new.opened ≡ self.old.opened) }
         ensures counts { Counts self.old.failures self.new.failures result }
     {
         let Ok(kept_name) = Bytes::copied(self.alloc, name.as_bytes()) else {
@@ -229,7 +230,7 @@ impl Desk for MemDesk {
         ensures all { IfOk result (λ n. n ≡ length bytes.now) }
         ensures kept { self.new ≡ record self.old { kept = after_write (taken bytes.now result) self.old.kept; failures = self.new.failures } }
         ensures has_file { OnOk result (is_to_write self.old.kept.current ≡ true) }
-        ensures counts { Counts self.old.failures self.new.failures result }
+        ensures counts { WriteCounts bytes.now self.old.failures self.new.failures result }
         ensures fault { IfErr result (λ e. e ≡ DeskFault.Failed) }
     {
         if !self.kept.is_writing() {
@@ -244,7 +245,7 @@ impl Desk for MemDesk {
     fn out(&mut self, bytes: &[u8]) -> Result<usize, DeskFault>
         ensures all { IfOk result (λ n. n ≡ length bytes.now) }
         ensures kept { self.new ≡ record self.old { kept = after_out (taken bytes.now result) self.old.kept; failures = self.new.failures } }
-        ensures counts { Counts self.old.failures self.new.failures result }
+        ensures counts { WriteCounts bytes.now self.old.failures self.new.failures result }
         ensures fault { IfErr result (λ e. e ≡ DeskFault.Failed) }
     {
         if self.kept.print(bytes).is_err() {
@@ -256,7 +257,7 @@ impl Desk for MemDesk {
     fn err(&mut self, bytes: &[u8]) -> Result<usize, DeskFault>
         ensures all { IfOk result (λ n. n ≡ length bytes.now) }
         ensures kept { self.new ≡ record self.old { kept = after_err (taken bytes.now result) self.old.kept; failures = self.new.failures } }
-        ensures counts { Counts self.old.failures self.new.failures result }
+        ensures counts { WriteCounts bytes.now self.old.failures self.new.failures result }
         ensures fault { IfErr result (λ e. e ≡ DeskFault.Failed) }
     {
         if self.kept.report(bytes).is_err() {

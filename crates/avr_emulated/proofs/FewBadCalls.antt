@@ -65,7 +65,7 @@ ends_told : {A B : Type 0} (d : Dialog ⊥ A) (tell : A → B) (a : A) (After : 
 ends_told d tell a After p fates few l =
     ends_bind (λ answer. Done (tell answer)) a (tell a) [] [] After After d p fates few l (λ q fs g after. ends_done (tell a) After q fs after)
 
-bytes_same : (xs : List ℕ) → bytes_eq xs xs ≡ true
+pub bytes_same : (xs : List ℕ) → bytes_eq xs xs ≡ true
 bytes_same [] = refl
 bytes_same (x ∷ xs) = both (x == x) (bytes_eq xs xs) (eq-eqb x x refl) (bytes_same xs)
   where
@@ -74,7 +74,7 @@ bytes_same (x ∷ xs) = both (x == x) (bytes_eq xs xs) (eq-eqb x x refl) (bytes_
     both false b e f = e
 
 -- the part's signature is taken, whether or not any is
-signature_taken : (signature : List ℕ) (force : Bool) → signature_judged signature force (Ok signature) ≡ Ok signature
+pub signature_taken : (signature : List ℕ) (force : Bool) → signature_judged signature force (Ok signature) ≡ Ok signature
 signature_taken signature true = refl
 signature_taken signature false = chosen (bytes_eq signature signature) (Ok signature) (Err (WrongSignature signature)) (bytes_same signature)
 

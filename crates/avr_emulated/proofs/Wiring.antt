@@ -1,13 +1,15 @@
 -- A session that was played over a wire, as it went along the line of its fates.
-use Rattle.std.proofs.Common.{◌≡◌, ℕ, List, [], ◌++◌, All, length, sym, ap, ◌∙◌, subst, inl, inr, true, false, Option, Some, option_map}
+use Rattle.std.proofs.Common.{◌≡◌, ℕ, List, [], ◌∷◌, ◌++◌, All, length, sym, ap, ◌∙◌, subst, inl, inr, true, false, Option, Some, option_map}
+use Rattle.std.proofs.lemmas.List.{append-nil}
 use Rattle.avr_message.specs.Said.{Bytes, Saying, SaidPart, after_all}
 use Rattle.avr_part.specs.Part.{IsPart}
 use Rattle.avr_part.specs.Sound.{IsSound}
 use Rattle.avr_plan.specs.Plan.{Plan, IsFitted}
 use Rattle.avr_desk.specs.Record.{Record}
 use Rattle.stk_frame.specs.Cut.{frames}
-use Rattle.stk_host.specs.Play.{Plays, Breaks}
-use Rattle.stk_host.specs.Talk.{Talk, Stays, sent}
+use Rattle.stk_host.specs.Dialog.{played, bytes_sent}
+use Rattle.stk_host.specs.Play.{Plays, Breaks, InTurn}
+use Rattle.stk_host.specs.Talk.{Talk, Stays, sent, heard}
 use Rattle.avr_session.specs.Runs.{Cause, Ran, BrokeOff, RunsTo}
 use Rattle.avr_session.specs.Session.{session, is_erase_due}
 use Rattle.stk_emu.specs.Along.{along, AsksBodies}
@@ -17,17 +19,21 @@ use Rattle.stk_emu.specs.Few.{AreFew}
 use Rattle.stk_emu.specs.Leads.{Leads, GoesAlong}
 use Rattle.stk_emu.specs.Programmer.{Programmer, fresh_programmer}
 use Rattle.stk_emu.specs.Settled.{Idle, FitsPart}
-use Rattle.stk_emu.specs.Wired.{State, Keeps, ComesOf, IsFresh}
+use Rattle.stk_emu.specs.Wire as line
+use Rattle.stk_emu.specs.Wired.{State, Keeps, ComesOf, IsFresh, brought}
 use Rattle.stk_emu.proofs.Beginning.{fresh_idle, fresh_fits}
 use Rattle.stk_emu.proofs.SaidAlong.{whole_said}
-use Rattle.stk_emu.proofs.Turning.{whole_along, broken_along}
+use Rattle.stk_emu.proofs.Turning.{whole_along, broken_along, never_idle, shown_front}
 use Rattle.avr_emulated.specs.Again.{AgreesAnyway, Succeeds}
+use Rattle.avr_emulated.specs.Told.{IsTrue, RunsTruly}
 use Rattle.avr_emulated.specs.Outcome.{IsTouched, MakesStrokes, IsDone, Leaves, IsCourse, GoesWell}
 use Rattle.avr_emulated.proofs.AgainHeals.{succeeds}
 use Rattle.avr_emulated.proofs.AnyLine.{session_leaves}
 use Rattle.avr_emulated.proofs.AnyLineAsks.{session_asks}
 use Rattle.avr_emulated.proofs.AnyLineOrder.{session_makes}
 use Rattle.avr_emulated.proofs.FewBad.{session_ends}
+use Rattle.avr_emulated.proofs.TellingTrue.{session_tells}
+use Rattle.avr_emulated.proofs.ToldOnWire.{told_over}
 use Rattle.avr_emulated.proofs.WrittenRuns.{run_written}
 
 some_is : {A : Type 0} (a b : A) → ◌≡◌ {A = Option A} (Some a) (Some b) → a ≡ b
@@ -144,3 +150,40 @@ module _ (plan : Plan) (w v : State) (fresh : IsFresh w) (stays : Stays ComesOf 
       inl (succeeds plan before after status sizes wet due both is.status_is is.memories)
   wired_succeeds old new StopsBy status (inr broke) few wet due both =
       inr (subst (λ talk. BrokeOff (session plan) 1 [] (Some talk) (Some v.talk) old new StopsBy) fresh.silent broke.0)
+
+  -- and whatever was told was true then
+  abbrev IsSaidTrue : Programmer → Saying → Type 0
+  IsSaidTrue q saying = IsTrue plan before (memories_of q.chip) saying
+
+  brings_for : (talk : Talk) → talk ≡ v.talk → InTurn (session plan) 1 [] talk → brought begun w.wire.fates (sent talk) ≡ heard talk ++ v.waits
+  brings_for talk same turns =
+      subst (λ t. brought begun w.wire.fates (sent t) ≡ heard t ++ v.waits) (sym same)
+      (keeps.brings (never_idle (session plan) 1 begun w.wire.fates v.talk asks fresh.lawful (subst (InTurn (session plan) 1 []) same turns)))
+
+  pub wired_tells : (old new : Option Record) (StopsBy : List Saying → Cause → Bytes → Type 0) (status : ℕ) → RunsTo (session plan) (Some w.talk) (Some v.talk) old new StopsBy status
+      → RunsTruly plan before (line.fresh begun w.wire.fates) (Some w.talk) (Some v.talk) old new StopsBy status
+  wired_tells old new StopsBy status (inl ran) =
+      let r = ran.2 in
+      let over = ap (played (session plan) 1) (sym (append-nil (heard r.during))) ∙ r.plays.plays [] in
+      inl (
+        ran.0,
+        ran.1,
+        r,
+        told_over IsSaidTrue (session plan) 1 begun w.wire.fates r.during v.waits r.events [] asks fresh.lawful
+            (brings_for r.during (all_passed w.talk v.talk r.during fresh.silent r.grows) r.plays.in_turn)
+            (ap (λ x. x.events) over ∙ sym (append-nil r.events))
+            ([], append-nil (sent r.during) ∙ (sym r.plays.all_sent ∙ ap (λ x. bytes_sent x.events) (sym over)))
+            (session_tells plan sound before sizes fitted (length (frames (sent r.during))) begun w.wire.fates idle),
+      )
+  wired_tells old new StopsBy status (inr broke) =
+      let b = broke.0 in
+      let front = shown_front SaidPart b.shown (played (session plan) 1 (heard b.during)).events b.breaks.front in
+      inr (
+        b,
+        broke.1,
+        told_over IsSaidTrue (session plan) 1 begun w.wire.fates b.during v.waits b.breaks.front.whole b.breaks.front.later asks fresh.lawful
+            (brings_for b.during (all_passed w.talk v.talk b.during fresh.silent b.grows) b.breaks.in_turn)
+            b.breaks.front.events_are
+            (front.0, ap (λ bs. bs ++ front.0) (sym b.breaks.all_sent) ∙ front.1)
+            (session_tells plan sound before sizes fitted (length (frames (sent b.during))) begun w.wire.fates idle),
+      )

@@ -17,6 +17,7 @@ ghost use Rattle.stk_emu.specs.declared.fate.Fate.{Fate};
 ghost use Rattle.stk_host.specs.Bound.{SendsAtMost, commands_in};
 ghost use Rattle.avr_emulated.specs.Bound.{run_steps, ListensAtMost};
 ghost use Rattle.avr_emulated.specs.Made.{made_by};
+ghost use Rattle.avr_emulated.specs.Told.{TellsTrue, IsTrue};
 ghost use Rattle.avr_emulated.specs.Outcome.{strokes, IsTouched, IsDone};
 
 /// At each moment of a session the memories are those of the first so many strokes of its plan; where it ends with status 0,
@@ -46,4 +47,13 @@ pub fn a_run_sends_at_most_four_times_its_commands()
 /// four times as many as its steps have commands; and at most 4,096 bytes are read for each.
 pub fn a_run_listens_at_most_once_for_each_frame()
     ensures { (plan : Plan) → IsPart plan.part → All (IsFitted plan.part) plan.tasks → ListensAtMost (4 * commands_in (run_steps plan)) (session plan) }
+{}
+
+/// Whatever the line does and whatever the status: each thing told is true of the chip as it then is, so each line of a run that
+/// failed later can be believed. What was written is there as the plan's writes so far make it, what was verified is held, what
+/// was read and saved is what the chip has, and a difference told is one.
+pub fn what_a_run_tells_is_true()
+    ensures { (plan : Plan) (m : Memories) (k : ℕ) (p : Programmer) (fates : List Fate)
+        → IsPart plan.part → All (IsFitted plan.part) plan.tasks → FitsPart plan.part m → Idle plan.part m p
+        → TellsTrue device (λ q saying. IsTrue plan m (memories_of q.chip) saying) k (session plan) p fates }
 {}

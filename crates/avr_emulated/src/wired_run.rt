@@ -5,10 +5,12 @@ ghost use Rattle.avr_session.specs.Session.{session, is_erase_due, takes_memory}
 ghost use Rattle.stk_emu.specs.Effect.{memories_of};
 ghost use Rattle.stk_emu.specs.Few.{AreFew};
 ghost use Rattle.stk_emu.specs.Programmer.{fresh_programmer};
+ghost use Rattle.stk_emu.specs.Wire.{fresh};
 ghost use Rattle.stk_emu.specs.Wired.{ComesOf, IsFresh};
 ghost use Rattle.stk_frame.specs.Cut.{frames};
 ghost use Rattle.stk_host.specs.Talk.{Stays, sent};
 ghost use Rattle.avr_emulated.specs.Again.{AgreesAnyway, Succeeds};
+ghost use Rattle.avr_emulated.specs.Told.{RunsTruly};
 ghost use Rattle.avr_emulated.specs.Outcome.{Leaves, MakesStrokes, GoesWell};
 
 use avr_desk::Desk;
@@ -41,6 +43,10 @@ pub fn drive_wired<D: Desk>(alloc: Global, plan: &Plan, desk: &mut D, wire: &mut
     ensures succeeds { AreFew wire.old.wire.fates → plan.now.switches.dry ≡ false → is_erase_due plan.now.switches plan.now.tasks ≡ true → AgreesAnyway plan.now
         → Succeeds plan.now (memories_of wire.old.wire.programmer.chip) (memories_of wire.new.wire.programmer.chip)
         (D.kept desk.old) (D.kept desk.new) (Some wire.new.talk)
+        (Stops (takes_memory plan.now) wire.old.failures wire.new.failures (D.failures desk.old) (D.failures desk.new)) result }
+    // Whatever it told was true of the chip as the frames sent before had left it, also where it failed or broke off later.
+    ensures believable { RunsTruly plan.now (memories_of wire.old.wire.programmer.chip) (fresh (fresh_programmer wire.old.wire.programmer.chip) wire.old.wire.fates)
+        (Some wire.old.talk) (Some wire.new.talk) (D.kept desk.old) (D.kept desk.new)
         (Stops (takes_memory plan.now) wire.old.failures wire.new.failures (D.failures desk.old) (D.failures desk.new)) result }
 {
     // What the clauses rest on: each image has the size of its memory, and the chip's memories those of its part.

@@ -81,8 +81,9 @@ impl RecordReader {
         self.fed
     }
 
-    /// Takes the next piece of the file. The fault of a line is answered by the call that brings its line end; where the
-    /// piece ends several lines, that of the first faulty one. After a fault every call answers `Failed`.
+    /// Takes the next piece of the file; all pieces have to have fewer than 2 to the power 32 bytes. The fault of a
+    /// line is answered by the call that brings its line end; where the piece ends several lines, that of the first
+    /// faulty one. After a fault `feed` and `finish` answer `Failed`.
     ///
     /// ```text
     /// let mut reader = RecordReader::new(alloc, Kind::Ihex, 4)?;

@@ -1,0 +1,7 @@
+pub mod SuccessEnds
+pub mod Success
+pub mod Joining
+pub mod Weighing
+pub mod FramesWeighed
+pub mod OverWire
+pub mod Refusing

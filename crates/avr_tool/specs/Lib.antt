@@ -9,3 +9,5 @@ pub use Rattle.stk_host.specs.Talk
 -- its own
 pub mod Ports
 pub mod ServedOn
+pub mod Headline
+pub mod Worked

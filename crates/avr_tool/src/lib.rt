@@ -17,6 +17,10 @@
 
 // the calls that take their port from the settings
 mod of_port;
+// runs by the words of the headline
+mod running;
+// laws, and no code
+mod laws;
 
 // from words to settings
 pub use avr_cli::{
@@ -24,14 +28,22 @@ pub use avr_cli::{
     make_command, parse_update, port_number, read_words, settings,
 };
 pub use avr_session::refuse;
+pub use laws::{
+    a_run_is_one_function, a_run_of_status_0_is_its_course, a_stop_is_a_front,
+    a_worked_run_has_one_outcome, a_wrong_outcome_is_refused,
+};
 // what a run reads and writes beside its line
 pub use avr_desk::{Desk, DeskFault, MemDesk, SystemDesk};
 // from settings to status, over any line
 pub use avr_emulated::drive_wired;
 pub use avr_net::{accept, listen};
 pub use avr_plan::{Plan, plan};
-pub use avr_session::{drive, run};
+pub use avr_session::drive;
 pub use of_port::{run_emu, run_net, serve, serve_net, serve_on};
+pub use running::{run, run_wired};
 // lines
 pub use stk_emu::{Fate, Wired, noise_is_lawful};
 pub use stk_host::{Heard, Item, Link, LinkFault, StreamLink, TapeLink};
+
+#[cfg(test)]
+mod tests;

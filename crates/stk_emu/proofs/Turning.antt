@@ -167,7 +167,7 @@ begun_front SaidPart (Said x ∷ []) (Said y ∷ later) part = (bytes_sent later
 begun_front SaidPart (Frame x ∷ e ∷ begun) later part = absurd part
 begun_front SaidPart (Said x ∷ e ∷ begun) later part = absurd part
 
-shown_front : {E : Type 0} (SaidPart : E → E → Type 0) (shown events : List (Event E)) → IsFront SaidPart shown events → IsPrefixOf (bytes_sent shown) (bytes_sent events)
+pub shown_front : {E : Type 0} (SaidPart : E → E → Type 0) (shown events : List (Event E)) → IsFront SaidPart shown events → IsPrefixOf (bytes_sent shown) (bytes_sent events)
 shown_front SaidPart shown events f =
     let g = begun_front SaidPart f.begun f.later f.part in (
       g.0,

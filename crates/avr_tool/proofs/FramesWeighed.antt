@@ -1,0 +1,73 @@
+-- What goes out over a wire weighs no more than what a dialog asks.
+use Rattle.std.proofs.Common.{◌≡◌, ℕ, ◌+◌, ◌-◌, ◌≤◌, List, [], ◌∷◌, ◌++◌, map, length, length-append, append_assoc, refl, sym, ap, ◌∙◌, arith, Option, Some, None}
+use Rattle.std.proofs.lemmas.List.{append-nil, take_at}
+use Rattle.stk_frame.specs.Frame.{frame, header, xor_all}
+use Rattle.stk_frame.specs.Cut.{body_of, frames}
+use Rattle.stk_host.specs.Tape.{Tape, Reading, answer}
+use Rattle.stk_host.specs.Dialog.{Dialog, Done, Say, Ask, Event, Frame, Said, Played, played, by_answer, next, bytes_sent, frames_in}
+use Rattle.stk_host.specs.Play.{IsFront, IsBegun, IsPrefixOf}
+use Rattle.stk_host.proofs.Leading.{bytes_append}
+use Rattle.stk_emu.specs.Along.{AsksBodies}
+use Rattle.stk_emu.proofs.Turning.{sends_whole, frames_front}
+use Rattle.avr_tool.specs.Headline.{Weight, weighed}
+use Rattle.avr_tool.proofs.Weighing.{WeighsAtMost, weighed_append}
+
+length_frame : (n : ℕ) (body : List ℕ) → length (frame n body) ≡ length body + 6
+length_frame n body = omega (arith, length-append body (xor_all (header n (length body) ++ body) ∷ []))
+
+body_of_frame : (n : ℕ) (body : List ℕ) → body_of (frame n body) ≡ body
+body_of_frame n body =
+    let last = xor_all (header n (length body) ++ body) in
+    take_at body (last ∷ []) (length (frame n body) - 1 - 5) (omega (arith, length_frame n body))
+
+map_append : {A B : Type 0} (f : A → B) (xs ys : List A) → map f (xs ++ ys) ≡ map f xs ++ map f ys
+map_append f [] ys = refl
+map_append f (x ∷ xs) ys = ap (λ zs. f x ∷ zs) (map_append f xs ys)
+
+-- what is sent is a front of the bytes of the frames
+begun_front : {E : Type 0} (SaidPart : E → E → Type 0) (begun later : List (Event E)) → IsBegun SaidPart begun later → IsPrefixOf (bytes_sent begun) (bytes_sent later)
+begun_front SaidPart [] later part = (bytes_sent later, refl)
+begun_front SaidPart (Frame x ∷ []) [] part = absurd part
+begun_front SaidPart (Said x ∷ []) [] part = absurd part
+begun_front SaidPart (Frame x ∷ []) (Frame y ∷ later) part =
+    (part.0 ++ bytes_sent later, ap (λ bs. bs ++ (part.0 ++ bytes_sent later)) (append-nil x) ∙ (sym (append_assoc x part.0 (bytes_sent later)) ∙ ap (λ bs. bs ++ bytes_sent later) part.1))
+begun_front SaidPart (Frame x ∷ []) (Said y ∷ later) part = absurd part
+begun_front SaidPart (Said x ∷ []) (Frame y ∷ later) part = absurd part
+begun_front SaidPart (Said x ∷ []) (Said y ∷ later) part = (bytes_sent later, refl)
+begun_front SaidPart (Frame x ∷ e ∷ begun) later part = absurd part
+begun_front SaidPart (Said x ∷ e ∷ begun) later part = absurd part
+
+pub shown_front : {E : Type 0} (SaidPart : E → E → Type 0) (shown events : List (Event E)) → IsFront SaidPart shown events → IsPrefixOf (bytes_sent shown) (bytes_sent events)
+shown_front SaidPart shown events f =
+    let g = begun_front SaidPart f.begun f.later f.part in (
+      g.0,
+      ap (λ bs. bs ++ g.0) (ap bytes_sent f.shown_is ∙ bytes_append f.whole f.begun)
+          ∙ (append_assoc (bytes_sent f.whole) (bytes_sent f.begun) g.0
+          ∙ (ap (λ bs. bytes_sent f.whole ++ bs) g.1
+          ∙ (sym (bytes_append f.whole f.later) ∙ ap bytes_sent (sym f.events_are)))),
+    )
+
+module _ (w : Weight) where
+  by_reading : {E R : Type 0} (n : ℕ) (go_on : Reading → Tape → Played E R) (got : Option (Reading × Tape))
+      → ((reading : Reading) (left : Tape) → weighed w (map body_of (frames_in (go_on reading left).events)) ≤ n) → weighed w (map body_of (frames_in (by_answer go_on got).events)) ≤ n
+  by_reading n go_on None f = omega arith
+  by_reading n go_on (Some (reading, left)) f = f reading left
+
+  frames_weigh : {E R : Type 0} (n : ℕ) (d : Dialog E R) (seq : ℕ) (tape : Tape) → WeighsAtMost w n d → weighed w (map body_of (frames_in (played d seq tape).events)) ≤ n
+  frames_weigh n (Done r) seq tape f = omega arith
+  frames_weigh n (Say e d) seq tape f = frames_weigh n d seq tape f
+  frames_weigh n (Ask asked answered) seq tape f =
+      let first = f.0 in
+      let rest = by_reading (n - w asked) (λ reading. played (answered reading) (next seq)) (answer seq tape) (λ reading left. frames_weigh (n - w asked) (answered reading) (next seq) left (f.1 reading)) in
+      let same : w (body_of (frame seq asked)) ≡ w asked = ap w (body_of_frame seq asked) in
+      omega (arith, first, rest, same)
+
+  -- of a front of the bytes
+  pub front_weighs : {E R : Type 0} (n : ℕ) (d : Dialog E R) (seq : ℕ) (tape : Tape) (sent : List ℕ) → AsksBodies d → WeighsAtMost w n d → IsPrefixOf sent (bytes_sent (played d seq tape).events)
+      → weighed w (map body_of (frames sent)) ≤ n
+  front_weighs n d seq tape sent asks f front =
+      let whole = frames_front (played d seq tape).events sent front.0 (sends_whole d seq tape asks) front.1 in
+      let all = frames_weigh n d seq tape f in
+      let split : weighed w (map body_of (frames_in (played d seq tape).events)) ≡ weighed w (map body_of (frames sent)) + weighed w (map body_of whole.0) =
+      ap (λ fs. weighed w (map body_of fs)) whole.1 ∙ (ap (weighed w) (map_append body_of (frames sent) whole.0) ∙ weighed_append w (map body_of (frames sent)) (map body_of whole.0)) in
+      omega (arith, all, split)

@@ -1,0 +1,118 @@
+-- Planning and playing as one run.
+use Rattle.std.proofs.Common.{◌≡◌, ℕ, ◌⊎◌, inl, inr, List, [], ◌∷◌, ◌++◌, map, Option, option_map, Some, refl, sym, ap, ◌∙◌, subst, arith, append_assoc}
+use Rattle.std.proofs.lemmas.List.{append-nil}
+use Rattle.avr_cli.specs.declared.chosen.Settings.{Settings}
+use Rattle.avr_desk.specs.Record.{Record}
+use Rattle.avr_desk.specs.declared.record.Opening.{Opening}
+use Rattle.avr_message.specs.Said.{Saying, SaidPart, after_all}
+use Rattle.avr_message.proofs.Saying.{kept_append}
+use Rattle.avr_plan.specs.Plan.{Plan}
+use Rattle.avr_plan.specs.Planning.{planned}
+use Rattle.avr_plan.specs.Playing.{Went}
+use Rattle.avr_plan.specs.Stage.{Made, Refused}
+use Rattle.stk_host.specs.Dialog.{Event, Said, played, behind, bytes_sent, sayings}
+use Rattle.stk_host.specs.Talk.{Talk, Sent, Got, heard}
+use Rattle.stk_host.specs.Tape.{Tape, on_tape}
+use Rattle.stk_host.specs.Play.{TurnsFrom, IsFront}
+use Rattle.stk_host.proofs.Talks.{grows_none}
+use Rattle.avr_session.specs.Run.{RunsSettings}
+use Rattle.avr_session.specs.Runs.{Ran}
+use Rattle.avr_session.specs.Session.{session}
+use Rattle.avr_tool.specs.Headline.{run, after_planning, IsInTurn, IsRun, IsFrontOfRun, StoppedPlaying, IsStopped}
+
+said_sayings : (says : List Saying) (events : List (Event Saying)) → sayings (map Said says ++ events) ≡ says ++ sayings events
+said_sayings [] events = refl
+said_sayings (saying ∷ says) events = ap (λ rest. saying ∷ rest) (said_sayings says events)
+
+said_bytes : (says : List Saying) (events : List (Event Saying)) → bytes_sent (map Said says ++ events) ≡ bytes_sent events
+said_bytes [] events = refl
+said_bytes (saying ∷ says) events = said_bytes says events
+
+-- turns of the session are turns of the run
+turns : (settings : Settings) (openings : List Opening) (says : List Saying) (left : List Opening) (plan : Plan) → planned settings openings ≡ record { says = says; answer = Made plan; left = left }
+    → (tape : Tape) (bytes : List ℕ) (talk : Talk) → TurnsFrom (session plan) 1 tape bytes talk → IsInTurn (run settings openings) tape bytes talk
+turns settings openings says left plan is tape bytes [] due = tt
+turns settings openings says left plan is tape bytes (Sent more ∷ talk) due = turns settings openings says left plan is tape (bytes ++ more) talk due
+turns settings openings says left plan is tape bytes (Got items ∷ talk) due =
+    let e : run settings openings tape ≡ behind (map Said says) (played (session plan) 1 tape) = ap (λ p. after_planning p tape) is in (
+      record { waits = ap (λ p. p.outcome) e ∙ due.0.waits; all_sent = ap (λ p. bytes_sent p.events) e ∙ (said_bytes says (played (session plan) 1 tape).events ∙ due.0.all_sent) },
+      turns settings openings says left plan is (tape ++ items) bytes talk due.1,
+    )
+
+pub ran_whole : (settings : Settings) (plan : Plan) (o p : Option Talk) (d e f : Option Record) (status next : ℕ) (left : List ℕ)
+    → Went (planned settings) d e (Made plan) → Ran (session plan) 1 [] o p e f status next left → IsRun settings o p d f status
+ran_whole settings plan o p d e f status next left went ran = record {
+  openings = went.passed;
+  during = ran.during;
+  events = map Said went.says ++ ran.events;
+  next = next;
+  left = left;
+  is = λ later more. ap (λ q. after_planning q (heard ran.during ++ more)) (went.comes later) ∙ ap (behind (map Said went.says)) (ran.plays.plays more);
+  in_turn = λ later. turns settings (went.passed ++ later) went.says later plan (went.comes later) [] [] ran.during ran.plays.in_turn;
+  all_sent = said_bytes went.says ran.events ∙ ran.plays.all_sent;
+  grows = ran.grows;
+  kept = kept_append went.says (sayings ran.events) d e f went.kept ran.kept ∙ ap (λ says. option_map (after_all says) d) (sym (said_sayings went.says ran.events));
+  few = ran.few (omega arith);
+}
+
+pub ran_openings : (settings : Settings) (plan : Plan) (o p : Option Talk) (d e f : Option Record) (status next : ℕ) (left : List ℕ) (went : Went (planned settings) d e (Made plan))
+    (ran : Ran (session plan) 1 [] o p e f status next left) → (ran_whole settings plan o p d e f status next left went ran).openings ≡ went.passed
+unfolding ran_whole
+ran_openings settings plan o p d e f status next left went ran = refl
+
+pub refused_whole : (settings : Settings) (o : Option Talk) (d f : Option Record) → Went (planned settings) d f Refused → IsRun settings o o d f 1
+refused_whole settings o d f went = record {
+  openings = went.passed;
+  during = [];
+  events = map Said went.says ++ [];
+  next = 1;
+  left = [];
+  is = λ later more. ap (λ q. after_planning q more) (went.comes later);
+  in_turn = λ later. tt;
+  all_sent = said_bytes went.says [];
+  grows = grows_none o;
+  kept = went.kept ∙ ap (λ says. option_map (after_all says) d) (sym (said_sayings went.says [] ∙ append-nil went.says));
+  few = omega arith;
+}
+
+pub is_run : (settings : Settings) (o p : Option Talk) (d f : Option Record) (k l a b status : ℕ) → RunsSettings settings o p d f k l a b status → IsRun settings o p d f status ⊎ IsStopped settings o p d f k l a b status
+is_run settings o p d f k l a b status (inl runs) = elim runs.runs [
+  | inl ran ↦ inl (ran_whole settings runs.plan o p d runs.between f status ran.0 ran.1 runs.made ran.2)
+  | inr broke ↦ inr (inl (record { plan = runs.plan; between = runs.between; count = runs.count; made = runs.made; rises = runs.rises; broke = broke.0; status_is = broke.1 }))
+]
+is_run settings o p d f k l a b status (inr none) = elim none.refused [
+  | inl went ↦ inl (subst (λ q. IsRun settings o q d f status) (sym none.same) (subst (λ s. IsRun settings o o d f s) (sym none.status_is) (refused_whole settings o d f went)))
+  | inr broke ↦ inr (inr (record { broke = broke; same = none.same; status_is = none.status_is }))
+]
+
+behind_front : (says : List Saying) {shown events : List (Event Saying)} → IsFront SaidPart shown events → IsFront SaidPart (map Said says ++ shown) (map Said says ++ events)
+behind_front says f = record {
+  whole = map Said says ++ f.whole;
+  begun = f.begun;
+  later = f.later;
+  shown_is = ap (λ es. map Said says ++ es) f.shown_is ∙ sym (append_assoc (map Said says) f.whole f.begun);
+  events_are = ap (λ es. map Said says ++ es) f.events_are ∙ sym (append_assoc (map Said says) f.whole f.later);
+  part = f.part;
+}
+
+pub stopped_front : (settings : Settings) (o p : Option Talk) (d f : Option Record) (k l a b status : ℕ) → StoppedPlaying settings o p d f k l a b status → IsFrontOfRun settings o p
+stopped_front settings o p d f k l a b status stopped = record {
+  openings = stopped.made.passed;
+  during = stopped.broke.during;
+  shown = map Said stopped.made.says ++ stopped.broke.shown;
+  front = λ later. subst (λ q. IsFront SaidPart (map Said stopped.made.says ++ stopped.broke.shown) q.events) (sym (ap (λ q. after_planning q (heard stopped.broke.during)) (stopped.made.comes later)))
+      (behind_front stopped.made.says stopped.broke.breaks.front);
+  in_turn = λ later. turns settings (stopped.made.passed ++ later) stopped.made.says later stopped.plan (stopped.made.comes later) [] [] stopped.broke.during stopped.broke.breaks.in_turn;
+  all_sent = said_bytes stopped.made.says stopped.broke.shown ∙ stopped.broke.breaks.all_sent;
+  grows = stopped.broke.grows;
+}
+
+some_is : {A : Type 0} (a b : A) → Some a ≡ Some b → a ≡ b
+some_is a b e = cc
+
+-- the same openings and the same items heard come to one status
+pub one_status : (settings : Settings) (o p q r : Option Talk) (d e f g : Option Record) (m n : ℕ) (x : IsRun settings o p d e m) (y : IsRun settings q r f g n) → x.openings ≡ y.openings → heard x.during ≡ heard y.during → m ≡ n
+one_status settings o p q r d e f g m n x y same alike =
+    let both : run settings (x.openings ++ []) (heard x.during ++ []) ≡ run settings (y.openings ++ []) (heard y.during ++ []) = ap (λ os. run settings (os ++ []) (heard x.during ++ [])) same ∙ ap (λ t. run settings (y.openings ++ []) (t ++ [])) alike in
+    let outcomes = sym (ap (λ z. z.outcome) (x.is [] [])) ∙ (ap (λ z. z.outcome) both ∙ ap (λ z. z.outcome) (y.is [] [])) in
+    ap (λ z. z.0) (some_is (m, x.next, on_tape x.left ++ []) (n, y.next, on_tape y.left ++ []) outcomes)

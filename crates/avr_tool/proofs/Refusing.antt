@@ -1,0 +1,78 @@
+-- Outcomes that the page refuses.
+use Rattle.std.proofs.Common.{◌≡◌, ◌<◌, ◌*◌, ℕ, List, [], ◌++◌, map, ap, sym, ◌∙◌, subst, refl, arith, Option, Some}
+use Rattle.avr_desk.specs.Record.{Record}
+use Rattle.avr_desk.specs.declared.record.Opening.{Opening}
+use Rattle.avr_message.specs.Said.{after_all}
+use Rattle.avr_plan.specs.Plan.{Plan}
+use Rattle.avr_session.specs.Session.{session}
+use Rattle.stk_frame.specs.Cut.{body_of}
+use Rattle.stk_host.specs.Dialog.{bytes_sent, sayings}
+use Rattle.stk_host.specs.Operations.{beginning, opening, closing, operation}
+use Rattle.stk_host.specs.Steps.{exchange, attempt, tries, play}
+use Rattle.stk_host.specs.Talk.{Talk, sent, heard}
+use Rattle.stk_host.specs.Tape.{answer, on_tape}
+use Rattle.stk_emu.specs.Effect.{effects}
+use Rattle.stk_emu.specs.Wired.{State}
+use Rattle.avr_emulated.specs.Bound.{run_steps}
+use Rattle.avr_emulated.specs.Course.{course}
+use Rattle.avr_emulated.specs.Items.{items}
+use Rattle.avr_tool.specs.Headline.{run, IsRun, OverAnyLine, Weight, weighed, bodies_in, memories, frames_over}
+use Rattle.avr_tool.specs.Worked.{asked, answers, frames_due, lines_due}
+
+some_is : {A : Type 0} (a b : A) → ◌≡◌ {A = Option A} (Some a) (Some b) → a ≡ b
+some_is a b e = cc
+
+pub too_much : (plan : Plan) (w v : State) (d e : Option Record) (status : ℕ) (weight : Weight)
+    → 4 * weighed weight (bodies_in (run_steps plan)) < weighed weight (map body_of (frames_over v)) → OverAnyLine plan w v d e status → ⊥
+too_much plan w v d e status weight more over = let most = over.four weight in absurd (omega (arith, more, most))
+
+pub not_all_written : (plan : Plan) (w v : State) (d e : Option Record) → (memories v ≡ effects plan.part (items plan) (memories w) → ⊥) → OverAnyLine plan w v d e 0 → ⊥
+not_all_written plan w v d e other over = other (over.done refl).memories
+
+pub said_otherwise : (plan : Plan) (w v : State) (d e : Record) → (e ≡ after_all (course plan (memories w)).says d → ⊥) → OverAnyLine plan w v (Some d) (Some e) 0 → ⊥
+said_otherwise plan w v d e other over = other (some_is e (after_all (course plan (memories w)).says d) (over.success refl).said)
+
+pub touched_in_silence : (plan : Plan) (w v : State) (d e : Option Record) (status : ℕ) → frames_over v ≡ [] → (memories v ≡ memories w → ⊥) → OverAnyLine plan w v d e status → ⊥
+touched_in_silence plan w v d e status none other over = other (over.untouched none)
+
+-- ---- the worked run
+
+answered_due : (openings : List Opening) → (run asked openings answers).outcome ≡ Some (0, 7, [])
+unfolding session opening beginning operation closing play tries attempt exchange answer
+answered_due openings = refl
+
+sent_due : (openings : List Opening) → bytes_sent (run asked openings answers).events ≡ frames_due
+unfolding session opening beginning operation closing play tries attempt exchange answer
+sent_due openings = refl
+
+said_due : (openings : List Opening) → sayings (run asked openings answers).events ≡ lines_due
+unfolding session opening beginning operation closing play tries attempt exchange answer
+said_due openings = refl
+
+module _ (talk : Talk) (d e : Option Record) (status : ℕ) (x : IsRun asked (Some []) (Some talk) d e status) (all : heard talk ≡ answers) where
+  passed : x.during ≡ talk
+  passed = sym (some_is talk x.during x.grows)
+
+  played_over : run asked (x.openings ++ []) (answers ++ []) ≡ record { events = x.events; outcome = Some (status, x.next, on_tape x.left ++ []) }
+  played_over = subst (λ tape. run asked (x.openings ++ []) (tape ++ []) ≡ record { events = x.events; outcome = Some (status, x.next, on_tape x.left ++ []) }) (ap heard passed ∙ all) (x.is [] [])
+
+  pub worked_status : status ≡ 0
+  worked_status = ap (λ z. z.0) (some_is (status, x.next, on_tape x.left ++ []) (0, 7, []) (sym (ap (λ p. p.outcome) played_over) ∙ answered_due (x.openings ++ [])))
+
+  pub worked_sent : sent talk ≡ frames_due
+  worked_sent = ap sent (sym passed) ∙ (sym x.all_sent ∙ (sym (ap (λ p. bytes_sent p.events) played_over) ∙ sent_due (x.openings ++ [])))
+
+  worked_said : sayings x.events ≡ lines_due
+  worked_said = sym (ap (λ p. sayings p.events) played_over) ∙ said_due (x.openings ++ [])
+
+pub another_status : (talk : Talk) (d e : Option Record) → heard talk ≡ answers → IsRun asked (Some []) (Some talk) d e 1 → ⊥
+another_status talk d e all x = absurd (one_no (worked_status talk d e 1 x all))
+  where
+    one_no : ◌≡◌ {A = ℕ} 1 0 → ⊥
+    one_no e = cc
+
+pub another_frame : (talk : Talk) (d e : Option Record) (status : ℕ) → heard talk ≡ answers → (sent talk ≡ frames_due → ⊥) → IsRun asked (Some []) (Some talk) d e status → ⊥
+another_frame talk d e status all other x = other (worked_sent talk d e status x all)
+
+pub another_line : (talk : Talk) (d e : Record) (status : ℕ) → heard talk ≡ answers → (e ≡ after_all lines_due d → ⊥) → IsRun asked (Some []) (Some talk) (Some d) (Some e) status → ⊥
+another_line talk d e status all other x = other (some_is e (after_all lines_due d) (x.kept ∙ ap (λ said. Some (after_all said d)) (worked_said talk (Some d) (Some e) status x all)))

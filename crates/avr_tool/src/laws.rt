@@ -1,0 +1,78 @@
+//! Laws of runs. No code.
+
+ghost use Rattle.std.specs.Prelude.{◌≡◌, ◌<◌, ◌*◌, ◌⊎◌, ℕ, List, [], All, Option, Some, map};
+ghost use Rattle.avr_cli.specs.declared.chosen.Settings.{Settings as AnySettings};
+ghost use Rattle.avr_desk.specs.Record.{Record};
+ghost use Rattle.avr_emulated.specs.Bound.{run_steps};
+ghost use Rattle.avr_emulated.specs.Course.{course};
+ghost use Rattle.avr_emulated.specs.Items.{items};
+ghost use Rattle.avr_message.specs.Said.{after_all};
+ghost use Rattle.avr_part.specs.Part.{IsPart};
+ghost use Rattle.avr_plan.specs.Plan.{Plan, IsFitted};
+ghost use Rattle.avr_session.specs.Run.{RunsSettings};
+ghost use Rattle.avr_session.specs.Session.{session};
+ghost use Rattle.avr_tool.specs.Headline.{IsRun, IsStopped, StoppedPlaying, IsFrontOfRun, OverAnyLine, Weight, weighed, bodies_in, memories, frames_over};
+ghost use Rattle.avr_tool.specs.Worked.{asked, answers, frames_due, lines_due};
+ghost use Rattle.stk_emu.specs.Along.{along, said_along};
+ghost use Rattle.stk_emu.specs.Device.{device};
+ghost use Rattle.stk_emu.specs.Effect.{Memories, memories_of, effects};
+ghost use Rattle.stk_emu.specs.Programmer.{Programmer};
+ghost use Rattle.stk_emu.specs.Settled.{Idle, FitsPart};
+ghost use Rattle.stk_emu.specs.Wired.{State};
+ghost use Rattle.stk_frame.specs.Cut.{body_of};
+ghost use Rattle.stk_emu.specs.declared.fate.Fate.{Fate};
+ghost use Rattle.stk_host.specs.Dialog.{Done};
+ghost use Rattle.stk_host.specs.Talk.{Talk, heard, sent};
+
+/// Whatever the line does, a session that comes to status 0 has said what its course says, and no more, and leaves the course's
+/// memories: so each message is that of a perfect line, and each file that was read is the memory's.
+pub fn a_run_of_status_0_is_its_course()
+    ensures status { (plan : Plan) (m : Memories) (k : ℕ) (p : Programmer) (fates : List Fate)
+        → IsPart plan.part → All (IsFitted plan.part) plan.tasks → FitsPart plan.part m → Idle plan.part m p
+        → (along device k (session plan) p fates).dialog ≡ Done 0 → (course plan m).status ≡ 0 }
+    ensures says { (plan : Plan) (m : Memories) (k : ℕ) (p : Programmer) (fates : List Fate)
+        → IsPart plan.part → All (IsFitted plan.part) plan.tasks → FitsPart plan.part m → Idle plan.part m p
+        → (along device k (session plan) p fates).dialog ≡ Done 0 → said_along device k (session plan) p fates ≡ (course plan m).says }
+    ensures memories { (plan : Plan) (m : Memories) (k : ℕ) (p : Programmer) (fates : List Fate)
+        → IsPart plan.part → All (IsFitted plan.part) plan.tasks → FitsPart plan.part m → Idle plan.part m p
+        → (along device k (session plan) p fates).dialog ≡ Done 0
+        → memories_of (along device k (session plan) p fates).programmer.chip ≡ (course plan m).memories }
+{}
+
+/// What runs as the settings say is the one function, or it stopped.
+#[tactic(auto, using(crate::proofs::Joining::is_run))]
+pub fn a_run_is_one_function()
+    ensures { (s : AnySettings) (o p : Option Talk) (d f : Option Record) (k l a b status : ℕ)
+        → RunsSettings s o p d f k l a b status → IsRun s o p d f status ⊎ IsStopped s o p d f k l a b status }
+{}
+
+/// What stopped as it was played did a front of the run; and a run comes to one status.
+pub fn a_stop_is_a_front()
+    ensures front { (s : AnySettings) (o p : Option Talk) (d f : Option Record) (k l a b status : ℕ)
+        → StoppedPlaying s o p d f k l a b status → IsFrontOfRun s o p }
+    ensures one { (s : AnySettings) (o p q r : Option Talk) (d e f g : Option Record) (m n : ℕ) (x : IsRun s o p d e m) (y : IsRun s q r f g n)
+        → x.openings ≡ y.openings → heard x.during ≡ heard y.during → m ≡ n }
+{}
+
+/// What the page refuses of a run over a wire: with status 0 other memories than all that was to be written leaves, or other
+/// sayings than those of a perfect line; with any status a chip that changed though no frame went out, or more frames than four for
+/// each command, by any weight of them.
+pub fn a_wrong_outcome_is_refused()
+    ensures memories { (plan : Plan) (w v : State) (d e : Option Record)
+        → (memories v ≡ effects plan.part (items plan) (memories w) → ⊥) → OverAnyLine plan w v d e 0 → ⊥ }
+    ensures sayings { (plan : Plan) (w v : State) (d e : Record)
+        → (e ≡ after_all (course plan (memories w)).says d → ⊥) → OverAnyLine plan w v (Some d) (Some e) 0 → ⊥ }
+    ensures silence { (plan : Plan) (w v : State) (d e : Option Record) (status : ℕ)
+        → frames_over v ≡ [] → (memories v ≡ memories w → ⊥) → OverAnyLine plan w v d e status → ⊥ }
+    ensures frames { (plan : Plan) (w v : State) (d e : Option Record) (status : ℕ) (weight : Weight)
+        → 4 * weighed weight (bodies_in (run_steps plan)) < weighed weight (map body_of (frames_over v)) → OverAnyLine plan w v d e status → ⊥ }
+{}
+
+/// A worked run, `-p m328p`, to which all answers came: another status, another frame or another line is no run.
+pub fn a_worked_run_has_one_outcome()
+    ensures status { (talk : Talk) (d e : Option Record) → heard talk ≡ answers → IsRun asked (Some []) (Some talk) d e 1 → ⊥ }
+    ensures frames { (talk : Talk) (d e : Option Record) (status : ℕ)
+        → heard talk ≡ answers → (sent talk ≡ frames_due → ⊥) → IsRun asked (Some []) (Some talk) d e status → ⊥ }
+    ensures lines { (talk : Talk) (d e : Record) (status : ℕ)
+        → heard talk ≡ answers → (e ≡ after_all lines_due d → ⊥) → IsRun asked (Some []) (Some talk) (Some d) (Some e) status → ⊥ }
+{}

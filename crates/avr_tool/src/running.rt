@@ -1,0 +1,43 @@
+//! Runs by the words of the headline: over any line, and over the emulated programmer behind a line of any fates.
+ghost use Rattle.std.specs.Prelude.{◌⊎◌, Some};
+ghost use Rattle.avr_tool.specs.Headline.{IsNew, IsRun, IsStopped, RunsWired};
+ghost use Rattle.stk_host.specs.Talk.{Stays};
+
+use avr_cli::Settings;
+use avr_desk::Desk;
+use avr_plan::plan;
+use avr_session::{drive, run as run_over};
+use std::alloc::Global;
+use stk_emu::Wired;
+use stk_host::Link;
+
+/// Plans what the settings ask for, runs it over a link, reports it at the desk, and answers the status: 0 where no fault
+/// came, else 1. What is refused is told before any frame is sent or file created.
+#[tactic(auto, using(crate::proofs::Joining::is_run))]
+pub fn run<D: Desk, L: Link>(alloc: Global, settings: &Settings, desk: &mut D, link: &mut L) -> u8
+    ensures runs { IsRun settings.now (L.talk link.old) (L.talk link.new) (D.kept desk.old) (D.kept desk.new) result
+        ⊎ IsStopped settings.now (L.talk link.old) (L.talk link.new) (D.kept desk.old) (D.kept desk.new)
+        (L.failures link.old) (L.failures link.new) (D.failures desk.old) (D.failures desk.new) result }
+    ensures comes { Stays L.comes_of link.old link.new }
+{
+    run_over(alloc, settings, desk, link)
+}
+
+/// Runs what the settings ask for over a wire to the emulated programmer, whatever its line loses, delays and spoils.
+///
+/// Nothing has passed over the wire yet. What is promised of the chip is so where it is of the plan's part; a chip of another
+/// part is met as any programmer is.
+pub fn run_wired<D: Desk>(alloc: Global, settings: &Settings, desk: &mut D, wire: &mut Wired) -> u8
+    requires new { IsNew wire.old }
+    ensures runs { RunsWired settings.now wire.old wire.new (D.kept desk.old) (D.kept desk.new)
+        (D.failures desk.old) (D.failures desk.new) result }
+{
+    let plan = match plan(alloc, settings, desk) {
+        Ok(plan) => plan,
+        Err(status) => return status,
+    };
+    // What the clause rests on: each image has the size of its memory, and the chip's memories those of its part.
+    let _tasks = plan.tasks();
+    let _part = wire.chip().part();
+    drive(alloc, &plan, desk, wire)
+}

@@ -1,0 +1,120 @@
+#!/usr/bin/env python3
+"""How much a reader has to read: the definitions that a contract reaches.
+
+    tests/reach.py                          of `run_wired`, the headline (docs/PROOFS has the figures)
+    tests/reach.py CRATE.FILE.NAME ..       of these definitions of specs/
+    tests/reach.py -v ..                    and lists them, file by file
+
+A definition reaches what its text names: definitions of its own file and those that the `use` lines bring in. What stands
+in std, in other libraries or in Rust (an enum, a struct) is named with the definition and not counted. A variable that has
+the name of a definition counts as that one, so the figures are no smaller than they should be. Lines are those of the
+definitions, without comments and `use` lines.
+"""
+
+import re
+import sys
+from pathlib import Path
+
+TOP = Path(__file__).resolve().parent.parent
+HEADLINE = ["avr_tool.Headline.RunsWired", "avr_tool.Headline.IsNew"]
+
+HEADER = re.compile(r"^\s*(?:(?:abbrev|unfoldable) pub|pub (?:record|data)) (\S+)")
+USE = re.compile(r"^use Rattle\.(\w+)\.specs\.(\w+)(?: as (\w+)|\.\{(.*)\})?$")
+CONSTRUCTOR = re.compile(r"^\s+(\w+) : ")
+WORD = re.compile(r"[A-Za-z_][\w']*(?:\.[A-Za-z_][\w']*)*")
+
+
+class File:
+    """A file of specs/: its definitions, each a list of lines, and the names that it can use."""
+
+    def __init__(self, path):
+        self.definitions = {}
+        self.owner = {}
+        self.names = {}
+        self.modules = {}
+        block = None
+        for line in path.read_text().splitlines():
+            header, use = HEADER.match(line), USE.match(line)
+            if use:
+                self.read_use(*use.groups())
+            elif header:
+                name = header.group(1)
+                block = self.definitions.setdefault(name, [])
+                is_data = "data " in line
+                self.owner[name] = name
+            if use or not line.strip() or line.lstrip().startswith("--") or re.match(r"infix|mutual", line):
+                if use or not line.strip():
+                    block = block if line.startswith("  ") else None
+                continue
+            if block is None:
+                continue
+            block.append(line)
+            constructor = CONSTRUCTOR.match(line)
+            if constructor and is_data:
+                self.owner[constructor.group(1)] = name
+
+    def read_use(self, crate, file, alias, brought):
+        if alias or not brought:
+            self.modules[alias or file] = (crate, file)
+        for item in (brought or "").split(", "):
+            name, _, local = item.partition(" as ")
+            if name:
+                self.names[local or name] = (crate, file, name)
+
+
+FILES = {(p.parent.parent.name, p.stem): File(p) for p in TOP.glob("crates/*/specs/*.antt")}
+
+
+def found(crate, file, name):
+    """The definition of this name in a file, if it is one of this project."""
+    here = FILES.get((crate, file))
+    if here and name in here.owner:
+        return crate, file, here.owner[name]
+    return None
+
+
+def named_in(crate, file, text):
+    """The definitions that a text in this file names."""
+    here = FILES[crate, file]
+    for word in WORD.findall(text):
+        first, _, rest = word.partition(".")
+        if rest and first in here.modules:
+            yield found(*here.modules[first], rest.split(".")[0])
+        elif first in here.names:
+            yield found(*here.names[first])
+        else:
+            yield found(crate, file, first)
+    operators = {name: (crate, file, name) for name in here.definitions} | here.names
+    for name, place in operators.items():
+        if name.startswith("◌") and name.strip("◌") in text.split():
+            yield found(*place)
+
+
+def reached(roots):
+    seen, todo = set(), list(roots)
+    while todo:
+        place = todo.pop()
+        if place is None or place in seen:
+            continue
+        seen.add(place)
+        crate, file, name = place
+        todo += named_in(crate, file, "\n".join(FILES[crate, file].definitions[name]))
+    return seen
+
+
+def main(words):
+    listed = "-v" in words
+    roots = [found(*root.split(".")) for root in [w for w in words if w != "-v"] or HEADLINE]
+    if None in roots:
+        sys.exit(__doc__)
+    seen = reached(roots)
+    lines = sum(len(FILES[crate, file].definitions[name]) for crate, file, name in seen)
+    files = sorted({(crate, file) for crate, file, _ in seen})
+    print(f"{len(seen)} definitions, {lines} lines, in {len(files)} files")
+    for crate, file in files if listed else []:
+        names = sorted(name for c, f, name in seen if (c, f) == (crate, file))
+        print(f"  {crate}/specs/{file}: {', '.join(names)}")
+
+
+if __name__ == "__main__":
+    main(sys.argv[1:])
