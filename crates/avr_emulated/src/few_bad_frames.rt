@@ -1,7 +1,7 @@
 //! What a run does over a line on which few frames go wrong. No code.
 #![tactic(auto)]
 
-ghost use Rattle.std.specs.Prelude.{◌≡◌, ◌≤◌, ◌*◌, ℕ, List, All, Option, Some};
+ghost use Rattle.std.specs.Prelude.{◌≡◌, ◌≤◌, ◌*◌, ℕ, Bool, List, All, Option, Some};
 ghost use Rattle.avr_desk.specs.Record.{Record};
 ghost use Rattle.avr_part.specs.Part.{IsPart};
 ghost use Rattle.avr_plan.specs.Plan.{Plan, IsFitted};
@@ -44,8 +44,8 @@ pub fn a_run_with_few_bad_frames_has_its_course()
 /// Where no device failed, and the messages do not say that memory was refused, a run over such a line went as its course
 /// says.
 pub fn a_sound_run_with_few_bad_frames_is_its_course()
-    ensures course { (plan : Plan) (before after : Memories) (desk_before desk_after : Record) (talk : Option Talk) (k l a b status : ℕ)
+    ensures course { (plan : Plan) (before after : Memories) (desk_before desk_after : Record) (talk : Option Talk) (takes : Bool) (k l a b status : ℕ)
         → IsSound k l a b → (LacksMemory desk_after.messages → ⊥)
-        → GoesWell plan before after (Some desk_before) (Some desk_after) talk (Stops k l a b) status
+        → GoesWell plan before after (Some desk_before) (Some desk_after) talk (Stops takes k l a b) status
         → IsCourse plan before after (Some desk_before) (Some desk_after) status }
 {}

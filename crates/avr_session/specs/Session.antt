@@ -179,3 +179,12 @@ status_of _ = 1
 
 unfoldable pub session : Plan → Dialog Saying ℕ
 session plan = playing plan >>= λ standing. Done (status_of standing)
+
+-- Memory is taken to read, to compare, and for a write that is read back. (What a plan takes, its planning took before.)
+abbrev pub task_takes_memory : Switches → Task → Bool
+task_takes_memory s (Write mem image) = not (s.dry || s.no_verify)
+task_takes_memory s (Verify mem image) = true
+task_takes_memory s (Read mem format file) = true
+
+abbrev pub takes_memory : Plan → Bool
+takes_memory plan = list_any (task_takes_memory plan.switches) plan.tasks

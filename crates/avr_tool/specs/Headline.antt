@@ -12,7 +12,7 @@ use Rattle.avr_plan.specs.Playing.{Went}
 use Rattle.avr_plan.specs.Stage as stage
 use Rattle.avr_plan.specs.Stage.{Answer, Made, Refused, Unread}
 use Rattle.avr_session.specs.Runs.{BrokeOff, Stops}
-use Rattle.avr_session.specs.Session.{session}
+use Rattle.avr_session.specs.Session.{session, takes_memory}
 use Rattle.avr_emulated.specs.Bound.{run_steps}
 use Rattle.avr_emulated.specs.Course.{course}
 use Rattle.avr_emulated.specs.Outcome.{IsDone, MakesStrokes}
@@ -81,7 +81,7 @@ pub record StoppedPlaying (settings : Settings) (talk_before talk_now : Option T
   pub count : ℕ
   pub made : Went (planned settings) desk_before between (Made plan)
   pub rises : desk_failed ≤ count
-  pub broke : BrokeOff (session plan) 1 [] talk_before talk_now between desk_now (Stops link_failed link_fails count desk_fails)
+  pub broke : BrokeOff (session plan) 1 [] talk_before talk_now between desk_now (Stops (takes_memory plan) link_failed link_fails count desk_fails)
   pub status_is : status ≡ 1
 
 -- As it was planned: a front of what planning says was done, and nothing was sent or heard.
