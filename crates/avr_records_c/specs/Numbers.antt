@@ -35,7 +35,12 @@ done NoEnd = record { line = 0; address = 0; fault = 0; ended = false }
 -- no file was read, by this fault
 abbrev pub refused : RecordFault → Outcome
 refused fault =
-    record { line = unwrap_or (fault_line fault) 0; address = fault_address fault; fault = fault_number fault; ended = false }
+    record {
+      line = unwrap_or (fault_line fault) 0;
+      address = fault_address fault;
+      fault = fault_number fault;
+      ended = false;
+    }
 
 -- the arguments do not fit one another
 abbrev pub misfit : Outcome

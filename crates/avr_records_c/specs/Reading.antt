@@ -28,8 +28,8 @@ abbrev pub asked_read : ℕ → ℕ → ℕ → ℕ → Option Kind
 asked_read kind text size present =
     if nat_lt text (2 ^ 32) && nat_lt size (2 ^ 32) && present == octets_of size then kind_numbered kind else None
 
--- A call leaves what the file says, or memory was refused; where the arguments do not fit one another it leaves all as it
--- was.
+-- A call leaves what the file says, or memory was refused; where the arguments do not fit one another it leaves all as
+-- it was.
 abbrev pub Reads : ℕ → List ℕ → List ℕ → List ℕ → Left → Type 0
 Reads kind text bytes present left =
     MatchOption (asked_read kind (length text) (length bytes) (length present))

@@ -29,8 +29,8 @@ put_from text from room =
 abbrev pub put_none : ℕ → List ℕ → Put
 put_none fault room = record { piece = record { length = 0; fault = fault }; room = room }
 
--- the kind of file, where the number is that of one, the memory has fewer than 2 to the power 32 bytes, and the bitmap has
--- as many octets as the memory needs
+-- the kind of file, where the number is that of one, the memory has fewer than 2 to the power 32 bytes, and the bitmap
+-- has as many octets as the memory needs
 abbrev pub asked_write : ℕ → ℕ → ℕ → Option Kind
 asked_write kind size present =
     if nat_lt size (2 ^ 32) && present == octets_of size then kind_numbered kind else None
@@ -41,4 +41,5 @@ abbrev pub Writes : ℕ → List ℕ → List ℕ → ℕ → List ℕ → Put �
 Writes kind bytes present from room put =
     MatchOption (asked_write kind (length bytes) (length present))
     (put ≡ put_none 11 room)
-    (λ k. (put ≡ put_from (image_text k (image_of present bytes)) from room) ⊎ (put ≡ put_none (fault_number Memory) room))
+    (λ k. (put ≡ put_from (image_text k (image_of present bytes)) from room)
+    ⊎ (put ≡ put_none (fault_number Memory) room))

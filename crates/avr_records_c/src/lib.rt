@@ -1,8 +1,8 @@
 //! Record files for C: Intel HEX and S-records, read into a memory that the caller lends and written from one.
 //!
-//! Each function is that of avr_records over memory that belongs to the caller: no handle stays behind a call, nothing is
-//! global, and what a call allocates it has freed when it returns. `include/avr_records.h` declares the functions and says
-//! what their callers owe.
+//! Each function is that of avr_records over memory that belongs to the caller: no handle stays behind a call, nothing
+//! is global, and what a call allocates it has freed when it returns. `include/avr_records.h` declares the functions
+//! and says what their callers owe.
 #![tactic(auto)]
 
 mod bitmap;

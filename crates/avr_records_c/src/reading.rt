@@ -19,12 +19,12 @@ fn asked_read(kind: u8, text: usize, size: usize, present: usize) -> Option<Kind
     }
 }
 
-/// Reads a whole record file of this kind (1 for Intel HEX, 2 for S-records) into the bytes of a memory, FF in gaps, and a
-/// bitmap of the bytes that are there, which has an octet for each eight bytes, the last perhaps in part.
+/// Reads a whole record file of this kind (1 for Intel HEX, 2 for S-records) into the bytes of a memory, FF in gaps,
+/// and a bitmap of the bytes that are there, which has an octet for each eight bytes, the last perhaps in part.
 ///
-/// After a fault bytes and bitmap are as they were. The faults have the numbers of `RecordFault`; 11 is that of arguments
-/// that do not fit one another: another kind, a bitmap of another length, a file or a memory of 2 to the power 32 bytes or
-/// more.
+/// After a fault bytes and bitmap are as they were. The faults have the numbers of `RecordFault`; 11 is that of
+/// arguments that do not fit one another: another kind, a bitmap of another length, a file or a memory of 2 to the
+/// power 32 bytes or more.
 #[unsafe(no_mangle)]
 pub extern "C" fn avr_records_read(
     alloc: Global,
@@ -33,7 +33,8 @@ pub extern "C" fn avr_records_read(
     bytes: &mut [u8],
     present: &mut [u8],
 ) -> Outcome
-    ensures { Reads kind text.now bytes.old present.old (record { outcome = result; bytes = bytes.new; present = present.new }) }
+    ensures { Reads kind text.now bytes.old present.old (record
+        { outcome = result; bytes = bytes.new; present = present.new }) }
 {
     let Some(kind) = asked_read(kind, text.len(), bytes.len(), present.len()) else {
         return Outcome::misfit();

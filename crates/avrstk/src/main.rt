@@ -54,8 +54,8 @@ fn tell_usage(rt: &HostRuntime, error: &Error) -> u8 {
     }
 }
 
-/// Runs over the port of the settings: `stdio:` has its frames on standard input and output, `emu:` is the emulator, `net:`
-/// a connection; or serves the emulator.
+/// Runs over the port of the settings: `stdio:` has its frames on standard input and output, `emu:` is the emulator,
+/// `net:` a connection; or serves the emulator.
 fn run_settings(rt: &HostRuntime, settings: &Settings) -> u8 {
     let mut desk = SystemDesk::new(rt, rt.stdout(), rt.stderr());
     match &settings.port {

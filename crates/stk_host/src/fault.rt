@@ -7,8 +7,8 @@ ghost use Rattle.stk_host.specs.Calls.{fault_number};
 use avr_part::Mem;
 use thiserror::Error;
 
-/// Why a step came to no data. No call answers it: a [`crate::Host`] tells it as its [`HostFault`]. It is public as a word of
-/// the definitions of steps, which contracts of other crates cite.
+/// Why a step came to no data. No call answers it: a [`crate::Host`] tells it as its [`HostFault`]. It is public as a
+/// word of the definitions of steps, which contracts of other crates cite.
 #[derive(Clone, Copy, Debug, Drop, PartialEq, Eq)]
 pub enum StepFault {
     /// No answer came to the last attempt.
@@ -63,8 +63,8 @@ pub enum HostFault {
     /// The part has this signature, and not that of the part asked for.
     #[error("another signature was found")]
     WrongSignature([u8; 3]),
-    /// The memory has at this address another byte than the image: the memory, the address in bytes, the image's byte, the
-    /// memory's byte. No lower address differs.
+    /// The memory has at this address another byte than the image: the memory, the address in bytes, the image's byte,
+    /// the memory's byte. No lower address differs.
     #[error("address {1:08X}: {2:02X} expected, {3:02X} found")]
     Differs(Mem, u32, u8, u8),
     /// The memory can't be written: the signature or the calibration.
