@@ -1,6 +1,5 @@
 //! A record file written from the caller's memory.
 ghost use Rattle.std.specs.Prelude.{◌≡◌, ◌<◌, ◌^◌, IfOk, IfSome, length};
-ghost use Rattle.avr_records.specs.Sparse.{ihex_image_text, srec_image_text};
 ghost use Rattle.avr_records_c.specs.Bitmap.{image_of as spec_image_of, octets_of};
 ghost use Rattle.avr_records_c.specs.Writing.{asked_write as spec_asked_write, image_text, put_from, Writes};
 
@@ -9,7 +8,7 @@ use crate::numbers::kind_numbered;
 use crate::outcome::MISFIT;
 use crate::piece::Piece;
 use arrayvec::ArrayVec;
-use avr_image::Image;
+use avr_image::{Image, Pieces};
 use avr_records::{IhexImageWriter, Kind, RecordFault, SrecImageWriter};
 use std::alloc::{AllocError, Global};
 
@@ -24,29 +23,15 @@ fn asked_write(kind: u8, size: usize, present: usize) -> Option<Kind>
     }
 }
 
-/// The Intel HEX file of an image.
+/// All that a writer has to give.
 #[tactic(auto, using(crate::proofs::Texts::goes_on, crate::proofs::Texts::is_whole))]
-fn ihex_text(alloc: Global, image: &Image) -> Result<Vec<u8>, AllocError>
-    ensures { IfOk result (λ text. text.items ≡ ihex_image_text image.now) }
+fn joined<P: Pieces + Drop>(alloc: Global, pieces: P) -> Result<Vec<u8>, AllocError>
+    ensures { IfOk result (λ text. text.items ≡ P.rest pieces) }
 {
+    let mut pieces = pieces;
     let mut text = Vec::new(alloc);
     let mut piece = ArrayVec::new();
-    let mut writer = IhexImageWriter::new(image);
-    while writer.next_piece(&mut piece) {
-        text.extend_from_slice(piece.as_slice())?;
-    }
-    Ok(text)
-}
-
-/// The S-record file of an image.
-#[tactic(auto, using(crate::proofs::Texts::goes_on, crate::proofs::Texts::is_whole))]
-fn srec_text(alloc: Global, image: &Image) -> Result<Vec<u8>, AllocError>
-    ensures { IfOk result (λ text. text.items ≡ srec_image_text image.now) }
-{
-    let mut text = Vec::new(alloc);
-    let mut piece = ArrayVec::new();
-    let mut writer = SrecImageWriter::new(image);
-    while writer.next_piece(&mut piece) {
+    'pieces: while pieces.next_piece(&mut piece) {
         text.extend_from_slice(piece.as_slice())?;
     }
     Ok(text)
@@ -57,8 +42,8 @@ fn image_text(alloc: Global, kind: Kind, image: &Image) -> Result<Vec<u8>, Alloc
     ensures { IfOk result (λ text. text.items ≡ image_text kind image.now) }
 {
     match kind {
-        Kind::Ihex => ihex_text(alloc, image),
-        Kind::Srec => srec_text(alloc, image),
+        Kind::Ihex => joined(alloc, IhexImageWriter::new(image)),
+        Kind::Srec => joined(alloc, SrecImageWriter::new(image)),
     }
 }
 
