@@ -137,8 +137,8 @@ fn play<D: Desk, L: Link>(
 /// Plays the session of a plan over a link, reports it at the desk, writes the files that were read, and answers the
 /// status: 0 where no fault came, else 1.
 ///
-/// After a fault of the link or the desk, or where memory was refused, its line is printed, as far as the desk prints, and
-/// nothing more is sent or said.
+/// After a fault of the link or the desk, or where memory was refused to read or to compare, its line is printed, whole
+/// unless the desk fails, and nothing more is sent or said. Behind the line of a fault a second one is not told.
 pub fn drive<D: Desk, L: Link>(alloc: Global, plan: &Plan, desk: &mut D, link: &mut L) -> u8
     ensures runs { RunsTo (session plan.now) (L.talk link.old) (L.talk link.new) (D.kept desk.old) (D.kept desk.new)
         (Stops (takes_memory plan.now) (L.failures link.old) (L.failures link.new) (D.failures desk.old) (D.failures desk.new)) result }
