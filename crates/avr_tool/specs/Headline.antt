@@ -18,9 +18,10 @@ use Rattle.avr_emulated.specs.Course.{course}
 use Rattle.avr_emulated.specs.Outcome.{IsDone, MakesStrokes}
 use Rattle.avr_emulated.specs.Written.{IsWritten}
 use Rattle.stk_emu.specs.Effect.{Memories, memories_of}
-use Rattle.stk_emu.specs.Programmer.{fresh_programmer}
+use Rattle.stk_emu.specs.Programmer.{Programmer, fresh_programmer}
 use Rattle.stk_emu.specs.Wire.{AreLawful}
 use Rattle.stk_emu.specs.Wired.{State}
+use Rattle.stk_emu.specs.declared.fate.Fate.{Fate}
 use Rattle.stk_frame.specs.Commands.{body}
 use Rattle.stk_frame.specs.Cut.{body_of, frames}
 use Rattle.stk_frame.specs.declared.command.Command.{Command}
@@ -180,3 +181,15 @@ pub record RunsNowhere (settings : Settings) (before after : State) (desk_before
 abbrev pub RunsWired : Settings → State → State → Option Record → Option Record → ℕ → ℕ → ℕ → Type 0
 RunsWired settings before after desk_before desk_now desk_failed desk_fails status =
     RunsOverWire settings before after desk_before desk_now desk_failed desk_fails status ⊎ RunsNowhere settings before after desk_before desk_now desk_failed desk_fails status
+
+-- ---- 6. Over any link that behaves so
+
+-- These events are a whole session of a plan over a link that was sent these bytes and gave this tape, as `Talks` has it: each
+-- frame had its fate, and the programmer ended as this one.
+pub record OverAnyLink (plan : Plan) (p q : Programmer) (fates : List Fate) (bytes : List ℕ) (events : List (Event Saying)) (status : ℕ) : Type 0 where
+  pub agrees : status ≡ 0 → (course plan (memories_of p.chip)).status ≡ 0
+  pub said : status ≡ 0 → sayings events ≡ (course plan (memories_of p.chip)).says
+  pub done : status ≡ 0 → IsDone plan (memories_of p.chip) (memories_of q.chip)
+  pub images : status ≡ 0 → plan.switches.dry ≡ false → plan.switches.no_verify ≡ false → IsWritten plan (memories_of p.chip) (memories_of q.chip)
+  pub strokes : MakesStrokes plan p fates (length (frames bytes)) (memories_of p.chip) (memories_of q.chip)
+  pub four : (weight : Weight) → weighed weight (map body_of (frames bytes)) ≤ 4 * weighed weight (bodies_in (run_steps plan))
