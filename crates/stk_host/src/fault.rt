@@ -48,7 +48,7 @@ pub enum HostFault {
     /// The line is at its end: nothing more can be asked.
     #[error("the link ended")]
     LinkEnded,
-    /// The link takes nothing more.
+    /// The link failed at sending: the frames before went out whole, and of the next one a part, perhaps nothing.
     #[error("the link cannot be written")]
     SendFailed,
     /// 4,096 bytes came to the last of four attempts, and no answer was among them.
@@ -73,7 +73,7 @@ pub enum HostFault {
     /// Memory was refused.
     #[error("out of memory")]
     Memory,
-    /// The link gives nothing more.
+    /// The link failed at listening, where the answer to a frame that had gone out whole was due.
     #[error("the link cannot be read")]
     RecvFailed,
 }
