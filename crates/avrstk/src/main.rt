@@ -2,8 +2,7 @@
 #![tactic(auto)]
 
 use avr_tool::{
-    Port, Settings, StreamLink, SystemDesk, read_words, refuse, run, run_emu, run_net, serve_net,
-    settings,
+    Desk, NotAsked, Port, Settings, StreamLink, SystemDesk, asked, run, run_emu, run_net, serve_net,
 };
 use clap::Error;
 use std::process::ExitCode;
@@ -32,16 +31,13 @@ fn try_run(rt: &HostRuntime) -> io::Result<u8> {
     run_words(rt, words.as_slice())
 }
 
+/// From words to settings, and from these to a status.
 fn run_words(rt: &HostRuntime, words: &[String]) -> io::Result<u8> {
-    match read_words(rt.alloc(), words) {
-        Ok(matches) => match settings(rt.alloc(), &matches) {
-            Ok(settings) => Ok(run_settings(rt, &settings)),
-            Err(fault) => {
-                let mut desk = SystemDesk::new(rt, rt.stdout(), rt.stderr());
-                Ok(refuse(&fault, &mut desk))
-            }
-        },
-        Err(error) => refused(rt, &error),
+    let mut desk = SystemDesk::new(rt, rt.stdout(), rt.stderr());
+    match asked(rt.alloc(), words, &mut desk) {
+        Ok(settings) => Ok(run_settings(rt, &settings, &mut desk)),
+        Err(NotAsked::Refused(status)) => Ok(status),
+        Err(NotAsked::Words(error)) => refused(rt, &error),
     }
 }
 
@@ -53,15 +49,14 @@ fn refused(rt: &HostRuntime, error: &Error) -> io::Result<u8> {
 
 /// Runs over the port of the settings: `stdio:` has its frames on standard input and output, `emu:` is the emulator, `net:`
 /// a connection; or serves the emulator.
-fn run_settings(rt: &HostRuntime, settings: &Settings) -> u8 {
-    let mut desk = SystemDesk::new(rt, rt.stdout(), rt.stderr());
+fn run_settings<D: Desk>(rt: &HostRuntime, settings: &Settings, desk: &mut D) -> u8 {
     match &settings.port {
         Port::Stdio => {
             let mut link = StreamLink::new(rt.stdin(), rt.stdout());
-            run(rt.alloc(), settings, &mut desk, &mut link)
+            run(rt.alloc(), settings, desk, &mut link)
         }
-        Port::Emulated(_) => run_emu(rt.alloc(), settings, &mut desk),
-        Port::Network(_) => run_net(rt, rt.alloc(), settings, &mut desk),
-        Port::Served { .. } => serve_net(rt, rt.alloc(), settings, &mut desk),
+        Port::Emulated(_) => run_emu(rt.alloc(), settings, desk),
+        Port::Network(_) => run_net(rt, rt.alloc(), settings, desk),
+        Port::Served { .. } => serve_net(rt, rt.alloc(), settings, desk),
     }
 }
