@@ -1,9 +1,10 @@
 -- The definitions at outside vectors.
-use Rattle.std.proofs.Common.{◌≡◌, [], ◌∷◌, ◌++◌, refl}
+use Rattle.std.proofs.Common.{◌≡◌, [], ◌∷◌, ◌++◌, refl, arith}
 use Rattle.std.specs.Prelude.{codes, Some, None, Ok, Err}
 use Rattle.std.specs.Fmt.{digits}
 use Rattle.avr_image.specs.Image.{laid, over, held, first_from, run_end, filled}
 use Rattle.avr_image.specs.Raw.{raw}
+use Rattle.avr_image.specs.Walk.{IsLongestRun}
 use Rattle.avr_image.specs.Values.{values}
 use Rattle.avr_image.specs.Lists.{list_text}
 use Rattle.avr_image.specs.declared.base.Base.TheVariants.{Dec, Hex, Oct, Bin}
@@ -81,3 +82,14 @@ gaps = refl
 
 pub counted : held (None ∷ Some 9 ∷ Some 8 ∷ []) ≡ 2
 counted = refl
+
+-- ---- what is refused
+
+pub a_run_cut_short : IsLongestRun (Some 1 ∷ Some 2 ∷ []) (0, 1 ∷ []) → ⊥
+a_run_cut_short longest = cc longest.behind
+
+pub a_run_begun_late : IsLongestRun (Some 1 ∷ Some 2 ∷ []) (1, 2 ∷ []) → ⊥
+a_run_begun_late longest = cc (longest.before 0 refl)
+
+pub a_run_of_nothing : IsLongestRun (Some 1 ∷ None ∷ []) (1, []) → ⊥
+a_run_of_nothing longest = omega (arith, longest.some)

@@ -3,6 +3,7 @@ use Rattle.std.proofs.Common.{◌≡◌, [], ◌∷◌, ◌++◌, refl}
 use Rattle.std.specs.Prelude.{ℕ, List, Option, Some, None, codes}
 use Rattle.hex.specs.Hex.{encode_with}
 use Rattle.avr_image.specs.Runs.{runs}
+use Rattle.avr_records.specs.Text.{IsLine}
 use Rattle.avr_records.specs.Sparse.{rows_of, ihex_image_text, srec_image_text}
 
 abbrev lf : List ℕ
@@ -33,3 +34,11 @@ ihex_of_none = refl
 pub srec_of_none : srec_image_text (None ∷ None ∷ []) ≡ codes "S9030000FC" ++ lf
 unfolding encode_with
 srec_of_none = refl
+
+-- ---- what is refused
+
+pub two_lines_are_none : IsLine (codes ":00000001FF" ++ lf ++ codes "S9030000FC" ++ lf) → ⊥
+two_lines_are_none is = cc is
+
+pub a_line_without_its_end_is_none : IsLine (codes ":00000001FF") → ⊥
+a_line_without_its_end_is_none is = cc is
