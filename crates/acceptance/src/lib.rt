@@ -6,8 +6,8 @@
 //! - `runs_over_bad_lines`: runs in which a frame or an answer is lost, late, refused or spoiled, frame by frame.
 //! - `runs_over_drawn_lines`: the same drawn by lot, compared with a plain rule.
 //! - `runs_over_few_bad_frames`: runs over lines on which as many frames go wrong as may, and one more.
-//! - `runs_over_failing_devices`: runs in which each call of the link and each of the desk fails in turn, and over links that
-//!   pass little at once.
+//! - `runs_over_failing_devices`: runs in which each call of the link and each of the desk fails in turn, and over
+//!   links that pass little at once.
 //! - `runs_with_chip_files`: runs over the emulated programmer, and the chip file that they leave.
 //! - `support`: what these share.
 //!

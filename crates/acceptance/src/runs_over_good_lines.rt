@@ -1,5 +1,5 @@
-//! A whole run of the tool over a good line to an ATmega328P that was never written: what is printed, written, answered and
-//! sent. tests/runs.py has many more of the built program.
+//! A whole run of the tool over a good line to an ATmega328P that was never written: what is printed, written, answered
+//! and sent. tests/runs.py has many more of the built program.
 
 use crate::support::{OPENING, Row, desk_with, joined, run_row, wire_to};
 use std::test::Fail;

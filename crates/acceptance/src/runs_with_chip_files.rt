@@ -1,5 +1,5 @@
-//! Whole runs over the emulated programmer with a chip file at a desk in memory; tests/runs.py has many more of the built
-//! program.
+//! Whole runs over the emulated programmer with a chip file at a desk in memory; tests/runs.py has many more of the
+//! built program.
 
 use crate::support::{Row, desk_with, settings_for, shows};
 use avr_desk::MemDesk;

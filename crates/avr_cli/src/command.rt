@@ -251,7 +251,8 @@ pub fn make_command<'a>(alloc: Global) -> Result<Command<'a>, Error>
 /// ```
 pub fn read_words<'a>(alloc: Global, words: &'a [String]) -> Result<ArgMatches<'a>, Error>
     ensures rows { IfOk result (λ m. rows_of (found_of m) ≡ matches_of avrstk (map string_bytes words.entry.now)) }
-    ensures taken { IfErr result (λ e. takes avrstk (map string_bytes words.entry.now) ≡ true → kind_of e ≡ ErrorKind.OutOfMemory) }
+    ensures taken { IfErr result (λ e. takes avrstk (map string_bytes words.entry.now) ≡ true
+        → kind_of e ≡ ErrorKind.OutOfMemory) }
     ensures refused { FailsBy (fault_of avrstk (map string_bytes words.entry.now)) result }
 {
     match make_command(alloc) {

@@ -18,8 +18,8 @@ all_failures failures d = min (failures d.inner + d.planned) (2 ^ 64 - 1)
 abbrev pub planned_after : {D : Type 0} → Failing D → ℕ
 planned_after d = if d.due == 1 then min (d.planned + 1) (2 ^ 64 - 1) else d.planned
 
--- The call that is due fails, reaches nothing and is counted by plan; any other is answered by the desk within, and what is
--- said of that desk's count holds then.
+-- The call that is due fails, reaches nothing and is counted by plan; any other is answered by the desk within, and
+-- what is said of that desk's count holds then.
 pub record FailsWhenDue {D T : Type 0} (PassedOn : Type 0) (old new : Failing D) (r : Result T DeskFault) : Type 0 where
   pub due : old.due ≡ 1 → (r ≡ Err Failed) × (new.inner ≡ old.inner)
   pub passed_on : old.due ≢ 1 → PassedOn

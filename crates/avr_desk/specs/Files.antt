@@ -32,7 +32,8 @@ ReadsOpen old new (Err fault) = (bytes : Bytes) × (new ≡ option_map (after_re
 
 -- the end was seen within the limit, or more bytes came than it allows, by one piece at most
 abbrev pub IsWhole : ℕ → Contents → Type 0
-IsWhole limit c = MatchBool c.ended (length c.bytes ≤ limit) ((limit < length c.bytes) × (length c.bytes ≤ limit + 4096))
+IsWhole limit c =
+    MatchBool c.ended (length c.bytes ≤ limit) ((limit < length c.bytes) × (length c.bytes ≤ limit + 4096))
 
 -- what the count of failures says of a fault: want of memory is no failure of the desk
 abbrev pub FaultIsCounted : ℕ → ℕ → Result Contents FileFault → Type 0

@@ -6,7 +6,8 @@ use Rattle.avr_desk.specs.Record.{Bytes}
 use Rattle.avr_desk.specs.declared.fault.DeskFault.{DeskFault}
 use Rattle.avr_desk.specs.declared.fault.DeskFault.TheVariants.{Failed}
 
--- the writers of the output and of the messages, the failures, and whether what is written to the file goes to the output
+-- the writers of the output and of the messages, the failures, and whether what is written to the file goes to the
+-- output
 pub record Shown (O E : Type 0) : Type 0 where
   pub output : O
   pub messages : E

@@ -47,7 +47,8 @@ impl<D> FailingDesk<D> {
     fn is_due(&mut self) -> bool
         ensures due { result ≡ (self.old.due == 1) }
         ensures same { self.new ≡ record self.old { due = self.old.due - 1; planned = planned_after self.old } }
-        ensures counts { MatchBool result ((self.old.planned ≤ self.new.planned) × HasFailed self.old.planned self.new.planned) (self.new.planned ≡ self.old.planned) }
+        ensures counts { MatchBool result ((self.old.planned ≤ self.new.planned)
+            × HasFailed self.old.planned self.new.planned) (self.new.planned ≡ self.old.planned) }
     {
         let due = self.due == 1;
         self.due = self.due.saturating_sub(1);
@@ -72,7 +73,8 @@ impl<D: Desk> Desk for FailingDesk<D> {
     fn open(&mut self, name: &str) -> Result<(), DeskFault>
         ensures kept { D.kept self.new.inner ≡ option_map (after_open name.now result) (D.kept self.old.inner) }
         ensures counts { Counts (all_failures D.failures self.old) (all_failures D.failures self.new) result }
-        ensures when_due { FailsWhenDue (Counts (D.failures self.old.inner) (D.failures self.new.inner) result) self.old self.new result }
+        ensures when_due { FailsWhenDue (Counts (D.failures self.old.inner) (D.failures self.new.inner) result) self.old
+            self.new result }
     {
         if self.is_due() {
             return Err(DeskFault::Failed);
@@ -84,7 +86,8 @@ impl<D: Desk> Desk for FailingDesk<D> {
         ensures kept { D.kept self.new.inner ≡ option_map (after_create name.now result) (D.kept self.old.inner) }
         ensures counts { Counts (all_failures D.failures self.old) (all_failures D.failures self.new) result }
         ensures fault { IfErr result (λ e. e ≡ DeskFault.Failed) }
-        ensures when_due { FailsWhenDue (Counts (D.failures self.old.inner) (D.failures self.new.inner) result) self.old self.new result }
+        ensures when_due { FailsWhenDue (Counts (D.failures self.old.inner) (D.failures self.new.inner) result) self.old
+            self.new result }
     {
         if self.is_due() {
             return Err(DeskFault::Failed);
@@ -98,7 +101,8 @@ impl<D: Desk> Desk for FailingDesk<D> {
         ensures has_file { HasOpen is_to_read (D.kept self.old.inner) result }
         ensures counts { Counts (all_failures D.failures self.old) (all_failures D.failures self.new) result }
         ensures fault { IfErr result (λ e. e ≡ DeskFault.Failed) }
-        ensures when_due { FailsWhenDue (Counts (D.failures self.old.inner) (D.failures self.new.inner) result) self.old self.new result }
+        ensures when_due { FailsWhenDue (Counts (D.failures self.old.inner) (D.failures self.new.inner) result) self.old
+            self.new result }
     {
         if self.is_due() {
             return Err(DeskFault::Failed);
@@ -110,9 +114,11 @@ impl<D: Desk> Desk for FailingDesk<D> {
         ensures bound { IfOk result (λ n. n ≤ length bytes.now) }
         ensures kept { SendsTaken File bytes.now (D.kept self.old.inner) (D.kept self.new.inner) result }
         ensures has_file { HasOpen is_to_write (D.kept self.old.inner) result }
-        ensures counts { WriteCounts bytes.now (all_failures D.failures self.old) (all_failures D.failures self.new) result }
+        ensures counts { WriteCounts bytes.now (all_failures D.failures self.old)
+            (all_failures D.failures self.new) result }
         ensures fault { IfErr result (λ e. e ≡ DeskFault.Failed) }
-        ensures when_due { FailsWhenDue (WriteCounts bytes.now (D.failures self.old.inner) (D.failures self.new.inner) result) self.old self.new result }
+        ensures when_due { FailsWhenDue (WriteCounts bytes.now (D.failures self.old.inner)
+            (D.failures self.new.inner) result) self.old self.new result }
     {
         if self.is_due() {
             return Err(DeskFault::Failed);
@@ -123,9 +129,11 @@ impl<D: Desk> Desk for FailingDesk<D> {
     fn out(&mut self, bytes: &[u8]) -> Result<usize, DeskFault>
         ensures bound { IfOk result (λ n. n ≤ length bytes.now) }
         ensures kept { SendsTaken Output bytes.now (D.kept self.old.inner) (D.kept self.new.inner) result }
-        ensures counts { WriteCounts bytes.now (all_failures D.failures self.old) (all_failures D.failures self.new) result }
+        ensures counts { WriteCounts bytes.now (all_failures D.failures self.old)
+            (all_failures D.failures self.new) result }
         ensures fault { IfErr result (λ e. e ≡ DeskFault.Failed) }
-        ensures when_due { FailsWhenDue (WriteCounts bytes.now (D.failures self.old.inner) (D.failures self.new.inner) result) self.old self.new result }
+        ensures when_due { FailsWhenDue (WriteCounts bytes.now (D.failures self.old.inner)
+            (D.failures self.new.inner) result) self.old self.new result }
     {
         if self.is_due() {
             return Err(DeskFault::Failed);
@@ -136,9 +144,11 @@ impl<D: Desk> Desk for FailingDesk<D> {
     fn err(&mut self, bytes: &[u8]) -> Result<usize, DeskFault>
         ensures bound { IfOk result (λ n. n ≤ length bytes.now) }
         ensures kept { SendsTaken Messages bytes.now (D.kept self.old.inner) (D.kept self.new.inner) result }
-        ensures counts { WriteCounts bytes.now (all_failures D.failures self.old) (all_failures D.failures self.new) result }
+        ensures counts { WriteCounts bytes.now (all_failures D.failures self.old)
+            (all_failures D.failures self.new) result }
         ensures fault { IfErr result (λ e. e ≡ DeskFault.Failed) }
-        ensures when_due { FailsWhenDue (WriteCounts bytes.now (D.failures self.old.inner) (D.failures self.new.inner) result) self.old self.new result }
+        ensures when_due { FailsWhenDue (WriteCounts bytes.now (D.failures self.old.inner)
+            (D.failures self.new.inner) result) self.old self.new result }
     {
         if self.is_due() {
             return Err(DeskFault::Failed);

@@ -83,7 +83,8 @@ impl MemDesk {
 
     /// Puts a file there, which a later one of its name replaces; so does one that is created.
     pub fn put(&mut self, name: &str, bytes: &[u8]) -> Result<(), AllocError>
-        ensures { self.new ≡ (if is_ok result then record self.old { stored = self.old.stored ++ record { name = name.now; bytes = bytes.now } ∷ [] } else self.old) }
+        ensures { self.new ≡ (if is_ok result then record self.old
+            { stored = self.old.stored ++ record { name = name.now; bytes = bytes.now } ∷ [] } else self.old) }
     {
         let name = Bytes::copied(self.alloc, name.as_bytes())?;
         let bytes = Bytes::copied(self.alloc, bytes)?;
@@ -156,7 +157,11 @@ impl Desk for MemDesk {
     ghost failures = { λ d. d.failures };
 
     fn open(&mut self, name: &str) -> Result<(), DeskFault>
-        ensures kept { self.new ≡ record self.old { kept = after_open name.now result self.old.kept; failures = self.new.failures; opened = self.new.opened } }
+        ensures kept { self.new ≡ record self.old {
+          kept = after_open name.now result self.old.kept;
+          failures = self.new.failures;
+          opened = self.new.opened;
+        } }
         ensures found { OnOk result (contents name.now self.old ≡ Some self.new.opened) }
         ensures absent { result ≡ Err DeskFault.NotFound → contents name.now self.old ≡ None }
         ensures leaves { OnErr result (self.new.opened ≡ self.old.opened) }
@@ -187,7 +192,10 @@ impl Desk for MemDesk {
     }
 
     fn create(&mut self, name: &str) -> Result<(), DeskFault>
-        ensures kept { self.new ≡ record self.old { kept = after_create name.now result self.old.kept; failures = self.new.failures } }
+        ensures kept { self.new ≡ record self.old {
+          kept = after_create name.now result self.old.kept;
+          failures = self.new.failures;
+        } }
         ensures counts { Counts self.old.failures self.new.failures result }
         ensures fault { IfErr result (λ e. e ≡ DeskFault.Failed) }
     {
@@ -208,7 +216,10 @@ impl Desk for MemDesk {
     fn read(&mut self, buf: &mut [u8]) -> Result<usize, DeskFault>
         ensures count { IfOk result (λ n. n ≡ min (length buf.old) (length (unread self.old))) }
         ensures gives { IfOk result (λ n. take n buf.new ≡ take n (unread self.old)) }
-        ensures kept { self.new ≡ record self.old { kept = after_read buf.new result self.old.kept; failures = self.new.failures } }
+        ensures kept { self.new ≡ record self.old {
+          kept = after_read buf.new result self.old.kept;
+          failures = self.new.failures;
+        } }
         ensures has_file { OnOk result (is_to_read self.old.kept.current ≡ true) }
         ensures counts { Counts self.old.failures self.new.failures result }
         ensures fault { IfErr result (λ e. e ≡ DeskFault.Failed) }
@@ -228,7 +239,10 @@ impl Desk for MemDesk {
 
     fn write(&mut self, bytes: &[u8]) -> Result<usize, DeskFault>
         ensures all { IfOk result (λ n. n ≡ length bytes.now) }
-        ensures kept { self.new ≡ record self.old { kept = after_write (taken bytes.now result) self.old.kept; failures = self.new.failures } }
+        ensures kept { self.new ≡ record self.old {
+          kept = after_write (taken bytes.now result) self.old.kept;
+          failures = self.new.failures;
+        } }
         ensures has_file { OnOk result (is_to_write self.old.kept.current ≡ true) }
         ensures counts { WriteCounts bytes.now self.old.failures self.new.failures result }
         ensures fault { IfErr result (λ e. e ≡ DeskFault.Failed) }
@@ -244,7 +258,10 @@ impl Desk for MemDesk {
 
     fn out(&mut self, bytes: &[u8]) -> Result<usize, DeskFault>
         ensures all { IfOk result (λ n. n ≡ length bytes.now) }
-        ensures kept { self.new ≡ record self.old { kept = after_out (taken bytes.now result) self.old.kept; failures = self.new.failures } }
+        ensures kept { self.new ≡ record self.old {
+          kept = after_out (taken bytes.now result) self.old.kept;
+          failures = self.new.failures;
+        } }
         ensures counts { WriteCounts bytes.now self.old.failures self.new.failures result }
         ensures fault { IfErr result (λ e. e ≡ DeskFault.Failed) }
     {
@@ -256,7 +273,10 @@ impl Desk for MemDesk {
 
     fn err(&mut self, bytes: &[u8]) -> Result<usize, DeskFault>
         ensures all { IfOk result (λ n. n ≡ length bytes.now) }
-        ensures kept { self.new ≡ record self.old { kept = after_err (taken bytes.now result) self.old.kept; failures = self.new.failures } }
+        ensures kept { self.new ≡ record self.old {
+          kept = after_err (taken bytes.now result) self.old.kept;
+          failures = self.new.failures;
+        } }
         ensures counts { WriteCounts bytes.now self.old.failures self.new.failures result }
         ensures fault { IfErr result (λ e. e ≡ DeskFault.Failed) }
     {

@@ -155,7 +155,10 @@ impl<'a, R: Files + Input, O: Write + Drop, E: Write + Drop> Desk for SystemDesk
 
     fn open(&mut self, name: &str) -> Result<(), DeskFault>
         ensures counts { Counts self.old.failures self.new.failures result }
-        ensures quiet { self.new ≡ record self.old { failures = self.new.failures; to_output = to_output_opened result self.old.to_output } }
+        ensures quiet { self.new ≡ record self.old {
+          failures = self.new.failures;
+          to_output = to_output_opened result self.old.to_output;
+        } }
     {
         if name == "-" {
             self.held = Held::Input(self.rt.reader());
@@ -177,7 +180,10 @@ impl<'a, R: Files + Input, O: Write + Drop, E: Write + Drop> Desk for SystemDesk
     fn create(&mut self, name: &str) -> Result<(), DeskFault>
         ensures counts { Counts self.old.failures self.new.failures result }
         ensures fault { IfErr result (λ e. e ≡ Failed) }
-        ensures quiet { self.new ≡ record self.old { failures = self.new.failures; to_output = to_output_created name.now result self.old.to_output } }
+        ensures quiet { self.new ≡ record self.old {
+          failures = self.new.failures;
+          to_output = to_output_created name.now result self.old.to_output;
+        } }
     {
         if name == "-" {
             self.held = Held::Output;
@@ -216,7 +222,8 @@ impl<'a, R: Files + Input, O: Write + Drop, E: Write + Drop> Desk for SystemDesk
         ensures has_file { HasOpen is_to_write None result }
         ensures counts { WriteCounts bytes.now self.old.failures self.new.failures result }
         ensures fault { IfErr result (λ e. e ≡ Failed) }
-        ensures output { self.old.to_output ≡ true → AppendsTaken (O.contents self.old.output) (O.contents self.new.output) bytes.now result }
+        ensures output { self.old.to_output ≡ true → AppendsTaken (O.contents self.old.output)
+            (O.contents self.new.output) bytes.now result }
         ensures elsewhere { self.old.to_output ≡ false → self.new.output ≡ self.old.output }
         ensures quiet { self.new ≡ record self.old { output = self.new.output; failures = self.new.failures } }
     {

@@ -11,10 +11,10 @@ use Rattle.stk_frame.specs.Cut.{cut, rest, frames, body_of}
 use Rattle.stk_frame.specs.Frame.{frame}
 use Rattle.stk_frame.proofs.Cut.{chosen, refused, cut_joined}
 use Rattle.stk_host.specs.Bound.{AsksAtMost, commands_in}
-use Rattle.stk_host.specs.Dialog.{Dialog, Done, Say, Ask, Event, Frame, Said, Played, behind, by_answer, next, played, frames_in, bytes_sent}
+use Rattle.stk_host.specs.Dialog.{Dialog, Done, Say, Ask, Event, Frame, Played, behind, by_answer, next, played, frames_in}
 use Rattle.stk_host.specs.Play.{Plays, InTurn, IsDue, TurnsFrom}
 use Rattle.stk_host.specs.Talk.{Talk, Sent, Got, sent, heard}
-use Rattle.stk_host.specs.Tape.{Tape, Reading, on_tape, bytes_in, answer, read_to, stopped, first_answer, is_answer, further, limit, Answered, Babbled}
+use Rattle.stk_host.specs.Tape.{Tape, Reading, on_tape, bytes_in, answer, read_to, stopped, first_answer, is_answer, further, limit, Babbled}
 use Rattle.stk_host.specs.declared.link.Item.TheVariants.{Byte, Silence, End}
 use Rattle.stk_host.proofs.Bounds.{sends_most}
 use Rattle.stk_emu.specs.Along.{AsksBodies}

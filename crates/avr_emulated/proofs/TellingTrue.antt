@@ -8,7 +8,7 @@ use Rattle.avr_image.specs.Image.{held}
 use Rattle.avr_message.specs.Lines.{Bytes, spaced, information, warning}
 use Rattle.avr_message.specs.Said.{Saying, Line, Creates, Writes, Outs}
 use Rattle.avr_part.specs.Mem.{is_writable, name_of}
-use Rattle.avr_part.specs.Part.{Part, IsPart, size_of}
+use Rattle.avr_part.specs.Part.{IsPart, size_of}
 use Rattle.avr_part.specs.declared.mem.Mem.{Mem}
 use Rattle.avr_plan.specs.Plan.{Plan, IsFitted}
 use Rattle.avr_plan.specs.declared.task.Task.{Task}
@@ -31,7 +31,6 @@ use Rattle.stk_host.specs.declared.fault.HostFault.TheVariants.{Differs, ReadOnl
 use Rattle.stk_host.specs.declared.fault.StepFault.{StepFault}
 use Rattle.stk_host.specs.declared.fault.StepFault.TheVariants as of_step
 use Rattle.stk_emu.specs.declared.fate.Fate.{Fate}
-use Rattle.stk_emu.specs.Along as line
 use Rattle.stk_emu.specs.Along.{reading_of, along}
 use Rattle.stk_emu.specs.Device.{Device, device}
 use Rattle.stk_emu.specs.Effect.{Memories, Image, Item, Erase, Write, effect, effects, memories_of, memory_in}

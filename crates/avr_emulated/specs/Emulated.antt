@@ -23,12 +23,14 @@ use Rattle.avr_emulated.specs.Outcome.{Leaves, GoesWell}
 abbrev pub IsSaved : List ℕ → Option Record → Option Record → Bytes → Bytes → ℕ → ℕ → ℕ → ℕ → Type 0
 IsSaved [] old new file bytes before now ran status = (new ≡ old) × (status ≡ ran)
 IsSaved (byte ∷ sent) old new file bytes before now ran status =
-    (Saves old new file bytes before now (Ok tt) × (status ≡ ran)) ⊎ ((fault : ℕ) × Saves old new file bytes before now (Err fault) × (status ≡ 1))
+    (Saves old new file bytes before now (Ok tt) × (status ≡ ran))
+    ⊎ ((fault : ℕ) × Saves old new file bytes before now (Err fault) × (status ≡ 1))
 
--- The plan was made and its chip was loaded; the session was played over a wire to it, whose fates are all good; and the chip
--- was saved. A failure of the desk that is told anywhere is counted between before and now; one of the link is counted by the
--- wire, from 0.
-pub record PlaysEmulated (settings : Settings) (file : Bytes) (old new : Option Record) (before now status : ℕ) : Type 0 where
+-- The plan was made and its chip was loaded; the session was played over a wire to it, whose fates are all good; and
+-- the chip was saved. A failure of the desk that is told anywhere is counted between before and now; one of the link is
+-- counted by the wire, from 0.
+pub record PlaysEmulated (settings : Settings) (file : Bytes) (old new : Option Record)
+    (before now status : ℕ) : Type 0 where
   pub plan : Plan
   pub chip : chips.State
   pub planned_desk : Option Record
@@ -42,14 +44,18 @@ pub record PlaysEmulated (settings : Settings) (file : Bytes) (old new : Option 
   pub wire : State
   pub comes : Keeps (fresh_programmer chip) [] wire
   pub ran : ℕ
-  pub runs : RunsTo (session plan) (Some []) (Some wire.talk) loaded_desk played_desk (Stops (takes_memory plan) 0 wire.failures loaded_failures played_failures) ran
+  pub runs : RunsTo (session plan) (Some []) (Some wire.talk) loaded_desk played_desk
+      (Stops (takes_memory plan) 0 wire.failures loaded_failures played_failures) ran
   pub leaves : Leaves plan (memories_of chip) (memories_of wire.wire.programmer.chip) ran
-  pub goes_well : GoesWell plan (memories_of chip) (memories_of wire.wire.programmer.chip) loaded_desk played_desk (Some wire.talk) (Stops (takes_memory plan) 0 wire.failures loaded_failures played_failures) ran
-  pub saved : IsSaved (sent wire.talk) played_desk new file (chip_file wire.wire.programmer.chip) played_failures now ran status
+  pub goes_well : GoesWell plan (memories_of chip) (memories_of wire.wire.programmer.chip) loaded_desk played_desk
+      (Some wire.talk) (Stops (takes_memory plan) 0 wire.failures loaded_failures played_failures) ran
+  pub saved : IsSaved (sent wire.talk) played_desk new file (chip_file wire.wire.programmer.chip) played_failures now
+      ran status
   pub counted : played_failures ≤ now
 
 -- there is a plan, but no chip: nothing was sent
-pub record LacksChip (settings : Settings) (file : Bytes) (old new : Option Record) (before now status : ℕ) : Type 0 where
+pub record LacksChip (settings : Settings) (file : Bytes) (old new : Option Record)
+    (before now status : ℕ) : Type 0 where
   pub plan : Plan
   pub planned_desk : Option Record
   pub planned_failures : ℕ

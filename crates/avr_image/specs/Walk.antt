@@ -21,7 +21,8 @@ pub record IsFilled (image : List (Option ℕ)) (start n : ℕ) (bytes : List �
   pub size : length bytes ≡ n
   pub byte : (i : ℕ) → i < n → slice_index bytes i ≡ or_blank (byte_at image (start + i))
 
--- a longest run of an image's bytes: they stand one behind the other from its address on, and no byte before or behind them
+-- a longest run of an image's bytes: they stand one behind the other from its address on, and no byte before or behind
+-- them
 pub record IsLongestRun (image : List (Option ℕ)) (run : ℕ × List ℕ) : Type 0 where
   pub some : 0 < length run.1
   pub bytes : (i : ℕ) → i < length run.1 → byte_at image (run.0 + i) ≡ Some (slice_index run.1 i)

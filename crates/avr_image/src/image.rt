@@ -13,8 +13,8 @@ use std::alloc::{AllocError, Global};
 use std::fmt;
 use std::marker::Model;
 
-/// The bytes of a memory, as far as there are any. Contracts see it as the list of optional bytes, one for each byte address
-/// below its size.
+/// The bytes of a memory, as far as there are any. Contracts see it as the list of optional bytes, one for each byte
+/// address below its size.
 ///
 /// ```text
 /// let mut image = Image::new(alloc, 32_768)?;
@@ -74,8 +74,8 @@ fn paste(bytes: &mut Vec<u8>, start: usize, span: &[u8])
 }
 
 impl Image {
-    /// An image of a memory of this many bytes that holds nothing. It takes all the memory that the image will ever need;
-    /// where that is refused, the fault is `Memory`.
+    /// An image of a memory of this many bytes that holds nothing. It takes all the memory that the image will ever
+    /// need; where that is refused, the fault is `Memory`.
     ///
     /// ```text
     /// let image = Image::new(alloc, 32_768)?;
@@ -226,7 +226,8 @@ impl Image {
     /// assert_eq!(rt; image.get(63), Some(0x34));
     /// ```
     pub fn put_slice(&mut self, addr: u32, bytes: &[u8]) -> Result<u32, ImageFault>
-        ensures judged { result ≡ (if fits addr bytes.now (length self.old) then Ok (addr + length bytes.now) else Err (ImageFault.OutOfRange (max addr (length self.old)))) }
+        ensures judged { result ≡ (if fits addr bytes.now (length self.old) then Ok (addr + length bytes.now)
+            else Err (ImageFault.OutOfRange (max addr (length self.old)))) }
         ensures laid { OnOk result (self.new ≡ laid_over self.old (enumerate_from addr bytes.now)) }
         ensures same { OnErr result (self.new ≡ self.old) }
         ensures size { length self.new ≡ length self.old }
@@ -260,6 +261,7 @@ impl Image {
         ensures { self.new ≡ over self.old other.now }
     {
         for (addr, bytes) in other.runs() {
+            // Each run lies inside, since both images have one size.
             let _ = self.put_slice(addr, bytes);
         }
     }

@@ -13,8 +13,8 @@ use std::marker::Model;
 /// The most bytes that a number takes with the comma or the line end behind it.
 const LONGEST: usize = 11;
 
-/// Writes bytes as numbers on one line, joined by commas, in pieces of at most 80 bytes. Contracts see it as the text that is
-/// still to come.
+/// Writes bytes as numbers on one line, joined by commas, in pieces of at most 80 bytes. Contracts see it as the text
+/// that is still to come.
 ///
 /// ```text
 /// let mut text = Vec::new(alloc);

@@ -20,8 +20,8 @@ pub trait Pieces {
     // What a piece is, beside a part of the text.
     ghost IsPiece: { List ℕ → Type 0 };
 
-    /// Makes `out` the next piece of the text, which is never empty, and answers true; or empties it and answers false, where
-    /// nothing is left.
+    /// Makes `out` the next piece of the text, which is never empty, and answers true; or empties it and answers false,
+    /// where nothing is left.
     fn next_piece(&mut self, out: &mut ArrayVec<u8, 80>) -> bool
         ensures joined { rest self.old ≡ out.new.items ++ rest self.new }
         ensures some { IsTrue result ↔ (0 < length out.new.items) }

@@ -12,7 +12,8 @@ use std::alloc::{AllocError, Global};
 use std::marker::Model;
 use std::slice;
 
-/// A chip of some part: its memories, its page buffers and its extended address. Contracts see it as the record of these.
+/// A chip of some part: its memories, its page buffers and its extended address. Contracts see it as the record of
+/// these.
 ///
 /// ```text
 /// let mut chip = Chip::fresh(alloc, Parts::none().find("m328p")?)?;
@@ -333,11 +334,11 @@ impl Chip {
         }
     }
 
-    /// Four bytes in, and four bytes out: 00, the first two bytes in, and the byte that the instruction reads, or the third
-    /// byte in where it reads none. Bytes that are no instruction change nothing.
+    /// Four bytes in, and four bytes out: 00, the first two bytes in, and the byte that the instruction reads, or the
+    /// third byte in where it reads none. Bytes that are no instruction change nothing.
     ///
-    /// Takes no memory. A chip erase takes the time of the memories, a page write and programming enable that of the page
-    /// buffers, all else constant time.
+    /// Takes no memory. A chip erase takes the time of the memories, a page write and programming enable that of the
+    /// page buffers, all else constant time.
     ///
     /// ```text
     /// let mut chip = Chip::fresh(alloc, Parts::none().find("m328p")?)?;

@@ -60,8 +60,8 @@ pub fn a_locked_chip_keeps_its_memories()
         → is_locked s ≡ true → i ≢ Instruction.Erase → KeepsMemories s (after i s) }
 {}
 
-/// A chip file that is read again gives the chip's memories, with empty buffers; and a file of the part's length that was
-/// read is written again byte for byte.
+/// A chip file that is read again gives the chip's memories, with empty buffers; and a file of the part's length that
+/// was read is written again byte for byte.
 #[tactic(auto, using(crate::proofs::ChipFiles::read_again, crate::proofs::ChipFiles::written_again))]
 pub fn a_chip_file_is_read_again()
     ensures written { (p : Part) (bytes : List ℕ)

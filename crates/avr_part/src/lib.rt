@@ -1,8 +1,8 @@
 //! AVR parts: what is known of them, the part file, and the chip behind its serial programming pins.
 //!
-//! Sizes and instructions are those of the parts' data sheets (ATmega328P: "Memory Programming", table "Serial Programming
-//! Instruction Set"); docs/PART.md has them all. The one idea: four bytes are decoded once, to an instruction, and that acts on
-//! memories that are lists of bytes.
+//! Sizes and instructions are those of the parts' data sheets (ATmega328P: "Memory Programming", table "Serial
+//! Programming Instruction Set"); docs/PART.md has them all. The one idea: four bytes are decoded once, to an
+//! instruction, and that acts on memories that are lists of bytes.
 //!
 //! ```text
 //! let mut chip = Chip::fresh(alloc, Parts::none().find("m328p")?)?;

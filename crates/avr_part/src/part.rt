@@ -7,9 +7,9 @@ use std::marker::Model;
 
 /// What is known of a part. Sizes and pages are in bytes.
 ///
-/// Every part has an id of 1 to 31 ASCII letters, digits, `_` and `-`, and sizes that fit one another: pages are powers of
-/// two up to 256, a page of flash holds whole words, and a memory is whole pages; flash has up to 262,144 bytes and EEPROM
-/// up to 4,096.
+/// Every part has an id of 1 to 31 ASCII letters, digits, `_` and `-`, and sizes that fit one another: pages are powers
+/// of two up to 256, a page of flash holds whole words, and a memory is whole pages; flash has up to 262,144 bytes and
+/// EEPROM up to 4,096.
 ///
 /// ```text
 /// let part = Parts::none().find("m328p")?;

@@ -60,8 +60,8 @@ fn text_of(bytes: &[u8]) -> Option<&str>
 /// looked at. The first fault is the answer:
 /// - [`PartFault::NotToml`]: the text is not UTF-8, or `toml` refuses it;
 /// - [`PartFault::Missing`]: a field, or the table `parts`, is not there;
-/// - [`PartFault::BadValue`]: a field's value is of another kind or out of its range, an id is not 1 to 31 letters, digits,
-///   `_` and `-`, or `parts` or a member of it is no table;
+/// - [`PartFault::BadValue`]: a field's value is of another kind or out of its range, an id is not 1 to 31 letters,
+///   digits, `_` and `-`, or `parts` or a member of it is no table;
 /// - [`PartFault::BadSizes`]: a size is no multiple of its page;
 /// - [`PartFault::Memory`]: memory was refused.
 ///

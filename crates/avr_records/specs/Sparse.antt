@@ -25,8 +25,9 @@ ihex_image_text image = ihex_rows 0 (rows_of ihex_row_size (runs 0 image))
 abbrev pub srec_image_text : List (Option ℕ) → List ℕ
 srec_image_text image = srec_rows (address_size (last_held 0 0 image)) (rows_of (λ _. 32) (runs 0 image))
 
--- A file of this kind that was written of an image, read for a memory of its size, gives the image, gaps and all, with the
--- end record.
+-- A file of this kind that was written of an image, read for a memory of its size, gives the image, gaps and all, with
+-- the end record.
 abbrev pub ImageReadsBack : Kind → (List (Option ℕ) → List ℕ) → Type 0
 ImageReadsBack kind text =
-    (image : List (Option ℕ)) → length image ≤ 2 ^ 32 → HoldsBytes image → read kind (text image) (length image) ≡ Ok (image, Ended)
+    (image : List (Option ℕ)) → length image ≤ 2 ^ 32 → HoldsBytes image
+    → read kind (text image) (length image) ≡ Ok (image, Ended)

@@ -21,13 +21,14 @@ pub record IsSrecState (size addr : ℕ) (bytes : List ℕ) : Type 0 where
   pub most : size ≤ 4
   pub below : addr + length bytes ≤ 2 ^ 32
 
--- whether the end record was made, the upper half of the address in force, and the image with the address up to which it
--- was written
+-- whether the end record was made, the upper half of the address in force, and the image with the address up to which
+-- it was written
 abbrev pub ihex_image_rest : Bool → ℕ → ℕ → List (Option ℕ) → List ℕ
 ihex_image_rest true upper addr image = []
 ihex_image_rest false upper addr image = ihex_rows upper (rows_of ihex_row_size (runs addr (drop addr image)))
 
--- whether the end record was made, how many bytes an address has, and the image with the address up to which it was written
+-- whether the end record was made, how many bytes an address has, and the image with the address up to which it was
+-- written
 abbrev pub srec_image_rest : Bool → ℕ → ℕ → List (Option ℕ) → List ℕ
 srec_image_rest true size addr image = []
 srec_image_rest false size addr image = srec_rows size (rows_of (λ _. 32) (runs addr (drop addr image)))

@@ -237,3 +237,18 @@ fn an_image_is_written_as_srecords_line_by_line(rt: HostRuntime) -> Result<(), F
     assert!(rt; !writer.next_piece(&mut piece));
     Ok(())
 }
+
+#[test]
+fn a_file_is_read_changed_and_written(rt: HostRuntime) -> Result<(), Fail> {
+    let alloc = rt.alloc();
+    let text = b":0400000001020304F2\n:00000001FF\n".as_slice();
+    let (mut image, _) = read_records(alloc, Kind::Ihex, 32_768, text)?;
+    image.put(0x7FFF, 0xFF)?;
+    let mut writer = SrecImageWriter::new(&image);
+    let mut piece = ArrayVec::new();
+    assert!(rt; writer.next_piece(&mut piece));
+    assert_eq!(rt; piece.as_slice(), b"S107000001020304EE\n".as_slice());
+    assert!(rt; writer.next_piece(&mut piece));
+    assert_eq!(rt; piece.as_slice(), b"S1047FFFFF7E\n".as_slice());
+    Ok(())
+}

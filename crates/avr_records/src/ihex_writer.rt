@@ -1,7 +1,7 @@
 //! A writer of Intel HEX, as Intel's "Hexadecimal Object File Format Specification" (revision A, 1988) has it.
 //!
-//! Rows of 32 bytes that never cross a multiple of 65,536; an extended linear address record wherever the upper 16 bits of the
-//! address change; upper-case digits; each line ends with LF.
+//! Rows of 32 bytes that never cross a multiple of 65,536; an extended linear address record wherever the upper 16 bits
+//! of the address change; upper-case digits; each line ends with LF.
 #![tactic(auto)]
 
 ghost use Rattle.std.specs.Prelude.{◌≡◌, ◌+◌, ◌/◌, ◌%◌, ◌^◌, ◌<◌, ◌≤◌, ◌==◌, ◌↔◌, [], ◌++◌, length, IsTrue, if◌then◌else◌};

@@ -64,7 +64,8 @@ fn answer_next<L: Link>(emulator: &mut Emulator, link: &mut L) -> Served
     }
 }
 
-/// Serves a link in at most `turns` reads: feeds what is heard to the emulator, and sends all answers before the next read.
+/// Serves a link in at most `turns` reads: feeds what is heard to the emulator, and sends all answers before the next
+/// read.
 ///
 /// A silence counts for nothing but the read that it took. What the last read brings is still answered.
 pub fn answer_all<L: Link>(emulator: &mut Emulator, link: &mut L, turns: u32) -> Served

@@ -92,8 +92,8 @@ pub record AtOutput (file : Bytes) (begun later : List (Event Saying)) : Type 0 
   pub part : begun ≡ Said (Outs done) ∷ []
   pub front : IsPrefixOf done bytes
 
--- Where a cause stops a run: behind the events that happened whole, in the first of those that were due, of which a part
--- may have happened.
+-- Where a cause stops a run: behind the events that happened whole, in the first of those that were due, of which a
+-- part may have happened.
 abbrev pub StopsAt : Cause → List (Event Saying) → List (Event Saying) → List (Event Saying) → Type 0
 StopsAt OfSending whole begun later = AtFrame begun later
 StopsAt OfListening whole begun later = (begun ≡ []) × (later ≡ [])
@@ -125,7 +125,8 @@ HasCome takes link_before link_then desk_before desk_then cause = desk.HasFailed
 abbrev pub TellsLine : Bytes → Bytes → ℕ → ℕ → Type 0
 TellsLine line told before now = (told ≡ line) ⊎ (IsPrefixOf told line × desk.HasFailed before now)
 
--- The cause's line was told. But behind the line of a fault only the link or the printing fails, and nothing more is told.
+-- The cause's line was told. But behind the line of a fault only the link or the printing fails, and nothing more is
+-- told.
 abbrev pub TellsCause : Bool → Cause → Bytes → ℕ → ℕ → Type 0
 TellsCause false cause told before now = TellsLine (cause_line cause) told before now
 TellsCause true OfSending told before now = told ≡ []
@@ -133,9 +134,10 @@ TellsCause true OfListening told before now = told ≡ []
 TellsCause true OfPrinting told before now = told ≡ []
 TellsCause true cause told before now = ⊥
 
--- Why it stops behind these sayings, and what is told of it: the cause has come by some count of the desk's failures, and
--- from then on it was told. `takes`: memory is taken. `was_told`: a fault was told before these sayings.
-pub record StopsBehind (takes was_told : Bool) (link_before link_now desk_before desk_now : ℕ) (said : List Saying) (cause : Cause) (told : Bytes) : Type 0 where
+-- Why it stops behind these sayings, and what is told of it: the cause has come by some count of the desk's failures,
+-- and from then on it was told. `takes`: memory is taken. `was_told`: a fault was told before these sayings.
+pub record StopsBehind (takes was_told : Bool) (link_before link_now desk_before desk_now : ℕ) (said : List Saying)
+    (cause : Cause) (told : Bytes) : Type 0 where
   pub count : ℕ
   pub has_come : HasCome takes link_before link_now desk_before count cause
   pub tells : TellsCause (was_told || tells_fault said) cause told count desk_now
@@ -143,11 +145,13 @@ pub record StopsBehind (takes was_told : Bool) (link_before link_now desk_before
   pub until : count ≤ desk_now
 
 abbrev pub Stops : Bool → ℕ → ℕ → ℕ → ℕ → List Saying → Cause → Bytes → Type 0
-Stops takes link_before link_now desk_before desk_now = StopsBehind takes false link_before link_now desk_before desk_now
+Stops takes link_before link_now desk_before desk_now =
+    StopsBehind takes false link_before link_now desk_before desk_now
 
 -- The dialog was played whole over what was unread and what was heard: what was sent, said and answered is its play's,
 -- whatever may follow on the line, and at most one piece heard is left.
-pub record Ran {R : Type 0} (dialog : Dialog Saying R) (seq : ℕ) (unread : List ℕ) (old new : Option Talk) (old_desk new_desk : Option Record) (result : R) (next : ℕ) (left : List ℕ) : Type 0 where
+pub record Ran {R : Type 0} (dialog : Dialog Saying R) (seq : ℕ) (unread : List ℕ) (old new : Option Talk)
+    (old_desk new_desk : Option Record) (result : R) (next : ℕ) (left : List ℕ) : Type 0 where
   pub during : Talk
   pub events : List (Event Saying)
   pub grows : Grows old during new
@@ -157,7 +161,8 @@ pub record Ran {R : Type 0} (dialog : Dialog Saying R) (seq : ℕ) (unread : Lis
 
 -- The dialog broke off: what was sent and said is a front of its events, the last one perhaps in part, where its cause
 -- stops it; and behind it stands what was told of the cause.
-pub record BrokeOff {R : Type 0} (dialog : Dialog Saying R) (seq : ℕ) (unread : List ℕ) (old new : Option Talk) (old_desk new_desk : Option Record) (StopsBy : List Saying → Cause → Bytes → Type 0) : Type 0 where
+pub record BrokeOff {R : Type 0} (dialog : Dialog Saying R) (seq : ℕ) (unread : List ℕ) (old new : Option Talk)
+    (old_desk new_desk : Option Record) (StopsBy : List Saying → Cause → Bytes → Type 0) : Type 0 where
   pub during : Talk
   pub shown : List (Event Saying)
   pub cause : Cause
@@ -170,14 +175,19 @@ pub record BrokeOff {R : Type 0} (dialog : Dialog Saying R) (seq : ℕ) (unread 
   pub kept : new_desk ≡ option_map (λ r. after_err told (after_all (sayings shown) r)) old_desk
 
 -- the one or the other, as a call answers
-abbrev pub Runs : {R : Type 0} → Dialog Saying R → ℕ → List ℕ → Option Talk → Option Talk → Option Record → Option Record → (List Saying → Cause → Bytes → Type 0) → Result R Stopped → ℕ → List ℕ → Type 0
-Runs dialog seq unread old new old_desk new_desk StopsBy (Ok result) next left = Ran dialog seq unread old new old_desk new_desk result next left
-Runs dialog seq unread old new old_desk new_desk StopsBy (Err stopped) next left = BrokeOff dialog seq unread old new old_desk new_desk StopsBy
+abbrev pub Runs : {R : Type 0} → Dialog Saying R → ℕ → List ℕ → Option Talk → Option Talk → Option Record
+    → Option Record → (List Saying → Cause → Bytes → Type 0) → Result R Stopped → ℕ → List ℕ → Type 0
+Runs dialog seq unread old new old_desk new_desk StopsBy (Ok result) next left =
+    Ran dialog seq unread old new old_desk new_desk result next left
+Runs dialog seq unread old new old_desk new_desk StopsBy (Err stopped) next left =
+    BrokeOff dialog seq unread old new old_desk new_desk StopsBy
 
 -- A whole run: it was played to its status, or it broke off, and then the status is 1.
-abbrev pub RunsTo : Dialog Saying ℕ → Option Talk → Option Talk → Option Record → Option Record → (List Saying → Cause → Bytes → Type 0) → ℕ → Type 0
+abbrev pub RunsTo : Dialog Saying ℕ → Option Talk → Option Talk → Option Record → Option Record
+    → (List Saying → Cause → Bytes → Type 0) → ℕ → Type 0
 RunsTo dialog old new old_desk new_desk StopsBy status =
-    ((next : ℕ) × (left : List ℕ) × Ran dialog 1 [] old new old_desk new_desk status next left) ⊎ (BrokeOff dialog 1 [] old new old_desk new_desk StopsBy × (status ≡ 1))
+    ((next : ℕ) × (left : List ℕ) × Ran dialog 1 [] old new old_desk new_desk status next left)
+    ⊎ (BrokeOff dialog 1 [] old new old_desk new_desk StopsBy × (status ≡ 1))
 
 -- A front of the sayings was done: some of them, and perhaps a part of the next, where this cause stops them.
 pub record SaysFront (cause : Cause) (old new : Option Record) (sayings : List Saying) : Type 0 where
@@ -227,4 +237,5 @@ ReadStops (Err fault) before now = PrintStops before now
 
 -- a line was printed, or a front of it, and then the desk has failed
 abbrev pub PrintsSome : Option Record → Option Record → Bytes → ℕ → ℕ → Type 0
-PrintsSome old new line before now = (told : Bytes) × TellsLine line told before now × (new ≡ option_map (after_err told) old)
+PrintsSome old new line before now =
+    (told : Bytes) × TellsLine line told before now × (new ≡ option_map (after_err told) old)

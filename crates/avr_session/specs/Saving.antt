@@ -9,7 +9,8 @@ use Rattle.avr_session.specs.declared.standing.Stopped.{Stopped}
 
 -- of these bytes those went there that stand before the ones that wait
 abbrev pub SendsFront : Stream → Option Record → Option Record → Bytes → Bytes → Type 0
-SendsFront stream old new bytes waiting = (sent : Bytes) × (bytes ≡ sent ++ waiting) × (new ≡ option_map (after_sent stream sent) old)
+SendsFront stream old new bytes waiting =
+    (sent : Bytes) × (bytes ≡ sent ++ waiting) × (new ≡ option_map (after_sent stream sent) old)
 
 -- the desk failed at this file, as it was created or written, and that was told
 abbrev pub SaveStops : Bytes → ℕ → ℕ → Cause → Bytes → Type 0
@@ -18,7 +19,8 @@ SaveStops file before now (OfFile named NotWritten) told = (named ≡ file) × F
 SaveStops file before now cause told = ⊥
 
 -- a front of the bytes went there, and then the desk failed and that was told of this file
-pub record WritesSome (stream : Stream) (file : Bytes) (old new : Option Record) (bytes : Bytes) (before now : ℕ) : Type 0 where
+pub record WritesSome (stream : Stream) (file : Bytes) (old new : Option Record) (bytes : Bytes)
+    (before now : ℕ) : Type 0 where
   pub between : Option Record
   pub part : SendsPart stream old between bytes
   pub told : Bytes

@@ -201,7 +201,8 @@ fn read_back<D: Desk, L: Link>(
     requires sound { host.old.broken ≡ None }
     requires part { host.old.part ≡ plan.now.part }
     requires fits { length image.now ≤ size_of mem plan.now.part }
-    ensures performs { Performs (not plan.now.switches.no_verify) (read_back_part plan.now.part plan.now.switches mem image.now) host.old host.new
+    ensures performs { Performs (not plan.now.switches.no_verify)
+        (read_back_part plan.now.part plan.now.switches mem image.now) host.old host.new
         (L.talk link.old) (L.talk link.new) (L.failures link.old) (L.failures link.new)
         (D.kept desk.old) (D.kept desk.new) (D.failures desk.old) (D.failures desk.new) result }
     ensures comes { Stays L.comes_of link.old link.new }
@@ -245,7 +246,8 @@ fn write_and_verify<D: Desk, L: Link>(
     requires sound { host.old.broken ≡ None }
     requires part { host.old.part ≡ plan.now.part }
     requires fits { length image.now ≤ size_of mem plan.now.part }
-    ensures performs { Performs (not (plan.now.switches.dry || plan.now.switches.no_verify)) (write_part plan.now.part plan.now.switches mem image.now) host.old host.new
+    ensures performs { Performs (not (plan.now.switches.dry || plan.now.switches.no_verify))
+        (write_part plan.now.part plan.now.switches mem image.now) host.old host.new
         (L.talk link.old) (L.talk link.new) (L.failures link.old) (L.failures link.new)
         (D.kept desk.old) (D.kept desk.new) (D.failures desk.old) (D.failures desk.new) result }
     ensures comes { Stays L.comes_of link.old link.new }
@@ -295,7 +297,8 @@ fn perform<D: Desk, L: Link>(
     requires sound { host.old.broken ≡ None }
     requires part { host.old.part ≡ plan.now.part }
     requires fits { IsFitted plan.now.part task.now }
-    ensures performs { Performs (task_takes_memory plan.now.switches task.now) (task_part plan.now.part plan.now.switches task.now) host.old host.new
+    ensures performs { Performs (task_takes_memory plan.now.switches task.now)
+        (task_part plan.now.part plan.now.switches task.now) host.old host.new
         (L.talk link.old) (L.talk link.new) (L.failures link.old) (L.failures link.new)
         (D.kept desk.old) (D.kept desk.new) (D.failures desk.old) (D.failures desk.new) result }
     ensures comes { Stays L.comes_of link.old link.new }
@@ -329,7 +332,8 @@ pub(crate) fn perform_all<D: Desk, L: Link>(
     requires sound { host.old.broken ≡ None }
     requires part { host.old.part ≡ plan.now.part }
     requires fits { All (IsFitted plan.now.part) tasks.now }
-    ensures performs { Performs (list_any (task_takes_memory plan.now.switches) tasks.now) (tasks_part plan.now.part plan.now.switches tasks.now) host.old host.new
+    ensures performs { Performs (list_any (task_takes_memory plan.now.switches) tasks.now)
+        (tasks_part plan.now.part plan.now.switches tasks.now) host.old host.new
         (L.talk link.old) (L.talk link.new) (L.failures link.old) (L.failures link.new)
         (D.kept desk.old) (D.kept desk.new) (D.failures desk.old) (D.failures desk.new) result }
     ensures comes { Stays L.comes_of link.old link.new }

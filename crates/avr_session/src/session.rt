@@ -102,7 +102,8 @@ fn end<D: Desk, L: Link>(
     standing: Standing,
 ) -> Result<Standing, Stopped>
     requires { Serves (Ok standing) host.old.broken }
-    ensures performs { PerformsBehind false (is_told standing) (ending plan.now.part plan.now.switches standing) host.old host.new
+    ensures performs { PerformsBehind false (is_told standing)
+        (ending plan.now.part plan.now.switches standing) host.old host.new
         (L.talk link.old) (L.talk link.new) (L.failures link.old) (L.failures link.new)
         (D.kept desk.old) (D.kept desk.new) (D.failures desk.old) (D.failures desk.new) result }
     ensures comes { Stays L.comes_of link.old link.new }
@@ -141,7 +142,8 @@ fn play<D: Desk, L: Link>(
 /// unless the desk fails, and nothing more is sent or said. Behind the line of a fault a second one is not told.
 pub fn drive<D: Desk, L: Link>(alloc: Global, plan: &Plan, desk: &mut D, link: &mut L) -> u8
     ensures runs { RunsTo (session plan.now) (L.talk link.old) (L.talk link.new) (D.kept desk.old) (D.kept desk.new)
-        (Stops (takes_memory plan.now) (L.failures link.old) (L.failures link.new) (D.failures desk.old) (D.failures desk.new)) result }
+        (Stops (takes_memory plan.now) (L.failures link.old) (L.failures link.new) (D.failures desk.old)
+        (D.failures desk.new)) result }
     ensures comes { Stays L.comes_of link.old link.new }
 {
     let mut host = Host::new(plan.part());

@@ -10,10 +10,11 @@ ghost use Rattle.avr_session.specs.Runs.{Cause, OfFile, OfPrinting, OfMemory, No
 ghost use Rattle.avr_session.specs.Session.{session, takes_memory};
 ghost use Rattle.avr_session.specs.Stopping.{IsSound, LacksMemory, IsPlayed};
 
-/// Where no device failed, a run was played whole, if the messages do not say that memory was refused, or if its plan takes
-/// none.
+/// Where no device failed, a run was played whole, if the messages do not say that memory was refused, or if its plan
+/// takes none.
 pub fn a_sound_run_is_played()
-    ensures played { (dialog : Dialog Saying ℕ) (old new : Option Talk) (before after : Record) (takes : Bool) (k l a b status : ℕ)
+    ensures played { (dialog : Dialog Saying ℕ) (old new : Option Talk) (before after : Record) (takes : Bool)
+        (k l a b status : ℕ)
         → IsSound k l a b → (LacksMemory after.messages → ⊥)
         → RunsTo dialog old new (Some before) (Some after) (Stops takes k l a b) status
         → IsPlayed dialog old new (Some before) (Some after) status }
@@ -23,15 +24,18 @@ pub fn a_sound_run_is_played()
         → IsPlayed (session plan) old new old_desk new_desk status }
 {}
 
-/// Wrong ends. Where no device failed and no message tells of memory: status 1 after a session that was played to 0; an end
-/// while the play waits, as behind an erase or before LEAVE; no session at all.
+/// Wrong ends. Where no device failed and no message tells of memory: status 1 after a session that was played to 0; an
+/// end while the play waits, as behind an erase or before LEAVE; no session at all.
 pub fn a_sound_run_has_no_other_end()
     ensures perfect { (dialog : Dialog Saying ℕ) (old new : Talk) (before after : Record) (takes : Bool) (k l a b : ℕ)
-        → IsSound k l a b → (LacksMemory after.messages → ⊥) → IsPlayed dialog (Some old) (Some new) (Some before) (Some after) 0
+        → IsSound k l a b → (LacksMemory after.messages → ⊥) → IsPlayed dialog (Some old) (Some new) (Some before)
+        (Some after) 0
         → RunsTo dialog (Some old) (Some new) (Some before) (Some after) (Stops takes k l a b) 1 → ⊥ }
-    ensures waiting { (dialog : Dialog Saying ℕ) (talk during : Talk) (before after : Record) (takes : Bool) (k l a b status : ℕ)
+    ensures waiting { (dialog : Dialog Saying ℕ) (talk during : Talk) (before after : Record) (takes : Bool)
+        (k l a b status : ℕ)
         → IsSound k l a b → (LacksMemory after.messages → ⊥) → (played dialog 1 (heard during)).outcome ≡ None
-        → RunsTo dialog (Some talk) (Some (talk ++ during)) (Some before) (Some after) (Stops takes k l a b) status → ⊥ }
+        → RunsTo dialog (Some talk) (Some (talk ++ during)) (Some before) (Some after) (Stops takes k l a b) status
+        → ⊥ }
     ensures nothing { (plan : Plan) (talk : Talk) (r : Record) (takes : Bool) (k l a b status : ℕ)
         → IsSound k l a b → (LacksMemory r.messages → ⊥)
         → RunsTo (session plan) (Some talk) (Some talk) (Some r) (Some r) (Stops takes k l a b) status → ⊥ }

@@ -5,3 +5,4 @@ pub mod Weighing
 pub mod FramesWeighed
 pub mod OverWire
 pub mod Refusing
+pub mod OverTalk

@@ -11,3 +11,4 @@ pub mod Ports
 pub mod ServedOn
 pub mod Headline
 pub mod Worked
+pub mod Asked

@@ -1,8 +1,8 @@
 //! The front door: AVRDUDE over a programmer of the STK500 protocol, version 2, as one crate.
 //!
-//! The words of a command line become settings, the settings a plan, and the plan a run over a line, which answers a status:
-//! 0 where no fault came, else 1. All of it is made by the crates below; here their calls have one roof, and those that need
-//! a port take it from the settings, so that no caller can pass another.
+//! The words of a command line become settings, the settings a plan, and the plan a run over a line, which answers a
+//! status: 0 where no fault came, else 1. All of it is made by the crates below; here their calls have one roof, and
+//! those that need a port take it from the settings, so that no caller can pass another.
 //!
 //! ```text
 //! let settings = settings(alloc, &read_words(alloc, &words)?)?;
@@ -17,20 +17,24 @@
 
 // the calls that take their port from the settings
 mod of_port;
+// from words to settings
+mod asking;
 // runs by the words of the headline
 mod running;
 // laws, and no code
 mod laws;
 
 // from words to settings
+pub use asking::{NotAsked, asked};
 pub use avr_cli::{
     Format, Op, Port, Settings, SettingsFault, Switches, Text, Update, UpdateFault, Updates,
     make_command, parse_update, port_number, read_words, settings,
 };
 pub use avr_session::refuse;
 pub use laws::{
-    a_run_is_one_function, a_run_of_status_0_is_its_course, a_stop_is_a_front,
-    a_worked_run_has_one_outcome, a_wrong_outcome_is_refused,
+    a_run_is_one_function, a_run_of_status_0_is_its_course,
+    a_session_over_any_link_that_behaves_so, a_stop_is_a_front, a_worked_run_has_one_outcome,
+    a_wrong_outcome_is_refused,
 };
 // what a run reads and writes beside its line
 pub use avr_desk::{Desk, DeskFault, MemDesk, SystemDesk};

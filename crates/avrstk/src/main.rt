@@ -2,8 +2,8 @@
 #![tactic(auto)]
 
 use avr_tool::{
-    Port, Settings, SettingsFault, StreamLink, SystemDesk, read_words, refuse, run, run_emu,
-    run_net, serve_net, settings,
+    Desk, NotAsked, Port, Settings, SettingsFault, StreamLink, SystemDesk, asked, refuse, run,
+    run_emu, run_net, serve_net,
 };
 use clap::Error;
 use clap::error::ErrorKind;
@@ -29,21 +29,17 @@ fn tell_unread(rt: &HostRuntime, error: &io::Error) -> u8 {
     1
 }
 
+/// From words to settings, and from these to a status.
 fn run_words(rt: &HostRuntime, words: &[String]) -> u8 {
-    match read_words(rt.alloc(), words) {
-        Ok(matches) => match settings(rt.alloc(), &matches) {
-            Ok(settings) => run_settings(rt, &settings),
-            Err(fault) => tell_refused(rt, &fault),
-        },
-        Err(error) if error.kind() == ErrorKind::OutOfMemory => {
-            tell_refused(rt, &SettingsFault::Memory)
+    let mut desk = SystemDesk::new(rt, rt.stdout(), rt.stderr());
+    match asked(rt.alloc(), words, &mut desk) {
+        Ok(settings) => run_settings(rt, &settings, &mut desk),
+        Err(NotAsked::Refused(status)) => status,
+        Err(NotAsked::Words(error)) if error.kind() == ErrorKind::OutOfMemory => {
+            refuse(&SettingsFault::Memory, &mut desk)
         }
-        Err(error) => tell_usage(rt, &error),
+        Err(NotAsked::Words(error)) => tell_usage(rt, &error),
     }
-}
-
-fn tell_refused(rt: &HostRuntime, fault: &SettingsFault) -> u8 {
-    refuse(fault, &mut SystemDesk::new(rt, rt.stdout(), rt.stderr()))
 }
 
 /// Prints what `clap` says: help is no mistake.
@@ -54,17 +50,16 @@ fn tell_usage(rt: &HostRuntime, error: &Error) -> u8 {
     }
 }
 
-/// Runs over the port of the settings: `stdio:` has its frames on standard input and output, `emu:` is the emulator, `net:`
-/// a connection; or serves the emulator.
-fn run_settings(rt: &HostRuntime, settings: &Settings) -> u8 {
-    let mut desk = SystemDesk::new(rt, rt.stdout(), rt.stderr());
+/// Runs over the port of the settings: `stdio:` has its frames on standard input and output, `emu:` is the emulator,
+/// `net:` a connection; or serves the emulator.
+fn run_settings<D: Desk>(rt: &HostRuntime, settings: &Settings, desk: &mut D) -> u8 {
     match &settings.port {
         Port::Stdio => {
             let mut link = StreamLink::new(rt.stdin(), rt.stdout());
-            run(rt.alloc(), settings, &mut desk, &mut link)
+            run(rt.alloc(), settings, desk, &mut link)
         }
-        Port::Emulated(_) => run_emu(rt.alloc(), settings, &mut desk),
-        Port::Network(_) => run_net(rt, rt.alloc(), settings, &mut desk),
-        Port::Served { .. } => serve_net(rt, rt.alloc(), settings, &mut desk),
+        Port::Emulated(_) => run_emu(rt.alloc(), settings, desk),
+        Port::Network(_) => run_net(rt, rt.alloc(), settings, desk),
+        Port::Served { .. } => serve_net(rt, rt.alloc(), settings, desk),
     }
 }

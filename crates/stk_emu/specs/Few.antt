@@ -23,7 +23,8 @@ abbrev pub FewOf : ℕ → List Fate → Type 0
 FewOf n [] = Unit {0}
 FewOf n (fate ∷ fates) = (bad_in n (fate ∷ fates) ≤ 3) × FewOf n fates
 
--- Of any seven frames in a row at most three go wrong: where four attempts of at most two commands fail, four of seven do.
+-- Of any seven frames in a row at most three go wrong: where four attempts of at most two commands fail, four of seven
+-- do.
 abbrev pub AreFew : List Fate → Type 0
 AreFew = FewOf 7
 

@@ -25,7 +25,8 @@ brought p fates bytes = tape_of device (frames bytes) (fresh p fates)
 -- Nobody listened where all that was brought had been heard.
 abbrev pub NeverIdle : Programmer → List Fate → Talk → Type 0
 NeverIdle p fates talk =
-    (before after : Talk) (items : Tape) → talk ≡ before ++ Got items ∷ after → brought p fates (sent before) ≢ heard before
+    (before after : Talk) (items : Tape) → talk ≡ before ++ Got items ∷ after
+    → brought p fates (sent before) ≢ heard before
 
 -- A wire that began with this programmer and these fates: it stands where the frames sent have brought it, and, unless
 -- somebody listened where nothing waited, what was heard and what waits are what these frames bring.
@@ -48,7 +49,8 @@ pub record IsFresh (w : State) : Type 0 where
   pub begins : Keeps (fresh_programmer w.wire.programmer.chip) w.wire.fates w
   pub lawful : AreLawful w.wire.fates
 
--- Bytes were sent, in which these frames ended: behind what waited now waits what they bring, and the wire stands behind them.
+-- Bytes were sent, in which these frames ended: behind what waited now waits what they bring, and the wire stands
+-- behind them.
 pub record Passes (old new : State) (used : List ℕ) : Type 0 where
   pub found : List (List ℕ)
   pub are_frames : filter is_frame found ≡ found

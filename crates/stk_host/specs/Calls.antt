@@ -60,14 +60,18 @@ StopsSteps dialog seq unread old new (Fault fault) next left = PlaysOver dialog 
 StopsSteps dialog seq unread old new (Link broken) next left = FailsOver broken dialog seq unread old new
 
 -- How steps end that were asked to give these data: they were played whole, or they stop.
-abbrev pub EndsSteps : {A : Type 0} → Dialog ⊥ steps.Outcome → ℕ → List ℕ → Option Talk → Option Talk → (A → List ℕ) → Result A Stop → ℕ → List ℕ → Type 0
-EndsSteps dialog seq unread old new bytes (Ok a) next left = PlaysOver dialog seq unread old new (Ok (bytes a)) next left
+abbrev pub EndsSteps : {A : Type 0} → Dialog ⊥ steps.Outcome → ℕ → List ℕ → Option Talk → Option Talk → (A → List ℕ)
+    → Result A Stop → ℕ → List ℕ → Type 0
+EndsSteps dialog seq unread old new bytes (Ok a) next left =
+    PlaysOver dialog seq unread old new (Ok (bytes a)) next left
 EndsSteps dialog seq unread old new bytes (Err stop) next left = StopsSteps dialog seq unread old new stop next left
 
 -- How a step ends that others follow: they are left to play, behind all data so far; or with it all of them stop.
-abbrev pub GoesOn : List Command → List ℕ → List ℕ → ℕ → List ℕ → Option Talk → Option Talk → Result (Unit {0}) Stop → ℕ → List ℕ → Type 0
+abbrev pub GoesOn : List Command → List ℕ → List ℕ → ℕ → List ℕ → Option Talk → Option Talk → Result (Unit {0}) Stop → ℕ
+    → List ℕ → Type 0
 GoesOn commands before after seq unread old new (Ok done) next left =
-    (steps : List (List Command)) → Reaches (play (commands ∷ steps) before) seq unread old (play steps after) next left new
+    (steps : List (List Command)) → Reaches (play (commands ∷ steps) before) seq unread old
+    (play steps after) next left new
 GoesOn commands before after seq unread old new (Err stop) next left =
     (steps : List (List Command)) → StopsSteps (play (commands ∷ steps) before) seq unread old new stop next left
 
@@ -92,16 +96,18 @@ FailsByLink before now (Err (Link broken)) = HasFailed before now
 abbrev pub CountsLink : {A : Type 0} → ℕ → ℕ → Result A Stop → Type 0
 CountsLink before now result = (before ≤ now) × FailsByLink before now result
 
--- How a call of a host ends: after a fault of the link its dialog broke off, in a frame that wasn't sent whole or where it
--- listened; else it was played whole.
-abbrev pub EndsCall : {A : Type 0} → Dialog ⊥ (Result A HostFault) → ℕ → List ℕ → Option Talk → Option Talk → Result A HostFault → ℕ → List ℕ → Type 0
+-- How a call of a host ends: after a fault of the link its dialog broke off, in a frame that wasn't sent whole or where
+-- it listened; else it was played whole.
+abbrev pub EndsCall : {A : Type 0} → Dialog ⊥ (Result A HostFault) → ℕ → List ℕ → Option Talk → Option Talk
+    → Result A HostFault → ℕ → List ℕ → Type 0
 EndsCall dialog seq unread old new (Ok a) next left = PlaysOver dialog seq unread old new (Ok a) next left
 EndsCall dialog seq unread old new (Err SendFailed) next left = FailsOver broken.Send dialog seq unread old new
 EndsCall dialog seq unread old new (Err RecvFailed) next left = FailsOver broken.Recv dialog seq unread old new
 EndsCall dialog seq unread old new (Err fault) next left = PlaysOver dialog seq unread old new (Err fault) next left
 
 -- How a call ends that takes its memory first: where that was refused nothing was said or heard.
-abbrev pub EndsOrLacks : {A : Type 0} → Dialog ⊥ (Result A HostFault) → ℕ → List ℕ → Option Talk → Option Talk → Result A HostFault → ℕ → List ℕ → Type 0
+abbrev pub EndsOrLacks : {A : Type 0} → Dialog ⊥ (Result A HostFault) → ℕ → List ℕ → Option Talk → Option Talk
+    → Result A HostFault → ℕ → List ℕ → Type 0
 EndsOrLacks dialog seq unread old new (Err Memory) next left = (new ≡ old) × (next ≡ seq) × (left ≡ unread)
 EndsOrLacks dialog seq unread old new result next left = EndsCall dialog seq unread old new result next left
 

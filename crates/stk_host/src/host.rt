@@ -24,8 +24,8 @@ use std::marker::Model;
 
 /// The host's side of the STK500v2 protocol: it asks a programmer, over any link, to work on a part.
 ///
-/// A host keeps one conversation from its first call to its last: the sequence numbers run on, and bytes that were heard
-/// and not read are read by the next call. After [`HostFault::LinkEnded`], [`HostFault::SendFailed`] or
+/// A host keeps one conversation from its first call to its last: the sequence numbers run on, and bytes that were
+/// heard and not read are read by the next call. After [`HostFault::LinkEnded`], [`HostFault::SendFailed`] or
 /// [`HostFault::RecvFailed`] every call answers that fault again, and nothing is sent or heard; after every other fault
 /// the host goes on.
 ///
@@ -163,20 +163,25 @@ impl Host {
         }
     }
 
-    /// Opens a session: signs on, enters programming mode, and reads the part's signature, which it answers, byte 0 first.
+    /// Opens a session: signs on, enters programming mode, and reads the part's signature, which it answers, byte 0
+    /// first.
     ///
-    /// Where the signature is another than the part's the fault is [`HostFault::WrongSignature`], unless `force` takes any.
+    /// Where the signature is another than the part's the fault is [`HostFault::WrongSignature`], unless `force` takes
+    /// any.
     pub fn open<L: Link>(&mut self, link: &mut L, force: bool) -> Result<[u8; 3], HostFault>
         // After the link's end or a fault of it the same fault is answered, and the link stays as it is.
-        ensures stays { (fault : HostFault) → self.old.broken ≡ Some fault → (result ≡ Err fault) × (self.new ≡ self.old) × (link.new ≡ link.old) }
+        ensures stays { (fault : HostFault) → self.old.broken ≡ Some fault → (result ≡ Err fault)
+            × (self.new ≡ self.old) × (link.new ≡ link.old) }
         // Else the call is the play of the steps that open a session, or after a fault of the link a front of it.
-        ensures played { self.old.broken ≡ None → EndsCall (opening self.old.signature force) self.old.next self.old.unread
+        ensures played { self.old.broken ≡ None → EndsCall (opening self.old.signature force) self.old.next
+            self.old.unread
             (L.talk link.old) (L.talk link.new) result self.new.next self.new.unread }
         ensures lasts { self.old.broken ≡ None → self.new.broken ≡ left_by result }
         ensures part { self.new.part ≡ self.old.part }
         ensures signature { self.new.signature ≡ self.old.signature }
         // A fault of the link is told where the link has failed, and only there.
-        ensures failed { self.old.broken ≡ None → IsBroken result → HasFailed (L.failures link.old) (L.failures link.new) }
+        ensures failed { self.old.broken ≡ None → IsBroken result
+            → HasFailed (L.failures link.old) (L.failures link.new) }
         ensures sound { self.old.broken ≡ None → UnlessBroken result (L.failures link.new ≡ L.failures link.old) }
         ensures counted { L.failures link.old ≤ L.failures link.new }
         ensures comes { Stays L.comes_of link.old link.new }
@@ -195,7 +200,8 @@ impl Host {
     /// Erases the chip: flash and lock, and EEPROM too unless the part's EESAVE fuse keeps it.
     pub fn erase<L: Link>(&mut self, link: &mut L) -> Result<(), HostFault>
         // After the link's end or a fault of it the same fault is answered, and the link stays as it is.
-        ensures stays { (fault : HostFault) → self.old.broken ≡ Some fault → (result ≡ Err fault) × (self.new ≡ self.old) × (link.new ≡ link.old) }
+        ensures stays { (fault : HostFault) → self.old.broken ≡ Some fault → (result ≡ Err fault)
+            × (self.new ≡ self.old) × (link.new ≡ link.old) }
         // Else the call is the play of the step that erases the chip, or after a fault of the link a front of it.
         ensures played { self.old.broken ≡ None → EndsCall erasing self.old.next self.old.unread
             (L.talk link.old) (L.talk link.new) result self.new.next self.new.unread }
@@ -203,7 +209,8 @@ impl Host {
         ensures part { self.new.part ≡ self.old.part }
         ensures signature { self.new.signature ≡ self.old.signature }
         // A fault of the link is told where the link has failed, and only there.
-        ensures failed { self.old.broken ≡ None → IsBroken result → HasFailed (L.failures link.old) (L.failures link.new) }
+        ensures failed { self.old.broken ≡ None → IsBroken result
+            → HasFailed (L.failures link.old) (L.failures link.new) }
         ensures sound { self.old.broken ≡ None → UnlessBroken result (L.failures link.new ≡ L.failures link.old) }
         ensures counted { L.failures link.old ≤ L.failures link.new }
         ensures comes { Stays L.comes_of link.old link.new }
@@ -219,22 +226,26 @@ impl Host {
         outcome
     }
 
-    /// Writes an image to a memory: whole pages of flash, FF where the image has gaps, and the image's bytes alone elsewhere.
+    /// Writes an image to a memory: whole pages of flash, FF where the image has gaps, and the image's bytes alone
+    /// elsewhere.
     ///
     /// A memory that can't be written is [`HostFault::ReadOnly`], and nothing is sent. The image is no larger than the
     /// memory. The call never answers [`HostFault::Memory`].
     pub fn write<L: Link>(&mut self, link: &mut L, mem: Mem, image: &Image) -> Result<(), HostFault>
         requires { length image.now ≤ size_of mem self.old.part }
         // After the link's end or a fault of it the same fault is answered, and the link stays as it is.
-        ensures stays { (fault : HostFault) → self.old.broken ≡ Some fault → (result ≡ Err fault) × (self.new ≡ self.old) × (link.new ≡ link.old) }
+        ensures stays { (fault : HostFault) → self.old.broken ≡ Some fault → (result ≡ Err fault)
+            × (self.new ≡ self.old) × (link.new ≡ link.old) }
         // Else the call is the play of the steps that write the image, or after a fault of the link a front of it.
-        ensures played { self.old.broken ≡ None → EndsCall (writing self.old.part mem image.now) self.old.next self.old.unread
+        ensures played { self.old.broken ≡ None → EndsCall (writing self.old.part mem image.now) self.old.next
+            self.old.unread
             (L.talk link.old) (L.talk link.new) result self.new.next self.new.unread }
         ensures lasts { self.old.broken ≡ None → self.new.broken ≡ left_by result }
         ensures part { self.new.part ≡ self.old.part }
         ensures signature { self.new.signature ≡ self.old.signature }
         // A fault of the link is told where the link has failed, and only there.
-        ensures failed { self.old.broken ≡ None → IsBroken result → HasFailed (L.failures link.old) (L.failures link.new) }
+        ensures failed { self.old.broken ≡ None → IsBroken result
+            → HasFailed (L.failures link.old) (L.failures link.new) }
         ensures sound { self.old.broken ≡ None → UnlessBroken result (L.failures link.new ≡ L.failures link.old) }
         ensures counted { L.failures link.old ≤ L.failures link.new }
         ensures comes { Stays L.comes_of link.old link.new }
@@ -263,9 +274,10 @@ impl Host {
         out: &mut Vec<u8>,
     ) -> Result<(), HostFault>
         // After the link's end or a fault of it the same fault is answered, and the link stays as it is.
-        ensures stays { (fault : HostFault) → self.old.broken ≡ Some fault → (result ≡ Err fault) × (self.new ≡ self.old) × (link.new ≡ link.old) }
-        // Else the call is the play of the steps that read the memory, or after a fault of the link a front of it. Where
-        // memory was refused nothing was sent or heard.
+        ensures stays { (fault : HostFault) → self.old.broken ≡ Some fault → (result ≡ Err fault)
+            × (self.new ≡ self.old) × (link.new ≡ link.old) }
+        // Else the call is the play of the steps that read the memory, or after a fault of the link a front of it.
+        // Where memory was refused nothing was sent or heard.
         ensures played { self.old.broken ≡ None → EndsOrLacks (reading self.old.part mem) self.old.next self.old.unread
             (L.talk link.old) (L.talk link.new) (given out.new.items result) self.new.next self.new.unread }
         ensures empty { OnErr result (out.new.items ≡ []) }
@@ -275,7 +287,8 @@ impl Host {
         ensures part { self.new.part ≡ self.old.part }
         ensures signature { self.new.signature ≡ self.old.signature }
         // A fault of the link is told where the link has failed, and only there.
-        ensures failed { self.old.broken ≡ None → IsBroken result → HasFailed (L.failures link.old) (L.failures link.new) }
+        ensures failed { self.old.broken ≡ None → IsBroken result
+            → HasFailed (L.failures link.old) (L.failures link.new) }
         ensures sound { self.old.broken ≡ None → UnlessBroken result (L.failures link.new ≡ L.failures link.old) }
         ensures counted { L.failures link.old ≤ L.failures link.new }
         ensures comes { Stays L.comes_of link.old link.new }
@@ -296,8 +309,8 @@ impl Host {
         outcome
     }
 
-    /// Reads a whole memory and compares it with an image, no larger than the memory, at the addresses that the image holds:
-    /// the lowest at which they differ is told as [`HostFault::Differs`].
+    /// Reads a whole memory and compares it with an image, no larger than the memory, at the addresses that the image
+    /// holds: the lowest at which they differ is told as [`HostFault::Differs`].
     ///
     /// Its memory is taken before the first frame is sent; where it is refused the fault is [`HostFault::Memory`].
     pub fn verify<L: Link>(
@@ -309,16 +322,19 @@ impl Host {
     ) -> Result<(), HostFault>
         requires { length image.now ≤ size_of mem self.old.part }
         // After the link's end or a fault of it the same fault is answered, and the link stays as it is.
-        ensures stays { (fault : HostFault) → self.old.broken ≡ Some fault → (result ≡ Err fault) × (self.new ≡ self.old) × (link.new ≡ link.old) }
-        // Else the call is the play of the steps that read the memory and the comparison, or after a fault of the link a front
-        // of it. Where memory was refused nothing was sent or heard.
-        ensures played { self.old.broken ≡ None → EndsOrLacks (verifying self.old.part mem image.now) self.old.next self.old.unread
+        ensures stays { (fault : HostFault) → self.old.broken ≡ Some fault → (result ≡ Err fault)
+            × (self.new ≡ self.old) × (link.new ≡ link.old) }
+        // Else the call is the play of the steps that read the memory and the comparison, or after a fault of the link
+        // a front of it. Where memory was refused nothing was sent or heard.
+        ensures played { self.old.broken ≡ None → EndsOrLacks (verifying self.old.part mem image.now) self.old.next
+            self.old.unread
             (L.talk link.old) (L.talk link.new) result self.new.next self.new.unread }
         ensures lasts { self.old.broken ≡ None → self.new.broken ≡ left_by result }
         ensures part { self.new.part ≡ self.old.part }
         ensures signature { self.new.signature ≡ self.old.signature }
         // A fault of the link is told where the link has failed, and only there.
-        ensures failed { self.old.broken ≡ None → IsBroken result → HasFailed (L.failures link.old) (L.failures link.new) }
+        ensures failed { self.old.broken ≡ None → IsBroken result
+            → HasFailed (L.failures link.old) (L.failures link.new) }
         ensures sound { self.old.broken ≡ None → UnlessBroken result (L.failures link.new ≡ L.failures link.old) }
         ensures counted { L.failures link.old ≤ L.failures link.new }
         ensures comes { Stays L.comes_of link.old link.new }
@@ -341,15 +357,18 @@ impl Host {
     /// Closes the session: leaves programming mode.
     pub fn close<L: Link>(&mut self, link: &mut L) -> Result<(), HostFault>
         // After the link's end or a fault of it the same fault is answered, and the link stays as it is.
-        ensures stays { (fault : HostFault) → self.old.broken ≡ Some fault → (result ≡ Err fault) × (self.new ≡ self.old) × (link.new ≡ link.old) }
-        // Else the call is the play of the step that leaves programming mode, or after a fault of the link a front of it.
+        ensures stays { (fault : HostFault) → self.old.broken ≡ Some fault → (result ≡ Err fault)
+            × (self.new ≡ self.old) × (link.new ≡ link.old) }
+        // Else the call is the play of the step that leaves programming mode, or after a fault of the link a front of
+        // it.
         ensures played { self.old.broken ≡ None → EndsCall closing self.old.next self.old.unread
             (L.talk link.old) (L.talk link.new) result self.new.next self.new.unread }
         ensures lasts { self.old.broken ≡ None → self.new.broken ≡ left_by result }
         ensures part { self.new.part ≡ self.old.part }
         ensures signature { self.new.signature ≡ self.old.signature }
         // A fault of the link is told where the link has failed, and only there.
-        ensures failed { self.old.broken ≡ None → IsBroken result → HasFailed (L.failures link.old) (L.failures link.new) }
+        ensures failed { self.old.broken ≡ None → IsBroken result
+            → HasFailed (L.failures link.old) (L.failures link.new) }
         ensures sound { self.old.broken ≡ None → UnlessBroken result (L.failures link.new ≡ L.failures link.old) }
         ensures counted { L.failures link.old ≤ L.failures link.new }
         ensures comes { Stays L.comes_of link.old link.new }

@@ -1,7 +1,8 @@
 //! The host's side of the STK500 protocol, version 2 (Atmel AVR068), as AVRDUDE speaks it with `-c stk500v2`.
 //!
-//! The one idea: an operation is a dialog of commands and of what their answers come to, and a call of [`Host`] is the play
-//! of its dialog over the tape of all that was heard: these frames and no others, whatever the pieces that it came in.
+//! The one idea: an operation is a dialog of commands and of what their answers come to, and a call of [`Host`] is the
+//! play of its dialog over the tape of all that was heard: these frames and no others, whatever the pieces that it came
+//! in.
 //!
 //!     let mut link = StreamLink::new(reader, writer);
 //!     let mut host = Host::new(&part);

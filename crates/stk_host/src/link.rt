@@ -67,15 +67,16 @@ pub trait Link {
 
     /// Sends the bytes or a front of them, and says how many.
     ///
-    /// It is 0 for bytes that aren't none only where the link has failed. After a fault no byte counts as sent: a link that
-    /// keeps what passed has passed nothing, and one that doesn't may have passed a front of them.
+    /// It is 0 for bytes that aren't none only where the link has failed. After a fault no byte counts as sent: a link
+    /// that keeps what passed has passed nothing, and one that doesn't may have passed a front of them.
     fn send(&mut self, bytes: &[u8]) -> Result<usize, LinkFault>
         ensures within { IfOk result (λ n. n ≤ length bytes.now) }
         ensures ok { IfOk result (λ n. Grows (talk self.old) (Sent (take n bytes.now) ∷ []) (talk self.new)) }
         ensures err { OnErr result (Grows (talk self.old) [] (talk self.new)) }
         ensures counted { failures self.old ≤ failures self.new }
         ensures failed { OnErr result (HasFailed (failures self.old) (failures self.new)) }
-        ensures stuck { IfOk result (λ n. n ≡ 0 → 0 < length bytes.now → HasFailed (failures self.old) (failures self.new)) }
+        ensures stuck { IfOk result (λ n. n ≡ 0 → 0 < length bytes.now
+            → HasFailed (failures self.old) (failures self.new)) }
         ensures sound { IfOk result (λ n. 0 < n → failures self.new ≡ failures self.old) }
         ensures idle { OnOk result (length bytes.now ≡ 0 → failures self.new ≡ failures self.old) }
         ensures comes { Stays comes_of self.old self.new };

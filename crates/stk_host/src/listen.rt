@@ -31,7 +31,8 @@ fn read_on(reader: &mut FrameReader, unread: &mut Unread, most: usize) -> (usize
     requires room { 0 < most }
     ensures within { result.0 ≤ most }
     ensures progress { 0 < result.0 }
-    ensures fed { (used : List ℕ) × (length used ≡ result.0) × (unread.old ≡ used ++ unread.new) × Fed reader.old used reader.new (found result.1 reader.new) }
+    ensures fed { (used : List ℕ) × (length used ≡ result.0) × (unread.old ≡ used ++ unread.new)
+        × Fed reader.old used reader.new (found result.1 reader.new) }
     ensures tells { Tells result.1 reader.new }
     ensures fits { length unread.new ≤ 281 }
 {
@@ -52,7 +53,8 @@ fn is_answer(reader: &FrameReader, event: Event, seq: u8) -> bool
     }
 }
 
-/// Listens for the answer to the frame of this sequence, from a fresh start. With what was unread it hears at most 4,096 bytes.
+/// Listens for the answer to the frame of this sequence, from a fresh start. With what was unread it hears at most
+/// 4,096 bytes.
 pub(crate) fn listen<L: Link>(
     reader: &mut FrameReader,
     unread: &mut Unread,
@@ -60,7 +62,8 @@ pub(crate) fn listen<L: Link>(
     seq: u8,
 ) -> Result<Reading, LinkFault>
     requires few { length unread.old ≤ 281 }
-    ensures ok { IfOk result (λ reading. Hears seq unread.old (L.talk link.old) (L.talk link.new) (reading_of reading reader.new) unread.new) }
+    ensures ok { IfOk result (λ reading. Hears seq unread.old (L.talk link.old) (L.talk link.new)
+        (reading_of reading reader.new) unread.new) }
     ensures fits { length unread.new ≤ 281 }
     ensures holds { IfOk result (λ reading. HoldsAnswer reading reader.new) }
     ensures err { OnErr result (HearsNone seq unread.old (L.talk link.old) (L.talk link.new)) }

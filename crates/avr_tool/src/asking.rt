@@ -1,0 +1,33 @@
+//! From the words of a command line to settings.
+ghost use Rattle.std.specs.Prelude.{map, string_bytes};
+ghost use Rattle.avr_tool.specs.Asked.{Asks};
+
+use avr_cli::{Settings, read_words, settings};
+use avr_desk::Desk;
+use avr_session::refuse;
+use clap::Error;
+use std::alloc::Global;
+
+/// Why a command line asks for no run.
+#[derive(Drop)]
+pub enum NotAsked {
+    /// `clap` doesn't take the words, or they ask for help: its own error, which is not printed yet.
+    Words(Error),
+    /// What they ask for has a fault, whose line was printed as far as the desk takes it: the status, 1.
+    Refused(u8),
+}
+
+/// The settings that the words of a command line ask for, the program's name first.
+pub fn asked<D: Desk>(alloc: Global, words: &[String], desk: &mut D) -> Result<Settings, NotAsked>
+    ensures asks { Asks (map string_bytes words.now) (D.kept desk.old) (D.kept desk.new)
+        (D.failures desk.old) (D.failures desk.new) result }
+{
+    let matches = match read_words(alloc, words) {
+        Ok(matches) => matches,
+        Err(error) => return Err(NotAsked::Words(error)),
+    };
+    match settings(alloc, &matches) {
+        Ok(settings) => Ok(settings),
+        Err(fault) => Err(NotAsked::Refused(refuse(&fault, desk))),
+    }
+}
