@@ -10,3 +10,4 @@ pub mod PartStages
 pub mod ValueStages
 pub mod TaskStages
 pub mod Plans
+pub mod OnlyReading

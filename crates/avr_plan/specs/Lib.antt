@@ -6,3 +6,4 @@ pub mod Plan
 pub mod Stage
 pub mod Planning
 pub mod Playing
+pub mod OnlyReading

@@ -56,8 +56,8 @@ pub fn a_segment_is_read_whole()
 /// A conversation that is played over what a wire brings for its frames goes along the line question by question: the
 /// programmer obeys what the fates let through, in order, nothing waits, and what the conversation comes to is what it
 /// comes to along the line.
-pub fn a_conversation_goes_along_the_line()
-    ensures { (d : Dialog ⊥ Outcome) (n : ℕ) (w : Wire Programmer) (sent more : List (List ℕ)) → AsksBodies d
+pub fn a_conversation_goes_along_the_line<E, R>()
+    ensures { (d : Dialog E R) (n : ℕ) (w : Wire Programmer) (sent more : List (List ℕ)) → AsksBodies d
         → IsClear n w.late → AreLawful w.fates
         → frames_in (played d n (tape_of device sent w)).events ≡ sent ++ more → Fused device d n w sent }
 {}
@@ -182,35 +182,44 @@ pub fn a_session_is_led_from_call_to_call()
 {}
 
 /// Whoever talks in turn never listens where nothing comes.
-pub fn a_talk_in_turn_is_never_idle()
-    ensures { (d : Dialog ⊥ Outcome) (n : ℕ) (p : Programmer) (fates : List Fate) (talk : Talk)
+pub fn a_talk_in_turn_is_never_idle<E, R>()
+    ensures { (d : Dialog E R) (n : ℕ) (p : Programmer) (fates : List Fate) (talk : Talk)
         → AsksBodies d → AreLawful fates → InTurn d n [] talk → NeverIdle p fates talk }
 {}
+
+/// What a talk says and comes to, and when a saying is a part of another: whatever these are, so that the law below
+/// holds of the host's operations and of a session alike.
+pub trait Talks {
+    ghost Saying: { Type 0 };
+
+    ghost Outcome: { Type 0 };
+
+    ghost SaidPart: { Saying → Saying → Type 0 };
+}
 
 /// A talk in turn over a wire goes along the line of its fates, one question for each frame. Where it was whole, the
 /// conversation has come there to the same result, and nothing that came is left; where it broke off in any part of a
 /// frame, the programmer stands there all the same.
-pub fn a_talk_over_a_wire_goes_along_the_line()
-    ensures whole { (d : Dialog ⊥ Outcome) (n : ℕ) (p : Programmer) (fates : List Fate) (w : State)
-        (events : List (Event ⊥)) (r : Outcome) (next : ℕ) (left : List ℕ)
+pub fn a_talk_over_a_wire_goes_along_the_line<T: Talks>()
+    ensures whole { (d : Dialog T.Saying T.Outcome) (n : ℕ) (p : Programmer) (fates : List Fate) (w : State)
+        (events : List (Event T.Saying)) (r : T.Outcome) (next : ℕ) (left : List ℕ)
         → AsksBodies d → AreLawful fates → Keeps p fates w → Plays d n [] w.talk events r next left
         → GoesAlong d p fates w r left }
-    ensures broken { (d : Dialog ⊥ Outcome) (n : ℕ) (p : Programmer) (fates : List Fate) (w : State)
-        (shown : List (Event ⊥))
-        → AsksBodies d → AreLawful fates → Keeps p fates w → Breaks NoPart d n [] w.talk shown
+    ensures broken { (d : Dialog T.Saying T.Outcome) (n : ℕ) (p : Programmer) (fates : List Fate) (w : State)
+        (shown : List (Event T.Saying))
+        → AsksBodies d → AreLawful fates → Keeps p fates w → Breaks T.SaidPart d n [] w.talk shown
         → w.wire.programmer ≡ (along device (length (frames (sent w.talk))) d p fates).programmer }
 {}
 
 /// What is said beside the line over what a wire brings is what is said along the line of its fates, in as many
-/// questions as frames were sent: so far, and where a talk over the wire was a whole play. (Said are any bytes here, as
-/// lines of text.)
-pub fn what_is_said_over_a_wire_is_said_along_the_line()
-    ensures over { (d : Dialog (List ℕ) ℕ) (n : ℕ) (w : Wire Programmer) (sent more : List (List ℕ)) → AsksBodies d
+/// questions as frames were sent: so far, and where a talk over the wire was a whole play.
+pub fn what_is_said_over_a_wire_is_said_along_the_line<E, R>()
+    ensures over { (d : Dialog E R) (n : ℕ) (w : Wire Programmer) (sent more : List (List ℕ)) → AsksBodies d
         → IsClear n w.late → AreLawful w.fates
         → frames_in (played d n (tape_of device sent w)).events ≡ sent ++ more
         → sayings (played d n (tape_of device sent w)).events ≡ said_along device (length sent) d w.programmer w.fates }
-    ensures whole { (d : Dialog (List ℕ) ℕ) (n : ℕ) (p : Programmer) (fates : List Fate) (w : State)
-        (events : List (Event (List ℕ))) (r next : ℕ) (left : List ℕ)
+    ensures whole { (d : Dialog E R) (n : ℕ) (p : Programmer) (fates : List Fate) (w : State)
+        (events : List (Event E)) (r : R) (next : ℕ) (left : List ℕ)
         → AsksBodies d → AreLawful fates → Keeps p fates w → Plays d n [] w.talk events r next left
         → sayings events ≡ said_along device (length (frames (sent w.talk))) d p fates }
 {}

@@ -4,4 +4,4 @@ use Rattle.stk_emu.proofs.Fused.{fused}
 use Rattle.stk_emu.proofs.laws.a_conversation_goes_along_the_line.Goals as goal
 
 pub returns : goal.returns
-returns c = λ d n w sent more asks clear lawful e. fused device answers_bodies d n w sent more asks clear lawful e
+returns g c = λ d n w sent more asks clear lawful e. fused device answers_bodies d n w sent more asks clear lawful e
