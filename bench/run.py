@@ -1,13 +1,16 @@
 #!/usr/bin/env python3
-"""Times the tool on large images, beside avr-objcopy and srec_cat where they are installed.
+"""Measures the tool on large images, beside avr-objcopy and srec_cat where they are installed.
 
     (cd crates/avrstk && rt run < stdin > /dev/null)    builds crates/avrstk/out/avrstk
     bench/run.py [RUNS]                                 the best of so many runs of each command, in milliseconds
+    bench/run.py --count                                instructions, the same on every machine (needs valgrind)
+    bench/run.py --calls                                system calls for each frame, on either side of a line (needs strace)
 
 Every figure is that of a whole process. The images are the same in each run of this script.
 """
 
 import random
+import re
 import shutil
 import subprocess
 import sys
@@ -15,7 +18,14 @@ import tempfile
 import time
 from pathlib import Path
 
-PROGRAM = Path(__file__).resolve().parent.parent / "crates/avrstk/out/avrstk"
+TOP = Path(__file__).resolve().parent.parent
+sys.path.insert(0, str(TOP / "tests"))
+
+from line import BadLine  # noqa: E402
+from program import PROGRAM, Room, free_port  # noqa: E402
+
+KILO = 1024
+SIZES = [32, 64, 128, 256]
 
 
 def image_of(size):
@@ -46,51 +56,200 @@ def srec(image):
     return "".join(rows) + record(8, 0, b"")
 
 
-def best(runs, command, folder, wanted):
-    """The shortest of so many runs, in milliseconds; each has to end with the wanted status."""
-    times = []
-    for _ in range(runs):
-        (folder / "chip.bin").unlink(missing_ok=True)
-        begin = time.perf_counter()
-        done = subprocess.run(command, cwd=folder, stdin=subprocess.DEVNULL, capture_output=True)
-        times.append(1000 * (time.perf_counter() - begin))
-        if done.returncode != wanted:
-            sys.exit(f"{command}: status {done.returncode}: {done.stderr.decode()}")
-    return min(times)
-
-
-def commands():
-    """The name of each measure, its command, and the status it ends with."""
+def own_commands():
+    """The name of each measure of the tool, its command, and the status it ends with."""
     ours = str(PROGRAM)
     # the plan is made before the line is asked, which has ended
     plan = [ours, "-p", "m2560", "-P", "stdio:", "-q", "-q", "-U"]
-    emulated = [ours, "-P", "emu:chip.bin", "-q", "-q"]
-    yield "avrstk: 256 kB of Intel HEX read", [*plan, "flash:w:large.hex"], 1
-    yield "avrstk: 256 kB of S-records read", [*plan, "flash:w:large.srec"], 1
-    yield "avrstk: 32 kB written and verified", [*emulated, "-p", "m328p", "-U", "flash:w:small.hex"], 0
-    yield "avrstk: 256 kB written and verified", [*emulated, "-p", "m2560", "-U", "flash:w:large.hex"], 0
-    for tool, words in [
-        ("avr-objcopy", ["-I", "ihex", "-O", "binary", "large.hex", "large.out"]),
-        ("objcopy", ["-I", "ihex", "-O", "binary", "large.hex", "large.out"]),
-        ("srec_cat", ["large.hex", "-Intel", "-o", "large.out", "-Binary"]),
-        ("srec_cat", ["large.srec", "-o", "large.out", "-Binary"]),
+    emulated = [ours, "-P", "emu:chip.bin", "-q", "-q", "-p"]
+    yield "help", [ours, "-h"], 0
+    yield "a session of six frames", [*emulated, "m328p"], 0
+    yield "256 kB of Intel HEX read", [*plan, "flash:w:256.hex"], 1
+    yield "256 kB of S-records read", [*plan, "flash:w:256.srec"], 1
+    yield "32 kB written and verified, m328p", [*emulated, "m328p", "-U", "flash:w:32.hex"], 0
+    for size in SIZES:
+        yield f"{size} kB written and verified, m2560", [*emulated, "m2560", "-U", f"flash:w:{size}.hex"], 0
+
+
+def other_commands():
+    """The same of other programs, where they are installed, with the measure to which each is compared."""
+    read = "256 kB of Intel HEX read"
+    for tool, words, beside in [
+        ("true", [], "help"),
+        ("avr-objcopy", ["-I", "ihex", "-O", "binary", "256.hex", "other.out"], read),
+        ("srec_cat", ["256.hex", "-Intel", "-o", "other.out", "-Binary"], read),
+        ("srec_cat", ["256.srec", "-o", "other.out", "-Binary"], "256 kB of S-records read"),
     ]:
         if shutil.which(tool):
-            yield f"{tool}: 256 kB, {words[-1] if tool != 'srec_cat' else words[0]}", [tool, *words], 0
+            yield f"{tool} {' '.join(words[:3])}".strip(), [tool, *words], beside
+        else:
+            print(f"          {tool} is not installed")
+
+
+def done(command, room, wanted):
+    """One run from a folder without a chip file, in milliseconds."""
+    begin = time.perf_counter()
+    ran = subprocess.run(command, cwd=room.folder, stdin=subprocess.DEVNULL, capture_output=True)
+    taken = 1000 * (time.perf_counter() - begin)
+    if ran.returncode != wanted:
+        sys.exit(f"{command}: status {ran.returncode}: {ran.stderr.decode()}")
+    return taken
+
+
+def best(runs, command, room, wanted):
+    """The shortest of so many runs."""
+    times = []
+    for _ in range(runs):
+        room.clear()
+        times.append(done(command, room, wanted))
+    return min(times)
+
+
+def peak(command, room):
+    """The most memory that a run holds, by GNU time; nothing where that isn't installed."""
+    if not shutil.which("time"):
+        return ""
+    room.clear()
+    ran = subprocess.run(["time", "-q", "-f", "%M", *command], cwd=room.folder, stdin=subprocess.DEVNULL, capture_output=True, text=True)
+    return f"{int(ran.stderr.split()[-1]):6} kB"
+
+
+def time_all(room, runs):
+    times = {}
+    for label, command, wanted in own_commands():
+        times[label] = best(runs, command, room, wanted)
+        print(f"{times[label]:9.1f} ms  {peak(command, room):9}  {label}")
+    for label, command, beside in other_commands():
+        taken = best(runs, command, room, 0)
+        print(f"{taken:9.1f} ms  {peak(command, room):9}  {label} ({taken / times[beside]:.1f} times {beside})")
+    time_line(room, runs)
+
+
+# ---- over a line
+
+
+class Served:
+    """The emulated programmer, served at a port to one caller."""
+
+    def __init__(self, room, front=()):
+        self.port = free_port()
+        words = ["-p", "m328p", "--serve", str(self.port), "--chip", "chip.bin"]
+        how = {"cwd": room.folder, "stdin": subprocess.DEVNULL, "stderr": subprocess.DEVNULL}
+        self.started = subprocess.Popen([*front, str(PROGRAM), *words], **how)
+        while not self.listens():
+            time.sleep(0.005)
+
+    def listens(self):
+        """Whether anybody listens at the port (state 0A), without calling."""
+        return f"0100007F:{self.port:04X} 00000000:0000 0A" in Path("/proc/net/tcp").read_text()
+
+    def end(self):
+        self.started.wait(30)
+
+
+def session_over(port):
+    return [str(PROGRAM), "-p", "m328p", "-P", f"net:127.0.0.1:{port}", "-q", "-q", "-U", "flash:w:32.hex"]
+
+
+def frames_sent(room):
+    """The frames of a session that writes and verifies 32 kB."""
+    room.clear()
+    peer = BadLine(room, {})
+    done(session_over(peer.port), room, 0)
+    return peer.end()
+
+
+def best_over_line(room, runs, command_for):
+    times = []
+    for _ in range(runs):
+        room.clear()
+        served = Served(room)
+        times.append(done(command_for(served.port), room, 0))
+        served.end()
+    return min(times)
+
+
+def time_line(room, runs):
+    """A session over a TCP line of this machine, beside the least client that sends the same frames."""
+    frames = frames_sent(room)
+    taken = best_over_line(room, runs, session_over)
+    print(f"{taken:9.1f} ms  {'':9}  32 kB written and verified over a line, {len(frames)} frames")
+    if not shutil.which("cc"):
+        print("          cc is not installed")
+        return
+    room.put("frames", b"".join(frames))
+    client = room.folder / "least_client"
+    subprocess.run(["cc", "-O2", "-o", str(client), str(TOP / "bench/least_client.c")], check=True)
+    room.given |= {"frames", "least_client"}
+    least = best_over_line(room, runs, lambda port: [str(client), str(port), "frames"])
+    print(f"{least:9.1f} ms  {'':9}  the least client with the same frames (the tool takes {taken / least:.2f} times this)")
+
+
+# ---- counts
+
+
+def count_all(room):
+    """Instructions, by callgrind."""
+    if not shutil.which("valgrind"):
+        sys.exit("valgrind is not installed")
+    sizes = {"256 kB of Intel HEX read": "256.hex", "256 kB of S-records read": "256.srec"}
+    for label, command, wanted in own_commands():
+        room.clear()
+        front = ["valgrind", "--tool=callgrind", "--callgrind-out-file=/dev/null"]
+        ran = subprocess.run([*front, *command], cwd=room.folder, stdin=subprocess.DEVNULL, capture_output=True, text=True)
+        if ran.returncode != wanted:
+            sys.exit(f"{command}: {ran.stderr}")
+        count = int(re.search(r"Collected : (\d+)", ran.stderr)[1])
+        share = f", {count / len(room.read(sizes[label])):.1f} for each byte of text" if label in sizes else ""
+        written = re.match(r"(\d+) kB written", label)
+        share = f", {count / KILO / int(written[1]):.0f} for each byte of flash" if written else share
+        print(f"{count:12}  {label}{share}")
+
+
+CALLS = "trace=read,recvfrom,recvmsg,write,sendto,sendmsg"
+
+
+def calls_of(traced):
+    """How many sends and receipts a trace has of bytes that begin as a frame does; strace writes the start byte in octal."""
+    text = traced.read_text()
+    sends = len(re.findall(r'^\d+ +(?:sendto|write)\(\d+, "\\0?33', text, re.M))
+    receipts = len(re.findall(r'^\d+ +(?:recvfrom|read)\(\d+, "\\0?33', text, re.M))
+    return sends, receipts
+
+
+def count_calls(room):
+    """System calls that move a frame, on either side of a line; fails where a frame takes more than one of each."""
+    if not shutil.which("strace"):
+        print("strace is not installed: nothing was counted")
+        return
+    frames = len(frames_sent(room))
+    room.clear()
+    front = ["strace", "-f", "-e", CALLS, "-s", "4", "-o"]
+    served = Served(room, [*front, "served.trace"])
+    done([*front, "tool.trace", *session_over(served.port)], room, 0)
+    served.end()
+    for side in ["tool", "served"]:
+        sends, receipts = calls_of(room.folder / f"{side}.trace")
+        print(f"{side:>8}: {sends} sends and {receipts} receipts for {frames} frames")
+        if (sends, receipts) != (frames, frames):
+            sys.exit(f"{side}: a frame takes more than one send and one receipt")
 
 
 def main():
-    runs = int(sys.argv[1]) if len(sys.argv) > 1 else 5
     if not PROGRAM.exists():
         sys.exit(__doc__)
-    with tempfile.TemporaryDirectory() as name:
-        folder = Path(name)
-        for file, size in [("small", 32768), ("large", 262144)]:
-            image = image_of(size)
-            (folder / f"{file}.hex").write_text(ihex(image))
-            (folder / f"{file}.srec").write_text(srec(image))
-        for label, command, wanted in commands():
-            print(f"{best(runs, command, folder, wanted):9.1f} ms  {label}")
+    room = Room()
+    for size in SIZES:
+        image = image_of(size * KILO)
+        room.put(f"{size}.hex", ihex(image).encode())
+        room.put(f"{size}.srec", srec(image).encode())
+        room.given |= {f"{size}.hex", f"{size}.srec"}
+    if "--count" in sys.argv:
+        count_all(room)
+    elif "--calls" in sys.argv:
+        count_calls(room)
+    else:
+        time_all(room, int(sys.argv[1]) if len(sys.argv) > 1 else 5)
 
 
 if __name__ == "__main__":

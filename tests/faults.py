@@ -4,19 +4,22 @@ what it asks of sockets.
 
     tests/faults.py        needs crates/avrstk/out/avrstk, as rt ci leaves it, and a C compiler (tests/refuse.c)
 
-For every run below and every kind of call the nth is refused, for n from 1 upwards until a run meets no refusal. What was
-sent and said has to be a front of what the sound run sends and says, and then the line of that fault, with the name of the
-file that the call was for (a front of it where a message couldn't be written), with status 1; or all that the sound run sends and says, with its status, where what was
-refused wasn't needed. A read or a write that a signal breaks off, or that moves one byte alone, has to change nothing.
+For every run below and every kind of call the nth is refused, for n from 1 upwards until a run meets no refusal; of the
+requests for memory also the nth and all after it. What was sent and said has to be a front of what the sound run sends and
+says, and then the line of that fault, with the name of the file that the call was for (a front of it where a message
+couldn't be written), with status 1; or all that the sound run sends and says, with its status, where what was refused
+wasn't needed. A read or a write that a signal breaks off, or that moves one byte alone, has to change nothing.
 """
 
+import os
+import socket
 import subprocess
 import time
 from collections import Counter
 from pathlib import Path
 
 from line import BadLine
-from program import ANSWERS, CHIP_FILE, TOP, Room
+from program import ANSWERS, CHIP_FILE, ENDS, FRAMES, TOP, Room, free_port
 
 EMULATED = ["-p", "m328p", "-P", "emu:chip.bin"]
 
@@ -32,6 +35,14 @@ RUNS = {
     "a part file": ([*EMULATED, "--parts", "parts.toml"], b""),
 }
 
+# words that come to no session, and their status
+REFUSED = {
+    "a request for help": (["--help"], 0),
+    "an option that isn't known": (["-p", "m328p", "--nonsense"], 1),
+    "no part": (["-P", "stdio:"], 1),
+    "a programmer that isn't known": ([*EMULATED, "-c", "arduino"], 1),
+}
+
 # The lines that a refused call of each kind may have; the file is the one that the call was for. (A device that lacks
 # memory fails like any other.)
 LINES = {
@@ -39,8 +50,11 @@ LINES = {
     "read": ["link cannot be read", "{file}: cannot be read"],
     "write": ["link cannot be written", "{file}: cannot be written"],
     "open": ["{file}: cannot be opened", "{file}: cannot be created"],
-    "socket": ["port net:127.0.0.1:PORT cannot be opened"],
+    "socket": ["port net:127.0.0.1:PORT cannot be opened", "port PORT cannot be opened"],
 }
+
+# what is refused
+FAULTS = [*((kind, "fail") for kind in LINES), ("growth", "onwards")]
 
 # what has to change nothing
 HARMLESS = [("read", "interrupt"), ("read", "one"), ("write", "interrupt"), ("write", "one")]
@@ -49,10 +63,10 @@ HARMLESS = [("read", "interrupt"), ("read", "one"), ("write", "interrupt"), ("wr
 class Sweep:
     """The runs of some words with one call refused in each."""
 
-    def __init__(self, room, shim, label, words, given):
+    def __init__(self, room, shim, label, words, given, status=0):
         self.room, self.shim, self.label, self.words, self.given = room, shim, label, words, given
         self.sound = self.done()
-        assert self.sound[0] == 0, (label, self.sound)
+        assert self.sound[0] == status, (label, self.sound)
 
     def done(self, refused=None):
         """The status, the output and the messages, and the files that were made."""
@@ -73,13 +87,16 @@ class Sweep:
             if done == self.sound:
                 counts["unneeded"] += 1
                 continue
-            assert how == "fail" and self.is_told(kind, *done), fault
+            assert (kind, how) in FAULTS and self.is_told(kind, how, *done), fault
             counts["told"] += 1
 
-    def is_told(self, kind, status, output, messages, chip, read_file):
+    def is_told(self, kind, how, status, output, messages, chip, read_file):
         """Whether a run says that it failed, and leaves nothing that is half written without a word."""
         file = Path(self.room.read("refused").decode()).name
         lines = [line.format(file=file) for line in LINES[kind]]
+        if how == "onwards" and any("chip.bin" in word for word in self.words) and chip is None:
+            # (behind a fault of the session there is no memory to save the chip either, which is told too)
+            lines += [f"{line}\navrstk: error: out of memory" for line in lines]
         # (the line is whole, unless it was a message that couldn't be written)
         is_told = any(is_front_and_line(messages, self.sound[2], line, kind == "write") for line in lines)
         is_chip = chip is None or len(chip) == len(self.sound[3] or b"") or b"chip.bin: " in messages
@@ -87,10 +104,49 @@ class Sweep:
         return status == 1 and self.sound[1].startswith(output) and is_told and is_chip and is_front
 
 
+class Serving(Sweep):
+    """The emulated programmer served to a caller who plays a session, and the chip file that it leaves."""
+
+    def done(self, refused=None):
+        self.room.clear()
+        port = free_port()
+        environment = {"LD_PRELOAD": str(self.shim), "REFUSE": refused, "REFUSED": "refused"} if refused else {}
+        started = self.room.start([*self.words, "--serve", str(port)], env=os.environ | environment)
+        heard = heard_from(started, port)
+        _, messages = started.communicate(timeout=60)
+        return started.returncode, heard, messages.replace(str(port).encode(), b"PORT"), self.room.read("chip.bin"), None
+
+
+def heard_from(started, port):
+    """What a program that serves at a port answers to the frames of a session, as far as it does."""
+    heard = b""
+    try:
+        with caller_of(started, port) as caller:
+            for frame, end in zip(FRAMES, ENDS):
+                caller.sendall(frame)
+                while len(heard) < end:
+                    piece = caller.recv(4096)
+                    if not piece:
+                        return heard
+                    heard += piece
+    except OSError:
+        pass
+    return heard
+
+
+def caller_of(started, port):
+    """A connection to a program that will serve at a port, unless it ends before."""
+    while started.poll() is None:
+        try:
+            return socket.create_connection(("127.0.0.1", port), 30)
+        except ConnectionRefusedError:
+            time.sleep(0.002)
+    raise ConnectionRefusedError(f"nobody serves at {port}")
+
+
 def is_front_and_line(said, sound, line, may_stop):
     """Whether it is a front of what a sound run says, and then the line of a fault, or a front of it where it may stop there."""
-    if (may_stop and sound.startswith(said)) or said == b"error: out of memory\n":
-        # (the latter is said where the words of the command line weren't read yet)
+    if may_stop and sound.startswith(said):
         return True
     return any(sound.startswith(said[:end]) and is_front_of_error(said[end:], line.encode(), may_stop) for end in range(len(said) + 1))
 
@@ -112,8 +168,18 @@ class OverNet(Sweep):
         status, _, messages = self.room.run(self.words, self.given, environment)
         return status, b"".join(peer.end()), messages.replace(str(peer.port).encode(), b"PORT"), self.room.read("served.bin"), None
 
-    def is_told(self, kind, status, output, messages, chip, read_file):
-        return super().is_told(kind, status, output, messages, None, None) and len(chip or b"") == CHIP_FILE
+    def is_told(self, kind, how, status, output, messages, chip, read_file):
+        return super().is_told(kind, how, status, output, messages, None, None) and len(chip or b"") == CHIP_FILE
+
+
+def swept(sweep, ways):
+    """What became of all the refusals of a run, in these ways."""
+    total = Counter()
+    for kind, how in ways:
+        counts = sweep.through(kind, how)
+        print(f"{counts['told']:6} told, {counts['unneeded']:5} of no effect: {kind}, {how}: {sweep.label}", flush=True)
+        total += counts
+    return total
 
 
 def main():
@@ -126,16 +192,14 @@ def main():
     room.given.add(shim.name)
     total = Counter()
     for label, (words, given) in RUNS.items():
-        sweep = Sweep(room, shim, label, words, given)
-        for kind, how in [*((kind, "fail") for kind in LINES), *HARMLESS]:
-            counts = sweep.through(kind, how)
-            print(f"{counts['told']:6} told, {counts['unneeded']:5} of no effect: {kind}, {how}: {label}", flush=True)
-            total += counts
+        total += swept(Sweep(room, shim, label, words, given), [*FAULTS, *HARMLESS])
+    for label, (words, status) in REFUSED.items():
+        total += swept(Sweep(room, shim, label, words, b"", status), [*FAULTS, *HARMLESS])
     late = OverNet(room, shim, "the whole EEPROM over a line with a late answer", [], b"")
-    for kind in ["growth", "open", "socket"]:
-        counts = late.through(kind, "fail")
-        print(f"{counts['told']:6} told, {counts['unneeded']:5} of no effect: {kind}, fail: {late.label}", flush=True)
-        total += counts
+    total += swept(late, [("growth", "fail"), ("growth", "onwards"), ("open", "fail"), ("socket", "fail")])
+    served = Serving(room, shim, "a session served at a port", ["-p", "m328p", "--chip", "chip.bin"], b"")
+    assert served.sound[1] == ANSWERS, served.sound
+    total += swept(served, [*FAULTS, *HARMLESS])
     seconds = time.monotonic() - begun
     print(f"{total['told']} refusals told, {total['unneeded']} of no effect, 0 failed, in {seconds:.0f} s")
 

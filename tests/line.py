@@ -74,9 +74,9 @@ class BadLine(Peer):
     """A line to an emulated programmer, which the tool serves itself. The nth frame from 1 has its fate, and is good without one:
     `lost command` never arrives, the answer of `lost answer` is dropped, and that of `late answer` comes in front of the next."""
 
-    def __init__(self, room, fates):
+    def __init__(self, room, fates, server_port=None):
         self.fates = fates
-        self.server_port = free_port()
+        self.server_port = server_port or free_port()
         words = ["-p", "m328p", "--serve", str(self.server_port), "--chip", "served.bin"]
         self.server = room.start(words)
         super().__init__()

@@ -76,6 +76,16 @@ def lines(*texts):
     return "".join(f"avrstk: {text}\n" for text in texts).encode()
 
 
+def frame(number, *body):
+    """The frame of a sequence number, modulo 256, and a body, which is given in bytes and lists of bytes."""
+    body = b"".join(bytes([it]) if isinstance(it, int) else it for it in body)
+    whole = bytes([0x1B, number % 256]) + len(body).to_bytes(2, "big") + b"\x0e" + body
+    check = 0
+    for byte in whole:
+        check ^= byte
+    return whole + bytes([check])
+
+
 def free_port():
     """A port of 127.0.0.1 that nobody uses now."""
     with socket.socket() as it:

@@ -1,7 +1,8 @@
 /* Lets one call of the C library fail. With LD_PRELOAD in front of a program, REFUSE names the call by its kind, its
- * number from 1, and what becomes of it: "growth 3 fail" refuses the third request for memory. A read or a write may also
- * be interrupted by a signal ("interrupt"), or move one byte alone ("one"). Whether the program came to that call is told
- * by the file REFUSED, which then holds the name of the file that the call was for, if it was for one. */
+ * number from 1, and what becomes of it: "growth 3 fail" refuses the third request for memory, "growth 3 onwards" that one
+ * and all after it. A read or a write may also be interrupted by a signal ("interrupt"), or move one byte alone ("one").
+ * Whether the program came to that call is told by the file REFUSED, which then holds the name of the file that the call
+ * was for, if it was for one. */
 #define _GNU_SOURCE
 #include <dlfcn.h>
 #include <errno.h>
@@ -48,9 +49,13 @@ static enum fate fate_of(enum kind kind, const char *name, int file)
         if (!text || sscanf(text, "%15s %ld %15s", due, &number, how) != 3)
             number = -1;
     }
-    if (number < 0 || strcmp(names[kind], due) || ++calls[kind] != number)
+    if (number < 0 || strcmp(names[kind], due))
         return PASS;
-    tell_refused(name, file);
+    long call = ++calls[kind];
+    if (call < number || (call > number && strcmp(how, "onwards")))
+        return PASS;
+    if (call == number)
+        tell_refused(name, file);
     return !strcmp(how, "interrupt") ? INTERRUPT : !strcmp(how, "one") ? ONE : FAIL;
 }
 

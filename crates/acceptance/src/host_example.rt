@@ -18,7 +18,7 @@ fn an_image_is_programmed(rt: HostRuntime) -> Result<(), Fail> {
     let signature = host.open(&mut wire, false)?;
     host.erase(&mut wire)?;
     host.write(&mut wire, Mem::Flash, &image)?;
-    host.verify(&mut wire, alloc, Mem::Flash, &image)?;
+    host.verify(alloc, &mut wire, Mem::Flash, &image)?;
     host.close(&mut wire)?;
     assert!(rt; signature == [0x1E, 0x95, 0x0F]);
     assert!(rt; wire.chip().byte(Mem::Flash, 1) == Some(0x94));

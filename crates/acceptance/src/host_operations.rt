@@ -30,7 +30,7 @@ fn programs(rt: &impl Abort, alloc: Global, mem: Mem, bytes: &[u8]) -> Result<()
     host.open(&mut wire, false)?;
     host.erase(&mut wire)?;
     host.write(&mut wire, mem, &image)?;
-    host.verify(&mut wire, alloc, mem, &image)?;
+    host.verify(alloc, &mut wire, mem, &image)?;
     let mut read = Vec::new(alloc);
     host.read(&mut wire, mem, &mut read)?;
     host.close(&mut wire)?;
@@ -52,8 +52,8 @@ fn every_memory_is_written_and_read(rt: HostRuntime) -> Result<(), Fail> {
     Ok(())
 }
 
-/// The wire after a session over it, with these fates, that erased this part where its flash is written, and wrote the bytes
-/// from the address on.
+/// The wire after a session over it, with these fates, that erased this part where its flash is written, and wrote the
+/// bytes from the address on.
 fn write_over(
     alloc: Global,
     id: &str,
@@ -121,7 +121,8 @@ fn flash_above_128_kib_has_an_extended_address(rt: HostRuntime) -> Result<(), Fa
         0x20000,
         &[0x55],
     )?;
-    // behind five frames that open and ERASE: LOAD_ADDRESS of word 10000 hex with bit 31, and PROGRAM_FLASH of 256 bytes
+    // behind five frames that open and ERASE: LOAD_ADDRESS of word 10000 hex with bit 31, and PROGRAM_FLASH of 256
+    // bytes
     let begun: [u8; 19] = [
         0x1B, 0x07, 0x00, 0x05, 0x0E, 0x06, 0x80, 0x01, 0x00, 0x00, 0x90, 0x1B, 0x08, 0x01, 0x0A,
         0x0E, 0x13, 0x01, 0x00,
@@ -150,7 +151,7 @@ fn write_unerased(alloc: Global, part: &Part, wire: &mut Wired) -> Result<Option
     let mut host = Host::new(part);
     host.open(wire, false)?;
     host.write(wire, Mem::Flash, &image)?;
-    let fault = host.verify(wire, alloc, Mem::Flash, &image).err();
+    let fault = host.verify(alloc, wire, Mem::Flash, &image).err();
     host.close(wire)?;
     Ok(fault)
 }
@@ -162,8 +163,8 @@ fn flash_that_is_not_erased_keeps_its_zeros(rt: HostRuntime) -> Result<(), Fail>
     let mut wire = wire_to_written(alloc, &part)?;
     let fault = write_unerased(alloc, &part, &mut wire)?;
     assert!(rt; fault == Some(HostFault::Differs(Mem::Flash, 0, 0xF0, 0x00)));
-    // five frames that open, LOAD_ADDRESS of 11 bytes and PROGRAM_FLASH of 144, LOAD_ADDRESS and READ_FLASH of 10 bytes for
-    // each of 128 blocks, and LEAVE, the 264th
+    // five frames that open, LOAD_ADDRESS of 11 bytes and PROGRAM_FLASH of 144, LOAD_ADDRESS and READ_FLASH of 10 bytes
+    // for each of 128 blocks, and LEAVE, the 264th
     assert!(rt; wire.sent().len() == 7 + 18 + 3 * 12 + 11 + 144 + 128 * (11 + 10) + 9);
     assert!(rt;
         wire.sent()

@@ -78,8 +78,8 @@ fn pages_written(chip: &Chip) -> Option<u32> {
     Some(pages)
 }
 
-/// Pages are written in rising order and whole, and the fuse behind them; nothing else is; and what is called done is done.
-/// Answers how many pages are written.
+/// Pages are written in rising order and whole, and the fuse behind them; nothing else is; and what is called done is
+/// done. Answers how many pages are written.
 fn look_at(rt: &impl Abort, over: &Over<MemDesk, Wired>, seed: u32) -> Option<u32> {
     let chip = over.link.chip();
     let pages = pages_written(chip);

@@ -132,8 +132,8 @@ fn sound(rt: &impl Abort, alloc: Global, run: &SoundRun) -> Result<Over<MemDesk,
     )
 }
 
-/// The run where the calls of these numbers, from 1, of the link and of the desk fail (0: none), over a link that passes at
-/// most so many bytes at once.
+/// The run where the calls of these numbers, from 1, of the link and of the desk fail (0: none), over a link that
+/// passes at most so many bytes at once.
 fn failing(
     alloc: Global,
     run: &SoundRun,
@@ -148,7 +148,8 @@ fn failing(
     run_on(alloc, run.row.words, desk, link)
 }
 
-/// Whether what was said is a front of what a sound run says, and behind it what was told of a fault, on a line of its own.
+/// Whether what was said is a front of what a sound run says, and behind it what was told of a fault, on a line of its
+/// own.
 fn is_front(said: &[u8], sound: &[u8], told: &[u8]) -> bool {
     match said.strip_suffix(told) {
         Some(front) => {
@@ -160,8 +161,8 @@ fn is_front(said: &[u8], sound: &[u8], told: &[u8]) -> bool {
     }
 }
 
-/// The run broke off: what it sent and wrote is a front of what the sound one did, and so is what it said, but for these
-/// lines behind it.
+/// The run broke off: what it sent and wrote is a front of what the sound one did, and so is what it said, but for
+/// these lines behind it.
 fn broke_off(
     rt: &impl Abort,
     alloc: Global,
@@ -283,7 +284,8 @@ fn pieces_change_nothing(rt: HostRuntime) -> Result<(), Fail> {
     Ok(())
 }
 
-/// Behind the four pieces of the signature's line the desk is to write the fuse, and fails: the sixth frame is the last.
+/// Behind the four pieces of the signature's line the desk is to write the fuse, and fails: the sixth frame is the
+/// last.
 #[test]
 fn no_leave_follows_an_output_that_fails(rt: HostRuntime) -> Result<(), Fail> {
     let alloc = rt.alloc();

@@ -16,8 +16,8 @@ use stk_host::Link;
 pub(crate) const OPENING: &str =
     "1B0100010E01141B02000C0E10C8641920005303AC530000311B0300060E1B04300000003F1B0400060E1B0430000100391B0500060E1B04300002003B";
 
-/// A run: the words behind the program's name and port, what goes to standard output, the messages without the program's
-/// name in front, and the status.
+/// A run: the words behind the program's name and port, what goes to standard output, the messages without the
+/// program's name in front, and the status.
 #[derive(Drop)]
 pub(crate) struct Row {
     pub(crate) words: &'static [&'static str],

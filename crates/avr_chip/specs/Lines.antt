@@ -4,7 +4,8 @@ use Rattle.avr_message.specs.Lines.{Bytes, error}
 
 -- it has this many bytes, and a file of the part another number
 abbrev pub length_line : Bytes → ℕ → ℕ → Bytes
-length_line file found expected = error (file ∷ codes ": " ∷ decimal found ∷ codes " bytes, " ∷ decimal expected ∷ codes " expected" ∷ [])
+length_line file found expected =
+    error (file ∷ codes ": " ∷ decimal found ∷ codes " bytes, " ∷ decimal expected ∷ codes " expected" ∷ [])
 
 abbrev pub not_created_line : Bytes → Bytes
 not_created_line file = error (file ∷ codes ": cannot be created" ∷ [])

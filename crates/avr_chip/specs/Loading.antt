@@ -13,11 +13,13 @@ use Rattle.avr_chip.specs.Lines.{length_line}
 -- the chip of these bytes; another length than the part's is refused
 abbrev pub chip_or_line : Part → Bytes → Bytes → Result State Bytes
 chip_or_line part file bytes =
-    if length bytes == chip_file_size part then Ok (state_in part bytes) else Err (length_line file (length bytes) (chip_file_size part))
+    if length bytes == chip_file_size part then Ok (state_in part bytes)
+    else Err (length_line file (length bytes) (chip_file_size part))
 
 -- a file past the limit is refused, whatever the part
 abbrev pub judged_chip : Part → Bytes → Bytes → Result State Bytes
-judged_chip part file bytes = if nat_le (length bytes) 4194304 then chip_or_line part file bytes else Err (too_long_line file 4194304)
+judged_chip part file bytes =
+    if nat_le (length bytes) 4194304 then chip_or_line part file bytes else Err (too_long_line file 4194304)
 
 -- where there is no such file the chip is fresh
 abbrev pub chip_given : Part → Bytes → Opening → Stage State

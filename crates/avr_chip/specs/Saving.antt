@@ -7,7 +7,8 @@ use Rattle.avr_message.specs.Said.{Saying, Creates, Writes, IsPrefixOf, Tells, a
 use Rattle.avr_plan.specs.Lines.{memory_line}
 use Rattle.avr_chip.specs.Lines.{not_created_line, not_written_line}
 
--- What stood in the way: memory was refused for the bytes; the file could not be created; or not be written behind these bytes.
+-- What stood in the way: memory was refused for the bytes; the file could not be created; or not be written behind
+-- these bytes.
 pub data Trouble : Type 0 where
   NoMemory : Trouble
   NotCreated : Trouble

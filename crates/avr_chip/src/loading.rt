@@ -26,7 +26,8 @@ fn file_size(part: &Part) -> u32
 
 /// A chip of this part as it comes new.
 fn fresh_chip<D: Desk>(alloc: Global, part: &Part, desk: &mut D) -> Result<Chip, u8>
-    ensures goes { Goes (settled (Ok (fresh_state part.now))) (D.kept desk.old) (D.kept desk.new) (D.failures desk.old) (D.failures desk.new) result }
+    ensures goes { Goes (settled (Ok (fresh_state part.now))) (D.kept desk.old) (D.kept desk.new) (D.failures desk.old)
+        (D.failures desk.new) result }
     ensures part { IfOk result (λ c. c.part ≡ part.now) }
     ensures rises { D.failures desk.old ≤ D.failures desk.new }
 {
@@ -45,7 +46,8 @@ fn chip_of<D: Desk>(
     desk: &mut D,
 ) -> Result<Chip, u8>
     requires { length bytes.now ≤ 4194304 }
-    ensures goes { Goes (settled (chip_or_line part.now file.now bytes.now)) (D.kept desk.old) (D.kept desk.new) (D.failures desk.old) (D.failures desk.new) result }
+    ensures goes { Goes (settled (chip_or_line part.now file.now bytes.now)) (D.kept desk.old) (D.kept desk.new)
+        (D.failures desk.old) (D.failures desk.new) result }
     ensures part { IfOk result (λ c. c.part ≡ part.now) }
     ensures rises { D.failures desk.old ≤ D.failures desk.new }
 {
@@ -68,7 +70,8 @@ fn unread_chip<D: Desk>(
     fault: FileFault,
     desk: &mut D,
 ) -> Result<Chip, u8>
-    ensures goes { (old : Option Record) (before : ℕ) → FileBreaks file.now old (D.kept desk.old) fault → before ≤ D.failures desk.old
+    ensures goes { (old : Option Record) (before : ℕ) → FileBreaks file.now old (D.kept desk.old) fault
+        → before ≤ D.failures desk.old
         → IsCounted before (D.failures desk.old) fault
         → Goes (chip_stage part.now file.now) old (D.kept desk.new) before (D.failures desk.new) result }
     ensures part { IfOk result (λ c. c.part ≡ part.now) }
@@ -84,11 +87,12 @@ fn unread_chip<D: Desk>(
 ///
 /// The file is read to its end, or until more than 4,194,304 bytes came. The chip that is loaded has empty buffers.
 ///
-/// The answer is `Err(1)` where the file has another length than the part's flash, EEPROM and 4 bytes (33,796 for `m328p`), also
-/// where it is empty, where it can't be opened or read on, and where memory is refused. Then the line that tells why was
-/// printed, as far as the desk takes it.
+/// The answer is `Err(1)` where the file has another length than the part's flash, EEPROM and 4 bytes (33,796 for
+/// `m328p`), also where it is empty, where it can't be opened or read on, and where memory is refused. Then the line
+/// that tells why was printed, as far as the desk takes it.
 pub fn load_chip<D: Desk>(alloc: Global, part: &Part, file: &str, desk: &mut D) -> Result<Chip, u8>
-    ensures goes { Goes (chip_stage part.now file.now) (D.kept desk.old) (D.kept desk.new) (D.failures desk.old) (D.failures desk.new) result }
+    ensures goes { Goes (chip_stage part.now file.now) (D.kept desk.old) (D.kept desk.new) (D.failures desk.old)
+        (D.failures desk.new) result }
     ensures part { IfOk result (λ c. c.part ≡ part.now) }
     ensures rises { D.failures desk.old ≤ D.failures desk.new }
 {

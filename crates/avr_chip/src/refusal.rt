@@ -11,7 +11,8 @@ use avr_plan::refuse;
 /// Tells what can't be done with a file.
 pub(crate) fn refuse_saving<'a, D: Desk>(desk: &mut D, file: &'a str, trouble: &'a str) -> u8
     ensures status { result ≡ 1 }
-    ensures told { IsTold (D.kept desk.old) (D.kept desk.new) (error (file.now ∷ trouble.now ∷ [])) (D.failures desk.old) (D.failures desk.new) }
+    ensures told { IsTold (D.kept desk.old) (D.kept desk.new) (error (file.now ∷ trouble.now ∷ []))
+        (D.failures desk.old) (D.failures desk.new) }
     ensures rises { D.failures desk.old ≤ D.failures desk.new }
 {
     refuse(desk, &[Piece::Text(file), Piece::Text(trouble)])
@@ -20,7 +21,8 @@ pub(crate) fn refuse_saving<'a, D: Desk>(desk: &mut D, file: &'a str, trouble: &
 /// Tells that a file has another number of bytes than is expected.
 pub(crate) fn refuse_length<D: Desk>(desk: &mut D, file: &str, found: u32, expected: u32) -> u8
     ensures status { result ≡ 1 }
-    ensures told { IsTold (D.kept desk.old) (D.kept desk.new) (length_line file.now found expected) (D.failures desk.old) (D.failures desk.new) }
+    ensures told { IsTold (D.kept desk.old) (D.kept desk.new) (length_line file.now found expected)
+        (D.failures desk.old) (D.failures desk.new) }
     ensures rises { D.failures desk.old ≤ D.failures desk.new }
 {
     refuse(

@@ -11,7 +11,8 @@ use std::alloc::Global;
 
 /// Creates the file of this name and writes these bytes.
 fn save_bytes<D: Desk>(file: &str, bytes: &[u8], desk: &mut D) -> Result<(), u8>
-    ensures saves { Saves (D.kept desk.old) (D.kept desk.new) file.now bytes.now (D.failures desk.old) (D.failures desk.new) result }
+    ensures saves { Saves (D.kept desk.old) (D.kept desk.new) file.now bytes.now (D.failures desk.old)
+        (D.failures desk.new) result }
     ensures rises { D.failures desk.old ≤ D.failures desk.new }
 {
     if desk.create(file).is_err() {
@@ -23,13 +24,15 @@ fn save_bytes<D: Desk>(file: &str, bytes: &[u8], desk: &mut D) -> Result<(), u8>
     }
 }
 
-/// Saves a chip: creates the file of this name and writes the chip's memories, whole, as [`crate::load_chip`] reads them.
+/// Saves a chip: creates the file of this name and writes the chip's memories, whole, as [`crate::load_chip`] reads
+/// them.
 ///
-/// The answer is `Err(1)` where the file can't be created or written to its end, and where memory is refused. Then the line that
-/// tells why was printed, as far as the desk takes it. No file is created where memory is refused; one that was created holds a
-/// front of the bytes.
+/// The answer is `Err(1)` where the file can't be created or written to its end, and where memory is refused. Then the
+/// line that tells why was printed, as far as the desk takes it. No file is created where memory is refused; one that
+/// was created holds a front of the bytes.
 pub fn save_chip<D: Desk>(alloc: Global, chip: &Chip, file: &str, desk: &mut D) -> Result<(), u8>
-    ensures saves { Saves (D.kept desk.old) (D.kept desk.new) file.now (chip_file chip.now) (D.failures desk.old) (D.failures desk.new) result }
+    ensures saves { Saves (D.kept desk.old) (D.kept desk.new) file.now (chip_file chip.now) (D.failures desk.old)
+        (D.failures desk.new) result }
     ensures rises { D.failures desk.old ≤ D.failures desk.new }
 {
     match chip.to_bytes(alloc) {

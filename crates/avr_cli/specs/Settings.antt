@@ -96,7 +96,8 @@ no_switches = record {
   quiet = 0;
 }
 
--- the settings of an emulator that serves at a port, for which the programmer, the updates and the switches count for nothing
+-- the settings of an emulator that serves at a port, for which the programmer, the updates and the switches count for
+-- nothing
 abbrev pub serve_settings : Bytes → Bytes → Entries → Result Settings SettingsFault
 serve_settings part text e = do
   port ← served_at text (port_number text) e.chip

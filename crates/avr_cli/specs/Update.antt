@@ -2,9 +2,9 @@
 use Rattle.std.specs.Prelude.{◌≡◌, ◌⊎◌, ◌==◌, ◌-◌, ◌&&◌, ℕ, nat_le, List, [], ◌∷◌, ◌++◌, Option, Some, None, Result, Ok, Err, IsOk}
 use Rattle.std.specs.Prelude.{codes, length, take, slice_index, find, if◌then◌else◌}
 use Rattle.std.specs.Str.{bytes_eq}
-use Rattle.avr_part.specs.Mem.{name_of}
+use Rattle.avr_part.specs.Mem.{name_of, named}
 use Rattle.avr_part.specs.declared.mem.Mem.{Mem}
-use Rattle.avr_part.specs.declared.mem.Mem.TheVariants.{Flash, Eeprom, Lfuse, Hfuse, Efuse, Lock, Signature, Calibration}
+use Rattle.avr_part.specs.declared.mem.Mem.TheVariants.{Flash}
 use Rattle.avr_cli.specs.Cuts.{Bytes, colon, cut_first}
 use Rattle.avr_cli.specs.declared.update.Op.{Op}
 use Rattle.avr_cli.specs.declared.update.Op.TheVariants.{Read, Write, Verify}
@@ -17,12 +17,6 @@ use Rattle.avr_cli.specs.declared.update.UpdateFault.TheVariants.{BadMemory, Bad
 -- the result is the one wanted, or memory was refused to an update
 abbrev pub GivesUpdate : Result Update UpdateFault → Result Update UpdateFault → Type 0
 GivesUpdate want got = (got ≡ want) ⊎ (IsOk want × (got ≡ Err Memory))
-
-abbrev pub memories : List Mem
-memories = Flash ∷ Eeprom ∷ Lfuse ∷ Hfuse ∷ Efuse ∷ Lock ∷ Signature ∷ Calibration ∷ []
-
-abbrev pub memory_named : Bytes → Option Mem
-memory_named name = find (λ memory. bytes_eq (name_of memory) name) memories
 
 abbrev pub op_name : Op → Bytes
 op_name Read = codes "r"
@@ -99,7 +93,7 @@ with_memory (Some memory) after =
 -- a text without a colon is a file, written to flash in whatever format it has
 abbrev pub update_cut : Bytes → Option (Bytes × Bytes) → Result Update UpdateFault
 update_cut text None = update_by Flash Write (text, None)
-update_cut text (Some parts) = with_memory (memory_named parts.0) parts.1
+update_cut text (Some parts) = with_memory (named parts.0) parts.1
 
 -- the update that a text asks for
 abbrev pub update_of : Bytes → Result Update UpdateFault

@@ -106,7 +106,13 @@ fn with_target<'a>(alloc: Global, command: Command<'a>) -> Result<Command<'a>, E
     ensures app { IfOk result (λ c. app_of c ≡ with_rules (app_of command.entry) target_rules) }
     ensures memory { IfErr result (λ e. kind_of e ≡ ErrorKind.OutOfMemory) }
 {
-    let part = value(alloc, "part", 'p', "ID", "The part, as m328p; needed");
+    let part = value(
+        alloc,
+        "part",
+        'p',
+        "ID",
+        "The part: m328p, t85, m2560, or one of a part file; needed",
+    );
     let programmer = value(
         alloc,
         "programmer",
@@ -245,7 +251,8 @@ pub fn make_command<'a>(alloc: Global) -> Result<Command<'a>, Error>
 /// ```
 pub fn read_words<'a>(alloc: Global, words: &'a [String]) -> Result<ArgMatches<'a>, Error>
     ensures rows { IfOk result (λ m. rows_of (found_of m) ≡ matches_of avrstk (map string_bytes words.entry.now)) }
-    ensures taken { IfErr result (λ e. takes avrstk (map string_bytes words.entry.now) ≡ true → kind_of e ≡ ErrorKind.OutOfMemory) }
+    ensures taken { IfErr result (λ e. takes avrstk (map string_bytes words.entry.now) ≡ true
+        → kind_of e ≡ ErrorKind.OutOfMemory) }
     ensures refused { FailsBy (fault_of avrstk (map string_bytes words.entry.now)) result }
 {
     match make_command(alloc) {

@@ -11,8 +11,10 @@ ghost use Rattle.avr_part.specs.declared.mem.Mem.{Mem};
 /// An update that is written in all four parts is read, whatever colons its file's name has.
 #[tactic(auto, using(crate::proofs::UpdateLaws::update_is_read))]
 pub fn a_written_update_is_read()
-    ensures { (memory : Mem) (op : Op) (file : Bytes) (letter : ℕ) (format : Format) → file ≢ [] → format_of op (Some letter) ≡ Some format
-        → update_of (update_text memory op file letter) ≡ Ok (record { memory = memory; op = op; format = format; file = file }) }
+    ensures { (memory : Mem) (op : Op) (file : Bytes) (letter : ℕ) (format : Format) → file ≢ []
+        → format_of op (Some letter) ≡ Some format
+        → update_of (update_text memory op file letter) ≡ Ok (record
+        { memory = memory; op = op; format = format; file = file }) }
 {}
 
 /// What stands behind `net:` is a host and the number of a port, whatever colons the host has.

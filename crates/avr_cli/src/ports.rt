@@ -107,7 +107,8 @@ pub fn port_given(alloc: Global, text: Option<&str>) -> Result<Port, SettingsFau
 
 /// The port of `--serve`, with the file of `--chip`. A bad number is told before a missing file.
 pub fn served(alloc: Global, text: &str, chip: Option<&str>) -> Result<Port, SettingsFault>
-    ensures gives { GivesOrMemory (served_at text.now (port_number text.now) (option_map (λ s. s.now) chip.entry)) result }
+    ensures gives { GivesOrMemory (served_at text.now (port_number text.now) (option_map (λ s. s.now) chip.entry))
+        result }
     ensures tells { TellsAnyway (served_at text.now (port_number text.now) (option_map (λ s. s.now) chip.entry)) result }
 {
     if port_number(text).is_none() {

@@ -66,7 +66,8 @@ fn is_port_taken(port: &Port, updates: &[Update]) -> bool
 
 /// Whether a standard stream is taken twice, or for what must be a file.
 fn is_taken(port: &Port, updates: &[Update], parts: Option<&str>, chip: Option<&str>) -> bool
-    ensures { result ≡ is_taken port.now updates.now (option_map (λ s. s.now) parts.entry) (option_map (λ s. s.now) chip.entry) }
+    ensures { result ≡ is_taken port.now updates.now (option_map (λ s. s.now) parts.entry)
+        (option_map (λ s. s.now) chip.entry) }
 {
     is_given_standard(parts)
         || is_given_standard(chip)
@@ -82,7 +83,8 @@ pub fn check_streams(
     parts: Option<&str>,
     chip: Option<&str>,
 ) -> Result<(), SettingsFault>
-    ensures { result ≡ checked_streams port.now updates.now (option_map (λ s. s.now) parts.entry) (option_map (λ s. s.now) chip.entry) }
+    ensures { result ≡ checked_streams port.now updates.now (option_map (λ s. s.now) parts.entry)
+        (option_map (λ s. s.now) chip.entry) }
 {
     if is_taken(port, updates, parts, chip) {
         Err(SettingsFault::StandardTaken)

@@ -117,7 +117,7 @@ fn help_names_every_option(rt: HostRuntime) -> Result<(), Fail> {
     let text = format!(in alloc; "{error}")?;
     let rows = [
         "Usage: avrstk [OPTIONS]\n",
-        "  -p <ID> ",
+        "  -p <ID>             The part: m328p, t85, m2560, or one of a part file; needed\n",
         "  -c <NAME> ",
         "  -P <PORT> ",
         "  -U <UPDATE> ",

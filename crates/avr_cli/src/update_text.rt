@@ -1,6 +1,6 @@
 //! The text of `-U`.
 ghost use Rattle.std.specs.Prelude.{◌≡◌, option_map};
-ghost use Rattle.avr_cli.specs.Update.{memory_named, op_named, format_named, format_of, file_and_letter, GivesUpdate, update_of};
+ghost use Rattle.avr_cli.specs.Update.{op_named, format_named, format_of, file_and_letter, GivesUpdate, update_of};
 ghost use Rattle.avr_cli.specs.Update.{update_by};
 
 use crate::cuts::cut_first;
@@ -8,27 +8,6 @@ use crate::text::Text;
 use crate::update::{Format, Op, Update, UpdateFault};
 use avr_part::Mem;
 use std::alloc::Global;
-
-static MEMORIES: [Mem; 8] = [
-    Mem::Flash,
-    Mem::Eeprom,
-    Mem::Lfuse,
-    Mem::Hfuse,
-    Mem::Efuse,
-    Mem::Lock,
-    Mem::Signature,
-    Mem::Calibration,
-];
-
-/// The memory of this name.
-fn memory_named(name: &str) -> Option<Mem>
-    ensures { result ≡ memory_named name.now }
-{
-    MEMORIES
-        .iter()
-        .copied()
-        .find(|memory| memory.name() == name)
-}
 
 /// The operation that this letter names.
 fn op_named(name: &str) -> Option<Op>
@@ -120,7 +99,7 @@ pub fn parse_update(alloc: Global, text: &str) -> Result<Update, UpdateFault>
     let Some((name, after)) = cut_first(text) else {
         return update_by(alloc, Mem::Flash, Op::Write, text, None);
     };
-    let Some(memory) = memory_named(name) else {
+    let Some(memory) = Mem::named(name) else {
         return Err(UpdateFault::BadMemory);
     };
     let (name, rest) = match cut_first(after) {

@@ -1,3 +1,6 @@
 pub mod Sending
 pub mod ReadingLemmas
 pub mod NamedLemmas
+pub mod Streams
+pub mod Counting
+pub mod Rows

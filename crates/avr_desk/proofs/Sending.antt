@@ -2,7 +2,7 @@
 use Rattle.std.proofs.Common.{◌≡◌, ◌∙◌, ap, sym, refl, arith, ℕ, ◌+◌, ◌-◌, ◌++◌, Option, Some, None, option_map, append_assoc, append-nil, take, drop, length, [], ◌≤◌}
 use Rattle.std.proofs.Math.Seq.{take-add, take-append-add}
 use Rattle.std.proofs.lemmas.Grind.{common_steps}
-use Rattle.std.proofs.lemmas.List.{length-append, take-append-le}
+use Rattle.std.proofs.lemmas.List.{length-append, length-drop, take-append-le}
 use Rattle.avr_desk.specs.Record.{Record, Bytes, written_on}
 use Rattle.avr_desk.specs.Stream.{after_sent, SendsPart}
 use Rattle.avr_desk.specs.declared.stream.Stream.{Stream}
@@ -54,6 +54,15 @@ sent_on s old now new bytes m n first then =
 pub sent_part : (s : Stream) (old now new : Option Record) (bytes : Bytes) (m : ℕ) → m ≤ length bytes → now ≡ option_map (after_sent s (take m bytes)) old
     → new ≡ option_map (after_sent s []) now → SendsPart s old new bytes
 sent_part s old now new bytes m within first then = (m, within, then ∙ sym (sent_none s now) ∙ first)
+
+-- the first m bytes are sent, and of the others a front
+pub sent_on_part : (s : Stream) (old now new : Option Record) (bytes : Bytes) (m : ℕ) → m ≤ length bytes → now ≡ option_map (after_sent s (take m bytes)) old
+    → SendsPart s now new (take (length bytes - m) (drop m bytes)) → SendsPart s old new bytes
+sent_on_part s old now new bytes m within first part =
+    let size : length (take (length bytes - m) (drop m bytes)) ≡ length bytes - m = ap length (slice_rest bytes m) ∙ length-drop m bytes in
+    let n : ℕ = part.0 in
+    let bound : n ≤ length (take (length bytes - m) (drop m bytes)) = part.1 in
+    (m + n, omega (arith, size, bound, within), sent_on s old now new bytes m n first part.2)
 
 -- some bytes are sent, and then others
 pub sent_next : (s : Stream) (old now new : Option Record) (a b : Bytes) → now ≡ option_map (after_sent s a) old → new ≡ option_map (after_sent s b) now

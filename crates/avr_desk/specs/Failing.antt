@@ -1,6 +1,5 @@
 -- A desk one of whose calls fails by plan.
-use Rattle.std.specs.Prelude.{◌≡◌, ◌≢◌, ◌+◌, ◌-◌, ◌^◌, ℕ, min, Result, Err}
-use Rattle.avr_desk.specs.Fault.{Counts}
+use Rattle.std.specs.Prelude.{◌≡◌, ◌≢◌, ◌==◌, ◌+◌, ◌-◌, ◌^◌, ℕ, min, Result, Err, if◌then◌else◌}
 use Rattle.avr_desk.specs.declared.fault.DeskFault.{DeskFault}
 use Rattle.avr_desk.specs.declared.fault.DeskFault.TheVariants.{Failed}
 
@@ -15,9 +14,14 @@ pub record Failing (D : Type 0) : Type 0 where
 abbrev pub all_failures : {D : Type 0} → (D → ℕ) → Failing D → ℕ
 all_failures failures d = min (failures d.inner + d.planned) (2 ^ 64 - 1)
 
--- the call that is due fails and reaches nothing; any other is answered by the desk within, and
--- fails only where that one does
-pub record FailsWhenDue {D T : Type 0} (failures : D → ℕ) (old new : Failing D) (r : Result T DeskFault) : Type 0 where
+-- the failures by plan after the next call
+abbrev pub planned_after : {D : Type 0} → Failing D → ℕ
+planned_after d = if d.due == 1 then min (d.planned + 1) (2 ^ 64 - 1) else d.planned
+
+-- The call that is due fails, reaches nothing and is counted by plan; any other is answered by the desk within, and
+-- what is said of that desk's count holds then.
+pub record FailsWhenDue {D T : Type 0} (PassedOn : Type 0) (old new : Failing D) (r : Result T DeskFault) : Type 0 where
   pub due : old.due ≡ 1 → (r ≡ Err Failed) × (new.inner ≡ old.inner)
-  pub passed_on : old.due ≢ 1 → Counts (failures old.inner) (failures new.inner) r
+  pub passed_on : old.due ≢ 1 → PassedOn
   pub counted_down : new.due ≡ old.due - 1
+  pub planned : new.planned ≡ planned_after old

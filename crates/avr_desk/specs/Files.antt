@@ -32,14 +32,15 @@ ReadsOpen old new (Err fault) = (bytes : Bytes) × (new ≡ option_map (after_re
 
 -- the end was seen within the limit, or more bytes came than it allows, by one piece at most
 abbrev pub IsWhole : ℕ → Contents → Type 0
-IsWhole limit c = MatchBool c.ended (length c.bytes ≤ limit) ((limit < length c.bytes) × (length c.bytes ≤ limit + 4096))
+IsWhole limit c =
+    MatchBool c.ended (length c.bytes ≤ limit) ((limit < length c.bytes) × (length c.bytes ≤ limit + 4096))
 
--- what the count of failures says of a fault
+-- what the count of failures says of a fault: want of memory is no failure of the desk
 abbrev pub FaultIsCounted : ℕ → ℕ → Result Contents FileFault → Type 0
 FaultIsCounted old new (Err NotOpened) = HasFailed old new
 FaultIsCounted old new (Err NotRead) = HasFailed old new
-FaultIsCounted old new r = Unit {0}
+FaultIsCounted old new r = new ≡ old
 
--- the count never falls, and a fault of the desk is counted
+-- the count never falls, and shows whether the desk failed
 abbrev pub FaultCounts : ℕ → ℕ → Result Contents FileFault → Type 0
 FaultCounts old new r = (old ≤ new) × FaultIsCounted old new r

@@ -5,3 +5,5 @@ pub mod Files
 pub mod Named
 pub mod Memory
 pub mod Failing
+pub mod Shown
+pub mod Standing

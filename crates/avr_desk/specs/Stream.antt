@@ -1,5 +1,6 @@
 -- Where bytes go, and a call that sends them all or only a front of them.
-use Rattle.std.specs.Prelude.{◌≡◌, ◌≤◌, ℕ, take, length, Option, option_map}
+use Rattle.std.specs.Prelude.{◌≡◌, ◌≤◌, ℕ, take, length, Option, option_map, Result, Ok, Err}
+use Rattle.avr_desk.specs.declared.fault.DeskFault.{DeskFault}
 use Rattle.avr_desk.specs.Record.{Record, Bytes, after_write, after_out, after_err}
 use Rattle.avr_desk.specs.declared.stream.Stream.{Stream}
 use Rattle.avr_desk.specs.declared.stream.Stream.TheVariants.{File, Output, Messages}
@@ -14,3 +15,8 @@ after_sent Messages bytes r = after_err bytes r
 abbrev pub SendsPart : Stream → Option Record → Option Record → Bytes → Type 0
 SendsPart stream old new bytes =
     (n : ℕ) × (n ≤ length bytes) × (new ≡ option_map (after_sent stream (take n bytes)) old)
+
+-- as many of these bytes went there as were answered; after a fault perhaps a front of them
+abbrev pub SendsTaken : Stream → Bytes → Option Record → Option Record → Result ℕ DeskFault → Type 0
+SendsTaken stream bytes old new (Ok n) = new ≡ option_map (after_sent stream (take n bytes)) old
+SendsTaken stream bytes old new (Err fault) = SendsPart stream old new bytes

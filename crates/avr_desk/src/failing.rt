@@ -1,5 +1,6 @@
 //! A desk that fails by plan, for tests of its callers.
 ghost use Rattle.std.specs.Prelude.{◌≡◌, ◌≤◌, ◌-◌, ◌==◌, length, option_map, IfOk, IfErr, MatchBool};
+ghost use Rattle.avr_desk.specs.Failing.{planned_after};
 ghost use Rattle.avr_desk.specs.Fault.{HasFailed};
 
 use crate::desk::Desk;
@@ -45,8 +46,9 @@ impl<D> FailingDesk<D> {
     /// Counts a call, and says whether it is the one that fails.
     fn is_due(&mut self) -> bool
         ensures due { result ≡ (self.old.due == 1) }
-        ensures same { self.new ≡ record self.old { due = self.old.due - 1; planned = self.new.planned } }
-        ensures counts { MatchBool result ((self.old.planned ≤ self.new.planned) × HasFailed self.old.planned self.new.planned) (self.new.planned ≡ self.old.planned) }
+        ensures same { self.new ≡ record self.old { due = self.old.due - 1; planned = planned_after self.old } }
+        ensures counts { MatchBool result ((self.old.planned ≤ self.new.planned)
+            × HasFailed self.old.planned self.new.planned) (self.new.planned ≡ self.old.planned) }
     {
         let due = self.due == 1;
         self.due = self.due.saturating_sub(1);
@@ -58,8 +60,10 @@ impl<D> FailingDesk<D> {
 }
 
 impl<D: Desk> Desk for FailingDesk<D> {
-    ghost use Rattle.avr_desk.specs.Record.{after_open, after_create, after_read, after_write, after_out, after_err, taken, HasOpen, is_to_read, is_to_write};
-    ghost use Rattle.avr_desk.specs.Fault.{Counts, TakesNone};
+    ghost use Rattle.avr_desk.specs.Record.{after_open, after_create, after_read, HasOpen, is_to_read, is_to_write};
+    ghost use Rattle.avr_desk.specs.Fault.{Counts, WriteCounts};
+    ghost use Rattle.avr_desk.specs.Stream.{SendsTaken};
+    ghost use Rattle.avr_desk.specs.declared.stream.Stream.TheVariants.{File, Output, Messages};
     ghost use Rattle.avr_desk.specs.Failing.{FailsWhenDue, all_failures};
 
     ghost kept = { λ d. D.kept d.inner };
@@ -69,7 +73,8 @@ impl<D: Desk> Desk for FailingDesk<D> {
     fn open(&mut self, name: &str) -> Result<(), DeskFault>
         ensures kept { D.kept self.new.inner ≡ option_map (after_open name.now result) (D.kept self.old.inner) }
         ensures counts { Counts (all_failures D.failures self.old) (all_failures D.failures self.new) result }
-        ensures when_due { FailsWhenDue D.failures self.old self.new result }
+        ensures when_due { FailsWhenDue (Counts (D.failures self.old.inner) (D.failures self.new.inner) result) self.old
+            self.new result }
     {
         if self.is_due() {
             return Err(DeskFault::Failed);
@@ -81,7 +86,8 @@ impl<D: Desk> Desk for FailingDesk<D> {
         ensures kept { D.kept self.new.inner ≡ option_map (after_create name.now result) (D.kept self.old.inner) }
         ensures counts { Counts (all_failures D.failures self.old) (all_failures D.failures self.new) result }
         ensures fault { IfErr result (λ e. e ≡ DeskFault.Failed) }
-        ensures when_due { FailsWhenDue D.failures self.old self.new result }
+        ensures when_due { FailsWhenDue (Counts (D.failures self.old.inner) (D.failures self.new.inner) result) self.old
+            self.new result }
     {
         if self.is_due() {
             return Err(DeskFault::Failed);
@@ -95,7 +101,8 @@ impl<D: Desk> Desk for FailingDesk<D> {
         ensures has_file { HasOpen is_to_read (D.kept self.old.inner) result }
         ensures counts { Counts (all_failures D.failures self.old) (all_failures D.failures self.new) result }
         ensures fault { IfErr result (λ e. e ≡ DeskFault.Failed) }
-        ensures when_due { FailsWhenDue D.failures self.old self.new result }
+        ensures when_due { FailsWhenDue (Counts (D.failures self.old.inner) (D.failures self.new.inner) result) self.old
+            self.new result }
     {
         if self.is_due() {
             return Err(DeskFault::Failed);
@@ -105,12 +112,13 @@ impl<D: Desk> Desk for FailingDesk<D> {
 
     fn write(&mut self, bytes: &[u8]) -> Result<usize, DeskFault>
         ensures bound { IfOk result (λ n. n ≤ length bytes.now) }
-        ensures kept { D.kept self.new.inner ≡ option_map (after_write (taken bytes.now result)) (D.kept self.old.inner) }
+        ensures kept { SendsTaken File bytes.now (D.kept self.old.inner) (D.kept self.new.inner) result }
         ensures has_file { HasOpen is_to_write (D.kept self.old.inner) result }
-        ensures counts { Counts (all_failures D.failures self.old) (all_failures D.failures self.new) result }
-        ensures none { TakesNone bytes.now result → HasFailed (all_failures D.failures self.old) (all_failures D.failures self.new) }
+        ensures counts { WriteCounts bytes.now (all_failures D.failures self.old)
+            (all_failures D.failures self.new) result }
         ensures fault { IfErr result (λ e. e ≡ DeskFault.Failed) }
-        ensures when_due { FailsWhenDue D.failures self.old self.new result }
+        ensures when_due { FailsWhenDue (WriteCounts bytes.now (D.failures self.old.inner)
+            (D.failures self.new.inner) result) self.old self.new result }
     {
         if self.is_due() {
             return Err(DeskFault::Failed);
@@ -120,11 +128,12 @@ impl<D: Desk> Desk for FailingDesk<D> {
 
     fn out(&mut self, bytes: &[u8]) -> Result<usize, DeskFault>
         ensures bound { IfOk result (λ n. n ≤ length bytes.now) }
-        ensures kept { D.kept self.new.inner ≡ option_map (after_out (taken bytes.now result)) (D.kept self.old.inner) }
-        ensures counts { Counts (all_failures D.failures self.old) (all_failures D.failures self.new) result }
-        ensures none { TakesNone bytes.now result → HasFailed (all_failures D.failures self.old) (all_failures D.failures self.new) }
+        ensures kept { SendsTaken Output bytes.now (D.kept self.old.inner) (D.kept self.new.inner) result }
+        ensures counts { WriteCounts bytes.now (all_failures D.failures self.old)
+            (all_failures D.failures self.new) result }
         ensures fault { IfErr result (λ e. e ≡ DeskFault.Failed) }
-        ensures when_due { FailsWhenDue D.failures self.old self.new result }
+        ensures when_due { FailsWhenDue (WriteCounts bytes.now (D.failures self.old.inner)
+            (D.failures self.new.inner) result) self.old self.new result }
     {
         if self.is_due() {
             return Err(DeskFault::Failed);
@@ -134,11 +143,12 @@ impl<D: Desk> Desk for FailingDesk<D> {
 
     fn err(&mut self, bytes: &[u8]) -> Result<usize, DeskFault>
         ensures bound { IfOk result (λ n. n ≤ length bytes.now) }
-        ensures kept { D.kept self.new.inner ≡ option_map (after_err (taken bytes.now result)) (D.kept self.old.inner) }
-        ensures counts { Counts (all_failures D.failures self.old) (all_failures D.failures self.new) result }
-        ensures none { TakesNone bytes.now result → HasFailed (all_failures D.failures self.old) (all_failures D.failures self.new) }
+        ensures kept { SendsTaken Messages bytes.now (D.kept self.old.inner) (D.kept self.new.inner) result }
+        ensures counts { WriteCounts bytes.now (all_failures D.failures self.old)
+            (all_failures D.failures self.new) result }
         ensures fault { IfErr result (λ e. e ≡ DeskFault.Failed) }
-        ensures when_due { FailsWhenDue D.failures self.old self.new result }
+        ensures when_due { FailsWhenDue (WriteCounts bytes.now (D.failures self.old.inner)
+            (D.failures self.new.inner) result) self.old self.new result }
     {
         if self.is_due() {
             return Err(DeskFault::Failed);

@@ -1,5 +1,5 @@
 //! A desk in memory.
-ghost use Rattle.std.specs.Prelude.{◌≡◌, ◌≤◌, ◌++◌, ◌∷◌, [], min, take, drop, length, Some, None, IfOk, IfErr, OnOk, is_ok, true, if◌then◌else◌};
+ghost use Rattle.std.specs.Prelude.{◌≡◌, ◌≤◌, ◌++◌, ◌∷◌, [], min, take, drop, length, Some, None, IfOk, IfErr, OnOk, OnErr, is_ok, true, if◌then◌else◌};
 ghost use Rattle.std.specs.Option.{option_copied};
 
 use crate::bytes::Bytes;
@@ -83,7 +83,8 @@ impl MemDesk {
 
     /// Puts a file there, which a later one of its name replaces; so does one that is created.
     pub fn put(&mut self, name: &str, bytes: &[u8]) -> Result<(), AllocError>
-        ensures { self.new ≡ (if is_ok result then record self.old { stored = self.old.stored ++ record { name = name.now; bytes = bytes.now } ∷ [] } else self.old) }
+        ensures { self.new ≡ (if is_ok result then record self.old
+            { stored = self.old.stored ++ record { name = name.now; bytes = bytes.now } ∷ [] } else self.old) }
     {
         let name = Bytes::copied(self.alloc, name.as_bytes())?;
         let bytes = Bytes::copied(self.alloc, bytes)?;
@@ -148,7 +149,7 @@ impl MemDesk {
 
 impl Desk for MemDesk {
     ghost use Rattle.avr_desk.specs.Record.{after_open, after_create, after_read, after_write, after_out, after_err, taken, is_to_read, is_to_write};
-    ghost use Rattle.avr_desk.specs.Fault.{Counts, HasFailed};
+    ghost use Rattle.avr_desk.specs.Fault.{Counts, WriteCounts};
     ghost use Rattle.avr_desk.specs.Memory.{contents, unread};
 
     ghost kept = { λ d. Some d.kept };
@@ -156,9 +157,14 @@ impl Desk for MemDesk {
     ghost failures = { λ d. d.failures };
 
     fn open(&mut self, name: &str) -> Result<(), DeskFault>
-        ensures kept { self.new ≡ record self.old { kept = after_open name.now result self.old.kept; failures = self.new.failures; opened = self.new.opened } }
+        ensures kept { self.new ≡ record self.old {
+          kept = after_open name.now result self.old.kept;
+          failures = self.new.failures;
+          opened = self.new.opened;
+        } }
         ensures found { OnOk result (contents name.now self.old ≡ Some self.new.opened) }
         ensures absent { result ≡ Err DeskFault.NotFound → contents name.now self.old ≡ None }
+        ensures leaves { OnErr result (self.new.opened ≡ self.old.opened) }
         ensures counts { Counts self.old.failures self.new.failures result }
     {
         let Ok(kept_name) = Bytes::copied(self.alloc, name.as_bytes()) else {
@@ -186,7 +192,10 @@ impl Desk for MemDesk {
     }
 
     fn create(&mut self, name: &str) -> Result<(), DeskFault>
-        ensures kept { self.new ≡ record self.old { kept = after_create name.now result self.old.kept; failures = self.new.failures } }
+        ensures kept { self.new ≡ record self.old {
+          kept = after_create name.now result self.old.kept;
+          failures = self.new.failures;
+        } }
         ensures counts { Counts self.old.failures self.new.failures result }
         ensures fault { IfErr result (λ e. e ≡ DeskFault.Failed) }
     {
@@ -207,7 +216,10 @@ impl Desk for MemDesk {
     fn read(&mut self, buf: &mut [u8]) -> Result<usize, DeskFault>
         ensures count { IfOk result (λ n. n ≡ min (length buf.old) (length (unread self.old))) }
         ensures gives { IfOk result (λ n. take n buf.new ≡ take n (unread self.old)) }
-        ensures kept { self.new ≡ record self.old { kept = after_read buf.new result self.old.kept; failures = self.new.failures } }
+        ensures kept { self.new ≡ record self.old {
+          kept = after_read buf.new result self.old.kept;
+          failures = self.new.failures;
+        } }
         ensures has_file { OnOk result (is_to_read self.old.kept.current ≡ true) }
         ensures counts { Counts self.old.failures self.new.failures result }
         ensures fault { IfErr result (λ e. e ≡ DeskFault.Failed) }
@@ -227,9 +239,12 @@ impl Desk for MemDesk {
 
     fn write(&mut self, bytes: &[u8]) -> Result<usize, DeskFault>
         ensures all { IfOk result (λ n. n ≡ length bytes.now) }
-        ensures kept { self.new ≡ record self.old { kept = after_write (taken bytes.now result) self.old.kept; failures = self.new.failures } }
+        ensures kept { self.new ≡ record self.old {
+          kept = after_write (taken bytes.now result) self.old.kept;
+          failures = self.new.failures;
+        } }
         ensures has_file { OnOk result (is_to_write self.old.kept.current ≡ true) }
-        ensures counts { Counts self.old.failures self.new.failures result }
+        ensures counts { WriteCounts bytes.now self.old.failures self.new.failures result }
         ensures fault { IfErr result (λ e. e ≡ DeskFault.Failed) }
     {
         if !self.kept.is_writing() {
@@ -243,8 +258,11 @@ impl Desk for MemDesk {
 
     fn out(&mut self, bytes: &[u8]) -> Result<usize, DeskFault>
         ensures all { IfOk result (λ n. n ≡ length bytes.now) }
-        ensures kept { self.new ≡ record self.old { kept = after_out (taken bytes.now result) self.old.kept; failures = self.new.failures } }
-        ensures counts { Counts self.old.failures self.new.failures result }
+        ensures kept { self.new ≡ record self.old {
+          kept = after_out (taken bytes.now result) self.old.kept;
+          failures = self.new.failures;
+        } }
+        ensures counts { WriteCounts bytes.now self.old.failures self.new.failures result }
         ensures fault { IfErr result (λ e. e ≡ DeskFault.Failed) }
     {
         if self.kept.print(bytes).is_err() {
@@ -255,8 +273,11 @@ impl Desk for MemDesk {
 
     fn err(&mut self, bytes: &[u8]) -> Result<usize, DeskFault>
         ensures all { IfOk result (λ n. n ≡ length bytes.now) }
-        ensures kept { self.new ≡ record self.old { kept = after_err (taken bytes.now result) self.old.kept; failures = self.new.failures } }
-        ensures counts { Counts self.old.failures self.new.failures result }
+        ensures kept { self.new ≡ record self.old {
+          kept = after_err (taken bytes.now result) self.old.kept;
+          failures = self.new.failures;
+        } }
+        ensures counts { WriteCounts bytes.now self.old.failures self.new.failures result }
         ensures fault { IfErr result (λ e. e ≡ DeskFault.Failed) }
     {
         if self.kept.report(bytes).is_err() {

@@ -1,8 +1,7 @@
 //! All of the bytes, to one of the three places that a desk writes to.
 ghost use Rattle.std.specs.Prelude.{◌≡◌, ◌≤◌, length, option_map, IfOk, IfErr, OnOk, OnErr};
-ghost use Rattle.avr_desk.specs.Fault.{Counts, HasFailed, TakesNone};
-ghost use Rattle.avr_desk.specs.Record.{taken};
-ghost use Rattle.avr_desk.specs.Stream.{SendsPart, after_sent};
+ghost use Rattle.avr_desk.specs.Fault.{Counts, WriteCounts};
+ghost use Rattle.avr_desk.specs.Stream.{SendsPart, SendsTaken, after_sent};
 
 use crate::desk::Desk;
 use crate::fault::DeskFault;
@@ -21,9 +20,8 @@ pub enum Stream {
 /// Writes some of the bytes.
 fn write_some<D: Desk>(desk: &mut D, stream: Stream, bytes: &[u8]) -> Result<usize, DeskFault>
     ensures bound { IfOk result (λ n. n ≤ length bytes.now) }
-    ensures kept { D.kept desk.new ≡ option_map (after_sent stream (taken bytes.now result)) (D.kept desk.old) }
-    ensures counts { Counts (D.failures desk.old) (D.failures desk.new) result }
-    ensures none { TakesNone bytes.now result → HasFailed (D.failures desk.old) (D.failures desk.new) }
+    ensures kept { SendsTaken stream bytes.now (D.kept desk.old) (D.kept desk.new) result }
+    ensures counts { WriteCounts bytes.now (D.failures desk.old) (D.failures desk.new) result }
     ensures fault { IfErr result (λ e. e ≡ DeskFault.Failed) }
 {
     match stream {

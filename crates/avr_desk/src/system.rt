@@ -1,11 +1,17 @@
 //! The desk of a program: files and standard streams.
-ghost use Rattle.std.specs.Prelude.{None, ◌≡◌, ◌≤◌, length, IfOk, IfErr};
-ghost use Rattle.avr_desk.specs.Fault.{Counts, HasFailed, TakesNone};
+ghost use Rattle.std.specs.Prelude.{None, ◌≡◌, ◌≤◌, length, take, IfOk, IfErr, OnErr, true, false, []};
+ghost use Rattle.std.specs.Io.KnownBytes.{Keeps, Appends};
+ghost use Rattle.avr_desk.specs.Fault.{Counts, HasFailed, WriteCounts};
+ghost use Rattle.avr_desk.specs.Record.{HasOpen, is_to_read, is_to_write};
+ghost use Rattle.avr_desk.specs.Shown.{AppendsTaken, to_output_opened, to_output_created};
+ghost use Rattle.avr_desk.specs.Stream.{SendsTaken};
 ghost use Rattle.avr_desk.specs.declared.fault.DeskFault.TheVariants.{Failed};
+ghost use Rattle.avr_desk.specs.declared.stream.Stream.TheVariants.{File, Output, Messages};
 
 use crate::desk::Desk;
 use crate::fault::DeskFault;
 use std::io::{ErrorKind, Read, Write};
+use std::marker::Model;
 use std::rt::Files;
 use std::{fs, io};
 
@@ -20,7 +26,7 @@ enum Held<F, I> {
 }
 
 /// The desk of a program: the files of `rt`, its standard input, and two writers, for output and
-/// for messages. It shows no record of what passes.
+/// for messages. It shows no record of what passes, but its two writers.
 ///
 /// `-` is standard input to `open`, and the output to `create`. Files are written without a
 /// buffer, and the writers are flushed at each call, so nothing is left unwritten at the end; a
@@ -32,6 +38,20 @@ pub struct SystemDesk<'a, R: Files + Input, O: Write + Drop, E: Write + Drop> {
     messages: E,
     held: Held<R::File, R::Reader>,
     failures: u64,
+}
+
+impl<'a, R: Files + Input, O: Write + Drop, E: Write + Drop> Model for SystemDesk<'a, R, O, E> {
+    ghost use Rattle.avr_desk.specs.Shown.{Shown};
+    ghost use Rattle.avr_desk.specs.Standing.{is_output};
+
+    ghost Value = { Shown O E };
+
+    ghost view = { λ desk. record {
+      output = desk.output;
+      messages = desk.messages;
+      failures = desk.failures;
+      to_output = is_output desk.held;
+    } };
 }
 
 /// Reads once, and again where a signal came in between.
@@ -47,13 +67,17 @@ fn read_some<I: Read>(from: &mut I, buf: &mut [u8]) -> io::Result<usize>
     Err(io::Error::from(ErrorKind::Interrupted))
 }
 
-/// Writes once, and again where a signal came in between.
+/// Writes once, and again where a signal came in between. To take none of some bytes is an error.
 fn write_some<W: Write>(to: &mut W, bytes: &[u8]) -> io::Result<usize>
-    ensures { IfOk result (λ n. n ≤ length bytes.now) }
+    ensures bound { IfOk result (λ n. n ≤ length bytes.now) }
+    ensures some { IfOk result (λ n. n ≡ 0 → bytes.now ≡ []) }
+    ensures ok { IfOk result (λ n. Appends (W.contents to.old) (W.contents to.new) (take n bytes.now)) }
+    ensures err { OnErr result (Keeps (W.contents to.old) (W.contents to.new)) }
 {
     for _ in 0..u64::MAX {
         match to.write(bytes) {
             Err(error) if error.kind() == ErrorKind::Interrupted => {}
+            Ok(0) if !bytes.is_empty() => return Err(io::Error::from(ErrorKind::WriteZero)),
             result => return result,
         }
     }
@@ -61,7 +85,9 @@ fn write_some<W: Write>(to: &mut W, bytes: &[u8]) -> io::Result<usize>
 }
 
 /// Flushes once, and again where a signal came in between.
-fn flush<W: Write>(to: &mut W) -> io::Result<()> {
+fn flush<W: Write>(to: &mut W) -> io::Result<()>
+    ensures { Keeps (W.contents to.old) (W.contents to.new) }
+{
     for _ in 0..u64::MAX {
         match to.flush() {
             Err(error) if error.kind() == ErrorKind::Interrupted => {}
@@ -71,13 +97,17 @@ fn flush<W: Write>(to: &mut W) -> io::Result<()> {
     Err(io::Error::from(ErrorKind::Interrupted))
 }
 
-/// Writes once, and sees that it went out.
+/// Writes once, and sees that it went out. A flush may fail behind bytes that were taken.
 fn write_through<W: Write>(to: &mut W, bytes: &[u8]) -> io::Result<usize>
-    ensures { IfOk result (λ n. n ≤ length bytes.now) }
+    ensures bound { IfOk result (λ n. n ≤ length bytes.now) }
+    ensures some { IfOk result (λ n. n ≡ 0 → bytes.now ≡ []) }
+    ensures taken { AppendsTaken (W.contents to.old) (W.contents to.new) bytes.now result }
 {
     let count = write_some(to, bytes)?;
-    flush(to)?;
-    Ok(count)
+    match flush(to) {
+        Ok(()) => Ok(count),
+        Err(error) => Err(error),
+    }
 }
 
 /// Counts a failure.
@@ -90,16 +120,14 @@ fn fail(failures: &mut u64) -> DeskFault
     DeskFault::Failed
 }
 
-/// What a write took; to take none of some bytes is a failure.
-fn taken(failures: &mut u64, bytes: &[u8], outcome: io::Result<usize>) -> Result<usize, DeskFault>
-    requires { IfOk outcome (λ n. n ≤ length bytes.now) }
+/// Writes to one of the writers, and counts a failure.
+fn put<W: Write>(to: &mut W, failures: &mut u64, bytes: &[u8]) -> Result<usize, DeskFault>
     ensures bound { IfOk result (λ n. n ≤ length bytes.now) }
-    ensures counts { Counts failures.old failures.new result }
-    ensures none { TakesNone bytes.now result → HasFailed failures.old failures.new }
+    ensures counts { WriteCounts bytes.now failures.old failures.new result }
     ensures fault { IfErr result (λ e. e ≡ Failed) }
+    ensures taken { AppendsTaken (W.contents to.old) (W.contents to.new) bytes.now result }
 {
-    match outcome {
-        Ok(0) if !bytes.is_empty() => Err(fail(failures)),
+    match write_through(to, bytes) {
         Ok(count) => Ok(count),
         Err(_) => Err(fail(failures)),
     }
@@ -107,7 +135,9 @@ fn taken(failures: &mut u64, bytes: &[u8], outcome: io::Result<usize>) -> Result
 
 impl<'a, R: Files + Input, O: Write + Drop, E: Write + Drop> SystemDesk<'a, R, O, E> {
     /// A desk with nothing open.
-    pub fn new(rt: &'a R, output: O, messages: E) -> SystemDesk<'a, R, O, E> {
+    pub fn new(rt: &'a R, output: O, messages: E) -> SystemDesk<'a, R, O, E>
+        ensures { result ≡ record { output = output; messages = messages; failures = 0; to_output = false } }
+    {
         SystemDesk {
             rt,
             output,
@@ -123,7 +153,13 @@ impl<'a, R: Files + Input, O: Write + Drop, E: Write + Drop> Desk for SystemDesk
 
     ghost failures = { λ d. d.failures };
 
-    fn open(&mut self, name: &str) -> Result<(), DeskFault> {
+    fn open(&mut self, name: &str) -> Result<(), DeskFault>
+        ensures counts { Counts self.old.failures self.new.failures result }
+        ensures quiet { self.new ≡ record self.old {
+          failures = self.new.failures;
+          to_output = to_output_opened result self.old.to_output;
+        } }
+    {
         if name == "-" {
             self.held = Held::Input(self.rt.reader());
             return Ok(());
@@ -141,7 +177,14 @@ impl<'a, R: Files + Input, O: Write + Drop, E: Write + Drop> Desk for SystemDesk
         }
     }
 
-    fn create(&mut self, name: &str) -> Result<(), DeskFault> {
+    fn create(&mut self, name: &str) -> Result<(), DeskFault>
+        ensures counts { Counts self.old.failures self.new.failures result }
+        ensures fault { IfErr result (λ e. e ≡ Failed) }
+        ensures quiet { self.new ≡ record self.old {
+          failures = self.new.failures;
+          to_output = to_output_created name.now result self.old.to_output;
+        } }
+    {
         if name == "-" {
             self.held = Held::Output;
             return Ok(());
@@ -155,7 +198,13 @@ impl<'a, R: Files + Input, O: Write + Drop, E: Write + Drop> Desk for SystemDesk
         }
     }
 
-    fn read(&mut self, buf: &mut [u8]) -> Result<usize, DeskFault> {
+    fn read(&mut self, buf: &mut [u8]) -> Result<usize, DeskFault>
+        ensures bound { IfOk result (λ n. n ≤ length buf.new) }
+        ensures has_file { HasOpen is_to_read None result }
+        ensures counts { Counts self.old.failures self.new.failures result }
+        ensures fault { IfErr result (λ e. e ≡ Failed) }
+        ensures quiet { self.new ≡ record self.old { failures = self.new.failures } }
+    {
         let result = match &mut self.held {
             Held::Input(input) => read_some(input, buf),
             Held::ToRead(file) => read_some(file, buf),
@@ -167,22 +216,46 @@ impl<'a, R: Files + Input, O: Write + Drop, E: Write + Drop> Desk for SystemDesk
         }
     }
 
-    fn write(&mut self, bytes: &[u8]) -> Result<usize, DeskFault> {
-        let result = match &mut self.held {
-            Held::ToWrite(file) => write_some(file, bytes),
-            Held::Output => write_through(&mut self.output, bytes),
-            _ => Err(io::Error::from(ErrorKind::NotFound)),
-        };
-        taken(&mut self.failures, bytes, result)
+    fn write(&mut self, bytes: &[u8]) -> Result<usize, DeskFault>
+        ensures bound { IfOk result (λ n. n ≤ length bytes.now) }
+        ensures shown { SendsTaken File bytes.now None None result }
+        ensures has_file { HasOpen is_to_write None result }
+        ensures counts { WriteCounts bytes.now self.old.failures self.new.failures result }
+        ensures fault { IfErr result (λ e. e ≡ Failed) }
+        ensures output { self.old.to_output ≡ true → AppendsTaken (O.contents self.old.output)
+            (O.contents self.new.output) bytes.now result }
+        ensures elsewhere { self.old.to_output ≡ false → self.new.output ≡ self.old.output }
+        ensures quiet { self.new ≡ record self.old { output = self.new.output; failures = self.new.failures } }
+    {
+        match &mut self.held {
+            Held::ToWrite(file) => match write_some(file, bytes) {
+                Ok(count) => Ok(count),
+                Err(_) => Err(fail(&mut self.failures)),
+            },
+            Held::Output => put(&mut self.output, &mut self.failures, bytes),
+            _ => Err(fail(&mut self.failures)),
+        }
     }
 
-    fn out(&mut self, bytes: &[u8]) -> Result<usize, DeskFault> {
-        let result = write_through(&mut self.output, bytes);
-        taken(&mut self.failures, bytes, result)
+    fn out(&mut self, bytes: &[u8]) -> Result<usize, DeskFault>
+        ensures bound { IfOk result (λ n. n ≤ length bytes.now) }
+        ensures shown { SendsTaken Output bytes.now None None result }
+        ensures counts { WriteCounts bytes.now self.old.failures self.new.failures result }
+        ensures fault { IfErr result (λ e. e ≡ Failed) }
+        ensures output { AppendsTaken (O.contents self.old.output) (O.contents self.new.output) bytes.now result }
+        ensures quiet { self.new ≡ record self.old { output = self.new.output; failures = self.new.failures } }
+    {
+        put(&mut self.output, &mut self.failures, bytes)
     }
 
-    fn err(&mut self, bytes: &[u8]) -> Result<usize, DeskFault> {
-        let result = write_through(&mut self.messages, bytes);
-        taken(&mut self.failures, bytes, result)
+    fn err(&mut self, bytes: &[u8]) -> Result<usize, DeskFault>
+        ensures bound { IfOk result (λ n. n ≤ length bytes.now) }
+        ensures shown { SendsTaken Messages bytes.now None None result }
+        ensures counts { WriteCounts bytes.now self.old.failures self.new.failures result }
+        ensures fault { IfErr result (λ e. e ≡ Failed) }
+        ensures messages { AppendsTaken (E.contents self.old.messages) (E.contents self.new.messages) bytes.now result }
+        ensures quiet { self.new ≡ record self.old { messages = self.new.messages; failures = self.new.failures } }
+    {
+        put(&mut self.messages, &mut self.failures, bytes)
     }
 }

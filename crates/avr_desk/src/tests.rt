@@ -103,6 +103,30 @@ fn files_of_the_system(rt: HostRuntime) -> Result<(), Fail> {
     Ok(())
 }
 
+/// Prints with a desk over these two writers.
+fn print_both<'a>(
+    rt: &'a HostRuntime,
+    output: &'a mut Vec<u8>,
+    messages: &'a mut Vec<u8>,
+) -> Result<(), Fail> {
+    let mut desk = SystemDesk::new(rt, output, messages);
+    write_all(&mut desk, Stream::Output, b"out")?;
+    write_all(&mut desk, Stream::Messages, b"a message\n")?;
+    desk.create("-")?;
+    write_all(&mut desk, Stream::File, b"put")?;
+    Ok(())
+}
+
+#[test]
+fn each_stream_has_its_writer(rt: HostRuntime) -> Result<(), Fail> {
+    let mut output = Vec::new(rt.alloc());
+    let mut messages = Vec::new(rt.alloc());
+    print_both(&rt, &mut output, &mut messages)?;
+    assert!(rt; output.as_slice() == b"output".as_slice());
+    assert!(rt; messages.as_slice() == b"a message\n".as_slice());
+    Ok(())
+}
+
 /// A writer whose first call is interrupted, that takes one byte at a time, and whose second flush
 /// fails.
 #[derive(Drop)]

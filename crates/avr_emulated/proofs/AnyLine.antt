@@ -82,7 +82,7 @@ module _ (part : Part) (sound : IsPart part) (m : Memories) (f : FitsPart part m
   ends_leaves Faulty q rests z = absurd (omega (arith, z))
   ends_leaves Over q rests z = absurd (omega (arith, z))
 
-tasks_fit : (part : Part) (sound : IsPart part) (s : Switches) (tasks : List Task) → All (IsFitted part) tasks → AllFitItems part (tasks_items s tasks)
+pub tasks_fit : (part : Part) (sound : IsPart part) (s : Switches) (tasks : List Task) → All (IsFitted part) tasks → AllFitItems part (tasks_items s tasks)
 tasks_fit part sound s [] fitted = tt
 tasks_fit part sound s (task ∷ tasks) fitted =
     fits_on part (task_items s task) (tasks_items s tasks) (task_fits part sound s task (first_of (IsFitted part) task tasks fitted))

@@ -133,7 +133,7 @@ playing_most plan =
     (tasks_part_most part s plan.tasks))
     (ending_most part s))
 
-session_most : (plan : Plan) → AsksAtMost (4 * commands_in (run_steps plan)) (session plan)
+pub session_most : (plan : Plan) → AsksAtMost (4 * commands_in (run_steps plan)) (session plan)
 unfolding session
 session_most plan = most_alone (4 * commands_in (run_steps plan)) (playing plan) (λ standing. Done (status_of standing)) (playing_most plan) (λ standing. tt)
 

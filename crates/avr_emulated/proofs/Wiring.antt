@@ -1,30 +1,39 @@
 -- A session that was played over a wire, as it went along the line of its fates.
-use Rattle.std.proofs.Common.{◌≡◌, ℕ, List, [], ◌++◌, All, length, sym, ap, ◌∙◌, subst, inl, inr, Option, Some, option_map}
+use Rattle.std.proofs.Common.{◌≡◌, ℕ, List, [], ◌++◌, All, length, sym, ap, ◌∙◌, subst, inl, inr, true, false, Option, Some, option_map}
+use Rattle.std.proofs.lemmas.List.{append-nil}
 use Rattle.avr_message.specs.Said.{Bytes, Saying, SaidPart, after_all}
 use Rattle.avr_part.specs.Part.{IsPart}
 use Rattle.avr_part.specs.Sound.{IsSound}
 use Rattle.avr_plan.specs.Plan.{Plan, IsFitted}
 use Rattle.avr_desk.specs.Record.{Record}
 use Rattle.stk_frame.specs.Cut.{frames}
-use Rattle.stk_host.specs.Play.{Plays, Breaks}
-use Rattle.stk_host.specs.Talk.{Talk, Stays, sent}
+use Rattle.stk_host.specs.Dialog.{played, bytes_sent}
+use Rattle.stk_host.specs.Play.{Plays, Breaks, InTurn}
+use Rattle.stk_host.specs.Talk.{Talk, Stays, sent, heard}
 use Rattle.avr_session.specs.Runs.{Cause, Ran, BrokeOff, RunsTo}
-use Rattle.avr_session.specs.Session.{session}
+use Rattle.avr_session.specs.Session.{session, is_erase_due}
 use Rattle.stk_emu.specs.Along.{along, AsksBodies}
 use Rattle.stk_emu.specs.Device.{device}
 use Rattle.stk_emu.specs.Effect.{Memories, memories_of}
-use Rattle.stk_emu.specs.Leads.{Leads, AreGood, GoesAlong}
+use Rattle.stk_emu.specs.Few.{AreFew}
+use Rattle.stk_emu.specs.Leads.{Leads, GoesAlong}
 use Rattle.stk_emu.specs.Programmer.{Programmer, fresh_programmer}
 use Rattle.stk_emu.specs.Settled.{Idle, FitsPart}
-use Rattle.stk_emu.specs.Wired.{State, Keeps, ComesOf, IsFresh}
+use Rattle.stk_emu.specs.Wire as line
+use Rattle.stk_emu.specs.Wired.{State, Keeps, ComesOf, IsFresh, brought}
 use Rattle.stk_emu.proofs.Beginning.{fresh_idle, fresh_fits}
 use Rattle.stk_emu.proofs.SaidAlong.{whole_said}
-use Rattle.stk_emu.proofs.Turning.{whole_along, broken_along}
+use Rattle.stk_emu.proofs.Turning.{whole_along, broken_along, never_idle, shown_front}
+use Rattle.avr_emulated.specs.Again.{AgreesAnyway, Succeeds}
+use Rattle.avr_emulated.specs.Told.{IsTrue, RunsTruly}
 use Rattle.avr_emulated.specs.Outcome.{IsTouched, MakesStrokes, IsDone, Leaves, IsCourse, GoesWell}
+use Rattle.avr_emulated.proofs.AgainHeals.{succeeds}
 use Rattle.avr_emulated.proofs.AnyLine.{session_leaves}
 use Rattle.avr_emulated.proofs.AnyLineAsks.{session_asks}
 use Rattle.avr_emulated.proofs.AnyLineOrder.{session_makes}
-use Rattle.avr_emulated.proofs.GoodLine.{session_ends}
+use Rattle.avr_emulated.proofs.FewBad.{session_ends}
+use Rattle.avr_emulated.proofs.TellingTrue.{session_tells}
+use Rattle.avr_emulated.proofs.ToldOnWire.{told_over}
 use Rattle.avr_emulated.proofs.WrittenRuns.{run_written}
 
 some_is : {A : Type 0} (a b : A) → ◌≡◌ {A = Option A} (Some a) (Some b) → a ≡ b
@@ -78,9 +87,9 @@ module _ (plan : Plan) (w v : State) (fresh : IsFresh w) (stays : Stays ComesOf 
     ran_done : status ≡ 0 → IsDone plan before after
     ran_done zero = subst (λ (q : Programmer). IsDone plan before (memories_of q.chip)) (sym goes.programmer) (leads.after count status goes.result zero)
 
-    ran_course : AreGood w.wire.fates → IsCourse plan before after old new status
-    ran_course good =
-        let e = (session_ends plan sound fitted before begun w.wire.fates sizes idle good).ends count status goes.result in
+    ran_course : AreFew w.wire.fates → IsCourse plan before after old new status
+    ran_course few =
+        let e = (session_ends plan sound fitted before begun w.wire.fates sizes idle few).ends count status goes.result in
         let says = whole_said (session plan) 1 begun w.wire.fates v ran.events status next left asks fresh.lawful keeps plays in
         record {
           said = ran.kept ∙ ap (λ said. option_map (after_all said) old) (says ∙ e.sayings);
@@ -127,8 +136,54 @@ module _ (plan : Plan) (w v : State) (fresh : IsFresh w) (stays : Stays ComesOf 
         memories = ap (λ (q : Programmer). memories_of q.chip) (on_line old new StopsBy status runs) ∙ makes.stands count;
       }
 
-  -- over a good line
-  pub wired_goes_well : (old new : Option Record) (StopsBy : List Saying → Cause → Bytes → Type 0) (status : ℕ) → RunsTo (session plan) (Some w.talk) (Some v.talk) old new StopsBy status → AreGood w.wire.fates
+  -- over a line on which few frames go wrong
+  pub wired_goes_well : (old new : Option Record) (StopsBy : List Saying → Cause → Bytes → Type 0) (status : ℕ) → RunsTo (session plan) (Some w.talk) (Some v.talk) old new StopsBy status → AreFew w.wire.fates
       → GoesWell plan before after old new (Some v.talk) StopsBy status
-  wired_goes_well old new StopsBy status (inl ran) good = inl (ran_course old new status ran.0 ran.1 ran.2 good)
-  wired_goes_well old new StopsBy status (inr broke) good = inr (subst (λ talk. BrokeOff (session plan) 1 [] (Some talk) (Some v.talk) old new StopsBy) fresh.silent broke.0)
+  wired_goes_well old new StopsBy status (inl ran) few = inl (ran_course old new status ran.0 ran.1 ran.2 few)
+  wired_goes_well old new StopsBy status (inr broke) few = inr (subst (λ talk. BrokeOff (session plan) 1 [] (Some talk) (Some v.talk) old new StopsBy) fresh.silent broke.0)
+
+  -- and whatever the chip was, where the plan erases and agrees on a chip of 00 and on one of FF
+  pub wired_succeeds : (old new : Option Record) (StopsBy : List Saying → Cause → Bytes → Type 0) (status : ℕ) → RunsTo (session plan) (Some w.talk) (Some v.talk) old new StopsBy status → AreFew w.wire.fates
+      → plan.switches.dry ≡ false → is_erase_due plan.switches plan.tasks ≡ true → AgreesAnyway plan → Succeeds plan before after old new (Some v.talk) StopsBy status
+  wired_succeeds old new StopsBy status (inl ran) few wet due both =
+      let is = ran_course old new status ran.0 ran.1 ran.2 few in
+      inl (succeeds plan before after status sizes wet due both is.status_is is.memories)
+  wired_succeeds old new StopsBy status (inr broke) few wet due both =
+      inr (subst (λ talk. BrokeOff (session plan) 1 [] (Some talk) (Some v.talk) old new StopsBy) fresh.silent broke.0)
+
+  -- and whatever was told was true then
+  abbrev IsSaidTrue : Programmer → Saying → Type 0
+  IsSaidTrue q saying = IsTrue plan before (memories_of q.chip) saying
+
+  brings_for : (talk : Talk) → talk ≡ v.talk → InTurn (session plan) 1 [] talk → brought begun w.wire.fates (sent talk) ≡ heard talk ++ v.waits
+  brings_for talk same turns =
+      subst (λ t. brought begun w.wire.fates (sent t) ≡ heard t ++ v.waits) (sym same)
+      (keeps.brings (never_idle (session plan) 1 begun w.wire.fates v.talk asks fresh.lawful (subst (InTurn (session plan) 1 []) same turns)))
+
+  pub wired_tells : (old new : Option Record) (StopsBy : List Saying → Cause → Bytes → Type 0) (status : ℕ) → RunsTo (session plan) (Some w.talk) (Some v.talk) old new StopsBy status
+      → RunsTruly plan before (line.fresh begun w.wire.fates) (Some w.talk) (Some v.talk) old new StopsBy status
+  wired_tells old new StopsBy status (inl ran) =
+      let r = ran.2 in
+      let over = ap (played (session plan) 1) (sym (append-nil (heard r.during))) ∙ r.plays.plays [] in
+      inl (
+        ran.0,
+        ran.1,
+        r,
+        told_over IsSaidTrue (session plan) 1 begun w.wire.fates r.during v.waits r.events [] asks fresh.lawful
+            (brings_for r.during (all_passed w.talk v.talk r.during fresh.silent r.grows) r.plays.in_turn)
+            (ap (λ x. x.events) over ∙ sym (append-nil r.events))
+            ([], append-nil (sent r.during) ∙ (sym r.plays.all_sent ∙ ap (λ x. bytes_sent x.events) (sym over)))
+            (session_tells plan sound before sizes fitted (length (frames (sent r.during))) begun w.wire.fates idle),
+      )
+  wired_tells old new StopsBy status (inr broke) =
+      let b = broke.0 in
+      let front = shown_front SaidPart b.shown (played (session plan) 1 (heard b.during)).events b.breaks.front in
+      inr (
+        b,
+        broke.1,
+        told_over IsSaidTrue (session plan) 1 begun w.wire.fates b.during v.waits b.breaks.front.whole b.breaks.front.later asks fresh.lawful
+            (brings_for b.during (all_passed w.talk v.talk b.during fresh.silent b.grows) b.breaks.in_turn)
+            b.breaks.front.events_are
+            (front.0, ap (λ bs. bs ++ front.0) (sym b.breaks.all_sent) ∙ front.1)
+            (session_tells plan sound before sizes fitted (length (frames (sent b.during))) begun w.wire.fates idle),
+      )

@@ -18,7 +18,8 @@ abbrev pub Unless : Bool → Type 0 → Type 0
 Unless true Fact = ⊤
 Unless false Fact = Fact
 
--- what a task compares the memories with that it leaves: a write is read back unless nothing is written or it isn't wanted
+-- what a task compares the memories with that it leaves: a write is read back unless nothing is written or it isn't
+-- wanted
 abbrev pub TaskAgrees : Part → Switches → Task → Memories → Type 0
 TaskAgrees part s (Write mem image) m = Unless (s.dry || s.no_verify) (Shows part mem image m)
 TaskAgrees part s (Verify mem image) m = Shows part mem image m
@@ -28,8 +29,10 @@ TaskAgrees part s (Read mem format file) m = ⊤
 abbrev pub TasksAgree : Part → Switches → List Task → Memories → Type 0
 TasksAgree part s [] m = ⊤
 TasksAgree part s (task ∷ tasks) m =
-    TaskAgrees part s task (effects part (task_items s task) m) × TasksAgree part s tasks (effects part (task_items s task) m)
+    TaskAgrees part s task (effects part (task_items s task) m)
+    × TasksAgree part s tasks (effects part (task_items s task) m)
 
 -- the comparisons of a plan agree, over a chip with these memories before the run
 abbrev pub Agrees : Plan → Memories → Type 0
-Agrees plan m = TasksAgree plan.part plan.switches plan.tasks (effects plan.part (erasing_items plan.switches plan.tasks) m)
+Agrees plan m =
+    TasksAgree plan.part plan.switches plan.tasks (effects plan.part (erasing_items plan.switches plan.tasks) m)

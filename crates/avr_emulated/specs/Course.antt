@@ -1,4 +1,5 @@
--- The course of a run over a good line: no frames, no answers, only what is said and what becomes of the memories.
+-- The course of a run over a line on which few frames go wrong: no frames, no answers, only what is said and what
+-- becomes of the memories.
 use Rattle.std.specs.Prelude.{ℕ, List, [], ◌∷◌, ◌++◌, Result, Ok, if◌then◌else◌}
 use Rattle.avr_cli.specs.declared.chosen.Switches.{Switches}
 use Rattle.avr_message.specs.Said.{Saying}
@@ -54,7 +55,8 @@ erasing part s tasks m =
     else fine [] m
 
 abbrev pub verifying : Part → Switches → Mem → Image → Memories → Course
-verifying part s mem image m = reported (verified_says s.quiet part mem image) (compared mem image (memory_in part mem m)) m
+verifying part s mem image m =
+    reported (verified_says s.quiet part mem image) (compared mem image (memory_in part mem m)) m
 
 abbrev pub reading_back : Part → Switches → Mem → Image → Memories → Course
 reading_back part s mem image m = if s.no_verify then fine [] m else verifying part s mem image m
@@ -62,12 +64,14 @@ reading_back part s mem image m = if s.no_verify then fine [] m else verifying p
 abbrev pub writing : Part → Switches → Mem → Image → Memories → Course
 writing part s mem image m =
     if s.dry then fine (left_out_write s mem image) m
-    else reported (written_says s.quiet part mem image) (Ok tt) (effect part (Write mem image) m) then reading_back part s mem image
+    else reported (written_says s.quiet part mem image) (Ok tt) (effect part (Write mem image) m)
+    then reading_back part s mem image
 
 abbrev pub task_course : Part → Switches → Task → Memories → Course
 task_course part s (task.Write mem image) m = writing part s mem image m
 task_course part s (task.Verify mem image) m = verifying part s mem image m
-task_course part s (task.Read mem format file) m = reported (fault_or part (read_says s mem format file)) (Ok (memory_in part mem m)) m
+task_course part s (task.Read mem format file) m =
+    reported (fault_or part (read_says s mem format file)) (Ok (memory_in part mem m)) m
 
 abbrev pub tasks_course : Part → Switches → List Task → Memories → Course
 tasks_course part s [] m = fine [] m

@@ -12,20 +12,25 @@ use Rattle.avr_plan.specs.Planning.{planned}
 use Rattle.avr_plan.specs.Playing.{Goes, Went}
 use Rattle.avr_plan.specs.Stage.{Made}
 use Rattle.avr_session.specs.Runs.{Stops, RunsTo}
-use Rattle.avr_session.specs.Session.{session}
-use Rattle.stk_host.specs.Talk.{Talk, sent}
+use Rattle.avr_session.specs.Session.{session, takes_memory}
+use Rattle.stk_host.specs.Talk.{sent}
 use Rattle.stk_emu.specs.Effect.{memories_of}
+use Rattle.stk_emu.specs.Programmer.{fresh_programmer}
+use Rattle.stk_emu.specs.Wired.{State, Keeps}
 use Rattle.avr_emulated.specs.Outcome.{Leaves, GoesWell}
 
 -- The chip's file is written again if anything was sent; where it can't be, the status is 1.
 abbrev pub IsSaved : List ℕ → Option Record → Option Record → Bytes → Bytes → ℕ → ℕ → ℕ → ℕ → Type 0
 IsSaved [] old new file bytes before now ran status = (new ≡ old) × (status ≡ ran)
 IsSaved (byte ∷ sent) old new file bytes before now ran status =
-    (Saves old new file bytes before now (Ok tt) × (status ≡ ran)) ⊎ ((fault : ℕ) × Saves old new file bytes before now (Err fault) × (status ≡ 1))
+    (Saves old new file bytes before now (Ok tt) × (status ≡ ran))
+    ⊎ ((fault : ℕ) × Saves old new file bytes before now (Err fault) × (status ≡ 1))
 
--- The plan was made and its chip was loaded; the session was played over a good line; and the chip was saved. A failure of the
--- desk that is told anywhere is counted between before and now.
-pub record PlaysEmulated (settings : Settings) (file : Bytes) (old new : Option Record) (before now status : ℕ) : Type 0 where
+-- The plan was made and its chip was loaded; the session was played over a wire to it, whose fates are all good; and
+-- the chip was saved. A failure of the desk that is told anywhere is counted between before and now; one of the link is
+-- counted by the wire, from 0.
+pub record PlaysEmulated (settings : Settings) (file : Bytes) (old new : Option Record)
+    (before now status : ℕ) : Type 0 where
   pub plan : Plan
   pub chip : chips.State
   pub planned_desk : Option Record
@@ -33,21 +38,24 @@ pub record PlaysEmulated (settings : Settings) (file : Bytes) (old new : Option 
   pub played_desk : Option Record
   pub loaded_failures : ℕ
   pub played_failures : ℕ
-  pub wire_failures : ℕ
   pub made : Went (planned settings) old planned_desk (Made plan)
   pub loaded : Went (chip_stage plan.part file) planned_desk loaded_desk (Made chip)
   pub rises : before ≤ loaded_failures
-  pub talk : Talk
-  pub left : chips.State
+  pub wire : State
+  pub comes : Keeps (fresh_programmer chip) [] wire
   pub ran : ℕ
-  pub runs : RunsTo (session plan) (Some []) (Some talk) loaded_desk played_desk (Stops 0 wire_failures loaded_failures played_failures) ran
-  pub leaves : Leaves plan (memories_of chip) (memories_of left) ran
-  pub goes_well : GoesWell plan (memories_of chip) (memories_of left) loaded_desk played_desk (Some talk) (Stops 0 wire_failures loaded_failures played_failures) ran
-  pub saved : IsSaved (sent talk) played_desk new file (chip_file left) played_failures now ran status
+  pub runs : RunsTo (session plan) (Some []) (Some wire.talk) loaded_desk played_desk
+      (Stops (takes_memory plan) 0 wire.failures loaded_failures played_failures) ran
+  pub leaves : Leaves plan (memories_of chip) (memories_of wire.wire.programmer.chip) ran
+  pub goes_well : GoesWell plan (memories_of chip) (memories_of wire.wire.programmer.chip) loaded_desk played_desk
+      (Some wire.talk) (Stops (takes_memory plan) 0 wire.failures loaded_failures played_failures) ran
+  pub saved : IsSaved (sent wire.talk) played_desk new file (chip_file wire.wire.programmer.chip) played_failures now
+      ran status
   pub counted : played_failures ≤ now
 
 -- there is a plan, but no chip: nothing was sent
-pub record LacksChip (settings : Settings) (file : Bytes) (old new : Option Record) (before now status : ℕ) : Type 0 where
+pub record LacksChip (settings : Settings) (file : Bytes) (old new : Option Record)
+    (before now status : ℕ) : Type 0 where
   pub plan : Plan
   pub planned_desk : Option Record
   pub planned_failures : ℕ

@@ -18,7 +18,8 @@ abbrev pub none_made : Count Programmer
 none_made k p fates = 0
 
 abbrev pub erasing_made : Part → Switches → List Task → Count Programmer
-erasing_made part s tasks = if s.dry then none_made else if is_erase_due s tasks then steps_done device (steps_of part Erase) else none_made
+erasing_made part s tasks =
+    if s.dry then none_made else if is_erase_due s tasks then steps_done device (steps_of part Erase) else none_made
 
 -- a write makes strokes, and to read makes none
 abbrev pub task_made : Part → Switches → Task → Count Programmer
@@ -30,7 +31,8 @@ task_made part s (task.Read mem format file) = none_made
 abbrev pub tasks_made : Part → Switches → List Task → Count Programmer
 tasks_made part s [] = none_made
 tasks_made part s (first ∷ tasks) =
-    then_count device (task_part part s first) (task_made part s first) (λ standing. if status_of standing == 0 then tasks_made part s tasks else none_made)
+    then_count device (task_part part s first) (task_made part s first) (λ standing. if status_of standing == 0
+    then tasks_made part s tasks else none_made)
 
 abbrev pub beginning_made : Plan → Count Programmer
 beginning_made plan =

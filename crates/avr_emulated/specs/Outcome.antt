@@ -25,9 +25,10 @@ pub record IsTouched (plan : Plan) (before after : Memories) : Type 0 where
   pub count : ℕ
   pub memories : after ≡ effects plan.part (take count (strokes plan)) before
 
--- The same, sharper, after so many frames over a line of these fates: at least as many strokes as have come to data by then,
--- and at most one more than had before the last frame, whose answer may not have come.
-pub record MakesStrokes (plan : Plan) (p : Programmer) (fates : List Fate) (frames : ℕ) (before after : Memories) : Type 0 where
+-- The same, sharper, after so many frames over a line of these fates: at least as many strokes as have come to data by
+-- then, and at most one more than had before the last frame, whose answer may not have come.
+pub record MakesStrokes (plan : Plan) (p : Programmer) (fates : List Fate) (frames : ℕ)
+    (before after : Memories) : Type 0 where
   pub count : ℕ
   pub at_least : made_by plan frames p fates ≤ count
   pub at_most : count ≤ suc (made_by plan (frames - 1) p fates)
@@ -51,7 +52,8 @@ pub record IsCourse (plan : Plan) (before after : Memories) (old new : Option Re
   pub status_is : status ≡ (course plan before).status
   pub memories : after ≡ (course plan before).memories
 
--- over a good line: its course, unless a device failed or memory was refused
-abbrev pub GoesWell : Plan → Memories → Memories → Option Record → Option Record → Option Talk → (List Saying → Cause → Bytes → Type 0) → ℕ → Type 0
+-- over a line on which few frames go wrong: its course, unless a device failed or memory was refused
+abbrev pub GoesWell : Plan → Memories → Memories → Option Record → Option Record → Option Talk
+    → (List Saying → Cause → Bytes → Type 0) → ℕ → Type 0
 GoesWell plan before after old new talk StopsBy status =
     IsCourse plan before after old new status ⊎ BrokeOff (session plan) 1 [] (Some []) talk old new StopsBy

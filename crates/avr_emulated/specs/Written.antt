@@ -32,16 +32,22 @@ written_to part mem (Read other format file ∷ tasks) = written_to part mem tas
 abbrev pub byte_in : Part → Mem → ℕ → Memories → ℕ
 byte_in part mem addr m = slice_index (memory_in part mem m) addr
 
--- Each memory holds the images written to it. Elsewhere flash is FF where the chip was erased, and EEPROM too, unless its
--- fuse keeps it; else they are as before. A fuse that wasn't written is as before, and a lock that wasn't is open after an erase.
+-- Each memory holds the images written to it. Elsewhere flash is FF where the chip was erased, and EEPROM too, unless
+-- its fuse keeps it; else they are as before. A fuse that wasn't written is as before, and a lock that wasn't is open
+-- after an erase.
 pub record IsWritten (plan : Plan) (before after : Memories) : Type 0 where
   pub images : (mem : Mem) → Shows plan.part mem (written_to plan.part mem plan.tasks) after
-  pub rest_of_flash : (addr : ℕ) → addr < plan.part.flash_size → byte_at (written_to plan.part Flash plan.tasks) addr ≡ None
-      → byte_in plan.part Flash addr after ≡ (if is_erase_due plan.switches plan.tasks then 255 else byte_in plan.part Flash addr before)
-  pub rest_of_eeprom : (addr : ℕ) → addr < plan.part.eeprom_size → byte_at (written_to plan.part Eeprom plan.tasks) addr ≡ None
+  pub rest_of_flash : (addr : ℕ) → addr < plan.part.flash_size
+      → byte_at (written_to plan.part Flash plan.tasks) addr ≡ None
+      → byte_in plan.part Flash addr after ≡ (if is_erase_due plan.switches plan.tasks then 255
+      else byte_in plan.part Flash addr before)
+  pub rest_of_eeprom : (addr : ℕ) → addr < plan.part.eeprom_size
+      → byte_at (written_to plan.part Eeprom plan.tasks) addr ≡ None
       → byte_in plan.part Eeprom addr after
-      ≡ (if is_erase_due plan.switches plan.tasks && not (keeps_eeprom plan.part before) then 255 else byte_in plan.part Eeprom addr before)
+      ≡ (if is_erase_due plan.switches plan.tasks && not (keeps_eeprom plan.part before) then 255
+      else byte_in plan.part Eeprom addr before)
   pub lfuse : byte_at (written_to plan.part Lfuse plan.tasks) 0 ≡ None → after.lfuse ≡ before.lfuse
   pub hfuse : byte_at (written_to plan.part Hfuse plan.tasks) 0 ≡ None → after.hfuse ≡ before.hfuse
   pub efuse : byte_at (written_to plan.part Efuse plan.tasks) 0 ≡ None → after.efuse ≡ before.efuse
-  pub lock : byte_at (written_to plan.part Lock plan.tasks) 0 ≡ None → after.lock ≡ (if is_erase_due plan.switches plan.tasks then 255 else before.lock)
+  pub lock : byte_at (written_to plan.part Lock plan.tasks) 0 ≡ None
+      → after.lock ≡ (if is_erase_due plan.switches plan.tasks then 255 else before.lock)

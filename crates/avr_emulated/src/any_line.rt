@@ -15,29 +15,48 @@ ghost use Rattle.stk_emu.specs.Settled.{Idle, FitsPart};
 ghost use Rattle.stk_emu.specs.Tallies.{Tallies};
 ghost use Rattle.stk_emu.specs.declared.fate.Fate.{Fate};
 ghost use Rattle.stk_host.specs.Bound.{SendsAtMost, commands_in};
-ghost use Rattle.avr_emulated.specs.Bound.{run_steps};
+ghost use Rattle.avr_emulated.specs.Bound.{run_steps, ListensAtMost};
 ghost use Rattle.avr_emulated.specs.Made.{made_by};
+ghost use Rattle.avr_emulated.specs.Told.{TellsTrue, IsTrue};
 ghost use Rattle.avr_emulated.specs.Outcome.{strokes, IsTouched, IsDone};
 
-/// At each moment of a session the memories are those of the first so many strokes of its plan; where it ends with status 0,
-/// all was written, and all comparisons agreed. Whatever it asks fits a frame.
+/// At each moment of a session the memories are those of the first so many strokes of its plan; where it ends with
+/// status 0, all was written, and all comparisons agreed. Whatever it asks fits a frame.
 pub fn a_run_leaves_its_strokes()
     ensures asks { (plan : Plan) → IsPart plan.part → All (IsFitted plan.part) plan.tasks → AsksBodies (session plan) }
     ensures leads { (plan : Plan) (m : Memories) (p : Programmer) (fates : List Fate)
         → IsPart plan.part → All (IsFitted plan.part) plan.tasks → FitsPart plan.part m → Idle plan.part m p
-        → Leads device (session plan) p fates (λ q. IsTouched plan m (memories_of q.chip)) (λ status q. status ≡ 0 → IsDone plan m (memories_of q.chip)) }
+        → Leads device (session plan) p fates (λ q. IsTouched plan m (memories_of q.chip))
+        (λ status q. status ≡ 0 → IsDone plan m (memories_of q.chip)) }
 {}
 
-/// At each moment of a session the memories are those of the first strokes of its plan, in their order: of those that came
-/// to data, and perhaps of one more.
+/// At each moment of a session the memories are those of the first strokes of its plan, in their order: of those that
+/// came to data, and perhaps of one more.
 pub fn a_run_makes_its_strokes_in_order()
     ensures { (plan : Plan) (m : Memories) (p : Programmer) (fates : List Fate)
         → IsPart plan.part → All (IsFitted plan.part) plan.tasks → FitsPart plan.part m → Idle plan.part m p
-        → Tallies device (session plan) (made_by plan) (λ j q. memories_of q.chip ≡ effects plan.part (take j (strokes plan)) m) p fates }
+        → Tallies device (session plan) (made_by plan) (λ j q. memories_of q.chip
+        ≡ effects plan.part (take j (strokes plan)) m) p fates }
 {}
 
-/// Whatever the line does, a run sends at most four times as many frames as there are commands in all the steps that its plan
-/// may take, also where it breaks off.
+/// Whatever the line does, a run sends at most four times as many frames as there are commands in all the steps that
+/// its plan may take, also where it breaks off.
 pub fn a_run_sends_at_most_four_times_its_commands()
     ensures { (plan : Plan) → SendsAtMost SaidPart (4 * commands_in (run_steps plan)) (session plan) }
+{}
+
+/// How long a run can take, without a clock: whatever the line does, at most one silence comes for each frame sent, so
+/// at most four times as many as its steps have commands; and at most 4,096 bytes are read for each.
+pub fn a_run_listens_at_most_once_for_each_frame()
+    ensures { (plan : Plan) → IsPart plan.part → All (IsFitted plan.part) plan.tasks
+        → ListensAtMost (4 * commands_in (run_steps plan)) (session plan) }
+{}
+
+/// Whatever the line does and whatever the status: each thing told is true of the chip as it then is, so each line of a
+/// run that failed later can be believed. What was written is there as the plan's writes so far make it, what was
+/// verified is held, what was read and saved is what the chip has, and a difference told is one.
+pub fn what_a_run_tells_is_true()
+    ensures { (plan : Plan) (m : Memories) (k : ℕ) (p : Programmer) (fates : List Fate)
+        → IsPart plan.part → All (IsFitted plan.part) plan.tasks → FitsPart plan.part m → Idle plan.part m p
+        → TellsTrue device (λ q saying. IsTrue plan m (memories_of q.chip) saying) k (session plan) p fates }
 {}

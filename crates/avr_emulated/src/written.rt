@@ -18,17 +18,25 @@ ghost use Rattle.avr_emulated.specs.Written.{IsWritten, written_to};
 /// The status of a course is 0 exactly where its comparisons agree, and then it has done all that its plan writes.
 pub fn a_course_succeeds_where_it_agrees()
     ensures status { (plan : Plan) (m : Memories) → (course plan m).status ≡ 0 ↔ Agrees plan m }
-    ensures memories { (plan : Plan) (m : Memories) → Agrees plan m → (course plan m).memories ≡ effects plan.part (items plan) m }
+    ensures memories { (plan : Plan) (m : Memories) → Agrees plan m
+        → (course plan m).memories ≡ effects plan.part (items plan) m }
 {}
 
-/// After a verified run of status 0 each memory holds the images that were written to it, laid over each other, and nothing else
-/// changed but what an erase erased; and a further run that compares memories with these images succeeds over a good line.
+/// After a verified run of status 0 each memory holds the images that were written to it, laid over each other, and
+/// nothing else changed but what an erase erased; and a further run that compares memories with these images succeeds
+/// over a good line.
 pub fn a_verified_run_leaves_its_images()
     ensures images { (plan : Plan) (before after : Memories)
         → IsPart plan.part → All (IsFitted plan.part) plan.tasks → FitsPart plan.part before
-        → plan.switches.dry ≡ false → plan.switches.no_verify ≡ false → IsDone plan before after → IsWritten plan before after }
+        → plan.switches.dry ≡ false → plan.switches.no_verify ≡ false → IsDone plan before after
+        → IsWritten plan before after }
     ensures again { (plan : Plan) (before after : Memories) (s : Switches) (mems : List Mem)
         → IsPart plan.part → All (IsFitted plan.part) plan.tasks → FitsPart plan.part before
         → plan.switches.dry ≡ false → plan.switches.no_verify ≡ false → IsDone plan before after → s.erase ≡ false
-        → (course (record { part = plan.part; tasks = map (λ mem. Task.Verify mem (written_to plan.part mem plan.tasks)) mems; switches = s }) after).status ≡ 0 }
+        → (course (record {
+          part = plan.part;
+          tasks = map (λ mem. Task.Verify mem (written_to plan.part mem plan.tasks))
+              mems;
+          switches = s;
+        }) after).status ≡ 0 }
 {}

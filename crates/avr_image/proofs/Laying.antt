@@ -8,7 +8,7 @@ use Rattle.avr_image.specs.Image.{byte_at, either, over, empty, laid, laid_over,
 use Rattle.avr_image.specs.Present.{is_present, is_within}
 use Rattle.avr_image.specs.Dense.{shown, pasted, IsKept}
 use Rattle.avr_image.proofs.Masks.{within_yes, within_low, within_high}
-use Rattle.avr_image.proofs.Shown.{same_items, byte_at-shown, length_shown}
+use Rattle.avr_image.proofs.Shown.{same_items, byte_at-shown, length_shown, small-pasted}
 
 pub length-laid_over : (image : List (Option ℕ)) (places : List (ℕ × ℕ)) → length (laid_over image places) ≡ length image
 length-laid_over image [] = refl
@@ -146,10 +146,11 @@ shown-pasted words words' bytes span addr room bits =
 
 pub kept-pasted : (words words' bytes span : List ℕ) (addr : ℕ) → addr + length span ≤ length bytes
     → ((k : ℕ) → is_present words' k ≡ (is_within addr (addr + length span) k || is_present words k)) → length words' ≡ length words
-    → IsKept words bytes → IsKept words' (pasted addr span bytes)
-kept-pasted words words' bytes span addr room bits same kept = record {
+    → ((i : ℕ) → get_or span i 0 < 256) → IsKept words bytes → IsKept words' (pasted addr span bytes)
+kept-pasted words words' bytes span addr room bits same small kept = record {
   enough = omega (arith, length-pasted addr span bytes room, same, kept.enough);
   below = omega (arith, length-pasted addr span bytes room, kept.below);
+  small = small-pasted addr span bytes small kept.small;
   blank = λ i l none. elim (cases_lt i addr) [
     | inl low ↦
         let bit : is_present words' i ≡ is_present words i = bits i ∙ rw (within_low addr (addr + length span) i low) refl in

@@ -6,3 +6,6 @@ pub mod Numerals
 pub mod Reading
 pub mod Immediate
 pub mod Walking
+pub mod ByAddress
+pub mod RunWalk
+pub mod Listed

@@ -6,9 +6,9 @@ use Rattle.std.proofs.lemmas.List.{get_or-set_same, get_or-set_other, length-set
 use Rattle.std.proofs.lemmas.Nat.Bits.{bit_at_set_same, bit_at_set_other, bit_at-zero}
 use Rattle.std.proofs.lemmas.List.Sums.{prefix_len_is}
 use Rattle.std.specs.List.{position_from, prefix_len}
-use Rattle.avr_image.specs.Image.{byte_at, or_blank, filled, first_from, run_end}
+use Rattle.avr_image.specs.Image.{byte_at, or_blank, filled, first_from, run_end, HoldsBytes}
 use Rattle.avr_image.specs.Present.{is_present, marked, FirstPlace}
-use Rattle.avr_image.specs.Dense.{shown_byte, shown_from, shown}
+use Rattle.avr_image.specs.Dense.{shown_byte, shown_from, shown, pasted}
 
 pub length-shown_from : (k : ℕ) (words bytes : List ℕ) → length (shown_from k words bytes) ≡ length bytes
 length-shown_from k words [] = refl
@@ -119,11 +119,6 @@ absent words bytes {image} i seen l present =
 
 pub past : (words bytes : List ℕ) {image : List (Option ℕ)} (i : ℕ) → shown words bytes ≡ image → length bytes ≤ i → None ≡ byte_at image i
 past words bytes {image} i seen l = rw (← seen) (sym (byte_at-past (shown words bytes) i (omega (arith, l, length_shown words bytes))))
-
-pub set-past : (xs : List (Option ℕ)) (i : ℕ) (y : Option ℕ) → length xs ≤ i → set xs i y ≡ xs
-set-past [] i y l = refl
-set-past (x ∷ xs) zero y l = absurd (omega (arith, l))
-set-past (x ∷ xs) (suc i) y l = ap (λ (zs : List (Option ℕ)). x ∷ zs) (set-past xs i y (omega (arith, l)))
 
 -- FF stays where no byte is, when a byte is laid down
 pub blank-marked : (words bytes : List ℕ) (a b : ℕ) → a < length bytes → a / 64 < length words
@@ -249,3 +244,59 @@ no_run_past image addr end l =
     let none : prefix_len is_some (take (end - addr) (drop addr image)) ≡ 0 =
     ap (λ (xs : List (Option ℕ)). prefix_len is_some (take (end - addr) xs)) (drop_all addr image l) ∙ none_taken (end - addr) in
     omega (arith, none)
+
+-- all bytes as they are kept are what `fill` writes for all addresses
+pub kept_whole : (words bytes : List ℕ) {image : List (Option ℕ)} → shown words bytes ≡ image
+    → ((i : ℕ) → i < length bytes → is_present words i ≡ false → get_or bytes i 0 ≡ 255) → bytes ≡ filled image 0 (length image)
+kept_whole words bytes {image} seen blank =
+    let size : length image ≡ length bytes = sized words bytes seen in
+    filled_is image 0 (length image) bytes (sym size) (λ i l.
+    same_default bytes i 0 255 (omega (arith, l, size))
+    ∙ kept_byte words bytes i seen blank
+    ∙ ap (λ (k : ℕ). or_blank (byte_at image k)) (omega arith))
+
+-- what is kept as bytes is seen as bytes
+pub holds_bytes : (words bytes : List ℕ) {image : List (Option ℕ)} → shown words bytes ≡ image → ((i : ℕ) → get_or bytes i 0 < 256) → HoldsBytes image
+holds_bytes words bytes {image} seen small addr byte is = elim (cases_lt addr (length bytes)) [
+  | inl inside ↦
+      let there : byte_at image addr ≡ shown_byte words addr (get_or bytes addr 0) = rw (← seen) (byte_at-shown words bytes addr inside) in
+      elim (cases_Bool (is_present words addr)) [
+        | inl held_bit ↦
+            let same : Some byte ≡ Some (get_or bytes addr 0) = sym is ∙ there ∙ rw held_bit refl in
+            let equal : byte ≡ get_or bytes addr 0 = cc in
+            omega (arith, equal, small addr)
+        | inr no_bit ↦ let bad : Some byte ≡ None = sym is ∙ there ∙ rw no_bit refl in absurd (cc)
+      ]
+  | inr past ↦ let bad : Some byte ≡ None = sym is ∙ byte_at-past image addr (omega (arith, past, sized words bytes seen)) in absurd (cc)
+]
+
+-- ---- bytes stay bytes
+
+pub small-blank : (n i : ℕ) → get_or {A = ℕ} (replicate {A = ℕ} n 255) i 0 < 256
+small-blank zero i = omega arith
+small-blank (suc n) zero = omega arith
+small-blank (suc n) (suc i) = small-blank n i
+
+pub small-set : (xs : List ℕ) (at byte : ℕ) → byte < 256 → ((i : ℕ) → get_or xs i 0 < 256) → (i : ℕ) → get_or (set xs at byte) i 0 < 256
+small-set [] at byte l all i = omega arith
+small-set (x ∷ xs) zero byte l all zero = l
+small-set (x ∷ xs) zero byte l all (suc i) = all (suc i)
+small-set (x ∷ xs) (suc at) byte l all zero = all zero
+small-set (x ∷ xs) (suc at) byte l all (suc i) = small-set xs at byte l (λ k. all (suc k)) i
+
+small-append : (xs ys : List ℕ) → ((i : ℕ) → get_or xs i 0 < 256) → ((i : ℕ) → get_or ys i 0 < 256) → (i : ℕ) → get_or (xs ++ ys) i 0 < 256
+small-append [] ys front back i = back i
+small-append (x ∷ xs) ys front back zero = front zero
+small-append (x ∷ xs) ys front back (suc i) = small-append xs ys (λ k. front (suc k)) back i
+
+small-take : (n : ℕ) (xs : List ℕ) → ((i : ℕ) → get_or xs i 0 < 256) → (i : ℕ) → get_or (take n xs) i 0 < 256
+small-take zero xs all i = omega arith
+small-take (suc n) [] all i = omega arith
+small-take (suc n) (x ∷ xs) all zero = all zero
+small-take (suc n) (x ∷ xs) all (suc i) = small-take n xs (λ k. all (suc k)) i
+
+pub small-pasted : (start : ℕ) (span bytes : List ℕ) → ((i : ℕ) → get_or span i 0 < 256) → ((i : ℕ) → get_or bytes i 0 < 256)
+    → (i : ℕ) → get_or (pasted start span bytes) i 0 < 256
+small-pasted start span bytes new old =
+    small-append (take start bytes) (span ++ drop (start + length span) bytes) (small-take start bytes old)
+    (small-append span (drop (start + length span) bytes) new (λ i. rw (get_or-drop (start + length span) bytes i 0) (old (start + length span + i))))

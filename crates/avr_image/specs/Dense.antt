@@ -14,10 +14,11 @@ shown_from addr words (byte ∷ bytes) = shown_byte words addr byte ∷ shown_fr
 abbrev pub shown : List ℕ → List ℕ → List (Option ℕ)
 shown words bytes = shown_from 0 words bytes
 
--- a bit for each byte, fewer than 2 to the power 32 bytes, and FF for each that is absent
+-- a bit for each byte, fewer than 2 to the power 32 bytes, each below 256, and FF for each that is absent
 pub record IsKept (words bytes : List ℕ) : Type 0 where
   pub enough : length bytes ≤ length words * 64
   pub below : length bytes < 2 ^ 32
+  pub small : (i : ℕ) → slice_index bytes i < 256
   pub blank : (i : ℕ) → i < length bytes → is_present words i ≡ false → slice_index bytes i ≡ 255
 
 -- bytes with a span in place of those from `start` on

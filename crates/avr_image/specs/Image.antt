@@ -1,5 +1,5 @@
 -- An image of a memory: for each address below its size the byte that it holds there, if it holds one.
-use Rattle.std.specs.Prelude.{ℕ, zero, suc, Bool, true, nat_le, length, ◌+◌, ◌-◌, List, [], ◌∷◌, ◌++◌, map, take, drop, replicate, Option, Some, None, is_some, unwrap_or, slice_index_or, slice_set, fold, count_by}
+use Rattle.std.specs.Prelude.{◌≡◌, ◌<◌, ◌^◌, ℕ, zero, suc, Bool, true, nat_le, length, ◌+◌, ◌-◌, List, [], ◌∷◌, ◌++◌, map, take, drop, replicate, Option, Some, None, is_some, unwrap_or, slice_index_or, slice_set, fold, count_by}
 use Rattle.std.specs.List.{position_from, prefix_len}
 
 -- an image that holds nothing
@@ -62,3 +62,12 @@ or_blank byte = unwrap_or byte 255
 abbrev pub filled : List (Option ℕ) → ℕ → ℕ → List ℕ
 filled image start zero = []
 filled image start (suc n) = or_blank (byte_at image start) ∷ filled image (start + 1) n
+
+-- each address holds a byte below 256, or none
+abbrev pub HoldsBytes : List (Option ℕ) → Type 0
+HoldsBytes image = (addr byte : ℕ) → byte_at image addr ≡ Some byte → byte < 256
+
+-- what an image of the code is: fewer than 2 to the power 32 addresses, and bytes
+pub record IsImage (image : List (Option ℕ)) : Type 0 where
+  pub short : length image < 2 ^ 32
+  pub bytes : HoldsBytes image

@@ -7,3 +7,5 @@ pub mod Raw
 pub mod Values
 pub mod Placing
 pub mod Lists
+pub mod ByAddress
+pub mod Runs

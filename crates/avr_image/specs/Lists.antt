@@ -23,9 +23,13 @@ prefix Bin n = 48 ∷ 98 ∷ []
 abbrev pub number_text : Base → ℕ → List ℕ
 number_text base n = prefix base n ++ digits (radix base) false n
 
--- the numbers on one line, with commas between them
+-- the numbers with commas between them
+abbrev pub list_line : Base → List ℕ → List ℕ
+list_line base bytes = join_with_byte 44 (map (number_text base) bytes)
+
+-- the numbers on one line
 abbrev pub list_text : Base → List ℕ → List ℕ
-list_text base bytes = join_with_byte 44 (map (number_text base) bytes) ++ 10 ∷ []
+list_text base bytes = list_line base bytes ++ 10 ∷ []
 
 -- the text that is still to come, once its end may have been reached
 abbrev pub list_rest : Bool → Base → List ℕ → List ℕ

@@ -14,7 +14,8 @@ abbrev pub with_piece : List (Option ℕ) → ℕ → List ℕ → Result (List 
 with_piece image addr piece = with_value image addr (judged (length image) (addr, piece))
 
 -- what follows an image, if it came
-abbrev pub then_on : Result (List (Option ℕ)) ImageFault → (List (Option ℕ) → Result (List (Option ℕ)) ImageFault) → Result (List (Option ℕ)) ImageFault
+abbrev pub then_on : Result (List (Option ℕ)) ImageFault → (List (Option ℕ) → Result (List (Option ℕ)) ImageFault)
+    → Result (List (Option ℕ)) ImageFault
 then_on (Ok image) more = more image
 then_on (Err fault) more = Err fault
 

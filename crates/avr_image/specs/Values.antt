@@ -32,7 +32,8 @@ prefixed letter digits =
     else if letter == 98 || letter == 66 then number 2 digits
     else number 8 (letter ∷ digits)
 
--- the number that a piece writes: `0x` and hexadecimal digits, `0b` and binary ones, `0` and octal ones, or decimal ones
+-- the number that a piece writes: `0x` and hexadecimal digits, `0b` and binary ones, `0` and octal ones, or decimal
+-- ones
 abbrev pub value_of : List ℕ → Option ℕ
 value_of (first ∷ second ∷ more) =
     if first == 48 then prefixed second more else number 10 (first ∷ second ∷ more)

@@ -1,5 +1,5 @@
 -- Walking over the bytes of an image, place by place.
-use Rattle.std.specs.Prelude.{◌≡◌, ℕ, ◌+◌, ◌<◌, ◌≤◌, true, List, length, slice_index, Option, None, is_some}
+use Rattle.std.specs.Prelude.{◌≡◌, ℕ, ◌+◌, ◌<◌, ◌≤◌, true, List, length, slice_index, Option, Some, None, is_some}
 use Rattle.avr_image.specs.Image.{byte_at, or_blank}
 
 -- the next address from `addr` on that holds a byte
@@ -20,3 +20,11 @@ pub record IsRun (image : List (Option ℕ)) (addr end place : ℕ) : Type 0 whe
 pub record IsFilled (image : List (Option ℕ)) (start n : ℕ) (bytes : List ℕ) : Type 0 where
   pub size : length bytes ≡ n
   pub byte : (i : ℕ) → i < n → slice_index bytes i ≡ or_blank (byte_at image (start + i))
+
+-- a longest run of an image's bytes: they stand one behind the other from its address on, and no byte before or behind
+-- them
+pub record IsLongestRun (image : List (Option ℕ)) (run : ℕ × List ℕ) : Type 0 where
+  pub some : 0 < length run.1
+  pub bytes : (i : ℕ) → i < length run.1 → byte_at image (run.0 + i) ≡ Some (slice_index run.1 i)
+  pub before : (k : ℕ) → k + 1 ≡ run.0 → byte_at image k ≡ None
+  pub behind : byte_at image (run.0 + length run.1) ≡ None

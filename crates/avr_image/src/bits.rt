@@ -30,7 +30,8 @@ fn next_one(word: u64, from: u32) -> u32
 
 /// A word that has a 1 where the bit is the wanted one.
 fn matching(word: u64, wanted: bool) -> u64
-    ensures { (i : ℕ) → i < 64 → (bit_at result i == 1) ≡ (if wanted then bit_at word i == 1 else not (bit_at word i == 1)) }
+    ensures { (i : ℕ) → i < 64 → (bit_at result i == 1) ≡ (if wanted then bit_at word i == 1
+        else not (bit_at word i == 1)) }
 {
     if wanted { word } else { !word }
 }

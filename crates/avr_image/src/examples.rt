@@ -4,6 +4,7 @@ use crate::base::Base;
 use crate::fault::ImageFault;
 use crate::image::Image;
 use crate::list::ListWriter;
+use crate::pieces::Pieces;
 use crate::raw::RawReader;
 use crate::values::parse_immediate;
 use arrayvec::ArrayVec;
@@ -58,6 +59,53 @@ fn an_image_is_walked(rt: HostRuntime) -> Result<(), Fail> {
     assert_eq!(rt; image.first_from(10), None);
     assert_eq!(rt; image.run_from(8, 64), 10);
     assert_eq!(rt; image.run_from(8, 9), 9);
+    Ok(())
+}
+
+#[test]
+fn an_image_is_empty_at_first(rt: HostRuntime) -> Result<(), Fail> {
+    let alloc = rt.alloc();
+    let mut image = Image::new(alloc, 64)?;
+    assert!(rt; image.is_empty());
+    image.put(8, 0xFF)?;
+    assert!(rt; !image.is_empty());
+    Ok(())
+}
+
+#[test]
+fn an_image_lends_its_bytes(rt: HostRuntime) -> Result<(), Fail> {
+    let alloc = rt.alloc();
+    let mut image = Image::new(alloc, 4)?;
+    image.put(1, 0x12)?;
+    assert_eq!(rt; image.as_slice(), [0xFF, 0x12, 0xFF, 0xFF].as_slice());
+    Ok(())
+}
+
+#[test]
+fn an_image_has_runs(rt: HostRuntime) -> Result<(), Fail> {
+    let alloc = rt.alloc();
+    let mut image = Image::new(alloc, 64)?;
+    image.put_slice(8, &[0x12, 0x34])?;
+    for (addr, bytes) in image.runs() {
+        assert_eq!(rt; (addr, bytes.len()), (8, 2));
+    }
+    image.put(20, 0x56)?;
+    let mut runs = image.runs();
+    assert_eq!(rt; runs.next(), Some((8, [0x12, 0x34].as_slice())));
+    assert_eq!(rt; runs.next(), Some((20, [0x56].as_slice())));
+    assert_eq!(rt; runs.next(), None);
+    Ok(())
+}
+
+#[test]
+fn an_image_is_laid_over_another(rt: HostRuntime) -> Result<(), Fail> {
+    let alloc = rt.alloc();
+    let mut image = Image::new(alloc, 4)?;
+    image.put_slice(0, &[1, 2])?;
+    let mut patch = Image::new(alloc, 4)?;
+    patch.put_slice(1, &[3, 4])?;
+    image.lay_over(&patch);
+    assert_eq!(rt; image.as_slice(), [1, 3, 4, 0xFF].as_slice());
     Ok(())
 }
 

@@ -1,17 +1,20 @@
 //! Images.
 
-ghost use Rattle.std.specs.Prelude.{◌≡◌, ◌+◌, ◌*◌, ◌^◌, ◌<◌, ◌≤◌, ℕ, List, length, max, nat_lt, Ok, Err, OnOk, OnErr, MatchResult, IfOk, replicate, slice_index, slice_index_or, if◌then◌else◌};
-ghost use Rattle.avr_image.specs.Image.{empty, byte_at, with_byte, held, filled, first_from, run_end, fits, laid_over};
+ghost use Rattle.std.specs.Prelude.{◌≡◌, ◌==◌, ◌+◌, ◌*◌, ◌^◌, ◌<◌, ◌≤◌, ℕ, List, length, max, nat_lt, Ok, Err, OnOk, OnErr, MatchResult, IfOk, replicate, slice_index, slice_index_or, if◌then◌else◌};
+ghost use Rattle.avr_image.specs.Image.{empty, byte_at, with_byte, held, filled, first_from, run_end, fits, laid_over, over, IsImage};
+ghost use Rattle.avr_image.specs.Runs.{runs};
 ghost use Rattle.std.specs.List.{enumerate_from};
 ghost use Rattle.avr_image.specs.Dense.{pasted};
 
 use crate::bits::{find, is_set, mark, mark_span};
 use crate::fault::ImageFault;
+use crate::runs::Runs;
 use std::alloc::{AllocError, Global};
+use std::fmt;
 use std::marker::Model;
 
-/// The bytes of a memory, as far as there are any. Contracts see it as the list of optional bytes, one for each byte address
-/// below its size.
+/// The bytes of a memory, as far as there are any. Contracts see it as the list of optional bytes, one for each byte
+/// address below its size.
 ///
 /// ```text
 /// let mut image = Image::new(alloc, 32_768)?;
@@ -71,8 +74,8 @@ fn paste(bytes: &mut Vec<u8>, start: usize, span: &[u8])
 }
 
 impl Image {
-    /// An image of a memory of this many bytes that holds nothing. It takes all the memory that the image will ever need;
-    /// where that is refused, the fault is `Memory`.
+    /// An image of a memory of this many bytes that holds nothing. It takes all the memory that the image will ever
+    /// need; where that is refused, the fault is `Memory`.
     ///
     /// ```text
     /// let image = Image::new(alloc, 32_768)?;
@@ -123,6 +126,51 @@ impl Image {
         count
     }
 
+    /// Whether no address holds a byte.
+    ///
+    /// ```text
+    /// let mut image = Image::new(alloc, 64)?;
+    /// assert!(rt; image.is_empty());
+    /// image.put(8, 0xFF)?;
+    /// assert!(rt; !image.is_empty());
+    /// ```
+    pub fn is_empty(&self) -> bool
+        ensures { result ≡ (held self.now == 0) }
+    {
+        self.first_from(0).is_none()
+    }
+
+    /// The bytes of all addresses, FF where none is held. They are lent as the image keeps them.
+    ///
+    /// ```text
+    /// let mut image = Image::new(alloc, 4)?;
+    /// image.put(1, 0x12)?;
+    /// assert_eq!(rt; image.as_slice(), [0xFF, 0x12, 0xFF, 0xFF].as_slice());
+    /// ```
+    pub fn as_slice(&self) -> &[u8]
+        ensures filled { result.now ≡ filled self.now 0 (length self.now) }
+
+        // The list alone doesn't say that an image holds bytes, and how many at most.
+        ensures image { IsImage self.now }
+    {
+        self.bytes.as_slice()
+    }
+
+    /// The longest runs of bytes without a gap, by rising address.
+    ///
+    /// ```text
+    /// let mut image = Image::new(alloc, 64)?;
+    /// image.put_slice(8, &[0x12, 0x34])?;
+    /// for (addr, bytes) in image.runs() {
+    ///     assert_eq!(rt; (addr, bytes.len()), (8, 2));
+    /// }
+    /// ```
+    pub fn runs(&self) -> Runs<'_>
+        ensures { result ≡ runs 0 self.now }
+    {
+        Runs::new(self)
+    }
+
     /// The byte at a byte address, if it holds one. Outside the memory none does.
     ///
     /// ```text
@@ -142,8 +190,8 @@ impl Image {
         }
     }
 
-    /// Lays a byte down at a byte address, over one that it may hold. Outside the memory nothing changes, and the fault is
-    /// `OutOfRange` with the address.
+    /// Lays a byte down at a byte address, over one that it may hold. Outside the memory the fault is `OutOfRange` with
+    /// the address, and the image is unchanged.
     ///
     /// ```text
     /// let mut image = Image::new(alloc, 64)?;
@@ -154,7 +202,7 @@ impl Image {
     /// ```
     pub fn put(&mut self, addr: u32, byte: u8) -> Result<(), ImageFault>
         ensures judged { result ≡ (if nat_lt addr (length self.old) then Ok tt else Err (ImageFault.OutOfRange addr)) }
-        ensures laid { self.new ≡ with_byte self.old addr byte }
+        ensures laid { OnOk result (self.new ≡ with_byte self.old addr byte) }
         ensures same { OnErr result (self.new ≡ self.old) }
         ensures size { length self.new ≡ length self.old }
     {
@@ -167,8 +215,9 @@ impl Image {
         Ok(())
     }
 
-    /// Lays bytes down at the byte addresses from `addr` on, as `put` of each in their order, and answers the address behind
-    /// them. Where one lies outside the memory none is laid, and the fault is `OutOfRange` with the first that does.
+    /// Lays bytes down at the byte addresses from `addr` on, as `put` of each in their order, and answers the address
+    /// behind them. Where one lies outside the memory the fault is `OutOfRange` with the first that does, and the image
+    /// is unchanged.
     ///
     /// ```text
     /// let mut image = Image::new(alloc, 64)?;
@@ -177,7 +226,8 @@ impl Image {
     /// assert_eq!(rt; image.get(63), Some(0x34));
     /// ```
     pub fn put_slice(&mut self, addr: u32, bytes: &[u8]) -> Result<u32, ImageFault>
-        ensures judged { result ≡ (if fits addr bytes.now (length self.old) then Ok (addr + length bytes.now) else Err (ImageFault.OutOfRange (max addr (length self.old)))) }
+        ensures judged { result ≡ (if fits addr bytes.now (length self.old) then Ok (addr + length bytes.now)
+            else Err (ImageFault.OutOfRange (max addr (length self.old)))) }
         ensures laid { OnOk result (self.new ≡ laid_over self.old (enumerate_from addr bytes.now)) }
         ensures same { OnErr result (self.new ≡ self.old) }
         ensures size { length self.new ≡ length self.old }
@@ -194,6 +244,26 @@ impl Image {
         paste(&mut self.bytes, start, bytes);
         mark_span(&mut self.words, start, end);
         Ok(end as u32)
+    }
+
+    /// Lays the bytes of another image of the same size over those of this one.
+    ///
+    /// ```text
+    /// let mut image = Image::new(alloc, 4)?;
+    /// image.put_slice(0, &[1, 2])?;
+    /// let mut patch = Image::new(alloc, 4)?;
+    /// patch.put_slice(1, &[3, 4])?;
+    /// image.lay_over(&patch);
+    /// assert_eq!(rt; image.as_slice(), [1, 3, 4, 0xFF].as_slice());
+    /// ```
+    pub fn lay_over(&mut self, other: &Image)
+        requires { length other.now ≡ length self.old }
+        ensures { self.new ≡ over self.old other.now }
+    {
+        for (addr, bytes) in other.runs() {
+            // Each run lies inside, since both images have one size.
+            let _ = self.put_slice(addr, bytes);
+        }
     }
 
     /// The least byte address from `addr` on that holds a byte.
@@ -217,8 +287,9 @@ impl Image {
         }
     }
 
-    /// The end of the run of byte addresses that hold a byte and begins at `addr`, at most `end`; `addr` where it holds none.
-    /// The end is the address behind the last one.
+    /// The end of the run of byte addresses that hold a byte and begins at `addr`, at most `end`; `addr` where it holds
+    /// none. The end is the address behind the last one. `end` has to be `addr` or above; it may lie outside the
+    /// memory.
     ///
     /// ```text
     /// let mut image = Image::new(alloc, 64)?;
@@ -242,7 +313,8 @@ impl Image {
         ) as u32
     }
 
-    /// Makes `out` the bytes from the byte address `start` on, FF in gaps and outside the memory.
+    /// Makes `out` the bytes from the byte address `start` on, FF in gaps and outside the memory. The last address has
+    /// to be below 2 to the power 32.
     ///
     /// ```text
     /// let mut image = Image::new(alloc, 64)?;
@@ -256,5 +328,15 @@ impl Image {
         ensures { out.new ≡ filled self.now start (length out.old) }
     {
         copy_padded(self.bytes.as_slice(), start as usize, out);
+    }
+}
+
+/// Shows the size and how many addresses hold a byte, and no byte.
+impl fmt::Debug for Image {
+    fn fmt<W: fmt::Write>(&self, f: &mut fmt::Formatter<W>) -> fmt::Result {
+        f.debug_struct("Image")
+            .field("size", &self.size())
+            .field("len", &self.len())
+            .finish_non_exhaustive()
     }
 }

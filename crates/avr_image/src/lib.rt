@@ -1,10 +1,10 @@
 //! Images of a part's memories, and the plain files and texts that hold them.
 //!
-//! The ways to name the bytes of a memory are those of AVRDUDE's `-U`: raw files (`r`), values in the command line (`m`), and
-//! lists of numbers (`d`, `h`, `o`, `b`).
+//! The ways to name the bytes of a memory are those of AVRDUDE's `-U`: raw files (`r`), values in the command line
+//! (`m`), and lists of numbers (`d`, `h`, `o`, `b`).
 //!
-//! An image is the list of its optional bytes, one for each address. `parse_immediate(alloc, "0x12, 0b101", 4)` is the image
-//! that holds 12 at address 0 and 05 at address 1.
+//! An image is the list of its optional bytes, one for each byte address. `parse_immediate(alloc, "0x12, 0b101", 4)` is
+//! the image that holds 0x12 at address 0 and 0x05 at address 1.
 #![tactic(auto)]
 
 mod base;
@@ -14,18 +14,23 @@ mod fault;
 mod image;
 mod laws;
 mod list;
+mod pieces;
 mod raw;
+mod runs;
 mod values;
 
 pub use base::Base;
 pub use fault::ImageFault;
 pub use image::Image;
 pub use laws::{
-    filled_is_by_address, first_from_is_the_next_held, laying_is_laying_over, laying_over_groups,
-    parts_are_laid_over, run_end_is_the_longest_run,
+    a_list_reads_back, an_image_is_its_runs, filled_is_by_address, first_from_is_the_next_held,
+    laying_is_laying_over, laying_over_groups, over_is_by_address, parts_are_laid_over,
+    run_end_is_the_longest_run,
 };
 pub use list::ListWriter;
+pub use pieces::Pieces;
 pub use raw::RawReader;
+pub use runs::Runs;
 pub use values::parse_immediate;
 
 #[cfg(test)]

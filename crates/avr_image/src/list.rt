@@ -6,14 +6,15 @@ ghost use Rattle.avr_image.specs.Lists.{list_text};
 
 use crate::base::Base;
 use crate::digits::push_number;
+use crate::pieces::Pieces;
 use arrayvec::ArrayVec;
 use std::marker::Model;
 
 /// The most bytes that a number takes with the comma or the line end behind it.
 const LONGEST: usize = 11;
 
-/// Writes bytes as numbers on one line, joined by commas, in pieces of at most 80 bytes. Contracts see it as the text that is
-/// still to come.
+/// Writes bytes as numbers on one line, joined by commas, in pieces of at most 80 bytes. Contracts see it as the text
+/// that is still to come.
 ///
 /// ```text
 /// let mut text = Vec::new(alloc);
@@ -90,21 +91,15 @@ impl<'a> ListWriter<'a> {
             }
         }
     }
+}
 
-    /// Makes `out` the next piece of the text, which is never empty. After the last it empties `out` and answers false.
-    ///
-    /// ```text
-    /// let mut piece = ArrayVec::new();
-    /// let mut writer = ListWriter::new(Base::Dec, &[18, 255]);
-    /// assert!(rt; writer.next_piece(&mut piece));
-    /// assert_eq!(rt; piece.as_slice(), b"18,255\n".as_slice());
-    /// assert!(rt; !writer.next_piece(&mut piece));
-    /// ```
-    pub fn next_piece(&mut self, out: &mut ArrayVec<u8, 80>) -> bool
-        ensures piece { self.old ≡ out.new.items ++ self.new }
-        ensures some { result ≡ nat_lt 0 (length self.old) }
-        ensures filled { result ≡ nat_lt 0 (array_vec_len out.new) }
-    {
+impl Pieces for ListWriter<'_> {
+    ghost rest = { λ w. w };
+
+    // Any part of a list may be a piece.
+    ghost IsPiece = { λ _. Unit {0} };
+
+    fn next_piece(&mut self, out: &mut ArrayVec<u8, 80>) -> bool {
         out.clear();
         while !self.is_done() && out.len() + LONGEST <= out.capacity() {
             self.push_next(out);

@@ -7,8 +7,8 @@ use crate::image::Image;
 use std::alloc::Global;
 use std::marker::Model;
 
-/// Reads a raw file in pieces of any size. It keeps the image alone, so a fault comes with the first piece that goes past the
-/// memory; from then on the reader has failed.
+/// Reads a raw file in pieces of any size. It keeps the image alone, so a fault comes with the first piece that goes
+/// past the memory; from then on the reader has failed.
 ///
 /// ```text
 /// let mut reader = RawReader::new(alloc, 32_768)?;
@@ -36,15 +36,16 @@ impl Model for RawReader {
 impl RawReader {
     ghost use Rattle.avr_image.specs.Raw.{raw, accepted, Stands};
 
-    /// A reader for a memory of this many bytes, before any byte of the file. It takes all the memory that the reader will
-    /// ever need; where that is refused, the fault is `Memory`.
+    /// A reader for a memory of this many bytes, before any byte of the file. It takes all the memory that the reader
+    /// will ever need; where that is refused, the fault is `Memory`.
     ///
     /// ```text
     /// let reader = RawReader::new(alloc, 64)?;
     /// assert_eq!(rt; reader.finish()?.size(), 64);
     /// ```
     pub fn new(alloc: Global, size: u32) -> Result<RawReader, ImageFault>
-        ensures { MatchResult result (λ reader. Stands reader [] × (length reader.image ≡ size)) (λ fault. fault ≡ ImageFault.Memory) }
+        ensures { MatchResult result (λ reader. Stands reader [] × (length reader.image ≡ size))
+            (λ fault. fault ≡ ImageFault.Memory) }
     {
         let image = Image::new(alloc, size)?;
         Ok(RawReader {
@@ -54,8 +55,8 @@ impl RawReader {
         })
     }
 
-    /// Takes the next bytes of the file. Where they go past the memory, the fault is `OutOfRange` with the memory's size; from
-    /// then on it is `Failed`.
+    /// Takes the next bytes of the file. Where they go past the memory, the fault is `OutOfRange` with the memory's
+    /// size; from then on it is `Failed`.
     ///
     /// ```text
     /// let mut reader = RawReader::new(alloc, 2)?;
@@ -63,7 +64,8 @@ impl RawReader {
     /// assert_eq!(rt; reader.feed(&[]), Err(ImageFault::Failed));
     /// ```
     pub fn feed(&mut self, piece: &[u8]) -> Result<(), ImageFault>
-        ensures answer { (text : List ℕ) → Stands self.old text → result ≡ accepted (raw (text ++ piece.now) (length self.old.image)) }
+        ensures answer { (text : List ℕ) → Stands self.old text → result
+            ≡ accepted (raw (text ++ piece.now) (length self.old.image)) }
         ensures stands { OnOk result ((text : List ℕ) → Stands self.old text → Stands self.new (text ++ piece.now)) }
         ensures size { length self.new.image ≡ length self.old.image }
 

@@ -4,6 +4,7 @@ use crate::base::Base;
 use crate::fault::ImageFault;
 use crate::image::Image;
 use crate::list::ListWriter;
+use crate::pieces::Pieces;
 use crate::raw::RawReader;
 use crate::values::parse_immediate;
 use arrayvec::ArrayVec;
@@ -26,6 +27,29 @@ fn runs_cross_the_words_of_present_bits(rt: HostRuntime) -> Result<(), Fail> {
     assert_eq!(rt; image.run_from(131071, 131072), 131072);
     assert_eq!(rt; image.put(131072, 7), Err(ImageFault::OutOfRange(131072)));
     assert_eq!(rt; image.len(), 3);
+    Ok(())
+}
+
+#[test]
+fn an_image_and_a_fault_tell_what_they_are(rt: HostRuntime) -> Result<(), Fail> {
+    let alloc = rt.alloc();
+    let mut image = Image::new(alloc, 64)?;
+    image.put_slice(8, &[1, 2])?;
+    let shown = format!(in alloc; "{image:?}")?;
+    assert_eq!(rt; shown.as_str(), "Image { size: 64, len: 2, .. }");
+    for (fault, want) in [
+        (
+            ImageFault::OutOfRange(64),
+            "address 64 is outside the memory",
+        ),
+        (ImageFault::BadNumber(2), "value 2 is not a number"),
+        (ImageFault::TooLarge(3), "value 3 is above 255"),
+        (ImageFault::Failed, "the reader has failed before"),
+        (ImageFault::Memory, "out of memory"),
+    ] {
+        let text = format!(in alloc; "{fault}")?;
+        assert_eq!(rt; text.as_str(), want);
+    }
     Ok(())
 }
 
@@ -69,9 +93,14 @@ fn an_image_is_as_an_ordered_map(rt: HostRuntime) -> Result<(), Fail> {
         }
     }
     assert_eq!(rt; image.len() as usize, map.len());
+    let mut of_runs = Image::new(rt.alloc(), 190)?;
+    for (addr, bytes) in image.runs() {
+        of_runs.put_slice(addr, bytes)?;
+    }
     let mut page = [0; 32];
     for addr in 0..200 {
         assert_eq!(rt; image.get(addr), map.get(&addr).copied(), "at {addr}");
+        assert_eq!(rt; of_runs.get(addr), image.get(addr), "of runs at {addr}");
         assert_eq!(rt;
             image.first_from(addr),
             first_key(&map, addr),

@@ -80,7 +80,8 @@ fn judge(size: u32, addr: u32, piece: &[u8]) -> Result<u8, ImageFault>
 
 /// Lays the value of a piece down at an address.
 fn lay_value(image: &mut Image, addr: u32, piece: &[u8]) -> Result<(), ImageFault>
-    ensures laid { MatchResult result (λ _. with_piece image.old addr piece.now ≡ Ok image.new) (λ fault. with_piece image.old addr piece.now ≡ Err fault) }
+    ensures laid { MatchResult result (λ _. with_piece image.old addr piece.now ≡ Ok image.new)
+        (λ fault. with_piece image.old addr piece.now ≡ Err fault) }
     ensures size { length image.new ≡ length image.old }
     ensures more { OnOk result (addr + 1 < 2 ^ 32) }
 {
@@ -93,7 +94,8 @@ fn lay_value(image: &mut Image, addr: u32, piece: &[u8]) -> Result<(), ImageFaul
 /// Lays the values of a text down from address 0 on.
 fn lay_values(image: &mut Image, text: &[u8]) -> Result<(), ImageFault>
     requires { image.old ≡ empty (length image.old) }
-    ensures { MatchResult result (λ _. values text.now (length image.old) ≡ Ok image.new) (λ fault. values text.now (length image.old) ≡ Err fault) }
+    ensures { MatchResult result (λ _. values text.now (length image.old) ≡ Ok image.new)
+        (λ fault. values text.now (length image.old) ≡ Err fault) }
 {
     let mut addr = 0;
     let mut rest = text;
@@ -114,10 +116,11 @@ fn lay_values(image: &mut Image, text: &[u8]) -> Result<(), ImageFault>
     Ok(())
 }
 
-/// Reads values from the words of a command: `0x` and hexadecimal digits, `0b` and binary digits, `0` and octal digits, or
-/// decimal digits, separated by commas, spaces and tabs. They stand at the byte addresses 0, 1 and so on of a memory of `size`
-/// bytes. The first value at fault is told: `BadNumber` or `TooLarge` with its place, counted from 1, or `OutOfRange` with its
-/// address. A text without a value is `BadNumber(1)`. `Memory` is the answer where the image's memory is refused.
+/// Reads values from the words of a command: `0x` and hexadecimal digits, `0b` and binary digits, `0` and octal digits,
+/// or decimal digits, separated by commas, spaces and tabs. They stand at the byte addresses 0, 1 and so on of a memory
+/// of `size` bytes. The first value at fault is told: `BadNumber` or `TooLarge` with its place, counted from 1, or
+/// `OutOfRange` with its address. A text without a value is `BadNumber(1)`. `Memory` is the answer where the image's
+/// memory is refused.
 ///
 /// ```text
 /// let image = parse_immediate(alloc, "0x12, 0b101 017", 4)?;

@@ -54,15 +54,6 @@ IsBegun [] sayings = Unit {0}
 IsBegun (part ∷ []) (saying ∷ sayings) = SaidPart part saying
 IsBegun _ _ = ⊥
 
--- A front of the sayings was done: some of them, and perhaps a part of the next.
-pub record SaysFront (old new : Option Record) (sayings : List Saying) : Type 0 where
-  pub whole : List Saying
-  pub begun : List Saying
-  pub later : List Saying
-  pub sayings_are : sayings ≡ whole ++ later
-  pub part : IsBegun begun later
-  pub kept : new ≡ option_map (after_all (whole ++ begun)) old
-
 -- The line was printed, or where the desk failed a front of it.
 abbrev pub IsPrinted : {T Fault : Type 0} → Option Record → Option Record → Bytes → Result T Fault → Type 0
 IsPrinted old new bytes (Ok done) = new ≡ option_map (after_err bytes) old

@@ -12,8 +12,10 @@ use avr_desk::{Desk, DeskFault, Stream, write_all};
 
 /// Writes the pieces one after the other.
 fn write_pieces<D: Desk>(desk: &mut D, pieces: &[Piece<'_>]) -> Result<(), DeskFault>
-    ensures all { OnOk result (D.kept desk.new ≡ option_map (after_err (concat (map text_of pieces.now))) (D.kept desk.old)) }
-    ensures part { OnErr result (SendsPart Stream.Messages (D.kept desk.old) (D.kept desk.new) (concat (map text_of pieces.now))) }
+    ensures all { OnOk result (D.kept desk.new ≡ option_map (after_err (concat (map text_of pieces.now)))
+        (D.kept desk.old)) }
+    ensures part { OnErr result (SendsPart Stream.Messages (D.kept desk.old) (D.kept desk.new)
+        (concat (map text_of pieces.now))) }
     ensures counts { Counts (D.failures desk.old) (D.failures desk.new) result }
     ensures fault { IfErr result (λ e. e ≡ DeskFault.Failed) }
 {

@@ -9,10 +9,11 @@ use Rattle.avr_plan.specs.Planning.{planned}
 use Rattle.avr_plan.specs.Playing.{Goes, Went}
 use Rattle.avr_plan.specs.Stage.{Made}
 use Rattle.avr_session.specs.Runs.{Stops, RunsTo}
-use Rattle.avr_session.specs.Session.{session}
+use Rattle.avr_session.specs.Session.{session, takes_memory}
 use Rattle.avr_net.specs.Lines.{unopened_line}
 
--- The plan was made, and its session was run over the port. A socket doesn't show what passed over it.
+-- The plan was made, and its session was run over the port. A socket doesn't show what passed over it, and the failures
+-- that the connection counts, from 0, are its own.
 pub record PlaysOverNet (settings : Settings) (old new : Option Record) (before now status : ℕ) : Type 0 where
   pub plan : Plan
   pub planned_desk : Option Record
@@ -20,10 +21,13 @@ pub record PlaysOverNet (settings : Settings) (old new : Option Record) (before 
   pub link_failures : ℕ
   pub made : Went (planned settings) old planned_desk (Made plan)
   pub rises : before ≤ planned_failures
-  pub runs : RunsTo (session plan) None None planned_desk new (Stops 0 link_failures planned_failures now) status
+  pub runs : RunsTo (session plan) None None planned_desk new
+      (Stops (takes_memory plan) 0 link_failures planned_failures now) status
 
--- The plan was made, but the port could not be opened: that was told, nothing else was done at the desk, and the status is 1.
-pub record LacksPort (settings : Settings) (address : Bytes) (old new : Option Record) (before now status : ℕ) : Type 0 where
+-- The plan was made, but the port could not be opened: that was told, nothing else was done at the desk, and the status
+-- is 1.
+pub record LacksPort (settings : Settings) (address : Bytes) (old new : Option Record)
+    (before now status : ℕ) : Type 0 where
   pub plan : Plan
   pub planned_desk : Option Record
   pub planned_failures : ℕ

@@ -12,7 +12,8 @@ use Rattle.avr_serve.specs.ServedRun.{ServesChip, settings_chip}
 use Rattle.avr_net.specs.Lines.{unopened_line}
 
 -- A connection was accepted, and the chip was served over it. A socket doesn't show what passed over it.
-pub record ServesCaller (chip : chips.State) (file : Bytes) (old new : Option Record) (before now status : ℕ) : Type 0 where
+pub record ServesCaller (chip : chips.State) (file : Bytes) (old new : Option Record)
+    (before now status : ℕ) : Type 0 where
   pub link_failures : ℕ
   pub serves : ServesChip chip file 16777216 None None 0 link_failures old new before now status
 
@@ -23,7 +24,8 @@ pub record LacksCaller (port : Bytes) (old new : Option Record) (before now stat
 
 -- the one or the other
 abbrev pub ServesOn : chips.State → Bytes → Bytes → Option Record → Option Record → ℕ → ℕ → ℕ → Type 0
-ServesOn chip port file old new before now status = ServesCaller chip file old new before now status ⊎ LacksCaller port old new before now status
+ServesOn chip port file old new before now status =
+    ServesCaller chip file old new before now status ⊎ LacksCaller port old new before now status
 
 -- a text that is no port's number cannot be opened
 abbrev pub ServesAt : Option ℕ → chips.State → Bytes → Bytes → Option Record → Option Record → ℕ → ℕ → ℕ → Type 0
@@ -31,7 +33,8 @@ ServesAt None chip port file old new before now status = LacksCaller port old ne
 ServesAt (Some number) chip port file old new before now status = ServesOn chip port file old new before now status
 
 -- The chip of the settings was loaded; then it was served, or the port could not be opened.
-pub record ServesLoaded (settings : Settings) (port file : Bytes) (old new : Option Record) (before now status : ℕ) : Type 0 where
+pub record ServesLoaded (settings : Settings) (port file : Bytes) (old new : Option Record)
+    (before now status : ℕ) : Type 0 where
   pub chip : chips.State
   pub loaded_desk : Option Record
   pub loaded_failures : ℕ
@@ -42,4 +45,5 @@ pub record ServesLoaded (settings : Settings) (port file : Bytes) (old new : Opt
 -- so it was, or there is no chip (that the port was left alone then, no clause says)
 abbrev pub ServesNet : Settings → Bytes → Bytes → Option Record → Option Record → ℕ → ℕ → ℕ → Type 0
 ServesNet settings port file old new before now status =
-    ServesLoaded settings port file old new before now status ⊎ Goes (settings_chip settings file) old new before now (Err status)
+    ServesLoaded settings port file old new before now status ⊎ Goes (settings_chip settings file) old new before now
+    (Err status)

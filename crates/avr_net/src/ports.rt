@@ -28,7 +28,8 @@ pub(crate) fn connect<R: Net>(rt: &R, address: &str) -> io::Result<StreamLink<R:
     link_over(stream)
 }
 
-/// Listens at a port to this machine alone; 0 stands for any that is free. The error is the system's, as where the port is taken.
+/// Listens at a port to this machine alone; 0 stands for any that is free. The error is the system's, as where the port
+/// is taken.
 pub fn listen<R: Net>(rt: &R, port: u16) -> io::Result<R::Listener> {
     TcpListener::bind(rt, ("127.0.0.1", port))
 }

@@ -14,9 +14,9 @@ use std::net::{Net, OpenListener, OpenStream};
 
 /// Accepts one connection and serves a chip over it, in at most [`READS`] reads.
 ///
-/// How that ends is what [`serve_chip`] says: the chip is saved to the file of this name, and the status is 0 where the caller
-/// ended it and the chip was saved, else 1. Where no connection can be accepted that is told of `port`, the text of `--serve`,
-/// the status is 1, and no file is written.
+/// How that ends is what [`serve_chip`] says: the chip is saved to the file of this name, and the status is 0 where the
+/// caller ended it and the chip was saved, else 1. Where no connection can be accepted that is told of `port`, the text
+/// of `--serve`, the status is 1, and no file is written.
 pub fn serve_on<L: OpenListener, D: Desk>(
     alloc: Global,
     chip: Chip,
@@ -27,7 +27,8 @@ pub fn serve_on<L: OpenListener, D: Desk>(
 ) -> u8
 where
     L::Stream: Read + Write + OpenStream,
-    ensures serves { ServesOn chip port.now file.now (D.kept desk.old) (D.kept desk.new) (D.failures desk.old) (D.failures desk.new) result }
+    ensures serves { ServesOn chip port.now file.now (D.kept desk.old) (D.kept desk.new) (D.failures desk.old)
+        (D.failures desk.new) result }
 {
     let mut link = match accept(listener) {
         Ok(link) => link,
@@ -45,7 +46,8 @@ fn serve_at<R: Net, D: Desk>(
     file: &str,
     desk: &mut D,
 ) -> u8
-    ensures serves { ServesAt (number_of port.now) chip port.now file.now (D.kept desk.old) (D.kept desk.new) (D.failures desk.old) (D.failures desk.new) result }
+    ensures serves { ServesAt (number_of port.now) chip port.now file.now (D.kept desk.old) (D.kept desk.new)
+        (D.failures desk.old) (D.failures desk.new) result }
 {
     let Some(number) = port_number(port) else {
         return refuse_unopened(desk, "", port);
@@ -58,9 +60,10 @@ fn serve_at<R: Net, D: Desk>(
 
 /// Serves the emulated programmer of the settings' part at a port of 127.0.0.1, to the first caller.
 ///
-/// The part and the chip file are judged before the port is opened: where they are refused, that is told at once and nobody is
-/// waited for. The chip is loaded from the file of this name, fresh where there is no such file, and saved to it when the
-/// caller is gone. `port` is the text of `--serve`; a port that cannot be opened is told, and no file is written.
+/// The part and the chip file are judged before the port is opened: where they are refused, that is told at once and
+/// nobody is waited for. The chip is loaded from the file of this name, fresh where there is no such file, and saved to
+/// it when the caller is gone. `port` is the text of `--serve`; a port that cannot be opened is told, and no file is
+/// written.
 ///
 /// The status is 0 where the caller ended it and the chip was saved, else 1.
 pub fn serve_net<R: Net, D: Desk>(
@@ -71,7 +74,8 @@ pub fn serve_net<R: Net, D: Desk>(
     file: &str,
     desk: &mut D,
 ) -> u8
-    ensures serves { ServesNet settings.now port.now file.now (D.kept desk.old) (D.kept desk.new) (D.failures desk.old) (D.failures desk.new) result }
+    ensures serves { ServesNet settings.now port.now file.now (D.kept desk.old) (D.kept desk.new) (D.failures desk.old)
+        (D.failures desk.new) result }
 {
     let chip = match find_chip(alloc, settings, file, desk) {
         Ok(chip) => chip,

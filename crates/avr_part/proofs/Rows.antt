@@ -1,15 +1,46 @@
 -- The definitions, tried on examples.
-use Rattle.std.proofs.Common.{◌≡◌, refl, ℕ, List, [], ◌∷◌, ◌++◌, codes, Ok, Err}
+use Rattle.std.proofs.Common.{◌≡◌, refl, ℕ, List, [], ◌∷◌, ◌++◌, codes, Ok, Err, Some, None, true, false}
 use Rattle.std.specs.Str.{is_utf8, chars}
 use Rattle.toml.proofs.OnLiterals.{toml_on_literals}
 use Rattle.hex.proofs.OnLiterals.{hex_on_literals}
-use Rattle.avr_part.specs.Part.{Part}
+use Rattle.avr_part.specs.Mem.{named}
+use Rattle.avr_part.specs.Part.{Part, is_id}
 use Rattle.avr_part.specs.BuiltIn.{m328p, t85, m2560, found}
 use Rattle.avr_part.specs.PartFile.{parts_of}
 use Rattle.avr_part.specs.State.{State, fresh_state, spi_of, word_address}
 use Rattle.avr_part.specs.ChipFile.{chip_in}
+use Rattle.avr_part.specs.declared.mem.Mem.TheVariants.{Efuse}
 use Rattle.avr_part.specs.declared.fault.Field.TheVariants as field
 use Rattle.avr_part.specs.declared.fault.PartFault.TheVariants.{NotToml, Missing, BadValue, BadSizes, NoSuchPart, BadChipFile}
+
+-- a name is a memory's in its own spelling alone
+by_its_name : named (codes "efuse") ≡ Some Efuse
+by_its_name = refl
+
+no_upper_case : named (codes "Flash") ≡ None
+no_upper_case = refl
+
+no_front : named (codes "fuse") ≡ None
+no_front = refl
+
+no_empty_name : named [] ≡ None
+no_empty_name = refl
+
+-- an id has 1 to 31 letters, digits, `_` and `-`
+an_id : is_id (codes "m328p-AU_2") ≡ true
+an_id = refl
+
+longest_id : is_id (codes "abcdefghijklmnopqrstuvwxyz01234") ≡ true
+longest_id = refl
+
+too_long_an_id : is_id (codes "abcdefghijklmnopqrstuvwxyz012345") ≡ false
+too_long_an_id = refl
+
+no_blank_in_an_id : is_id (codes "m 328p") ≡ false
+no_blank_in_an_id = refl
+
+no_empty_id : is_id [] ≡ false
+no_empty_id = refl
 
 -- a part of four pages of flash and of EEPROM
 tiny : Part

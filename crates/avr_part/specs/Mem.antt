@@ -1,5 +1,6 @@
 -- The memories of a part.
-use Rattle.std.specs.Prelude.{ℕ, List, Bool, true, false, codes}
+use Rattle.std.specs.Prelude.{ℕ, List, [], ◌∷◌, Bool, true, false, Option, find, codes}
+use Rattle.std.specs.Str.{bytes_eq}
 use Rattle.avr_part.specs.declared.mem.Mem.{Mem}
 use Rattle.avr_part.specs.declared.mem.Mem.TheVariants.{Flash, Eeprom, Lfuse, Hfuse, Efuse, Lock, Signature, Calibration}
 
@@ -12,6 +13,13 @@ name_of Efuse = codes "efuse"
 name_of Lock = codes "lock"
 name_of Signature = codes "signature"
 name_of Calibration = codes "calibration"
+
+abbrev pub memories : List Mem
+memories = Flash ∷ Eeprom ∷ Lfuse ∷ Hfuse ∷ Efuse ∷ Lock ∷ Signature ∷ Calibration ∷ []
+
+-- the memory of this name
+abbrev pub named : List ℕ → Option Mem
+named name = find (λ memory. bytes_eq (name_of memory) name) memories
 
 abbrev pub is_writable : Mem → Bool
 is_writable Signature = false

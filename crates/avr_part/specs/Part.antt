@@ -1,5 +1,5 @@
 -- What is known of a part.
-use Rattle.std.specs.Prelude.{◌≡◌, ◌<◌, ◌≤◌, ◌%◌, ℕ, List, Bool, length, Option, Some, None, if◌then◌else◌, ◌&&◌, ◌||◌, ◌==◌, nat_le}
+use Rattle.std.specs.Prelude.{◌≡◌, ◌<◌, ◌≤◌, ◌%◌, ℕ, List, Bool, true, length, Option, Some, None, if◌then◌else◌, ◌&&◌, ◌||◌, ◌==◌, nat_le}
 use Rattle.std.specs.List.{list_all}
 use Rattle.avr_part.specs.declared.mem.Mem.{Mem}
 use Rattle.avr_part.specs.declared.mem.Mem.TheVariants.{Flash, Eeprom, Signature}
@@ -14,8 +14,23 @@ pub record Part : Type 0 where
   pub eeprom_page : ℕ
   pub eesave_bit : ℕ
 
--- Sizes that a part can have: a page divides 256, so it is a power of two up to 256, and a memory is whole pages.
+abbrev pub is_between : ℕ → ℕ → ℕ → Bool
+is_between low high n = nat_le low n && nat_le n high
+
+-- a letter, a digit, `_` or `-`
+abbrev pub is_id_byte : ℕ → Bool
+is_id_byte b = is_between 65 90 b || is_between 97 122 b || is_between 48 57 b || b == 95 || b == 45
+
+abbrev pub is_id : List ℕ → Bool
+is_id text = is_between 1 31 (length text) && list_all is_id_byte text
+
+abbrev pub id_of : List ℕ → Option (List ℕ)
+id_of text = if is_id text then Some text else None
+
+-- An id, and sizes that a part can have: a page divides 256, so it is a power of two up to 256, and a memory is whole
+-- pages.
 pub record IsPart (p : Part) : Type 0 where
+  pub id : is_id p.id ≡ true
   pub signature : length p.signature ≡ 3
   pub flash_page : 2 ≤ p.flash_page
   pub flash_halves : p.flash_page % 2 ≡ 0
@@ -42,16 +57,3 @@ abbrev pub page_of : Mem → Part → ℕ
 page_of Flash p = p.flash_page
 page_of Eeprom p = p.eeprom_page
 page_of m p = 1
-
-abbrev pub is_between : ℕ → ℕ → ℕ → Bool
-is_between low high n = nat_le low n && nat_le n high
-
--- a letter, a digit, `_` or `-`
-abbrev pub is_id_byte : ℕ → Bool
-is_id_byte b = is_between 65 90 b || is_between 97 122 b || is_between 48 57 b || b == 95 || b == 45
-
-abbrev pub is_id : List ℕ → Bool
-is_id text = is_between 1 31 (length text) && list_all is_id_byte text
-
-abbrev pub id_of : List ℕ → Option (List ℕ)
-id_of text = if is_id text then Some text else None

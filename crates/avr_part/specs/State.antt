@@ -81,12 +81,14 @@ eeprom_address s address = address % s.part.eeprom_size
 
 abbrev pub with_flash_page : ℕ → State → State
 with_flash_page word s = record s {
-  flash = if is_locked s then s.flash else changed (anded (page_start s.part.flash_page (word_address s word)) s.flash_buffer) s.flash;
+  flash = if is_locked s then s.flash else changed (anded (page_start s.part.flash_page (word_address s word))
+      s.flash_buffer) s.flash;
   flash_buffer = blank s.flash_buffer;
 }
 
 abbrev pub with_eeprom_byte : ℕ → ℕ → State → State
-with_eeprom_byte address byte s = record s { eeprom = if is_locked s then s.eeprom else slice_set s.eeprom (eeprom_address s address) byte }
+with_eeprom_byte address byte s =
+    record s { eeprom = if is_locked s then s.eeprom else slice_set s.eeprom (eeprom_address s address) byte }
 
 abbrev pub with_eeprom_load : ℕ → ℕ → State → State
 with_eeprom_load place byte s = record s {
@@ -95,7 +97,8 @@ with_eeprom_load place byte s = record s {
 
 abbrev pub with_eeprom_page : ℕ → State → State
 with_eeprom_page address s = record s {
-  eeprom = if is_locked s then s.eeprom else changed (overlaid (page_start s.part.eeprom_page (eeprom_address s address)) s.eeprom_buffer) s.eeprom;
+  eeprom = if is_locked s then s.eeprom else changed (overlaid
+      (page_start s.part.eeprom_page (eeprom_address s address)) s.eeprom_buffer) s.eeprom;
   eeprom_buffer = nothing_loaded s.eeprom_buffer;
 }
 

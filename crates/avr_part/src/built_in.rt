@@ -1,6 +1,6 @@
 //! The built-in parts.
-ghost use Rattle.std.specs.Prelude.{◌≡◌, ◌≤◌, length, find};
-ghost use Rattle.avr_part.specs.BuiltIn.{m328p, t85, m2560, built_in_parts, has_id};
+ghost use Rattle.std.specs.Prelude.{◌≡◌, ◌≤◌, length, slice_get};
+ghost use Rattle.avr_part.specs.BuiltIn.{m328p, t85, m2560, built_in_parts};
 
 use crate::part::Part;
 use arrayvec::ArrayString;
@@ -60,14 +60,14 @@ fn m2560() -> Part
     }
 }
 
-/// The built-in part of this id.
-pub fn built_in(id: &str) -> Option<Part>
-    ensures { result ≡ find (has_id id.now) built_in_parts }
+/// The built-in part at this place of their list.
+pub fn built_in_at(place: usize) -> Option<Part>
+    ensures { result ≡ slice_get built_in_parts place }
 {
-    match id {
-        "m328p" => Some(m328p()),
-        "t85" => Some(t85()),
-        "m2560" => Some(m2560()),
+    match place {
+        0 => Some(m328p()),
+        1 => Some(t85()),
+        2 => Some(m2560()),
         _ => None,
     }
 }

@@ -1,7 +1,6 @@
 //! The chip as a machine of serial programming instructions.
-ghost use Rattle.std.specs.Prelude.{◌≡◌, ◌+◌, ◌*◌, ◌%◌, ◌<◌, ◌≤◌, [], ◌∷◌, slice_get, Ok};
+ghost use Rattle.std.specs.Prelude.{◌≡◌, ◌+◌, ◌*◌, ◌%◌, ◌<◌, ◌≤◌, IfOk, slice_get, Ok};
 ghost use Rattle.avr_part.specs.Memory.{page_start};
-ghost use Rattle.std.specs.Prelude.{IfOk};
 
 use crate::fault::PartFault;
 use crate::instruction::{Fuse, Half, Instruction};
@@ -11,8 +10,16 @@ use crate::memory::Memory;
 use crate::part::Part;
 use std::alloc::{AllocError, Global};
 use std::marker::Model;
+use std::slice;
 
-/// A chip of some part: its memories, its page buffers and its extended address. Contracts see it as the record of these.
+/// A chip of some part: its memories, its page buffers and its extended address. Contracts see it as the record of
+/// these.
+///
+/// ```text
+/// let mut chip = Chip::fresh(alloc, Parts::none().find("m328p")?)?;
+/// chip.spi([0xAC, 0xA0, 0, 0x62]);
+/// assert_eq!(rt; chip.memory(Mem::Lfuse), [0x62].as_slice());
+/// ```
 #[derive(Debug, Drop)]
 pub struct Chip {
     pub(crate) part: Part,
@@ -57,13 +64,6 @@ fn page_start(at: usize, page: usize, size: usize) -> usize
     at / page * page
 }
 
-/// The one byte of a memory of one byte.
-fn only(byte: u8, at: usize) -> Option<u8>
-    ensures { result ≡ slice_get (byte ∷ []) at }
-{
-    if at == 0 { Some(byte) } else { None }
-}
-
 impl Chip {
     ghost use Rattle.avr_part.specs.State.{fresh_state, with_empty_buffers, with_erased, with_load, with_flash_page, with_eeprom_byte, with_eeprom_load, with_eeprom_page, with_fuse, with_lock, word_address, eeprom_address, flash_byte, eeprom_byte, signature_byte, fuse_of, answer_of, after, spi_of, keeps_eeprom, is_locked, memory_of};
     ghost use Rattle.avr_part.specs.Instruction.{instruction_of};
@@ -73,6 +73,11 @@ impl Chip {
     /// A chip of this part whose memories are all FF.
     ///
     /// The one fault is [`PartFault::Memory`].
+    ///
+    /// ```text
+    /// let chip = Chip::fresh(alloc, Parts::none().find("t85")?)?;
+    /// assert_eq!(rt; chip.byte(Mem::Eeprom, 511), Some(0xFF));
+    /// ```
     pub fn fresh(alloc: Global, part: Part) -> Result<Chip, PartFault>
         ensures { GivesOrMemory (Ok (fresh_state part)) result }
     {
@@ -101,6 +106,11 @@ impl Chip {
     }
 
     /// The part that the chip is.
+    ///
+    /// ```text
+    /// let chip = Chip::fresh(alloc, Parts::none().find("t85")?)?;
+    /// assert_eq!(rt; chip.part().id(), "t85");
+    /// ```
     pub fn part(&self) -> &Part
         ensures value { result.now ≡ self.now.part }
         ensures sound { IsSound self.now }
@@ -324,10 +334,16 @@ impl Chip {
         }
     }
 
-    /// Four bytes in, and four bytes out: 00, the first two bytes in, and the byte that the instruction reads, or the third
-    /// byte in where it reads none. Bytes that are no instruction change nothing.
+    /// Four bytes in, and four bytes out: 00, the first two bytes in, and the byte that the instruction reads, or the
+    /// third byte in where it reads none. Bytes that are no instruction change nothing.
     ///
-    /// Takes no memory. A chip erase takes the time of the memories, a page write that of a page, all else constant time.
+    /// Takes no memory. A chip erase takes the time of the memories, a page write and programming enable that of the
+    /// page buffers, all else constant time.
+    ///
+    /// ```text
+    /// let mut chip = Chip::fresh(alloc, Parts::none().find("m328p")?)?;
+    /// assert_eq!(rt; chip.spi([0x30, 0, 1, 0]), [0, 0x30, 0, 0x95]); // signature byte 1
+    /// ```
     pub fn spi(&mut self, bytes: [u8; 4]) -> [u8; 4]
         ensures { (result, self.new) ≡ spi_of bytes self.old }
     {
@@ -337,20 +353,38 @@ impl Chip {
         [0, bytes[0], bytes[1], answer]
     }
 
+    /// The bytes of a memory, that of address 0 first.
+    ///
+    /// ```text
+    /// let chip = Chip::fresh(alloc, Parts::none().find("m328p")?)?;
+    /// assert_eq!(rt; chip.memory(Mem::Signature), [0x1E, 0x95, 0x0F].as_slice());
+    /// assert_eq!(rt; chip.memory(Mem::Flash).len(), 32_768);
+    /// ```
+    pub fn memory(&self, mem: Mem) -> &[u8]
+        ensures { result.now ≡ memory_of mem self.now }
+    {
+        match mem {
+            Mem::Flash => self.flash.as_slice(),
+            Mem::Eeprom => self.eeprom.as_slice(),
+            Mem::Lfuse => slice::from_ref(&self.lfuse),
+            Mem::Hfuse => slice::from_ref(&self.hfuse),
+            Mem::Efuse => slice::from_ref(&self.efuse),
+            Mem::Lock => slice::from_ref(&self.lock),
+            Mem::Signature => self.part.signature_bytes(),
+            Mem::Calibration => &[255],
+        }
+    }
+
     /// The byte of a memory at an address, or `None` behind its end.
+    ///
+    /// ```text
+    /// let chip = Chip::fresh(alloc, Parts::none().find("m328p")?)?;
+    /// assert_eq!(rt; chip.byte(Mem::Signature, 0), Some(0x1E));
+    /// assert_eq!(rt; chip.byte(Mem::Signature, 3), None);
+    /// ```
     pub fn byte(&self, mem: Mem, addr: u32) -> Option<u8>
         ensures { result ≡ slice_get (memory_of mem self.now) addr }
     {
-        let at = addr as usize;
-        match mem {
-            Mem::Flash => self.flash.as_slice().get(at).copied(),
-            Mem::Eeprom => self.eeprom.as_slice().get(at).copied(),
-            Mem::Lfuse => only(self.lfuse, at),
-            Mem::Hfuse => only(self.hfuse, at),
-            Mem::Efuse => only(self.efuse, at),
-            Mem::Lock => only(self.lock, at),
-            Mem::Signature => self.part.signature().get(at).copied(),
-            Mem::Calibration => only(255, at),
-        }
+        self.memory(mem).get(addr as usize).copied()
     }
 }

@@ -61,6 +61,11 @@ impl Chip {
     ///
     /// A file is flash, EEPROM, low, high and extended fuse and lock, without a gap. The faults are
     /// [`PartFault::BadChipFile`] where its length is another than the part's, and [`PartFault::Memory`].
+    ///
+    /// ```text
+    /// let chip = Chip::from_bytes(alloc, Parts::none().find("t85")?, &[0; 100]);
+    /// assert_eq!(rt; chip.err(), Some(PartFault::BadChipFile(100)));
+    /// ```
     pub fn from_bytes(alloc: Global, part: Part, bytes: &[u8]) -> Result<Chip, PartFault>
         ensures { GivesOrMemory (chip_in part bytes.now) result }
     {
@@ -71,6 +76,11 @@ impl Chip {
     }
 
     /// The bytes of the chip's file. The one fault is [`PartFault::Memory`].
+    ///
+    /// ```text
+    /// let chip = Chip::fresh(alloc, Parts::none().find("t85")?)?;
+    /// assert_eq!(rt; chip.to_bytes(alloc)?.len(), 8192 + 512 + 4);
+    /// ```
     pub fn to_bytes(&self, alloc: Global) -> Result<Vec<u8>, PartFault>
         ensures bytes { IfOk result (λ v. v.items ≡ chip_file self.now) }
         ensures memory { IfErr result (λ e. e ≡ PartFault.Memory) }

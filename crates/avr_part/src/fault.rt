@@ -21,7 +21,11 @@ pub enum Field {
 }
 
 impl Field {
-    /// The key, as it stands in a part file.
+    /// The key, as it stands in a part file; `id` for the key of a part's table, which is the part's id.
+    ///
+    /// ```text
+    /// assert_eq!(rt; Field::FlashSize.name(), "flash_size");
+    /// ```
     pub fn name(self) -> &'static str
         ensures { result.now ≡ field_name self }
     {
@@ -47,6 +51,11 @@ impl fmt::Display for Field {
 }
 
 /// Why there is no part or no chip.
+///
+/// ```text
+/// let fault = parse_parts(alloc, b"[parts.x1]").err();
+/// assert_eq!(rt; fault, Some(PartFault::Missing(Field::Signature)));
+/// ```
 #[derive(Clone, Copy, Debug, PartialEq, Eq, Error)]
 pub enum PartFault {
     /// The part file is no TOML, or not UTF-8.
@@ -74,6 +83,10 @@ pub enum PartFault {
 
 impl PartFault {
     /// The fault's number, from 1 on.
+    ///
+    /// ```text
+    /// assert_eq!(rt; PartFault::Missing(Field::Signature).number(), 2);
+    /// ```
     pub fn number(&self) -> u8
         ensures { result ≡ fault_number self.now }
     {

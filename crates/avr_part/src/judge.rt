@@ -1,5 +1,5 @@
 //! One part of a part file, judged.
-ghost use Rattle.std.specs.Prelude.{◌≡◌, ◌≤◌, ◌<◌, ◌%◌, codes, option_map, IfOk, length, true};
+ghost use Rattle.std.specs.Prelude.{◌≡◌, ◌≤◌, ◌<◌, ◌%◌, codes, option_map, IfOk, IfSome, length, true};
 ghost use Rattle.std.specs.List.{list_all};
 ghost use Rattle.hex.specs.Hex.{decode_sized};
 ghost use Rattle.toml.specs.View.{table_view, view};
@@ -38,7 +38,8 @@ fn is_id(text: &[u8]) -> bool
 
 /// The key as an id.
 fn id_of(key: &str) -> Option<ArrayString<31>>
-    ensures { option_map (λ t. t.bytes) result ≡ id_of key.now }
+    ensures value { option_map (λ t. t.bytes) result ≡ id_of key.now }
+    ensures is_id { IfSome result (λ t. is_id t.bytes ≡ true) }
 {
     if is_id(key.as_bytes()) {
         let mut id = ArrayString::new();
@@ -74,13 +75,9 @@ fn number(table: &Table, key: &str, field: Field, least: u32, most: u32) -> Resu
     ensures least { IfOk result (λ n. least ≤ n) }
     ensures most { IfOk result (λ n. n ≤ most) }
 {
-    match at_key(table, key) {
-        Some(value) => match value.as_integer() {
-            Some(number) => number_in(field, least, most, number),
-            None => Err(PartFault::BadValue(field)),
-        },
-        None => Err(PartFault::Missing(field)),
-    }
+    let value = at_key(table, key).ok_or(PartFault::Missing(field))?;
+    let number = value.as_integer().ok_or(PartFault::BadValue(field))?;
+    number_in(field, least, most, number)
 }
 
 /// A number up to 256, where it is a power of two.
@@ -113,26 +110,20 @@ fn page(table: &Table, key: &str, field: Field, least: u32) -> Result<u32, PartF
 fn signature_in(text: &str) -> Result<[u8; 3], PartFault>
     ensures { result ≡ hex_value (decode_sized text.now 3) }
 {
-    match <[u8; 3] as FromHex>::from_hex(text) {
-        Ok(bytes) => Ok(bytes),
-        Err(_) => Err(PartFault::BadValue(Field::Signature)),
-    }
+    <[u8; 3] as FromHex>::from_hex(text).map_err(|_| PartFault::BadValue(Field::Signature))
 }
 
 fn signature(table: &Table) -> Result<[u8; 3], PartFault>
     ensures { result ≡ signature_field (get_member (codes "signature") (table_view table.now)) }
 {
-    match at_key(table, "signature") {
-        Some(value) => match value.as_str() {
-            Some(text) => signature_in(text),
-            None => Err(PartFault::BadValue(Field::Signature)),
-        },
-        None => Err(PartFault::Missing(Field::Signature)),
-    }
+    let value = at_key(table, "signature").ok_or(PartFault::Missing(Field::Signature))?;
+    let text = value.as_str().ok_or(PartFault::BadValue(Field::Signature))?;
+    signature_in(text)
 }
 
 /// The fields of a part, in their order.
 fn judge_fields(id: ArrayString<31>, table: &Table) -> Result<Part, PartFault>
+    requires { is_id id.bytes ≡ true }
     ensures { result ≡ judged_fields id.bytes (table_view table.now) }
 {
     let signature = signature(table)?;
@@ -159,11 +150,7 @@ fn judge_fields(id: ArrayString<31>, table: &Table) -> Result<Part, PartFault>
 pub fn judge_part(key: &str, value: &Value) -> Result<Part, PartFault>
     ensures { result ≡ judged key.now (view value.now) }
 {
-    match value.as_table() {
-        Some(table) => match id_of(key) {
-            Some(id) => judge_fields(id, table),
-            None => Err(PartFault::BadValue(Field::Id)),
-        },
-        None => Err(PartFault::BadValue(Field::Parts)),
-    }
+    let table = value.as_table().ok_or(PartFault::BadValue(Field::Parts))?;
+    let id = id_of(key).ok_or(PartFault::BadValue(Field::Id))?;
+    judge_fields(id, table)
 }

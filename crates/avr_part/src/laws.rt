@@ -1,12 +1,21 @@
-//! Laws of the chip, over its definitions alone.
-ghost use Rattle.std.specs.Prelude.{◌≡◌, ℕ, List, [], ◌∷◌, length, replicate, None, Ok, true, ◌≢◌};
+//! Laws of the memories and of the chip, over their definitions alone.
+ghost use Rattle.std.specs.Prelude.{◌≡◌, ℕ, List, [], ◌∷◌, length, Some, Ok, true, ◌≢◌};
 ghost use Rattle.avr_part.specs.declared.instruction.Fuse.{Fuse};
+ghost use Rattle.avr_part.specs.declared.mem.Mem.{Mem};
+ghost use Rattle.avr_part.specs.Mem.{name_of, named};
 ghost use Rattle.avr_part.specs.declared.instruction.Instruction.{Instruction};
 ghost use Rattle.avr_part.specs.State.{State, with_empty_buffers, with_erased, with_flash_page, with_eeprom_page, with_fuse, with_lock, is_locked, after, spi_of};
 ghost use Rattle.avr_part.specs.Part.{Part};
 ghost use Rattle.avr_part.specs.Sound.{IsSound};
 ghost use Rattle.avr_part.specs.ChipFile.{chip_file, chip_file_size, chip_in, state_in};
 ghost use Rattle.avr_part.specs.Laws.{flash_loaded_as, eeprom_loaded_as, KeepsMemories};
+
+/// A memory is found by its own name, and by no other text.
+#[tactic(auto, using(crate::proofs::Naming::found_by_name, crate::proofs::Naming::name_of_found))]
+pub fn a_memory_is_found_by_its_name()
+    ensures own { (m : Mem) → named (name_of m) ≡ Some m }
+    ensures only { (text : List ℕ) (m : Mem) → named text ≡ Some m → text ≡ name_of m }
+{}
 
 /// An erase that is repeated changes nothing more.
 #[tactic(auto, using(crate::proofs::Twice::erased_twice))]
@@ -51,8 +60,8 @@ pub fn a_locked_chip_keeps_its_memories()
         → is_locked s ≡ true → i ≢ Instruction.Erase → KeepsMemories s (after i s) }
 {}
 
-/// A chip file that is read again gives the chip's memories, with empty buffers; and a file of the part's length that was
-/// read is written again byte for byte.
+/// A chip file that is read again gives the chip's memories, with empty buffers; and a file of the part's length that
+/// was read is written again byte for byte.
 #[tactic(auto, using(crate::proofs::ChipFiles::read_again, crate::proofs::ChipFiles::written_again))]
 pub fn a_chip_file_is_read_again()
     ensures written { (p : Part) (bytes : List ℕ)

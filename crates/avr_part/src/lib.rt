@@ -1,11 +1,11 @@
 //! AVR parts: what is known of them, the part file, and the chip behind its serial programming pins.
 //!
-//! Sizes and instructions are those of the parts' data sheets (ATmega328P: "Memory Programming", table "Serial Programming
-//! Instruction Set"); docs/PART.md has them all. The one idea: four bytes are decoded once, to an instruction, and that acts on
-//! memories that are lists of bytes.
+//! Sizes and instructions are those of the parts' data sheets (ATmega328P: "Memory Programming", table "Serial
+//! Programming Instruction Set"); docs/PART.md has them all. The one idea: four bytes are decoded once, to an
+//! instruction, and that acts on memories that are lists of bytes.
 //!
-//! ```
-//! let mut chip = Chip::fresh(rt.alloc(), Parts::none().find("m328p")?)?;
+//! ```text
+//! let mut chip = Chip::fresh(alloc, Parts::none().find("m328p")?)?;
 //! assert_eq!(rt; chip.spi([0x30, 0, 1, 0]), [0, 0x30, 0, 0x95]); // signature byte 1
 //! ```
 #![tactic(auto)]
@@ -36,7 +36,9 @@ pub use instruction::{Fuse, Half, Instruction};
 pub use mem::Mem;
 pub use part::Part;
 pub use part_file::parse_parts;
-pub use parts::Parts;
+pub use parts::{PartIter, Parts};
 
+#[cfg(test)]
+mod examples;
 #[cfg(test)]
 mod tests;

@@ -7,8 +7,14 @@ use std::marker::Model;
 
 /// What is known of a part. Sizes and pages are in bytes.
 ///
-/// Every part has sizes that fit one another: pages are powers of two up to 256, a page of flash holds whole words, and a
-/// memory is whole pages; flash has up to 262,144 bytes and EEPROM up to 4,096.
+/// Every part has an id of 1 to 31 ASCII letters, digits, `_` and `-`, and sizes that fit one another: pages are powers
+/// of two up to 256, a page of flash holds whole words, and a memory is whole pages; flash has up to 262,144 bytes and
+/// EEPROM up to 4,096.
+///
+/// ```text
+/// let part = Parts::none().find("m328p")?;
+/// assert_eq!(rt; part.size_of(Mem::Flash), 32_768);
+/// ```
 #[derive(Debug, Drop)]
 pub struct Part {
     pub(crate) id: ArrayString<31>,
@@ -50,6 +56,10 @@ impl Part {
     ghost use Rattle.avr_part.specs.Part.{size_of, page_of, IsPart};
 
     /// The id: 1 to 31 ASCII letters, digits, `_` and `-`.
+    ///
+    /// ```text
+    /// assert_eq!(rt; Parts::none().find("t85")?.id(), "t85");
+    /// ```
     pub fn id(&self) -> &str
         ensures { result.now ≡ self.now.id }
     {
@@ -57,13 +67,30 @@ impl Part {
     }
 
     /// The signature, byte 0 first.
+    ///
+    /// ```text
+    /// assert_eq!(rt; Parts::none().find("t85")?.signature(), [0x1E, 0x93, 0x0B]);
+    /// ```
     pub fn signature(&self) -> [u8; 3]
         ensures { result ≡ self.now.signature }
     {
         self.signature
     }
 
+    /// The same, lent.
+    pub(crate) fn signature_bytes(&self) -> &[u8]
+        ensures { result.now ≡ self.now.signature }
+    {
+        &self.signature
+    }
+
     /// The number of bytes of a memory.
+    ///
+    /// ```text
+    /// let part = Parts::none().find("m2560")?;
+    /// assert_eq!(rt; part.size_of(Mem::Eeprom), 4096);
+    /// assert_eq!(rt; part.size_of(Mem::Signature), 3);
+    /// ```
     pub fn size_of(&self, mem: Mem) -> u32
         ensures value { result ≡ size_of mem self.now }
         ensures is_part { IsPart self.now }
@@ -77,6 +104,12 @@ impl Part {
     }
 
     /// The number of bytes that are written at once: a page of flash or EEPROM, and one byte of another memory.
+    ///
+    /// ```text
+    /// let part = Parts::none().find("m2560")?;
+    /// assert_eq!(rt; part.page_of(Mem::Flash), 256);
+    /// assert_eq!(rt; part.page_of(Mem::Lock), 1);
+    /// ```
     pub fn page_of(&self, mem: Mem) -> u32
         ensures value { result ≡ page_of mem self.now }
         ensures is_part { IsPart self.now }
@@ -89,6 +122,10 @@ impl Part {
     }
 
     /// The number of the EESAVE bit in the high fuse, 0 to 7. Where that bit is 0 a chip erase keeps the EEPROM.
+    ///
+    /// ```text
+    /// assert_eq!(rt; Parts::none().find("m328p")?.eesave_bit(), 3);
+    /// ```
     pub fn eesave_bit(&self) -> u32
         ensures value { result ≡ self.now.eesave_bit }
         ensures small { result < 8 }
@@ -97,6 +134,12 @@ impl Part {
     }
 
     /// The same part again, which takes no memory.
+    ///
+    /// ```text
+    /// let part = Parts::none().find("m328p")?;
+    /// let chip = Chip::fresh(alloc, part.copied())?;
+    /// assert_eq!(rt; chip.part().id(), part.id());
+    /// ```
     pub fn copied(&self) -> Part
         ensures value { result ≡ self.now }
         ensures is_part { IsPart result }

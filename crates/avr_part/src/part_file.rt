@@ -19,9 +19,7 @@ fn judge_all(alloc: Global, table: &Table) -> Result<Vec<Part>, PartFault>
     let mut parts = Vec::new(alloc);
     for (key, value) in table {
         let part = judge_part(key.as_str(), value)?;
-        if parts.push(part).is_err() {
-            return Err(PartFault::Memory);
-        }
+        parts.push(part).map_err(|_| PartFault::Memory)?;
     }
     Ok(parts)
 }
@@ -30,13 +28,9 @@ fn judge_all(alloc: Global, table: &Table) -> Result<Vec<Part>, PartFault>
 fn judge_document(alloc: Global, document: &Table) -> Result<Vec<Part>, PartFault>
     ensures { GivesOrMemory (judged_document (table_view document.now)) (listed_items result) }
 {
-    match at_key(document, "parts") {
-        Some(value) => match value.as_table() {
-            Some(table) => judge_all(alloc, table),
-            None => Err(PartFault::BadValue(Field::Parts)),
-        },
-        None => Err(PartFault::Missing(Field::Parts)),
-    }
+    let value = at_key(document, "parts").ok_or(PartFault::Missing(Field::Parts))?;
+    let table = value.as_table().ok_or(PartFault::BadValue(Field::Parts))?;
+    judge_all(alloc, table)
 }
 
 fn read_document(alloc: Global, text: &str) -> Result<Table, PartFault>
@@ -66,16 +60,21 @@ fn text_of(bytes: &[u8]) -> Option<&str>
 /// looked at. The first fault is the answer:
 /// - [`PartFault::NotToml`]: the text is not UTF-8, or `toml` refuses it;
 /// - [`PartFault::Missing`]: a field, or the table `parts`, is not there;
-/// - [`PartFault::BadValue`]: a field's value is of another kind or out of its range, an id is not 1 to 31 letters, digits,
-///   `_` and `-`, or `parts` or a member of it is no table;
+/// - [`PartFault::BadValue`]: a field's value is of another kind or out of its range, an id is not 1 to 31 letters,
+///   digits, `_` and `-`, or `parts` or a member of it is no table;
 /// - [`PartFault::BadSizes`]: a size is no multiple of its page;
 /// - [`PartFault::Memory`]: memory was refused.
+///
+/// ```text
+/// let text = "[parts.x1]\nsignature = \"1E950F\"\nflash_size = 32768\nflash_page = 128\n\
+///     eeprom_size = 1024\neeprom_page = 4\neesave_bit = 3\n";
+/// let parts = parse_parts(alloc, text.as_bytes())?;
+/// assert_eq!(rt; parts.find("x1")?.signature(), [0x1E, 0x95, 0x0F]);
+/// ```
 pub fn parse_parts(alloc: Global, text: &[u8]) -> Result<Parts, PartFault>
     ensures { GivesOrMemory (parts_of text.now) result }
 {
-    let Some(text) = text_of(text) else {
-        return Err(PartFault::NotToml);
-    };
+    let text = text_of(text).ok_or(PartFault::NotToml)?;
     let document = read_document(alloc, text)?;
     let parts = judge_document(alloc, &document)?;
     Ok(Parts::of_file(parts))

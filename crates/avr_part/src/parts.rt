@@ -1,14 +1,20 @@
 //! The parts of a file, and how a part is found.
-ghost use Rattle.std.specs.Prelude.{◌≡◌, [], find, IfOk, option_map};
-ghost use Rattle.avr_part.specs.BuiltIn.{has_id, found};
+ghost use Rattle.std.specs.Prelude.{◌≡◌, ◌++◌, [], IfOk};
+ghost use Rattle.std.specs.Iterator.{YieldsFirst, item_count};
+ghost use Rattle.avr_part.specs.BuiltIn.{built_in_parts, found};
 ghost use Rattle.avr_part.specs.Part.{IsPart};
 
-use crate::built_in::built_in;
+use crate::built_in::built_in_at;
 use crate::fault::PartFault;
 use crate::part::Part;
 use std::marker::Model;
 
 /// The parts of a part file, in the byte order of their ids, where there is such a file.
+///
+/// ```text
+/// let part = Parts::none().find("m328p")?;
+/// assert_eq!(rt; part.id(), "m328p");
+/// ```
 #[derive(Debug, Drop)]
 pub struct Parts {
     file: Option<Vec<Part>>,
@@ -24,15 +30,12 @@ impl Model for Parts {
     ghost view = { λ p. listed p.file };
 }
 
-/// The first part of this id.
-fn find_part<'a>(parts: &'a [Part], id: &str) -> Option<&'a Part>
-    ensures { option_map (λ p. p.now) result ≡ find (has_id id.now) parts.now }
-{
-    parts.iter().find(|part| part.id() == id)
-}
-
 impl Parts {
     /// The built-in parts alone.
+    ///
+    /// ```text
+    /// assert_eq!(rt; Parts::none().iter().count(), 3);
+    /// ```
     pub fn none() -> Parts
         ensures { result ≡ [] }
     {
@@ -46,27 +49,82 @@ impl Parts {
         Parts { file: Some(parts) }
     }
 
-    /// The file's part of this id.
-    fn in_file(&self, id: &str) -> Option<&Part>
-        ensures { option_map (λ p. p.now) result ≡ find (has_id id.now) self.now }
+    /// The file's parts.
+    fn in_file(&self) -> &[Part]
+        ensures { result.now ≡ self.now }
     {
         match &self.file {
-            Some(parts) => find_part(parts.as_slice(), id),
-            None => None,
+            Some(parts) => parts.as_slice(),
+            None => &[],
+        }
+    }
+
+    /// Goes over the parts: the file's, and then the built-in ones, also those that a part of the file stands before.
+    ///
+    /// ```text
+    /// let parts = Parts::none();
+    /// let mut left = parts.iter();
+    /// assert_eq!(rt; left.next().map(|part| part.signature()), Some([0x1E, 0x95, 0x0F]));
+    /// ```
+    pub fn iter(&self) -> PartIter<'_>
+        ensures { result ≡ self.now ++ built_in_parts }
+    {
+        PartIter {
+            file: self.in_file(),
+            passed: 0,
         }
     }
 
     /// The part of this id: the file's, or else the built-in one. Takes no memory.
     ///
     /// The one fault is [`PartFault::NoSuchPart`].
-    #[tactic(auto, using(crate::proofs::Finding::found_in_file, crate::proofs::Finding::found_built_in))]
+    ///
+    /// ```text
+    /// assert_eq!(rt; Parts::none().find("t85")?.size_of(Mem::Flash), 8192);
+    /// assert_eq!(rt; Parts::none().find("m9").err(), Some(PartFault::NoSuchPart));
+    /// ```
     pub fn find(&self, id: &str) -> Result<Part, PartFault>
         ensures value { result ≡ found id.now self.now }
         ensures is_part { IfOk result IsPart }
     {
-        if let Some(part) = self.in_file(id) {
-            return Ok(part.copied());
+        self.iter()
+            .find(|part| part.id() == id)
+            .ok_or(PartFault::NoSuchPart)
+    }
+}
+
+/// Goes over parts. Contracts see it as the list of those that are left.
+#[derive(Debug, Drop)]
+pub struct PartIter<'a> {
+    file: &'a [Part],
+    /// How many built-in parts were passed.
+    passed: usize,
+}
+
+impl<'a> Model for PartIter<'a> {
+    ghost use Rattle.std.specs.Prelude.{List, ◌++◌, drop};
+    ghost use Rattle.avr_part.specs.Part.{Part};
+    ghost use Rattle.avr_part.specs.BuiltIn.{built_in_parts};
+
+    ghost Value = { List Part };
+
+    ghost view = { λ i. i.file.now ++ drop i.passed built_in_parts };
+}
+
+impl<'a> Iterator for PartIter<'a> {
+    type Item = Part;
+
+    ghost next_gives = { YieldsFirst (λ left. left) };
+
+    ghost remaining = { item_count (λ left. left) };
+
+    fn next(&mut self) -> Option<Part> {
+        if let Some((part, more)) = self.file.split_first() {
+            self.file = more;
+            return Some(part.copied());
         }
-        built_in(id).ok_or(PartFault::NoSuchPart)
+        let part = built_in_at(self.passed)?;
+        self.passed += 1;
+        Some(part)
     }
 }

@@ -1,4 +1,4 @@
-//! Examples, and what no contract says: texts, and that calls succeed.
+//! What no contract says: texts, and that calls succeed.
 #![tactic(auto)]
 
 use crate::{Chip, Field, Mem, Part, PartFault, Parts, parse_parts};
@@ -23,22 +23,6 @@ fn obeys(rt: &impl Abort, chip: &mut Chip, rows: &[([u8; 4], [u8; 4])]) {
 /// The fault of a part file.
 fn fault_of(alloc: Global, text: &str) -> Option<PartFault> {
     parse_parts(alloc, text.as_bytes()).err()
-}
-
-#[test]
-fn parts_are_found(rt: HostRuntime) -> Result<(), Fail> {
-    assert_eq!(rt; built_in(&rt, "m328p").signature(), [0x1E, 0x95, 0x0F]);
-    assert_eq!(rt; built_in(&rt, "t85").signature(), [0x1E, 0x93, 0x0B]);
-    let part = built_in(&rt, "m2560");
-    assert_eq!(rt; part.id(), "m2560");
-    assert_eq!(rt; part.size_of(Mem::Flash), 262_144);
-    assert_eq!(rt; part.page_of(Mem::Eeprom), 8);
-    assert_eq!(rt; part.size_of(Mem::Signature), 3);
-    assert_eq!(rt; part.eesave_bit(), 3);
-    assert_eq!(rt; Parts::none().find("m9").err(), Some(PartFault::NoSuchPart));
-    assert_eq!(rt; Mem::Hfuse.name(), "hfuse");
-    assert!(rt; Mem::Lock.writable() && !Mem::Signature.writable());
-    Ok(())
 }
 
 #[test]

@@ -41,7 +41,8 @@ abbrev pub or_too_long : Option RecordFault → BadFile
 or_too_long (Some fault) = Record fault
 or_too_long None = TooLong
 
--- What is wrong with a longer file of which this is the front: the first fault of a line that ends there, or the length.
+-- What is wrong with a longer file of which this is the front: the first fault of a line that ends there, or the
+-- length.
 abbrev pub long_file : Found → Bytes → ℕ → BadFile
 long_file file.Ihex front size = or_too_long (closed_fault records.Ihex front size)
 long_file file.Srec front size = or_too_long (closed_fault records.Srec front size)

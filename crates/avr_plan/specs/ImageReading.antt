@@ -50,7 +50,8 @@ FrontIsRead old new (Ok front) = ReadsFront old new front
 FrontIsRead old new (Err fault) = (fault ≡ NotRead) × BreaksOff old new
 
 -- Behind these bytes of the open file the others were read, to its end or past the limit, and the whole is this.
-pub record ReadsRest (limit : ℕ) (found : Found) (size : ℕ) (before : Bytes) (old new : Option Record) (given : Given) : Type 0 where
+pub record ReadsRest (limit : ℕ) (found : Found) (size : ℕ) (before : Bytes) (old new : Option Record)
+    (given : Given) : Type 0 where
   pub bytes : Bytes
   pub ended : Bool
   pub kept : new ≡ option_map (after_reading bytes ended) old
@@ -63,7 +64,8 @@ RestIsRead limit found size before old new (Err (Image bad)) = ReadsRest limit f
 RestIsRead limit found size before old new (Err (File fault)) = (fault ≡ NotRead) × BreaksOff old new
 
 -- The open file was read to its end or past the limit, and is this.
-pub record ReadsOpenImage (limit : ℕ) (format : Format) (size : ℕ) (old new : Option Record) (given : Given) : Type 0 where
+pub record ReadsOpenImage (limit : ℕ) (format : Format) (size : ℕ) (old new : Option Record)
+    (given : Given) : Type 0 where
   pub bytes : Bytes
   pub ended : Bool
   pub kept : new ≡ option_map (after_reading bytes ended) old
@@ -83,15 +85,16 @@ OpenIsRead limit format size old new (Err (Image bad)) = ReadsOpenImage limit fo
 OpenIsRead limit format size old new (Err (File fault)) = OpenBreaks old new fault
 
 -- The file was opened and read to its end or past the limit, and is this.
-pub record ReadsImage (limit : ℕ) (format : Format) (size : ℕ) (name : Bytes) (old new : Option Record) (given : Given) : Type 0 where
+pub record ReadsImage (limit : ℕ) (format : Format) (size : ℕ) (name : Bytes) (old new : Option Record)
+    (given : Given) : Type 0 where
   pub bytes : Bytes
   pub ended : Bool
   pub kept : new ≡ option_map (with_read name bytes ended) old
   pub whole : IsWhole limit (record { bytes = bytes; ended = ended })
   pub gives : given ≡ image_within limit format bytes size
 
--- with no such file that is noted; where it could not be opened nothing passed; where it could not be read on it gave some
--- bytes, and where memory was refused perhaps all
+-- with no such file that is noted; where it could not be opened nothing passed; where it could not be read on it gave
+-- some bytes, and where memory was refused perhaps all
 abbrev pub FileBreaks : Bytes → Option Record → Option Record → FileFault → Type 0
 FileBreaks name old new Absent = new ≡ option_map (with_absent name) old
 FileBreaks name old new NotOpened = new ≡ old
@@ -107,5 +110,6 @@ ImageIsRead limit format size name old new (Err (File fault)) = FileBreaks name 
 pub record Going (old now : Option Record) (first last : Intake) (room left : ℕ) : Type 0 where
   pub bytes : Bytes
   pub kept : now ≡ option_map (after_reading bytes false) old
-  pub feeds : (found : Found) (size : ℕ) (text : Bytes) → Takes found size first text → Takes found size last (text ++ bytes)
+  pub feeds : (found : Found) (size : ℕ) (text : Bytes) → Takes found size first text
+      → Takes found size last (text ++ bytes)
   pub count : length bytes + left ≡ room

@@ -53,7 +53,8 @@ too_long_line file limit = error (file ∷ codes ": longer than " ∷ decimal li
 abbrev pub part_file_line : Bytes → PartFault → Bytes
 part_file_line file part_fault.NotToml = error (file ∷ codes ": not TOML" ∷ [])
 part_file_line file (part_fault.Missing field) = error (file ∷ codes ": " ∷ field_name field ∷ codes " is missing" ∷ [])
-part_file_line file (part_fault.BadValue field) = error (file ∷ codes ": " ∷ field_name field ∷ codes " has a bad value" ∷ [])
+part_file_line file (part_fault.BadValue field) =
+    error (file ∷ codes ": " ∷ field_name field ∷ codes " has a bad value" ∷ [])
 part_file_line file part_fault.BadSizes = error (file ∷ codes ": sizes do not fit" ∷ [])
 part_file_line file fault = memory_line
 
@@ -68,7 +69,8 @@ record_line file line text = error (file ∷ codes ": line " ∷ decimal line �
 
 abbrev pub record_range_line : Bytes → ℕ → ℕ → Bytes
 record_range_line file line address =
-    error (file ∷ codes ": line " ∷ decimal line ∷ codes ": address " ∷ digits (big_bytes 4 address) ∷ codes " out of range" ∷ [])
+    error (file ∷ codes ": line " ∷ decimal line ∷ codes ": address " ∷ digits (big_bytes 4 address)
+    ∷ codes " out of range" ∷ [])
 
 -- (the last two come of no file)
 abbrev pub record_fault_line : Bytes → RecordFault → Bytes
@@ -104,8 +106,10 @@ read_fault_line file (read_fault.Image bad) = bad_file_line file bad
 -- (the last two come of no values)
 abbrev pub values_line : Mem → ImageFault → Bytes
 values_line memory (image_fault.OutOfRange address) = range_line (name_of memory) address
-values_line memory (image_fault.BadNumber place) = error (name_of memory ∷ codes ": value " ∷ decimal place ∷ codes ": not a number" ∷ [])
-values_line memory (image_fault.TooLarge place) = error (name_of memory ∷ codes ": value " ∷ decimal place ∷ codes ": above 255" ∷ [])
+values_line memory (image_fault.BadNumber place) =
+    error (name_of memory ∷ codes ": value " ∷ decimal place ∷ codes ": not a number" ∷ [])
+values_line memory (image_fault.TooLarge place) =
+    error (name_of memory ∷ codes ": value " ∷ decimal place ∷ codes ": above 255" ∷ [])
 values_line memory fault = memory_line
 
 abbrev pub read_only_line : Mem → Bytes

@@ -10,15 +10,16 @@ use Rattle.avr_message.specs.Said.{Saying, Opens, Line, IsBegun, IsPrefixOf, aft
 use Rattle.avr_plan.specs.Lines.{memory_line, not_opened_line, not_read_line}
 use Rattle.avr_plan.specs.Stage.{Stage, Answer, Made, Refused, Played, next_opening}
 
--- These openings passed, and what the desk was given to do is what the stage says of them, whatever later ones would give.
+-- These openings passed, and what the desk was given to do is what the stage says of them, whatever later ones would
+-- give.
 pub record Went {A : Type 0} (stage : Stage A) (old new : Option Record) (answer : Answer A) : Type 0 where
   pub passed : List Opening
   pub says : List Saying
   pub comes : (more : List Opening) → stage (passed ++ more) ≡ record { says = says; answer = answer; left = more }
   pub kept : new ≡ option_map (after_all says) old
 
--- Where it broke off: a front of the next line was printed; the next file could not be opened, or be read on behind these
--- bytes; or memory was refused, also for the next file; and a front of the line of that was printed.
+-- Where it broke off: a front of the next line was printed; the next file could not be opened, or be read on behind
+-- these bytes; or memory was refused, also for the next file; and a front of the line of that was printed.
 pub data Break : Type 0 where
   InLine : Bytes → Break
   NotOpened : Bytes → Bytes → Break
@@ -56,12 +57,14 @@ HasCause (NoMemoryFor reading front) before now = (front ≡ memory_line) ⊎ Ha
 HasCause break before now = HasFailed before now
 
 -- the rest of what a stage says of some openings
-pub record Rest {A : Type 0} (played : Played A) (whole : List Saying) (break : Break) (more : List Opening) : Type 0 where
+pub record Rest {A : Type 0} (played : Played A) (whole : List Saying) (break : Break)
+    (more : List Opening) : Type 0 where
   pub later : List Saying
   pub says_are : played.says ≡ whole ++ later
   pub broken : IsBreak break more later
 
--- These openings passed, a front of what the stage says of them was done, whatever later ones would give, and then it broke off.
+-- These openings passed, a front of what the stage says of them was done, whatever later ones would give, and then it
+-- broke off.
 pub record BrokeOff {A : Type 0} (stage : Stage A) (old new : Option Record) (before now : ℕ) : Type 0 where
   pub passed : List Opening
   pub whole : List Saying
@@ -73,4 +76,5 @@ pub record BrokeOff {A : Type 0} (stage : Stage A) (old new : Option Record) (be
 -- What was made was made by the stage; the status 1 is a refusal that was told, or a break.
 abbrev pub Goes : {A : Type 0} → Stage A → Option Record → Option Record → ℕ → ℕ → Result A ℕ → Type 0
 Goes stage old new before now (Ok a) = Went stage old new (Made a)
-Goes stage old new before now (Err status) = (status ≡ 1) × (Went stage old new Refused ⊎ BrokeOff stage old new before now)
+Goes stage old new before now (Err status) =
+    (status ≡ 1) × (Went stage old new Refused ⊎ BrokeOff stage old new before now)

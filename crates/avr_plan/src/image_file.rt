@@ -19,11 +19,11 @@ use thiserror::Error;
 /// The most bytes of an image file.
 pub(crate) const LIMIT: usize = 4_194_304;
 
-/// The most bytes that are asked of a desk at a time.
-const PIECE: usize = 4096;
-
-/// How many bytes of a file show its format.
+/// How many bytes of a file show its format. They are held beside each piece of it.
 const FRONT: usize = 1024;
+
+/// The most bytes that are asked of a desk at a time, so that 4,096 are held in all.
+const PIECE: usize = 4096 - FRONT;
 
 /// Why no image came of a file. It shows as the reason alone, without the file's name.
 #[derive(Clone, Copy, Debug, PartialEq, Eq, Error)]
@@ -81,7 +81,8 @@ fn read_front<D: Desk>(desk: &mut D) -> Result<Front, FileFault>
 
 /// What the whole file is.
 fn finish(intake: Intake) -> Result<(Image, Ending), ReadFault>
-    ensures given { (found : AnyFound) (size : ℕ) (text : Bytes) → Takes found size intake text → IsGiven (whole_file found text size) result }
+    ensures given { (found : AnyFound) (size : ℕ) (text : Bytes) → Takes found size intake text
+        → IsGiven (whole_file found text size) result }
     ensures counted { IfErr result (λ fault. (old : ℕ) (new : ℕ) → IsCountedRead old new fault) }
 {
     match intake.finish() {
@@ -97,7 +98,8 @@ fn read_rest<D: Desk>(
     mut left: usize,
 ) -> Result<(Image, Ending), ReadFault>
     requires { counted intake + left < 2 ^ 31 }
-    ensures read { (limit : ℕ) (found : AnyFound) (size : ℕ) (before : Bytes) → Takes found size intake before → length before + left ≡ limit
+    ensures read { (limit : ℕ) (found : AnyFound) (size : ℕ) (before : Bytes) → Takes found size intake before
+        → length before + left ≡ limit
         → RestIsRead limit found size before (D.kept desk.old) (D.kept desk.new) result }
     ensures rises { D.failures desk.old ≤ D.failures desk.new }
     ensures counted { IfErr result (IsCountedRead (D.failures desk.old) (D.failures desk.new)) }
@@ -147,15 +149,17 @@ fn read_open<D: Desk>(
     read_rest(desk, intake, limit - bytes.len())
 }
 
-/// Reads an image file: opens it, reads it to its end or until more than 4,194,304 bytes came, in pieces of at most 4,096,
-/// and then tells what it is to a memory of `size` bytes. No more than a piece is held beside the image.
+/// Reads an image file: opens it, reads it to its end or until more than 4,194,304 bytes came, in pieces of at most
+/// 3,072, and then tells what it is to a memory of `size` bytes. Of the file no more than 4,096 bytes are held at a
+/// time.
 ///
-/// The name `-` is standard input. Intel HEX, S-records and raw bytes are read as such; for any other `format` the first 1,024
-/// bytes show which of them it is, or that it is ELF. Where the answer is an image, it has a place for each byte of the memory.
+/// The name `-` is standard input. Intel HEX, S-records and raw bytes are read as such; for any other `format` the
+/// first 1,024 bytes show which of them it is, or that it is ELF. Where the answer is an image, it has a place for each
+/// byte of the memory.
 ///
-/// The answer is `ReadFault::File` where the file is not there or can't be opened or read on, and where memory is refused; else
-/// `ReadFault::Image` of the first thing wrong with it. Of a file past the limit only a line that ends within it is judged; where
-/// none is at fault it is `BadFile::TooLong`.
+/// The answer is `ReadFault::File` where the file is not there or can't be opened or read on, and where memory is
+/// refused; else `ReadFault::Image` of the first thing wrong with it. Of a file past the limit only a line that ends
+/// within it is judged; where none is at fault it is `BadFile::TooLong`.
 ///
 /// ```text
 /// let (image, ending) = read_image(alloc, &mut desk, "app.hex", Format::Auto, 32_768)?;

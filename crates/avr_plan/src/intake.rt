@@ -21,7 +21,8 @@ pub(crate) enum Intake {
 
 /// A reader of a record file.
 fn record_intake(alloc: Global, kind: Kind, size: u32) -> Result<Intake, FileFault>
-    ensures { MatchResult result (λ intake. Takes (found_as kind) size intake [] × (counted intake ≡ 0)) (λ fault. fault ≡ FileFault.Memory) }
+    ensures { MatchResult result (λ intake. Takes (found_as kind) size intake [] × (counted intake ≡ 0))
+        (λ fault. fault ≡ FileFault.Memory) }
 {
     match RecordReader::new(alloc, kind, size) {
         Ok(reader) => Ok(Intake::Records(reader)),
@@ -31,7 +32,8 @@ fn record_intake(alloc: Global, kind: Kind, size: u32) -> Result<Intake, FileFau
 
 /// A reader of raw bytes.
 fn raw_intake(alloc: Global, size: u32) -> Result<Intake, FileFault>
-    ensures { MatchResult result (λ intake. Takes Found.Raw size intake [] × (counted intake ≡ 0)) (λ fault. fault ≡ FileFault.Memory) }
+    ensures { MatchResult result (λ intake. Takes Found.Raw size intake [] × (counted intake ≡ 0))
+        (λ fault. fault ≡ FileFault.Memory) }
 {
     match RawReader::new(alloc, size) {
         Ok(reader) => Ok(Intake::Raw(reader)),
@@ -52,7 +54,8 @@ fn in_long_file(fault: BadFile) -> BadFile
 impl Intake {
     /// For a file of this kind and a memory of this size, before any byte.
     pub(crate) fn new(alloc: Global, found: Found, size: u32) -> Result<Intake, FileFault>
-        ensures { MatchResult result (λ intake. Takes found size intake [] × (counted intake ≡ 0)) (λ fault. fault ≡ FileFault.Memory) }
+        ensures { MatchResult result (λ intake. Takes found size intake [] × (counted intake ≡ 0))
+            (λ fault. fault ≡ FileFault.Memory) }
     {
         match found {
             Found::Ihex => record_intake(alloc, Kind::Ihex, size),
@@ -65,7 +68,8 @@ impl Intake {
     /// With the next bytes of the file. The first fault is kept.
     pub(crate) fn fed(self, piece: &[u8]) -> Intake
         requires { counted self + length piece.now < 2 ^ 32 }
-        ensures takes { (found : AnyFound) (size : ℕ) (text : Bytes) → Takes found size self text → Takes found size result (text ++ piece.now) }
+        ensures takes { (found : AnyFound) (size : ℕ) (text : Bytes) → Takes found size self text
+            → Takes found size result (text ++ piece.now) }
         ensures count { counted result ≤ counted self + length piece.now }
     {
         match self {
@@ -83,7 +87,8 @@ impl Intake {
 
     /// What the whole file is.
     pub(crate) fn finish(self) -> Result<(Image, Ending), BadFile>
-        ensures { (found : AnyFound) (size : ℕ) (text : Bytes) → Takes found size self text → result ≡ whole_file found text size }
+        ensures { (found : AnyFound) (size : ℕ) (text : Bytes) → Takes found size self text
+            → result ≡ whole_file found text size }
     {
         match self {
             Intake::Records(reader) => reader.finish().map_err(BadFile::Record),
@@ -97,7 +102,8 @@ impl Intake {
 
     /// What is wrong with the file, of which this was the front.
     pub(crate) fn exceeded(self) -> BadFile
-        ensures { (found : AnyFound) (size : ℕ) (text : Bytes) → Takes found size self text → result ≡ long_file found text size }
+        ensures { (found : AnyFound) (size : ℕ) (text : Bytes) → Takes found size self text
+            → result ≡ long_file found text size }
     {
         match self {
             Intake::Records(_) => BadFile::TooLong,

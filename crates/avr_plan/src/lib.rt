@@ -1,8 +1,9 @@
 //! The plan of a run: what the settings ask for is read and judged, before any frame is sent or file created.
 //!
-//! The rules are those of AVRDUDE's `-U`: a part is looked up, in the part file before the built-in parts, and the file of
-//! each update becomes an image of its memory. The one idea: planning is a function of what the openings of files give, and
-//! what a call does at the desk and answers is that function, over the openings that passed and whatever might follow.
+//! The rules are those of AVRDUDE's `-U`: a part is looked up, in the part file before the built-in parts, and the file
+//! of each update becomes an image of its memory. The one idea: planning is a function of what the openings of files
+//! give, and what a call does at the desk and answers is that function, over the openings that passed and whatever
+//! might follow.
 //!
 //! ```text
 //! match plan(alloc, &settings, &mut desk) {

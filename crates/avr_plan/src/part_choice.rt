@@ -14,7 +14,8 @@ const LIMIT: usize = 65_536;
 
 /// The parts of a part file.
 fn file_parts<D: Desk>(alloc: Global, desk: &mut D, file: &str) -> Result<Parts, u8>
-    ensures goes { Goes (parts_stage (Some file.now)) (D.kept desk.old) (D.kept desk.new) (D.failures desk.old) (D.failures desk.new) result }
+    ensures goes { Goes (parts_stage (Some file.now)) (D.kept desk.old) (D.kept desk.new) (D.failures desk.old)
+        (D.failures desk.new) result }
     ensures rises { D.failures desk.old ≤ D.failures desk.new }
 {
     let contents = match read_file(alloc, desk, file, LIMIT) {
@@ -32,10 +33,11 @@ fn file_parts<D: Desk>(alloc: Global, desk: &mut D, file: &str) -> Result<Parts,
 
 /// The parts of the part file, or none where no file is given.
 ///
-/// The file has at most 65,536 bytes. Where it can't be read, is longer or is no part file, and where memory is refused, the
-/// line that tells why was printed, as far as the desk takes it, and the answer is the status, 1.
+/// The file has at most 65,536 bytes. Where it can't be read, is longer or is no part file, and where memory is
+/// refused, the line that tells why was printed, as far as the desk takes it, and the answer is the status, 1.
 pub fn given_parts<D: Desk>(alloc: Global, desk: &mut D, file: &Option<Text>) -> Result<Parts, u8>
-    ensures goes { Goes (parts_stage file.now) (D.kept desk.old) (D.kept desk.new) (D.failures desk.old) (D.failures desk.new) result }
+    ensures goes { Goes (parts_stage file.now) (D.kept desk.old) (D.kept desk.new) (D.failures desk.old)
+        (D.failures desk.new) result }
     ensures rises { D.failures desk.old ≤ D.failures desk.new }
 {
     match file {
@@ -46,15 +48,16 @@ pub fn given_parts<D: Desk>(alloc: Global, desk: &mut D, file: &Option<Text>) ->
 
 /// The part of this id, in the parts of the part file before the built-in ones.
 ///
-/// Where there is none the line `avrstk: error: no part ID` was printed, as far as the desk takes it, and the answer is the
-/// status, 1.
+/// Where there is none the line `avrstk: error: no part ID` was printed, as far as the desk takes it, and the answer is
+/// the status, 1.
 ///
 /// ```text
 /// let parts = given_parts(alloc, &mut desk, &settings.parts)?;
 /// let part = chosen_part(&mut desk, &parts, "m328p")?;
 /// ```
 pub fn chosen_part<D: Desk>(desk: &mut D, parts: &Parts, id: &str) -> Result<Part, u8>
-    ensures goes { Goes (part_stage id.now parts.now) (D.kept desk.old) (D.kept desk.new) (D.failures desk.old) (D.failures desk.new) result }
+    ensures goes { Goes (part_stage id.now parts.now) (D.kept desk.old) (D.kept desk.new) (D.failures desk.old)
+        (D.failures desk.new) result }
     ensures rises { D.failures desk.old ≤ D.failures desk.new }
 {
     match parts.find(id) {

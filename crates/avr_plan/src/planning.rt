@@ -118,15 +118,16 @@ fn update_tasks<D: Desk>(
     Ok(tasks)
 }
 
-/// Makes the plan of a run: reads and judges the part file, looks the part up, and then reads and judges the file of each
-/// update in order. A missing end record is warned of, unless warnings are off.
+/// Makes the plan of a run: reads and judges the part file, looks the part up, and then reads and judges the file of
+/// each update in order. A missing end record is warned of, unless warnings are off.
 ///
 /// Every file is opened anew and read to its end, or past its limit, before it is judged. No file is created.
 ///
-/// The first refusal prints its line, and the answer is the status, 1. It is also 1 where the desk fails or memory is refused;
-/// then nothing more is opened, and the line of that was printed as far as the desk takes it.
+/// The first refusal prints its line, and the answer is the status, 1. It is also 1 where the desk fails or memory is
+/// refused; then nothing more is opened, and the line of that was printed as far as the desk takes it.
 pub fn plan<D: Desk>(alloc: Global, settings: &Settings, desk: &mut D) -> Result<Plan, u8>
-    ensures goes { Goes (planned settings.now) (D.kept desk.old) (D.kept desk.new) (D.failures desk.old) (D.failures desk.new) result }
+    ensures goes { Goes (planned settings.now) (D.kept desk.old) (D.kept desk.new) (D.failures desk.old)
+        (D.failures desk.new) result }
     ensures rises { D.failures desk.old ≤ D.failures desk.new }
 {
     let parts = given_parts(alloc, desk, &settings.parts)?;

@@ -16,7 +16,8 @@ use avr_records::RecordFault;
 /// Prints a line `avrstk: error: ..` of these pieces, as far as the desk takes it, and answers the status, 1.
 pub fn refuse<D: Desk>(desk: &mut D, pieces: &[Piece<'_>]) -> u8
     ensures status { result ≡ 1 }
-    ensures told { IsTold (D.kept desk.old) (D.kept desk.new) (error (map text_of pieces.now)) (D.failures desk.old) (D.failures desk.new) }
+    ensures told { IsTold (D.kept desk.old) (D.kept desk.new) (error (map text_of pieces.now)) (D.failures desk.old)
+        (D.failures desk.new) }
     ensures rises { D.failures desk.old ≤ D.failures desk.new }
 {
     let _ = print_error(desk, pieces);
@@ -35,7 +36,8 @@ pub fn refuse_memory<D: Desk>(desk: &mut D) -> u8
 /// Tells that a file could not be opened.
 fn refuse_unopened<D: Desk>(desk: &mut D, file: &str) -> u8
     ensures status { result ≡ 1 }
-    ensures told { IsTold (D.kept desk.old) (D.kept desk.new) (not_opened_line file.now) (D.failures desk.old) (D.failures desk.new) }
+    ensures told { IsTold (D.kept desk.old) (D.kept desk.new) (not_opened_line file.now) (D.failures desk.old)
+        (D.failures desk.new) }
     ensures rises { D.failures desk.old ≤ D.failures desk.new }
 {
     refuse(
@@ -44,11 +46,12 @@ fn refuse_unopened<D: Desk>(desk: &mut D, file: &str) -> u8
     )
 }
 
-/// Tells why a file was not read, and answers 1: `FILE: cannot be opened`, also where it is not there, `FILE: cannot be read`
-/// or `out of memory`.
+/// Tells why a file was not read, and answers 1: `FILE: cannot be opened`, also where it is not there, `FILE: cannot be
+/// read` or `out of memory`.
 pub fn refuse_file<D: Desk>(desk: &mut D, file: &str, fault: FileFault) -> u8
     ensures status { result ≡ 1 }
-    ensures told { IsTold (D.kept desk.old) (D.kept desk.new) (file_fault_line file.now fault) (D.failures desk.old) (D.failures desk.new) }
+    ensures told { IsTold (D.kept desk.old) (D.kept desk.new) (file_fault_line file.now fault) (D.failures desk.old)
+        (D.failures desk.new) }
     ensures rises { D.failures desk.old ≤ D.failures desk.new }
 {
     match fault {
@@ -62,7 +65,8 @@ pub fn refuse_file<D: Desk>(desk: &mut D, file: &str, fault: FileFault) -> u8
 /// Tells that a file has more bytes than `limit`, `FILE: longer than 65536 bytes`, and answers 1.
 pub fn refuse_too_long<D: Desk>(desk: &mut D, file: &str, limit: u32) -> u8
     ensures status { result ≡ 1 }
-    ensures told { IsTold (D.kept desk.old) (D.kept desk.new) (too_long_line file.now limit) (D.failures desk.old) (D.failures desk.new) }
+    ensures told { IsTold (D.kept desk.old) (D.kept desk.new) (too_long_line file.now limit) (D.failures desk.old)
+        (D.failures desk.new) }
     ensures rises { D.failures desk.old ≤ D.failures desk.new }
 {
     refuse(
@@ -80,7 +84,8 @@ pub fn refuse_too_long<D: Desk>(desk: &mut D, file: &str, limit: u32) -> u8
 fn refuse_field<'a, D: Desk>(desk: &mut D, file: &'a str, field: Field, wrong: &'a str) -> u8
     ensures status { result ≡ 1 }
     ensures told { IsTold
-        (D.kept desk.old) (D.kept desk.new) (error (file.now ∷ codes ": " ∷ field_name field ∷ wrong.now ∷ [])) (D.failures desk.old) (D.failures desk.new) }
+        (D.kept desk.old) (D.kept desk.new) (error (file.now ∷ codes ": " ∷ field_name field ∷ wrong.now ∷ []))
+        (D.failures desk.old) (D.failures desk.new) }
     ensures rises { D.failures desk.old ≤ D.failures desk.new }
 {
     refuse(
@@ -97,7 +102,8 @@ fn refuse_field<'a, D: Desk>(desk: &mut D, file: &'a str, field: Field, wrong: &
 /// Tells what is wrong with a part file.
 pub(crate) fn refuse_part_file<D: Desk>(desk: &mut D, file: &str, fault: PartFault) -> u8
     ensures status { result ≡ 1 }
-    ensures told { IsTold (D.kept desk.old) (D.kept desk.new) (part_file_line file.now fault) (D.failures desk.old) (D.failures desk.new) }
+    ensures told { IsTold (D.kept desk.old) (D.kept desk.new) (part_file_line file.now fault) (D.failures desk.old)
+        (D.failures desk.new) }
     ensures rises { D.failures desk.old ≤ D.failures desk.new }
 {
     match fault {
@@ -116,7 +122,8 @@ pub(crate) fn refuse_part_file<D: Desk>(desk: &mut D, file: &str, fault: PartFau
 /// Tells that there is no part of this id.
 pub(crate) fn refuse_part<D: Desk>(desk: &mut D, id: &str) -> u8
     ensures status { result ≡ 1 }
-    ensures told { IsTold (D.kept desk.old) (D.kept desk.new) (no_part_line id.now) (D.failures desk.old) (D.failures desk.new) }
+    ensures told { IsTold (D.kept desk.old) (D.kept desk.new) (no_part_line id.now) (D.failures desk.old)
+        (D.failures desk.new) }
     ensures rises { D.failures desk.old ≤ D.failures desk.new }
 {
     refuse(desk, &[Piece::Text("no part "), Piece::Text(id)])
@@ -125,7 +132,8 @@ pub(crate) fn refuse_part<D: Desk>(desk: &mut D, id: &str) -> u8
 /// Tells what is wrong with a line of a file.
 fn refuse_line<'a, D: Desk>(desk: &mut D, file: &'a str, line: u32, wrong: &'a str) -> u8
     ensures status { result ≡ 1 }
-    ensures told { IsTold (D.kept desk.old) (D.kept desk.new) (record_line file.now line wrong.now) (D.failures desk.old) (D.failures desk.new) }
+    ensures told { IsTold (D.kept desk.old) (D.kept desk.new) (record_line file.now line wrong.now)
+        (D.failures desk.old) (D.failures desk.new) }
     ensures rises { D.failures desk.old ≤ D.failures desk.new }
 {
     refuse(
@@ -142,7 +150,8 @@ fn refuse_line<'a, D: Desk>(desk: &mut D, file: &'a str, line: u32, wrong: &'a s
 /// Tells that a line of a file goes past the memory.
 fn refuse_line_range<D: Desk>(desk: &mut D, file: &str, line: u32, address: u32) -> u8
     ensures status { result ≡ 1 }
-    ensures told { IsTold (D.kept desk.old) (D.kept desk.new) (record_range_line file.now line address) (D.failures desk.old) (D.failures desk.new) }
+    ensures told { IsTold (D.kept desk.old) (D.kept desk.new) (record_range_line file.now line address)
+        (D.failures desk.old) (D.failures desk.new) }
     ensures rises { D.failures desk.old ≤ D.failures desk.new }
 {
     refuse(
@@ -161,7 +170,8 @@ fn refuse_line_range<D: Desk>(desk: &mut D, file: &str, line: u32, address: u32)
 /// Tells what is wrong with a record file.
 fn refuse_record<D: Desk>(desk: &mut D, file: &str, fault: RecordFault) -> u8
     ensures status { result ≡ 1 }
-    ensures told { IsTold (D.kept desk.old) (D.kept desk.new) (record_fault_line file.now fault) (D.failures desk.old) (D.failures desk.new) }
+    ensures told { IsTold (D.kept desk.old) (D.kept desk.new) (record_fault_line file.now fault) (D.failures desk.old)
+        (D.failures desk.new) }
     ensures rises { D.failures desk.old ≤ D.failures desk.new }
 {
     match fault {
@@ -181,7 +191,8 @@ fn refuse_record<D: Desk>(desk: &mut D, file: &str, fault: RecordFault) -> u8
 /// Tells that an address lies outside a memory.
 fn refuse_range<D: Desk>(desk: &mut D, name: &str, address: u32) -> u8
     ensures status { result ≡ 1 }
-    ensures told { IsTold (D.kept desk.old) (D.kept desk.new) (range_line name.now address) (D.failures desk.old) (D.failures desk.new) }
+    ensures told { IsTold (D.kept desk.old) (D.kept desk.new) (range_line name.now address) (D.failures desk.old)
+        (D.failures desk.new) }
     ensures rises { D.failures desk.old ≤ D.failures desk.new }
 {
     refuse(
@@ -198,7 +209,8 @@ fn refuse_range<D: Desk>(desk: &mut D, name: &str, address: u32) -> u8
 /// Tells what is wrong with raw bytes.
 fn refuse_raw<D: Desk>(desk: &mut D, file: &str, fault: ImageFault) -> u8
     ensures status { result ≡ 1 }
-    ensures told { IsTold (D.kept desk.old) (D.kept desk.new) (raw_fault_line file.now fault) (D.failures desk.old) (D.failures desk.new) }
+    ensures told { IsTold (D.kept desk.old) (D.kept desk.new) (raw_fault_line file.now fault) (D.failures desk.old)
+        (D.failures desk.new) }
     ensures rises { D.failures desk.old ≤ D.failures desk.new }
 {
     match fault {
@@ -211,7 +223,8 @@ fn refuse_raw<D: Desk>(desk: &mut D, file: &str, fault: ImageFault) -> u8
 /// Tells why a file is no image.
 fn refuse_bad_file<D: Desk>(desk: &mut D, file: &str, fault: BadFile) -> u8
     ensures status { result ≡ 1 }
-    ensures told { IsTold (D.kept desk.old) (D.kept desk.new) (bad_file_line file.now fault) (D.failures desk.old) (D.failures desk.new) }
+    ensures told { IsTold (D.kept desk.old) (D.kept desk.new) (bad_file_line file.now fault) (D.failures desk.old)
+        (D.failures desk.new) }
     ensures rises { D.failures desk.old ≤ D.failures desk.new }
 {
     match fault {
@@ -225,7 +238,8 @@ fn refuse_bad_file<D: Desk>(desk: &mut D, file: &str, fault: BadFile) -> u8
 /// Tells why no image came of a file.
 pub(crate) fn refuse_image<D: Desk>(desk: &mut D, file: &str, fault: ReadFault) -> u8
     ensures status { result ≡ 1 }
-    ensures told { IsTold (D.kept desk.old) (D.kept desk.new) (read_fault_line file.now fault) (D.failures desk.old) (D.failures desk.new) }
+    ensures told { IsTold (D.kept desk.old) (D.kept desk.new) (read_fault_line file.now fault) (D.failures desk.old)
+        (D.failures desk.new) }
     ensures rises { D.failures desk.old ≤ D.failures desk.new }
 {
     match fault {
@@ -238,7 +252,8 @@ pub(crate) fn refuse_image<D: Desk>(desk: &mut D, file: &str, fault: ReadFault) 
 fn refuse_value<D: Desk>(desk: &mut D, memory: Mem, place: u32, wrong: &str) -> u8
     ensures status { result ≡ 1 }
     ensures told { IsTold
-        (D.kept desk.old) (D.kept desk.new) (error (name_of memory ∷ codes ": value " ∷ decimal place ∷ wrong.now ∷ [])) (D.failures desk.old) (D.failures desk.new) }
+        (D.kept desk.old) (D.kept desk.new) (error (name_of memory ∷ codes ": value " ∷ decimal place ∷ wrong.now ∷ []))
+        (D.failures desk.old) (D.failures desk.new) }
     ensures rises { D.failures desk.old ≤ D.failures desk.new }
 {
     refuse(
@@ -255,7 +270,8 @@ fn refuse_value<D: Desk>(desk: &mut D, memory: Mem, place: u32, wrong: &str) -> 
 /// Tells what is wrong with the values for a memory.
 pub(crate) fn refuse_values<D: Desk>(desk: &mut D, memory: Mem, fault: ImageFault) -> u8
     ensures status { result ≡ 1 }
-    ensures told { IsTold (D.kept desk.old) (D.kept desk.new) (values_line memory fault) (D.failures desk.old) (D.failures desk.new) }
+    ensures told { IsTold (D.kept desk.old) (D.kept desk.new) (values_line memory fault) (D.failures desk.old)
+        (D.failures desk.new) }
     ensures rises { D.failures desk.old ≤ D.failures desk.new }
 {
     match fault {
@@ -270,7 +286,8 @@ pub(crate) fn refuse_values<D: Desk>(desk: &mut D, memory: Mem, fault: ImageFaul
 /// Tells that a memory can't be written.
 pub(crate) fn refuse_write<D: Desk>(desk: &mut D, memory: Mem) -> u8
     ensures status { result ≡ 1 }
-    ensures told { IsTold (D.kept desk.old) (D.kept desk.new) (read_only_line memory) (D.failures desk.old) (D.failures desk.new) }
+    ensures told { IsTold (D.kept desk.old) (D.kept desk.new) (read_only_line memory) (D.failures desk.old)
+        (D.failures desk.new) }
     ensures rises { D.failures desk.old ≤ D.failures desk.new }
 {
     refuse(

@@ -5,6 +5,7 @@ use Rattle.std.specs.List.{list_all, flat_map}
 use Rattle.std.proofs.lemmas.Bool.{cases_eq}
 use Rattle.std.proofs.lemmas.Bool.Decides.{nat_tests}
 use Rattle.std.proofs.lemmas.List.{append_assoc, length-append, take_at}
+use Rattle.avr_image.specs.Runs.{places_of}
 use Rattle.hex.specs.Hex.{IsBytes, encode_upper, upper_digits}
 use Rattle.hex.proofs.HexLemmas.{length-encode_with}
 use Rattle.avr_records.specs.Lines.{lines}
@@ -17,7 +18,7 @@ use Rattle.avr_records.specs.declared.kind.Kind.TheVariants.{Ihex}
 use Rattle.avr_records.specs.declared.kind.Base.TheVariants.{Linear}
 use Rattle.avr_records.specs.declared.fault.LineFault.{LineFault}
 use Rattle.avr_records.specs.declared.fault.LineFault.TheVariants.{Length, Sum}
-use Rattle.avr_records.proofs.WrittenRows.{IsBytes-nil, IsBytes-cons, IsBytes-append, IsRow, Every, rows_behind-are, bytes_at, rows-hold}
+use Rattle.avr_records.proofs.WrittenRows.{IsBytes-nil, IsBytes-cons, IsBytes-append, IsRow, Every, rows_behind-are, rows-hold}
 use Rattle.avr_records.proofs.WrittenLines.{is_plain, plain-digits, encode-digits, bytes_of-encode, says-plain, lines-plain, lines-written, sum-push}
 use Rattle.avr_records.proofs.Rereading.{AllGoOn, then_end, threaded, together-standing, places-linear}
 
@@ -78,7 +79,7 @@ abbrev upper_said : ℕ → ℕ → List Said
 upper_said old new = if new == old then [] else Ok (Rebase (Linear new)) ∷ []
 
 -- what the rows say, where this upper half is in force
-abbrev rows_said : ℕ → List (ℕ × List ℕ) → List Said
+abbrev pub rows_said : ℕ → List (ℕ × List ℕ) → List Said
 rows_said upper [] = []
 rows_said upper (row ∷ rows) = upper_said upper (row.0 / 65536) ++ Ok (Data (row.0 % 65536) row.1) ∷ rows_said (row.0 / 65536) rows
 
@@ -99,7 +100,7 @@ upper-lines old new rest below =
     ]
 
 -- the lines of the rows, and of the end record
-lines-said : (upper end : ℕ) (rows : List (ℕ × List ℕ)) → end ≤ 2 ^ 32 → Every (IsRow ihex_row_size end) rows
+pub lines-said : (upper end : ℕ) (rows : List (ℕ × List ℕ)) → end ≤ 2 ^ 32 → Every (IsRow ihex_row_size end) rows
     → map (says Ihex) (lines (ihex_rows upper rows)) ≡ rows_said upper rows ++ Ok End ∷ Ok Nothing ∷ []
 lines-said upper end [] fits all =
     let plain = plain-line 1 0 [] (omega arith) (omega arith) IsBytes-nil in
@@ -125,7 +126,7 @@ upper-goes_on : (same : Bool) (new : ℕ) (more : List Said) → AllGoOn more �
 upper-goes_on true new more on = on
 upper-goes_on false new more on = (tt, on)
 
-rows-go_on : (upper : ℕ) (cut : List (ℕ × List ℕ)) → AllGoOn (rows_said upper cut)
+pub rows-go_on : (upper : ℕ) (cut : List (ℕ × List ℕ)) → AllGoOn (rows_said upper cut)
 rows-go_on upper [] = tt
 rows-go_on upper (row ∷ more) =
     let high : ℕ = row.0 / 65536 in
@@ -140,7 +141,7 @@ upper-threaded old new more =
       | inr other ↦ let test : (new == old) ≡ false = grind (arith, nat_tests) in rw test refl
     ]
 
-rows-threaded : (upper : ℕ) (rows : List (ℕ × List ℕ)) → threaded (Linear upper) (then_end (rows_said upper rows)) ≡ flat_map bytes_at rows
+pub rows-threaded : (upper : ℕ) (rows : List (ℕ × List ℕ)) → threaded (Linear upper) (then_end (rows_said upper rows)) ≡ flat_map places_of rows
 rows-threaded upper [] = refl
 rows-threaded upper (row ∷ rows) =
     let high : ℕ = row.0 / 65536 in
@@ -148,7 +149,7 @@ rows-threaded upper (row ∷ rows) =
     ap (threaded (Linear upper)) (append_assoc (upper_said upper high) (Ok (Data (row.0 % 65536) row.1) ∷ rows_said high rows) (Ok End ∷ []))
     ∙ upper-threaded upper high (Ok (Data (row.0 % 65536) row.1) ∷ then_end (rows_said high rows))
     ∙ ap (λ (front : List (ℕ × ℕ)). front ++ threaded (Linear high) (then_end (rows_said high rows))) (places-linear high (row.0 % 65536) row.0 row.1 place)
-    ∙ ap (λ (more : List (ℕ × ℕ)). bytes_at row ++ more) (rows-threaded high rows)
+    ∙ ap (λ (more : List (ℕ × ℕ)). places_of row ++ more) (rows-threaded high rows)
 
 pub ihex-reads-back : ReadsBack Ihex ihex_text
 ihex-reads-back base size bytes below held all =

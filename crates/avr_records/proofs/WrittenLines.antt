@@ -1,15 +1,16 @@
 -- How a written line reads.
-use Rattle.std.proofs.Common.{◌≡◌, ◌∙◌, ap, refl, arith, ℕ, ◌+◌, ◌-◌, ◌≤◌, nat_lt, Bool, true, false, not, ◌&&◌, List, [], ◌∷◌, ◌++◌, length, get_or, fold, inl, inr, Result, Ok, Err}
+use Rattle.std.proofs.Common.{◌≡◌, ◌∙◌, sym, ap, refl, arith, ℕ, ◌+◌, ◌-◌, ◌≤◌, nat_lt, Bool, true, false, not, ◌&&◌, List, [], ◌∷◌, ◌++◌, length, take, get_or, fold, inl, inr, Result, Ok, Err}
 use Rattle.std.specs.Prelude.{if◌then◌else◌}
 use Rattle.std.specs.List.{list_all, onto_first, suffix_len}
 use Rattle.std.proofs.lemmas.Bool.{cases_eq, and_parts}
 use Rattle.std.proofs.lemmas.Bool.Decides.{nat_tests}
-use Rattle.std.proofs.lemmas.List.{take_all, append_assoc}
+use Rattle.std.proofs.lemmas.List.{take_all, take_at, append_assoc, length-append}
 use Rattle.std.proofs.lemmas.List.Splits.{slice_split-cons_no}
 use Rattle.std.proofs.lemmas.List.Sums.{list_all-from_AllPass, AllPass-from_list_all, suffix_len_is, fold-append}
 use Rattle.hex.specs.Hex.{IsBytes, is_hex_digit, decode_of, encode_upper}
 use Rattle.hex.proofs.HexLemmas.{decode_of-encode_upper, decode_of-ok}
 use Rattle.avr_records.specs.Lines.{lines, is_line_end, is_blank, trimmed}
+use Rattle.avr_records.specs.Text.{IsLine}
 use Rattle.avr_records.specs.Record.{Record, bytes_of, decoded, line_says, longest, unless_empty}
 use Rattle.avr_records.specs.declared.fault.LineFault.{LineFault}
 use Rattle.avr_records.specs.declared.fault.LineFault.TheVariants.{Digit, TooLong}
@@ -82,6 +83,38 @@ lines-plain (c ∷ cs) rest plain =
 
 pub lines-written : (line rest : List ℕ) → list_all is_plain line ≡ true → lines ((line ++ 10 ∷ []) ++ rest) ≡ line ∷ lines rest
 lines-written line rest plain = ap lines (append_assoc line (10 ∷ []) rest) ∙ lines-plain line rest plain
+
+-- ---- a record is one line
+
+open-lines : (line : List ℕ) → list_all (λ c. not (is_line_end c)) line ≡ true → lines (line ++ 10 ∷ []) ≡ line ∷ [] ∷ []
+open-lines [] all = refl
+open-lines (c ∷ cs) all =
+    let parts = and_parts (not (is_line_end c)) (list_all (λ c. not (is_line_end c)) cs) all in
+    let goes_on : is_line_end c ≡ false = grind (arith, parts.0) in
+    slice_split-cons_no is_line_end c (cs ++ 10 ∷ []) goes_on ∙ ap (onto_first c) (open-lines cs parts.1)
+
+open-plain : (cs : List ℕ) → list_all is_plain cs ≡ true → list_all (λ c. not (is_line_end c)) cs ≡ true
+open-plain [] all = refl
+open-plain (c ∷ cs) all =
+    let parts = and_parts (is_plain c) (list_all is_plain cs) all in
+    rw (and_parts (not (is_line_end c)) (not (is_blank c)) parts.0).0 (open-plain cs parts.1)
+
+open-append : (front back : List ℕ) → list_all (λ c. not (is_line_end c)) front ≡ true → list_all (λ c. not (is_line_end c)) back ≡ true
+    → list_all (λ c. not (is_line_end c)) (front ++ back) ≡ true
+open-append [] back all more = more
+open-append (c ∷ cs) back all more =
+    let parts = and_parts (not (is_line_end c)) (list_all (λ c. not (is_line_end c)) cs) all in
+    rw parts.0 (open-append cs back parts.1 more)
+
+pub is-line : (marks bytes text : List ℕ) → list_all (λ c. not (is_line_end c)) marks ≡ true → IsBytes bytes
+    → text ≡ (marks ++ encode_upper bytes) ++ 10 ∷ [] → IsLine text
+is-line marks bytes text plain all is =
+    let line : List ℕ = marks ++ encode_upper bytes in
+    let whole : lines (line ++ 10 ∷ []) ≡ line ∷ [] ∷ [] =
+    open-lines line (open-append marks (encode_upper bytes) plain (open-plain (encode_upper bytes) (plain-digits (encode_upper bytes) (encode-digits bytes all)))) in
+    let front : take (length (line ++ 10 ∷ []) - 1) (line ++ 10 ∷ []) ≡ line =
+    ap (λ (n : ℕ). take n (line ++ 10 ∷ [])) (omega (arith, length-append line (10 ∷ []))) ∙ take_at line (10 ∷ []) (length line) refl in
+    rw is (whole ∙ ap (λ (first : List ℕ). first ∷ [] ∷ []) (sym front))
 
 -- the sum with one more byte
 pub sum-push : (xs : List ℕ) (n x : ℕ) → fold (λ (a b : ℕ). a + b) n (xs ++ x ∷ []) ≡ fold (λ (a b : ℕ). a + b) n xs + x

@@ -2,6 +2,7 @@
 use Rattle.std.proofs.Common.{◌≡◌, ◌∙◌, sym, ap, refl, arith, ℕ, zero, suc, ◌+◌, ◌-◌, ◌<◌, ◌≤◌, List, [], ◌∷◌, ◌++◌, length, take, drop, add-zero}
 use Rattle.std.proofs.lemmas.List.{length-take}
 use Rattle.std.specs.List.{enumerate_from, flat_map}
+use Rattle.avr_image.specs.Runs.{places_of}
 use Rattle.hex.specs.Hex.{IsBytes}
 use Rattle.avr_records.specs.Text.{rows, rows_behind}
 use Rattle.avr_records.proofs.Pieces.{drop-one_less}
@@ -51,10 +52,6 @@ rows_behind-are zero size addr end (b ∷ bs) wide is all =
       rows_behind-are (size addr - 1) size (addr + 1) end bs wide (omega arith) (λ i. all (suc i)),
     )
 
--- the bytes of a row at their addresses
-abbrev pub bytes_at : ℕ × List ℕ → List (ℕ × ℕ)
-bytes_at row = enumerate_from row.0 row.1
-
 pub enumerate-split : (n addr : ℕ) (bytes : List ℕ)
     → enumerate_from addr (take n bytes) ++ enumerate_from (addr + n) (drop n bytes) ≡ enumerate_from addr bytes
 enumerate-split zero addr bytes = ap (λ (a : ℕ). enumerate_from a bytes) (add-zero addr)
@@ -65,7 +62,7 @@ enumerate-split (suc n) addr (b ∷ bs) =
     ∙ ap (λ (more : List (ℕ × ℕ)). (addr, b) ∷ more) (enumerate-split n (addr + 1) bs)
 
 pub rows_behind-hold : (taken : ℕ) (size : ℕ → ℕ) (addr : ℕ) (bytes : List ℕ) → ((a : ℕ) → 0 < size a)
-    → flat_map bytes_at (rows_behind taken size addr bytes) ≡ enumerate_from (addr + taken) (drop taken bytes)
+    → flat_map places_of (rows_behind taken size addr bytes) ≡ enumerate_from (addr + taken) (drop taken bytes)
 rows_behind-hold zero size addr [] wide = refl
 rows_behind-hold (suc taken) size addr [] wide = refl
 rows_behind-hold (suc taken) size addr (b ∷ bs) wide =
@@ -81,6 +78,6 @@ rows_behind-hold zero size addr (b ∷ bs) wide =
 
 -- all bytes stand in the rows, at their addresses
 pub rows-hold : (size : ℕ → ℕ) (base : ℕ) (bytes : List ℕ) → ((a : ℕ) → 0 < size a)
-    → flat_map bytes_at (rows size base bytes) ≡ enumerate_from base bytes
+    → flat_map places_of (rows size base bytes) ≡ enumerate_from base bytes
 rows-hold size base bytes wide =
     rows_behind-hold 0 size base bytes wide ∙ ap (λ (a : ℕ). enumerate_from a bytes) (add-zero base)

@@ -9,6 +9,7 @@ use Rattle.std.proofs.lemmas.List.{append_assoc, length-append, take_at, drop_at
 use Rattle.std.proofs.lemmas.List.Sums.{fold-append}
 use Rattle.std.proofs.lemmas.Nat.{div_below}
 use Rattle.std.proofs.Math.Nat.{pow-suc}
+use Rattle.avr_image.specs.Runs.{places_of}
 use Rattle.hex.specs.Hex.{IsBytes, encode_upper, upper_digits}
 use Rattle.hex.proofs.HexLemmas.{length-encode_with}
 use Rattle.avr_records.specs.Lines.{lines}
@@ -23,7 +24,7 @@ use Rattle.avr_records.specs.declared.kind.Base.TheVariants.{Linear}
 use Rattle.avr_records.specs.declared.fault.LineFault.{LineFault}
 use Rattle.avr_records.specs.declared.fault.LineFault.TheVariants.{Mark, Length, Sum}
 use Rattle.avr_records.proofs.Pieces.{length_low_bytes}
-use Rattle.avr_records.proofs.WrittenRows.{IsBytes-nil, IsBytes-cons, IsBytes-append, IsRow, Every, rows_behind-are, bytes_at, rows-hold}
+use Rattle.avr_records.proofs.WrittenRows.{IsBytes-nil, IsBytes-cons, IsBytes-append, IsRow, Every, rows_behind-are, rows-hold}
 use Rattle.avr_records.proofs.WrittenLines.{is_plain, plain-digits, encode-digits, bytes_of-encode, says-plain, lines-plain, lines-written, sum-push}
 use Rattle.avr_records.proofs.Rereading.{AllGoOn, then_end, threaded, together-standing, places-linear}
 
@@ -110,11 +111,11 @@ data_behind-low size addr row fits =
     ∙ ap (λ (n : ℕ). Ok (Data n row)) (number-low_bytes size addr fits)
 
 -- what a row of data says
-abbrev said_of : ℕ × List ℕ → Said
+abbrev pub said_of : ℕ × List ℕ → Said
 said_of row = Ok (Data row.0 row.1)
 
 -- the lines of the rows, and of the end record
-lines-said : (size end : ℕ) (rows : List (ℕ × List ℕ)) → 2 ≤ size → size ≤ 4 → end ≤ 256 ^ size → Every (IsRow (λ _. 32) end) rows
+pub lines-said : (size end : ℕ) (rows : List (ℕ × List ℕ)) → 2 ≤ size → size ≤ 4 → end ≤ 256 ^ size → Every (IsRow (λ _. 32) end) rows
     → map (says Srec) (lines (srec_rows size rows)) ≡ map said_of rows ++ Ok End ∷ Ok Nothing ∷ []
 lines-said size end [] least most fits all =
     let body : List ℕ = low_bytes size 0 in
@@ -140,15 +141,15 @@ lines-said size end (row ∷ rows) least most fits all =
     ∙ ap (λ (s : Said). s ∷ map (says Srec) (lines (srec_rows size rows))) said
     ∙ ap (λ (more : List Said). said_of row ∷ more) (lines-said size end rows least most fits all.1)
 
-rows-go_on : (rows : List (ℕ × List ℕ)) → AllGoOn (map said_of rows)
+pub rows-go_on : (rows : List (ℕ × List ℕ)) → AllGoOn (map said_of rows)
 rows-go_on [] = tt
 rows-go_on (row ∷ rows) = (tt, rows-go_on rows)
 
-rows-threaded : (rows : List (ℕ × List ℕ)) → threaded (Linear 0) (then_end (map said_of rows)) ≡ flat_map bytes_at rows
+pub rows-threaded : (rows : List (ℕ × List ℕ)) → threaded (Linear 0) (then_end (map said_of rows)) ≡ flat_map places_of rows
 rows-threaded [] = refl
 rows-threaded (row ∷ rows) =
     ap (λ (front : List (ℕ × ℕ)). front ++ threaded (Linear 0) (then_end (map said_of rows))) (places-linear 0 row.0 row.0 row.1 (omega arith))
-    ∙ ap (λ (more : List (ℕ × ℕ)). bytes_at row ++ more) (rows-threaded rows)
+    ∙ ap (λ (more : List (ℕ × ℕ)). places_of row ++ more) (rows-threaded rows)
 
 rows-read : (width end base size : ℕ) (bytes : List ℕ) → 2 ≤ width → width ≤ 4 → end ≤ 256 ^ width → Every (IsRow (λ _. 32) end) (rows (λ _. 32) base bytes)
     → Holds size base bytes → read Srec (srec_rows width (rows (λ _. 32) base bytes)) size ≡ Ok (standing base bytes size, Ended)
@@ -158,12 +159,12 @@ rows-read width end base size bytes least most fits all held =
     ∙ together-standing base size bytes (map said_of cut) (Ok Nothing ∷ []) (rows-go_on cut) (rows-threaded cut ∙ rows-hold (λ _. 32) base bytes (λ a. omega arith)) held
 
 -- an address has as many bytes as it needs
-record IsWide (last width : ℕ) : Type 0 where
-  least : 2 ≤ width
-  most : width ≤ 4
-  fits : last < 256 ^ width
+pub record IsWide (last width : ℕ) : Type 0 where
+  pub least : 2 ≤ width
+  pub most : width ≤ 4
+  pub fits : last < 256 ^ width
 
-wide_enough : (last : ℕ) → last < 2 ^ 32 → IsWide last (address_size last)
+pub wide_enough : (last : ℕ) → last < 2 ^ 32 → IsWide last (address_size last)
 wide_enough last below =
     elim (cases_lt last 65536) [
       | inl two ↦

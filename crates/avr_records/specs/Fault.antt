@@ -28,3 +28,8 @@ fault_line (LineTooLong line) = Some line
 fault_line (BadCount line) = Some line
 fault_line Failed = None
 fault_line Memory = None
+
+-- the address outside the memory, if one is at fault
+abbrev pub fault_address : RecordFault → Option ℕ
+fault_address (OutOfRange line addr) = Some addr
+fault_address fault = None

@@ -8,7 +8,8 @@ use Rattle.avr_records.specs.declared.kind.Base.TheVariants.{Linear, Segment}
 -- bytes were laid at these places, all inside the image; or the first address outside it is told
 abbrev pub Lays : List (Option ℕ) → List (ℕ × ℕ) → List (Option ℕ) → Result Unit ℕ → Type 0
 Lays old places new result =
-    MatchResult result (λ _. (beyond (length old) places ≡ None) × (new ≡ laid_over old places)) (λ addr. beyond (length old) places ≡ Some addr)
+    MatchResult result (λ _. (beyond (length old) places ≡ None) × (new ≡ laid_over old places))
+    (λ addr. beyond (length old) places ≡ Some addr)
 
 -- the first byte of a record at this offset has an address below 2 ^ 32
 abbrev pub Near : Base → ℕ → Type 0

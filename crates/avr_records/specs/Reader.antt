@@ -16,10 +16,11 @@ pub record Reads (kind : Kind) (progress : Progress) (part : Option (List ℕ)) 
   pub front : List (List ℕ)
   pub last : List ℕ
   pub cut : lines text ≡ front ++ last ∷ []
-  pub follows : MatchBool progress.ended (Done progress (map (says kind) front)) (Held progress (map (says kind) front) × (part ≡ kept last))
+  pub follows : MatchBool progress.ended (Done progress (map (says kind) front))
+      (Held progress (map (says kind) front) × (part ≡ kept last))
 
--- What a reader holds: the kind of file, what the lines so far leave, what is kept of the last one, how many bytes came,
--- and whether it met a fault.
+-- What a reader holds: the kind of file, what the lines so far leave, what is kept of the last one, how many bytes
+-- came, and whether it met a fault.
 pub record State : Type 0 where
   pub kind : Kind
   pub progress : Progress

@@ -16,8 +16,8 @@ standing base (b ∷ bs) size =
 abbrev pub Holds : ℕ → ℕ → List ℕ → Type 0
 Holds size base bytes = 0 < length bytes → base + length bytes ≤ size
 
--- A file of this kind that was written of a base and bytes, read for a memory that holds them, gives the same bytes at the
--- same addresses, with its end record: wherever the last address is below 2 to the power 32.
+-- A file of this kind that was written of a base and bytes, read for a memory that holds them, gives the same bytes at
+-- the same addresses, with its end record: wherever the last address is below 2 to the power 32.
 abbrev pub ReadsBack : Kind → (ℕ → List ℕ → List ℕ) → Type 0
 ReadsBack kind text =
     (base size : ℕ) (bytes : List ℕ) → base + length bytes ≤ 2 ^ 32 → Holds size base bytes → IsBytes bytes

@@ -1,5 +1,8 @@
 -- The text that a writer has still to make.
-use Rattle.std.specs.Prelude.{ℕ, Bool, true, false, ◌+◌, ◌^◌, ◌≤◌, List, [], length}
+use Rattle.std.specs.Prelude.{◌≡◌, ℕ, Bool, true, false, ◌+◌, ◌^◌, ◌≤◌, List, [], length, drop, Option}
+use Rattle.avr_image.specs.Image.{filled}
+use Rattle.avr_image.specs.Runs.{runs}
+use Rattle.avr_records.specs.Sparse.{rows_of}
 use Rattle.avr_records.specs.Text.{rows, ihex_rows, ihex_row_size, srec_rows}
 
 -- whether the end record was made, the upper half of the address in force, and the bytes with their first address
@@ -17,3 +20,21 @@ pub record IsSrecState (size addr : ℕ) (bytes : List ℕ) : Type 0 where
   pub least : 2 ≤ size
   pub most : size ≤ 4
   pub below : addr + length bytes ≤ 2 ^ 32
+
+-- whether the end record was made, the upper half of the address in force, and the image with the address up to which
+-- it was written
+abbrev pub ihex_image_rest : Bool → ℕ → ℕ → List (Option ℕ) → List ℕ
+ihex_image_rest true upper addr image = []
+ihex_image_rest false upper addr image = ihex_rows upper (rows_of ihex_row_size (runs addr (drop addr image)))
+
+-- whether the end record was made, how many bytes an address has, and the image with the address up to which it was
+-- written
+abbrev pub srec_image_rest : Bool → ℕ → ℕ → List (Option ℕ) → List ℕ
+srec_image_rest true size addr image = []
+srec_image_rest false size addr image = srec_rows size (rows_of (λ _. 32) (runs addr (drop addr image)))
+
+-- addresses of two to four bytes, and the bytes of all the image's addresses
+pub record IsSrecImageState (size : ℕ) (bytes : List ℕ) (image : List (Option ℕ)) : Type 0 where
+  pub least : 2 ≤ size
+  pub most : size ≤ 4
+  pub whole : bytes ≡ filled image 0 (length image)

@@ -48,7 +48,8 @@ fn is_blank_line(line: &[u8]) -> bool
 
 /// What a line shows, unless it is blank.
 fn shown_unless_blank(line: &[u8]) -> Option<Found>
-    ensures { MatchOption result (list_all is_blank line.now ≡ true) (λ found. (list_all is_blank line.now ≡ false) × (found ≡ shown (Some line.now))) }
+    ensures { MatchOption result (list_all is_blank line.now ≡ true)
+        (λ found. (list_all is_blank line.now ≡ false) × (found ≡ shown (Some line.now))) }
 {
     if is_blank_line(line) {
         None

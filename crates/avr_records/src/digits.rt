@@ -53,7 +53,8 @@ pub(crate) fn decode_digits<'b>(
     room: &'b mut [u8; ROOM],
 ) -> Result<&'b [u8], LineFault>
     requires { length digits.now ≤ 2 * ROOM }
-    ensures { MatchResult result (λ found. bytes_of digits.now ≡ Ok found.now) (λ fault. bytes_of digits.now ≡ Err fault) }
+    ensures { MatchResult result (λ found. bytes_of digits.now ≡ Ok found.now)
+        (λ fault. bytes_of digits.now ≡ Err fault) }
 {
     if digits.len() % 2 == 1 {
         return Err(odd_fault(digits));

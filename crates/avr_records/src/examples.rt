@@ -1,7 +1,11 @@
 //! The examples of the documentation.
 
-use crate::{Ending, Found, IhexWriter, Kind, RecordFault, RecordReader, SrecWriter, detect};
+use crate::{
+    Ending, Found, IhexImageWriter, IhexWriter, Kind, RecordFault, RecordReader, SrecImageWriter,
+    SrecWriter, detect, read_records,
+};
 use arrayvec::ArrayVec;
+use avr_image::{Image, Pieces};
 use std::test::Fail;
 
 #[test]
@@ -86,6 +90,11 @@ fn faults_name_their_line(rt: HostRuntime) -> Result<(), Fail> {
     assert_eq!(rt; RecordFault::BadSum(2).number(), 4);
     assert_eq!(rt; RecordFault::BadSum(2).line(), Some(2));
     assert_eq!(rt; RecordFault::Failed.line(), None);
+    assert_eq!(rt;
+        RecordFault::OutOfRange(2, 0x10000).address(),
+        Some(0x10000)
+    );
+    assert_eq!(rt; RecordFault::BadSum(2).address(), None);
     Ok(())
 }
 
@@ -143,4 +152,103 @@ fn srecords_are_written_line_by_line(rt: HostRuntime) {
     assert!(rt; writer.next_piece(&mut piece));
     assert_eq!(rt; piece.as_slice(), b"S9030000FC\n".as_slice());
     assert!(rt; !writer.next_piece(&mut piece));
+}
+
+#[test]
+fn a_file_is_read_in_one_call(rt: HostRuntime) -> Result<(), Fail> {
+    let alloc = rt.alloc();
+    let text = b":0400000001020304F2\n:00000001FF\n".as_slice();
+    let (image, ending) = read_records(alloc, Kind::Ihex, 4, text)?;
+    assert_eq!(rt; image.len(), 4);
+    assert_eq!(rt; ending, Ending::Ended);
+    let bad = read_records(alloc, Kind::Ihex, 4, b":0400000001020304F3\n").err();
+    assert_eq!(rt; bad, Some(RecordFault::BadSum(1)));
+    Ok(())
+}
+
+#[test]
+fn an_image_is_written_as_ihex(rt: HostRuntime) -> Result<(), Fail> {
+    let alloc = rt.alloc();
+    let mut image = Image::new(alloc, 8)?;
+    image.put_slice(1, &[1, 2])?;
+    image.put(5, 0xFF)?;
+    let mut text = Vec::new(alloc);
+    let mut writer = IhexImageWriter::new(&image);
+    let mut piece = ArrayVec::new();
+    while writer.next_piece(&mut piece) {
+        text.extend_from_slice(piece.as_slice())?;
+    }
+    assert_eq!(rt;
+        text.as_slice(),
+        b":020001000102FA\n:01000500FFFB\n:00000001FF\n".as_slice()
+    );
+    Ok(())
+}
+
+#[test]
+fn an_image_is_written_as_ihex_line_by_line(rt: HostRuntime) -> Result<(), Fail> {
+    let alloc = rt.alloc();
+    let mut piece = ArrayVec::new();
+    let mut image = Image::new(alloc, 0x20001)?;
+    image.put(0x20000, 0x55)?;
+    let mut writer = IhexImageWriter::new(&image);
+    assert!(rt; writer.next_piece(&mut piece));
+    assert_eq!(rt; piece.as_slice(), b":020000040002F8\n".as_slice());
+    let image = Image::new(alloc, 8)?;
+    let mut writer = IhexImageWriter::new(&image);
+    assert!(rt; writer.next_piece(&mut piece));
+    assert_eq!(rt; piece.as_slice(), b":00000001FF\n".as_slice());
+    assert!(rt; !writer.next_piece(&mut piece));
+    Ok(())
+}
+
+#[test]
+fn an_image_is_written_as_srecords(rt: HostRuntime) -> Result<(), Fail> {
+    let alloc = rt.alloc();
+    let mut image = Image::new(alloc, 8)?;
+    image.put_slice(1, &[1, 2])?;
+    image.put(5, 0xFF)?;
+    let mut text = Vec::new(alloc);
+    let mut writer = SrecImageWriter::new(&image);
+    let mut piece = ArrayVec::new();
+    while writer.next_piece(&mut piece) {
+        text.extend_from_slice(piece.as_slice())?;
+    }
+    assert_eq!(rt;
+        text.as_slice(),
+        b"S10500010102F6\nS1040005FFF7\nS9030000FC\n".as_slice()
+    );
+    Ok(())
+}
+
+#[test]
+fn an_image_is_written_as_srecords_line_by_line(rt: HostRuntime) -> Result<(), Fail> {
+    let alloc = rt.alloc();
+    let mut piece = ArrayVec::new();
+    let mut image = Image::new(alloc, 0x10001)?;
+    image.put(0x10000, 0xAA)?;
+    let mut writer = SrecImageWriter::new(&image);
+    assert!(rt; writer.next_piece(&mut piece));
+    assert_eq!(rt; piece.as_slice(), b"S205010000AA4F\n".as_slice());
+    let image = Image::new(alloc, 8)?;
+    let mut writer = SrecImageWriter::new(&image);
+    assert!(rt; writer.next_piece(&mut piece));
+    assert_eq!(rt; piece.as_slice(), b"S9030000FC\n".as_slice());
+    assert!(rt; !writer.next_piece(&mut piece));
+    Ok(())
+}
+
+#[test]
+fn a_file_is_read_changed_and_written(rt: HostRuntime) -> Result<(), Fail> {
+    let alloc = rt.alloc();
+    let text = b":0400000001020304F2\n:00000001FF\n".as_slice();
+    let (mut image, _) = read_records(alloc, Kind::Ihex, 32_768, text)?;
+    image.put(0x7FFF, 0xFF)?;
+    let mut writer = SrecImageWriter::new(&image);
+    let mut piece = ArrayVec::new();
+    assert!(rt; writer.next_piece(&mut piece));
+    assert_eq!(rt; piece.as_slice(), b"S107000001020304EE\n".as_slice());
+    assert!(rt; writer.next_piece(&mut piece));
+    assert_eq!(rt; piece.as_slice(), b"S1047FFFFF7E\n".as_slice());
+    Ok(())
 }

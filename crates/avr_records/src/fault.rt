@@ -1,7 +1,7 @@
 //! What may be wrong with a record file.
 
 ghost use Rattle.std.specs.Prelude.{◌≡◌};
-ghost use Rattle.avr_records.specs.Fault.{fault_number, fault_line};
+ghost use Rattle.avr_records.specs.Fault.{fault_address, fault_number, fault_line};
 ghost use Rattle.avr_records.specs.Reading.{in_line};
 ghost use Rattle.avr_records.specs.Steps.{IsLineFault};
 
@@ -90,6 +90,21 @@ impl RecordFault {
             | RecordFault::LineTooLong(line)
             | RecordFault::BadCount(line) => Some(*line),
             RecordFault::Failed | RecordFault::Memory => None,
+        }
+    }
+
+    /// The byte address outside the memory that `OutOfRange` tells; none of the other faults.
+    ///
+    /// ```text
+    /// assert_eq!(rt; RecordFault::OutOfRange(2, 0x10000).address(), Some(0x10000));
+    /// assert_eq!(rt; RecordFault::BadSum(2).address(), None);
+    /// ```
+    pub fn address(&self) -> Option<u32>
+        ensures { result ≡ fault_address self.now }
+    {
+        match self {
+            RecordFault::OutOfRange(_, addr) => Some(*addr),
+            _ => None,
         }
     }
 }

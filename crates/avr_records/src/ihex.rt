@@ -14,7 +14,8 @@ use crate::numbers::two_bytes;
 fn typed_line(kind: u8, offset: u32, bytes: &[u8]) -> Result<Line<'_>, LineFault>
     requires near { offset < 65536 }
     requires short { length bytes.now ≤ 255 }
-    ensures says { MatchResult result (λ line. typed kind offset bytes.now ≡ Ok (record_of line)) (λ fault. typed kind offset bytes.now ≡ Err fault) }
+    ensures says { MatchResult result (λ line. typed kind offset bytes.now ≡ Ok (record_of line))
+        (λ fault. typed kind offset bytes.now ≡ Err fault) }
     ensures fits { IfOk result (Fits Kind.Ihex) }
 {
     match kind {
@@ -43,7 +44,8 @@ fn ihex_checked(
     more: &[u8],
 ) -> Result<Line<'_>, LineFault>
     requires { offset < 65536 }
-    ensures says { MatchResult result (λ line. checked size offset kind low_sum more.now ≡ Ok (record_of line)) (λ fault. checked size offset kind low_sum more.now ≡ Err fault) }
+    ensures says { MatchResult result (λ line. checked size offset kind low_sum more.now ≡ Ok (record_of line))
+        (λ fault. checked size offset kind low_sum more.now ≡ Err fault) }
     ensures fits { IfOk result (Fits Kind.Ihex) }
 {
     let size = size as usize;
@@ -58,7 +60,8 @@ fn ihex_checked(
 
 /// What the bytes of a line of Intel HEX say.
 pub(crate) fn ihex_fields(bytes: &[u8]) -> Result<Line<'_>, LineFault>
-    ensures says { MatchResult result (λ line. fields bytes.now ≡ Ok (record_of line)) (λ fault. fields bytes.now ≡ Err fault) }
+    ensures says { MatchResult result (λ line. fields bytes.now ≡ Ok (record_of line))
+        (λ fault. fields bytes.now ≡ Err fault) }
     ensures fits { IfOk result (Fits Kind.Ihex) }
 {
     match bytes {

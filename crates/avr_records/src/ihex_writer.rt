@@ -1,15 +1,16 @@
 //! A writer of Intel HEX, as Intel's "Hexadecimal Object File Format Specification" (revision A, 1988) has it.
 //!
-//! Rows of 32 bytes that never cross a multiple of 65,536; an extended linear address record wherever the upper 16 bits of the
-//! address change; upper-case digits; each line ends with LF.
+//! Rows of 32 bytes that never cross a multiple of 65,536; an extended linear address record wherever the upper 16 bits
+//! of the address change; upper-case digits; each line ends with LF.
 #![tactic(auto)]
 
 ghost use Rattle.std.specs.Prelude.{◌≡◌, ◌+◌, ◌/◌, ◌%◌, ◌^◌, ◌<◌, ◌≤◌, ◌==◌, ◌↔◌, [], ◌++◌, length, IsTrue, if◌then◌else◌};
-ghost use Rattle.avr_records.specs.Text.{ihex_text, ihex_record as spec_record, ihex_row_size, two};
+ghost use Rattle.avr_records.specs.Text.{IsLine, ihex_text, ihex_record as spec_record, ihex_row_size, two};
 
 use crate::checksum::low_sum_of;
 use crate::written_line::{Fields, append, put_line};
 use arrayvec::ArrayVec;
+use avr_image::Pieces;
 use std::marker::Model;
 
 /// The type of a record of data bytes.
@@ -24,7 +25,8 @@ const EXTENDED_LINEAR_ADDRESS: u8 = 4;
 /// Makes `out` a record of Intel HEX.
 fn put_record(kind: u8, offset: u16, row: &[u8], out: &mut ArrayVec<u8, 80>)
     requires { length row.now ≤ 32 }
-    ensures { out.new.items ≡ spec_record kind offset row.now }
+    ensures text { out.new.items ≡ spec_record kind offset row.now }
+    ensures line { IsLine out.new.items }
 {
     let mut fields = Fields::new();
     fields.push(row.len() as u8);
@@ -37,29 +39,32 @@ fn put_record(kind: u8, offset: u16, row: &[u8], out: &mut ArrayVec<u8, 80>)
 }
 
 /// Makes `out` the record that sets the upper 16 bits of the addresses behind it.
-fn put_upper(upper: u16, out: &mut ArrayVec<u8, 80>)
-    ensures { out.new.items ≡ spec_record 4 0 (two upper) }
+pub(crate) fn put_upper(upper: u16, out: &mut ArrayVec<u8, 80>)
+    ensures text { out.new.items ≡ spec_record 4 0 (two upper) }
+    ensures line { IsLine out.new.items }
 {
     put_record(EXTENDED_LINEAR_ADDRESS, 0, &upper.to_be_bytes(), out);
 }
 
 /// Makes `out` a record of data whose first byte stands at this address, under its upper 16 bits.
-fn put_row(addr: u64, row: &[u8], out: &mut ArrayVec<u8, 80>)
+pub(crate) fn put_row(addr: u64, row: &[u8], out: &mut ArrayVec<u8, 80>)
     requires { length row.now ≤ 32 }
-    ensures { out.new.items ≡ spec_record 0 (addr % 65536) row.now }
+    ensures text { out.new.items ≡ spec_record 0 (addr % 65536) row.now }
+    ensures line { IsLine out.new.items }
 {
     put_record(DATA, (addr % 65536) as u16, row, out);
 }
 
 /// Makes `out` the record that ends a file.
-fn put_end(out: &mut ArrayVec<u8, 80>)
-    ensures { out.new.items ≡ spec_record 1 0 [] }
+pub(crate) fn put_end(out: &mut ArrayVec<u8, 80>)
+    ensures text { out.new.items ≡ spec_record 1 0 [] }
+    ensures line { IsLine out.new.items }
 {
     put_record(END, 0, &[], out);
 }
 
 /// The upper 16 bits of an address, where they are not the ones in force.
-fn new_upper(addr: u64, in_force: u16) -> Option<u16>
+pub(crate) fn new_upper(addr: u64, in_force: u16) -> Option<u16>
     requires { addr < 2 ^ 32 }
     ensures { result ≡ (if addr / 65536 == in_force then None else Some (addr / 65536)) }
 {
@@ -68,13 +73,14 @@ fn new_upper(addr: u64, in_force: u16) -> Option<u16>
 }
 
 /// How many bytes a row at this address has: at most 32, and none past a multiple of 65,536.
-fn row_size(addr: u64) -> usize
+pub(crate) fn row_size(addr: u64) -> usize
     ensures { result ≡ ihex_row_size addr }
 {
     (65536 - addr as usize % 65536).min(32)
 }
 
-/// Writes bytes that stand from an address on as Intel HEX, record by record. Contracts see it as the text still to come.
+/// Writes bytes that stand from an address on as Intel HEX, record by record: each piece is a line. Contracts see it as
+/// the text still to come.
 ///
 /// ```text
 /// let mut text = Vec::new(alloc);
@@ -107,7 +113,8 @@ impl<'a> Model for IhexWriter<'a> {
 }
 
 impl<'a> IhexWriter<'a> {
-    /// A writer of bytes whose first one stands at the byte address `base`. It borrows the bytes and takes no memory.
+    /// A writer of bytes whose first one stands at the byte address `base`, and the last one below 2 to the power 32.
+    /// It borrows the bytes and takes no memory.
     ///
     /// ```text
     /// let mut piece = ArrayVec::new();
@@ -126,21 +133,16 @@ impl<'a> IhexWriter<'a> {
             ended: false,
         }
     }
+}
 
-    /// Makes `out` the next piece of the text, which is a line, and answers true; or empties it, where nothing is left.
-    ///
-    /// ```text
-    /// let mut piece = ArrayVec::new();
-    /// let mut writer = IhexWriter::new(0, &[]);
-    /// assert!(rt; writer.next_piece(&mut piece));
-    /// assert_eq!(rt; piece.as_slice(), b":00000001FF\n".as_slice());
-    /// assert!(rt; !writer.next_piece(&mut piece));
-    /// ```
-    pub fn next_piece(&mut self, out: &mut ArrayVec<u8, 80>) -> bool
-        ensures joined { self.old ≡ out.new.items ++ self.new }
-        ensures some { IsTrue result ↔ (0 < length out.new.items) }
-        ensures ends { IsTrue result ↔ (0 < length self.old) }
-    {
+impl Pieces for IhexWriter<'_> {
+    ghost use Rattle.avr_records.specs.Text.{IsLine};
+
+    ghost rest = { λ w. w };
+
+    ghost IsPiece = { IsLine };
+
+    fn next_piece(&mut self, out: &mut ArrayVec<u8, 80>) -> bool {
         if self.ended {
             out.clear();
             return false;

@@ -33,7 +33,8 @@ pub enum Line<'a> {
 
 /// A record that has so many bytes.
 pub(crate) fn with_size<'a>(n: usize, bytes: &[u8], good: Line<'a>) -> Result<Line<'a>, LineFault>
-    ensures { MatchResult result (λ line. spec_with_size n bytes.now (record_of good.entry) ≡ Ok (record_of line)) (λ fault. spec_with_size n bytes.now (record_of good.entry) ≡ Err fault) }
+    ensures { MatchResult result (λ line. spec_with_size n bytes.now (record_of good.entry) ≡ Ok (record_of line))
+        (λ fault. spec_with_size n bytes.now (record_of good.entry) ≡ Err fault) }
 {
     if bytes.len() == n {
         Ok(good)
@@ -72,7 +73,8 @@ fn trim(line: &[u8]) -> &[u8]
 /// What a line of Intel HEX says, without blanks at its end.
 fn ihex_says<'b>(line: &[u8], room: &'b mut [u8; ROOM]) -> Result<Line<'b>, LineFault>
     requires { length line.now ≤ LONGEST }
-    ensures says { MatchResult result (λ found. ihex_line line.now ≡ Ok (record_of found)) (λ fault. ihex_line line.now ≡ Err fault) }
+    ensures says { MatchResult result (λ found. ihex_line line.now ≡ Ok (record_of found))
+        (λ fault. ihex_line line.now ≡ Err fault) }
     ensures fits { IfOk result (Fits Kind.Ihex) }
 {
     match line {
@@ -87,7 +89,8 @@ fn ihex_says<'b>(line: &[u8], room: &'b mut [u8; ROOM]) -> Result<Line<'b>, Line
 /// What an S-record says, without blanks at its end.
 fn srec_says<'b>(line: &[u8], room: &'b mut [u8; ROOM]) -> Result<Line<'b>, LineFault>
     requires { length line.now ≤ LONGEST }
-    ensures says { MatchResult result (λ found. srec_line line.now ≡ Ok (record_of found)) (λ fault. srec_line line.now ≡ Err fault) }
+    ensures says { MatchResult result (λ found. srec_line line.now ≡ Ok (record_of found))
+        (λ fault. srec_line line.now ≡ Err fault) }
     ensures fits { IfOk result (Fits Kind.Srec) }
 {
     match line {
@@ -106,7 +109,8 @@ fn short_line_says<'b>(
     room: &'b mut [u8; ROOM],
 ) -> Result<Line<'b>, LineFault>
     requires { length line.now ≤ LONGEST }
-    ensures says { MatchResult result (λ found. says kind line.now ≡ Ok (record_of found)) (λ fault. says kind line.now ≡ Err fault) }
+    ensures says { MatchResult result (λ found. says kind line.now ≡ Ok (record_of found))
+        (λ fault. says kind line.now ≡ Err fault) }
     ensures fits { IfOk result (Fits kind) }
 {
     let line = trim(line);
@@ -125,7 +129,8 @@ pub(crate) fn line_says<'b>(
     line: &[u8],
     room: &'b mut [u8; ROOM],
 ) -> Result<Line<'b>, LineFault>
-    ensures says { MatchResult result (λ found. says kind line.now ≡ Ok (record_of found)) (λ fault. says kind line.now ≡ Err fault) }
+    ensures says { MatchResult result (λ found. says kind line.now ≡ Ok (record_of found))
+        (λ fault. says kind line.now ≡ Err fault) }
     ensures fits { IfOk result (Fits kind) }
 {
     if line.len() > LONGEST {

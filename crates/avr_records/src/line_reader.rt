@@ -26,7 +26,8 @@ pub struct LineReader {
 impl LineReader {
     /// Before any line, for a memory of this size.
     pub(crate) fn new(alloc: Global, kind: Kind, size: u32) -> Result<LineReader, ImageFault>
-        ensures { MatchResult result (λ reader. (reader.kind ≡ kind) × Begins kind size (seen reader.progress) reader.part) (λ fault. fault ≡ ImageFault.Memory) }
+        ensures { MatchResult result (λ reader. (reader.kind ≡ kind)
+            × Begins kind size (seen reader.progress) reader.part) (λ fault. fault ≡ ImageFault.Memory) }
     {
         match Progress::new(alloc, size) {
             Ok(progress) => Ok(LineReader {
@@ -42,7 +43,9 @@ impl LineReader {
     fn take_part(&mut self) -> Result<(), RecordFault>
         requires range { InRange self.old.kind (seen self.old.progress) }
         requires few { self.old.progress.lines + 1 < 2 ^ 32 }
-        ensures step { MatchResult result (λ _. step (seen self.old.progress) (kept_says self.old.kind self.old.part) ≡ Ok (seen self.new.progress)) (λ fault. step (seen self.old.progress) (kept_says self.old.kind self.old.part) ≡ Err fault) }
+        ensures step { MatchResult result (λ _. step (seen self.old.progress) (kept_says self.old.kind self.old.part)
+            ≡ Ok (seen self.new.progress)) (λ fault. step (seen self.old.progress)
+            (kept_says self.old.kind self.old.part) ≡ Err fault) }
         ensures part { OnOk result (self.new.part ≡ Some []) }
         ensures kind { self.new.kind ≡ self.old.kind }
         ensures size { length self.new.progress.image ≡ length self.old.progress.image }
@@ -62,13 +65,16 @@ impl LineReader {
     fn end_line(&mut self, rest: &[u8]) -> Result<(), RecordFault>
         requires range { InRange self.old.kind (seen self.old.progress) }
         requires few { self.old.progress.lines + 1 < 2 ^ 32 }
-        ensures step { MatchResult result (λ _. line_step self.old.kind (seen self.old.progress) self.old.part rest.now ≡ Ok (seen self.new.progress)) (λ fault. line_step self.old.kind (seen self.old.progress) self.old.part rest.now ≡ Err fault) }
+        ensures step { MatchResult result (λ _. line_step self.old.kind (seen self.old.progress) self.old.part rest.now
+            ≡ Ok (seen self.new.progress)) (λ fault. line_step self.old.kind
+            (seen self.old.progress) self.old.part rest.now ≡ Err fault) }
         ensures part { OnOk result (self.old.progress.ended ≡ false → self.new.part ≡ Some []) }
         ensures kind { self.new.kind ≡ self.old.kind }
         ensures size { length self.new.progress.image ≡ length self.old.progress.image }
         ensures range { OnOk result (InRange self.old.kind (seen self.new.progress)) }
         ensures lines { OnOk result (self.new.progress.lines ≤ self.old.progress.lines + 1) }
-        ensures count { OnOk result (self.new.progress.lines + least_length self.new.part ≤ self.old.progress.lines + least_length self.old.part + 1) }
+        ensures count { OnOk result (self.new.progress.lines + least_length self.new.part
+            ≤ self.old.progress.lines + least_length self.old.part + 1) }
         ensures line { IfErr result IsLineFault }
     {
         if self.progress.ended {
@@ -97,12 +103,16 @@ impl LineReader {
     pub(crate) fn feed(&mut self, piece: &[u8]) -> Result<(), RecordFault>
         requires range { InRange self.old.kind (seen self.old.progress) }
         requires few { self.old.progress.lines + length piece.now < 2 ^ 32 }
-        ensures reads { OnOk result ((text : List ℕ) → Reads self.old.kind (seen self.old.progress) self.old.part text → Reads self.old.kind (seen self.new.progress) self.new.part (text ++ piece.now)) }
-        ensures fault { IfErr result (λ fault. (text : List ℕ) → Reads self.old.kind (seen self.old.progress) self.old.part text → closed_fault self.old.kind (text ++ piece.now) (size_of (seen self.old.progress)) ≡ Some fault) }
+        ensures reads { OnOk result ((text : List ℕ) → Reads self.old.kind (seen self.old.progress) self.old.part text
+            → Reads self.old.kind (seen self.new.progress) self.new.part (text ++ piece.now)) }
+        ensures fault { IfErr result (λ fault. (text : List ℕ) → Reads self.old.kind
+            (seen self.old.progress) self.old.part text → closed_fault self.old.kind (text ++ piece.now)
+            (size_of (seen self.old.progress)) ≡ Some fault) }
         ensures kind { self.new.kind ≡ self.old.kind }
         ensures size { length self.new.progress.image ≡ length self.old.progress.image }
         ensures range { OnOk result (InRange self.old.kind (seen self.new.progress)) }
-        ensures count { OnOk result (self.new.progress.lines + least_length self.new.part ≤ self.old.progress.lines + least_length self.old.part + length piece.now) }
+        ensures count { OnOk result (self.new.progress.lines + least_length self.new.part
+            ≤ self.old.progress.lines + least_length self.old.part + length piece.now) }
         ensures line { IfErr result IsLineFault }
     {
         let mut rest = piece;
@@ -118,7 +128,12 @@ impl LineReader {
     fn end_text(&mut self) -> Result<(), RecordFault>
         requires range { InRange self.old.kind (seen self.old.progress) }
         requires few { self.old.progress.lines + least_length self.old.part < 2 ^ 32 }
-        ensures whole { MatchResult result (λ _. (text : List ℕ) → Reads self.old.kind (seen self.old.progress) self.old.part text → read self.old.kind text (size_of (seen self.old.progress)) ≡ Ok (self.new.progress.image, ending_of (seen self.new.progress))) (λ fault. (text : List ℕ) → Reads self.old.kind (seen self.old.progress) self.old.part text → read self.old.kind text (size_of (seen self.old.progress)) ≡ Err fault) }
+        ensures whole { MatchResult result (λ _. (text : List ℕ)
+            → Reads self.old.kind (seen self.old.progress) self.old.part text
+            → read self.old.kind text (size_of (seen self.old.progress))
+            ≡ Ok (self.new.progress.image, ending_of (seen self.new.progress)))
+            (λ fault. (text : List ℕ) → Reads self.old.kind (seen self.old.progress) self.old.part text
+            → read self.old.kind text (size_of (seen self.old.progress)) ≡ Err fault) }
         ensures line { IfErr result IsLineFault }
     {
         if self.part.is_empty() {
@@ -131,7 +146,8 @@ impl LineReader {
     pub(crate) fn finish(mut self) -> Result<(Image, Ending), RecordFault>
         requires range { InRange self.kind (seen self.progress) }
         requires few { self.progress.lines + least_length self.part < 2 ^ 32 }
-        ensures whole { (text : List ℕ) → Reads self.kind (seen self.progress) self.part text → result ≡ read self.kind text (size_of (seen self.progress)) }
+        ensures whole { (text : List ℕ) → Reads self.kind (seen self.progress) self.part text
+            → result ≡ read self.kind text (size_of (seen self.progress)) }
         ensures line { IfErr result IsLineFault }
     {
         match self.end_text() {

@@ -7,7 +7,8 @@ use memchr::memchr;
 
 /// The first line and what follows its end, if a line ends there.
 pub(crate) fn split_line(text: &[u8]) -> Option<(&[u8], &[u8])>
-    ensures { MatchOption result (lines text.now ≡ text.now ∷ []) (λ parts. (lines parts.0.now ≡ parts.0.now ∷ []) × (text.now ≡ parts.0.now ++ 10 ∷ parts.1.now)) }
+    ensures { MatchOption result (lines text.now ≡ text.now ∷ [])
+        (λ parts. (lines parts.0.now ≡ parts.0.now ∷ []) × (text.now ≡ parts.0.now ++ 10 ∷ parts.1.now)) }
 {
     match memchr(b'\n', text) {
         Some(at) => Some((&text[..at], &text[at + 1..])),

@@ -5,7 +5,8 @@ ghost use Rattle.avr_records.specs.Record.{number};
 
 /// The number of two bytes, the high one first, or none of another number of bytes.
 pub(crate) fn two_bytes(bytes: &[u8]) -> Option<u16>
-    ensures { MatchOption result (length bytes.now == 2 ≡ false) (λ n. (length bytes.now == 2 ≡ true) × (n ≡ number bytes.now)) }
+    ensures { MatchOption result (length bytes.now == 2 ≡ false)
+        (λ n. (length bytes.now == 2 ≡ true) × (n ≡ number bytes.now)) }
 {
     match bytes {
         [high, low] => Some(*high as u16 * 256 + *low as u16),

@@ -51,7 +51,9 @@ impl Progress {
         requires short { length bytes.now ≤ 255 }
         requires near { Near self.old.base offset }
         requires few { self.old.data_records + 1 < 2 ^ 32 }
-        ensures step { MatchResult result (λ _. (fault_at (seen self.old) (said.Data offset bytes.now) ≡ None) × (seen self.new ≡ with_record (seen self.old) (said.Data offset bytes.now))) (λ fault. fault_at (seen self.old) (said.Data offset bytes.now) ≡ Some fault) }
+        ensures step { MatchResult result (λ _. (fault_at (seen self.old) (said.Data offset bytes.now) ≡ None)
+            × (seen self.new ≡ with_record (seen self.old) (said.Data offset bytes.now)))
+            (λ fault. fault_at (seen self.old) (said.Data offset bytes.now) ≡ Some fault) }
         ensures base { self.new.base ≡ self.old.base }
         ensures lines { self.new.lines ≡ self.old.lines }
         ensures few { self.new.data_records ≤ self.old.data_records + 1 }
@@ -72,7 +74,9 @@ impl Progress {
         requires fits { Fits kind line }
         requires base { HasBase kind self.old.base }
         requires few { self.old.data_records + 1 < 2 ^ 32 }
-        ensures step { MatchResult result (λ _. (fault_at (seen self.old) (record_of line.entry) ≡ None) × (seen self.new ≡ with_record (seen self.old) (record_of line.entry))) (λ fault. fault_at (seen self.old) (record_of line.entry) ≡ Some fault) }
+        ensures step { MatchResult result (λ _. (fault_at (seen self.old) (record_of line.entry) ≡ None)
+            × (seen self.new ≡ with_record (seen self.old) (record_of line.entry)))
+            (λ fault. fault_at (seen self.old) (record_of line.entry) ≡ Some fault) }
         ensures size { length self.new.image ≡ length self.old.image }
         ensures base { OnOk result (HasBase kind self.new.base) }
         ensures lines { self.new.lines ≡ self.old.lines }
@@ -103,7 +107,9 @@ impl Progress {
     fn judge(&mut self, kind: Kind, line: &[u8]) -> Result<(), LineFault>
         requires base { HasBase kind self.old.base }
         requires few { self.old.data_records + 1 < 2 ^ 32 }
-        ensures step { MatchResult result (λ _. (fault_behind (seen self.old) (says kind line.now) ≡ None) × (seen self.new ≡ with_line (seen self.old) (says kind line.now))) (λ fault. fault_behind (seen self.old) (says kind line.now) ≡ Some fault) }
+        ensures step { MatchResult result (λ _. (fault_behind (seen self.old) (says kind line.now) ≡ None)
+            × (seen self.new ≡ with_line (seen self.old) (says kind line.now)))
+            (λ fault. fault_behind (seen self.old) (says kind line.now) ≡ Some fault) }
         ensures size { length self.new.image ≡ length self.old.image }
         ensures base { OnOk result (HasBase kind self.new.base) }
         ensures lines { self.new.lines ≡ self.old.lines }
@@ -129,7 +135,8 @@ impl Progress {
     pub(crate) fn take_line(&mut self, kind: Kind, line: &[u8]) -> Result<(), RecordFault>
         requires range { InRange kind (seen self.old) }
         requires few { self.old.lines + 1 < 2 ^ 32 }
-        ensures step { MatchResult result (λ _. step (seen self.old) (says kind line.now) ≡ Ok (seen self.new)) (λ fault. step (seen self.old) (says kind line.now) ≡ Err fault) }
+        ensures step { MatchResult result (λ _. step (seen self.old) (says kind line.now) ≡ Ok (seen self.new))
+            (λ fault. step (seen self.old) (says kind line.now) ≡ Err fault) }
         ensures size { length self.new.image ≡ length self.old.image }
         ensures range { OnOk result (InRange kind (seen self.new)) }
         ensures lines { OnOk result (self.new.lines ≡ self.old.lines + 1) }

@@ -14,8 +14,8 @@ use std::marker::Model;
 
 /// Reads a record file of one kind into an image, from pieces of any length.
 ///
-/// A reader keeps no text: one line of at most 600 bytes, and the image. The contracts speak of the texts that it may have
-/// been fed (`Stands`): whatever the pieces, the answers are those of the whole text.
+/// A reader keeps no text: one line of at most 600 bytes, and the image. The contracts speak of the texts that it may
+/// have been fed (`Stands`): whatever the pieces, the answers are those of the whole text.
 ///
 /// ```text
 /// let mut reader = RecordReader::new(alloc, Kind::Ihex, 32_768)?;
@@ -40,14 +40,21 @@ impl Model for RecordReader {
 
     ghost use Rattle.avr_records.specs.Steps.{seen, least_length, InRange};
 
-    ghost view = { λ r. record { kind = r.lines.kind; progress = seen r.lines.progress; part = r.lines.part; fed = r.fed; failed = r.failed } };
+    ghost view = { λ r. record {
+      kind = r.lines.kind;
+      progress = seen r.lines.progress;
+      part = r.lines.part;
+      fed = r.fed;
+      failed = r.failed;
+    } };
 
-    ghost invariant = { λ r. r.failed ≡ false → InRange r.lines.kind (seen r.lines.progress) × (r.lines.progress.lines + least_length r.lines.part ≤ r.fed) };
+    ghost invariant = { λ r. r.failed ≡ false → InRange r.lines.kind (seen r.lines.progress)
+        × (r.lines.progress.lines + least_length r.lines.part ≤ r.fed) };
 }
 
 impl RecordReader {
-    /// A reader for a memory of this many bytes, below which all byte addresses have to lie. It makes all the room that the
-    /// reader needs; where that is refused, the fault is `Memory`, which no other call answers.
+    /// A reader for a memory of this many bytes, below which all byte addresses have to lie. It makes all the room that
+    /// the reader needs; where that is refused, the fault is `Memory`, which no other call answers.
     ///
     /// ```text
     /// let reader = RecordReader::new(alloc, Kind::Srec, 32_768)?;
@@ -81,8 +88,9 @@ impl RecordReader {
         self.fed
     }
 
-    /// Takes the next piece of the file. The fault of a line is answered by the call that brings its line end; where the
-    /// piece ends several lines, that of the first faulty one. After a fault every call answers `Failed`.
+    /// Takes the next piece of the file; all pieces have to have fewer than 2 to the power 32 bytes. The fault of a
+    /// line is answered by the call that brings its line end; where the piece ends several lines, that of the first
+    /// faulty one. After a fault `feed` and `finish` answer `Failed`.
     ///
     /// ```text
     /// let mut reader = RecordReader::new(alloc, Kind::Ihex, 4)?;
@@ -92,7 +100,8 @@ impl RecordReader {
     /// ```
     pub fn feed(&mut self, piece: &[u8]) -> Result<(), RecordFault>
         requires { self.old.fed + length piece.now < 2 ^ 32 }
-        ensures answer { (text : List ℕ) → Stands self.old text → result ≡ unless_fault (closed_fault self.old.kind (text ++ piece.now) (memory_size self.old)) }
+        ensures answer { (text : List ℕ) → Stands self.old text → result
+            ≡ unless_fault (closed_fault self.old.kind (text ++ piece.now) (memory_size self.old)) }
         ensures stands { OnOk result ((text : List ℕ) → Stands self.old text → Stands self.new (text ++ piece.now)) }
         ensures fed { OnOk result (self.new.fed ≡ self.old.fed + length piece.now) }
         ensures fault { OnErr result ((self.new.failed ≡ true) × (self.new.fed ≡ self.old.fed)) }
@@ -116,8 +125,8 @@ impl RecordReader {
         }
     }
 
-    /// What the whole file says: the image, and whether the end record came; or the fault of its last line, where no line end
-    /// stands behind it; or `Failed` after a fault.
+    /// What the whole file says: the image, and whether the end record came; or the fault of its last line, where no
+    /// line end stands behind it; or `Failed` after a fault.
     ///
     /// ```text
     /// let mut reader = RecordReader::new(alloc, Kind::Ihex, 4)?;

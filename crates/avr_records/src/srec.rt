@@ -17,7 +17,8 @@ fn data_behind(n: usize, bytes: &[u8]) -> Result<Line<'_>, LineFault>
     requires short { length bytes.now ≤ 255 }
     requires least { 2 ≤ n }
     requires most { n ≤ 4 }
-    ensures says { MatchResult result (λ line. spec_data_behind n bytes.now ≡ Ok (record_of line)) (λ fault. spec_data_behind n bytes.now ≡ Err fault) }
+    ensures says { MatchResult result (λ line. spec_data_behind n bytes.now ≡ Ok (record_of line))
+        (λ fault. spec_data_behind n bytes.now ≡ Err fault) }
     ensures fits { IfOk result (Fits Kind.Srec) }
 {
     if n <= bytes.len() {
@@ -31,7 +32,8 @@ fn data_behind(n: usize, bytes: &[u8]) -> Result<Line<'_>, LineFault>
 fn count_in(n: usize, bytes: &[u8]) -> Result<Line<'_>, LineFault>
     requires least { 2 ≤ n }
     requires most { n ≤ 4 }
-    ensures says { MatchResult result (λ line. spec_with_size n bytes.now (said.Counted (number bytes.now)) ≡ Ok (record_of line)) (λ fault. spec_with_size n bytes.now (said.Counted (number bytes.now)) ≡ Err fault) }
+    ensures says { MatchResult result (λ line. spec_with_size n bytes.now (said.Counted (number bytes.now))
+        ≡ Ok (record_of line)) (λ fault. spec_with_size n bytes.now (said.Counted (number bytes.now)) ≡ Err fault) }
     ensures fits { IfOk result (Fits Kind.Srec) }
 {
     if bytes.len() == n {
@@ -44,7 +46,8 @@ fn count_in(n: usize, bytes: &[u8]) -> Result<Line<'_>, LineFault>
 /// What a type of S-records says of the bytes between the count and the checksum.
 fn srec_typed(kind: u8, bytes: &[u8]) -> Result<Line<'_>, LineFault>
     requires { length bytes.now ≤ 255 }
-    ensures says { MatchResult result (λ line. typed kind bytes.now ≡ Ok (record_of line)) (λ fault. typed kind bytes.now ≡ Err fault) }
+    ensures says { MatchResult result (λ line. typed kind bytes.now ≡ Ok (record_of line))
+        (λ fault. typed kind bytes.now ≡ Err fault) }
     ensures fits { IfOk result (Fits Kind.Srec) }
 {
     match kind {
@@ -67,7 +70,8 @@ fn srec_typed(kind: u8, bytes: &[u8]) -> Result<Line<'_>, LineFault>
 
 /// What stands behind a count.
 fn srec_checked(kind: u8, count: u8, low_sum: u8, more: &[u8]) -> Result<Line<'_>, LineFault>
-    ensures says { MatchResult result (λ line. checked kind count low_sum more.now ≡ Ok (record_of line)) (λ fault. checked kind count low_sum more.now ≡ Err fault) }
+    ensures says { MatchResult result (λ line. checked kind count low_sum more.now ≡ Ok (record_of line))
+        (λ fault. checked kind count low_sum more.now ≡ Err fault) }
     ensures fits { IfOk result (Fits Kind.Srec) }
 {
     let count = count as usize;
@@ -82,7 +86,8 @@ fn srec_checked(kind: u8, count: u8, low_sum: u8, more: &[u8]) -> Result<Line<'_
 
 /// What the bytes of an S-record say.
 pub(crate) fn srec_fields(kind: u8, bytes: &[u8]) -> Result<Line<'_>, LineFault>
-    ensures says { MatchResult result (λ line. fields kind bytes.now ≡ Ok (record_of line)) (λ fault. fields kind bytes.now ≡ Err fault) }
+    ensures says { MatchResult result (λ line. fields kind bytes.now ≡ Ok (record_of line))
+        (λ fault. fields kind bytes.now ≡ Err fault) }
     ensures fits { IfOk result (Fits Kind.Srec) }
 {
     match bytes {

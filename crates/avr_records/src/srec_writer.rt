@@ -1,19 +1,20 @@
 //! A writer of S-records, as Motorola's "M68000 Family Programmer's Reference Manual" (appendix C) has them.
 //!
-//! Rows of 32 bytes; S1, S2 or S3, the narrowest that holds the last address, and S9, S8 or S7 at the end; no header record;
-//! upper-case digits; each line ends with LF.
+//! Rows of 32 bytes; S1, S2 or S3, the narrowest that holds the last address, and S9, S8 or S7 at the end; no header
+//! record; upper-case digits; each line ends with LF.
 #![tactic(auto)]
 
 ghost use Rattle.std.specs.Prelude.{◌≡◌, ◌+◌, ◌-◌, ◌*◌, ◌^◌, ◌<◌, ◌≤◌, ◌↔◌, ◌++◌, length, IsTrue};
-ghost use Rattle.avr_records.specs.Text.{srec_text, srec_record as spec_record, low_bytes, address_size};
+ghost use Rattle.avr_records.specs.Text.{IsLine, srec_text, srec_record as spec_record, low_bytes, address_size};
 
 use crate::checksum::low_sum_of;
 use crate::written_line::{Fields, append, put_line};
 use arrayvec::ArrayVec;
+use avr_image::Pieces;
 use std::marker::Model;
 
 /// How many bytes of data a row has, but for the last one.
-const ROW_SIZE: usize = 32;
+pub(crate) const ROW_SIZE: usize = 32;
 
 /// Puts the low bytes of an address behind the fields that stand there, the high one first.
 fn append_address(fields: &mut Fields, size: usize, addr: u32)
@@ -30,7 +31,8 @@ fn append_address(fields: &mut Fields, size: usize, addr: u32)
 fn put_record(kind: u8, body: &[u8], out: &mut ArrayVec<u8, 80>)
     requires digit { kind ≤ 9 }
     requires bytes { length body.now ≤ 36 }
-    ensures { out.new.items ≡ spec_record kind body.now }
+    ensures text { out.new.items ≡ spec_record kind body.now }
+    ensures line { IsLine out.new.items }
 {
     let mut fields = Fields::new();
     fields.push(body.len() as u8 + 1);
@@ -41,11 +43,12 @@ fn put_record(kind: u8, body: &[u8], out: &mut ArrayVec<u8, 80>)
 }
 
 /// Makes `out` a record of data whose first byte stands at this address.
-fn put_row(size: usize, addr: u32, row: &[u8], out: &mut ArrayVec<u8, 80>)
+pub(crate) fn put_row(size: usize, addr: u32, row: &[u8], out: &mut ArrayVec<u8, 80>)
     requires least { 2 ≤ size }
     requires most { size ≤ 4 }
     requires bytes { length row.now ≤ 32 }
-    ensures { out.new.items ≡ spec_record (size - 1) (low_bytes size addr ++ row.now) }
+    ensures text { out.new.items ≡ spec_record (size - 1) (low_bytes size addr ++ row.now) }
+    ensures line { IsLine out.new.items }
 {
     let mut body = Fields::new();
     append_address(&mut body, size, addr);
@@ -54,10 +57,11 @@ fn put_row(size: usize, addr: u32, row: &[u8], out: &mut ArrayVec<u8, 80>)
 }
 
 /// Makes `out` the record that ends a file whose addresses have so many bytes.
-fn put_end(size: usize, out: &mut ArrayVec<u8, 80>)
+pub(crate) fn put_end(size: usize, out: &mut ArrayVec<u8, 80>)
     requires least { 2 ≤ size }
     requires most { size ≤ 4 }
-    ensures { out.new.items ≡ spec_record (11 - size) (low_bytes size 0) }
+    ensures text { out.new.items ≡ spec_record (11 - size) (low_bytes size 0) }
+    ensures line { IsLine out.new.items }
 {
     let mut body = Fields::new();
     append_address(&mut body, size, 0);
@@ -65,7 +69,7 @@ fn put_end(size: usize, out: &mut ArrayVec<u8, 80>)
 }
 
 /// How many bytes an address needs, at least two.
-fn address_size_of(last: u32) -> usize
+pub(crate) fn address_size_of(last: u32) -> usize
     ensures size { result ≡ address_size last }
     ensures least { 2 ≤ result }
     ensures most { result ≤ 4 }
@@ -79,7 +83,8 @@ fn address_size_of(last: u32) -> usize
     }
 }
 
-/// Writes bytes that stand from an address on as S-records, record by record. Contracts see it as the text still to come.
+/// Writes bytes that stand from an address on as S-records, record by record: each piece is a line. Contracts see it as
+/// the text still to come.
 ///
 /// ```text
 /// let mut text = Vec::new(alloc);
@@ -112,7 +117,8 @@ impl<'a> Model for SrecWriter<'a> {
 }
 
 impl<'a> SrecWriter<'a> {
-    /// A writer of bytes whose first one stands at the byte address `base`. It borrows the bytes and takes no memory.
+    /// A writer of bytes whose first one stands at the byte address `base`, and the last one below 2 to the power 32.
+    /// It borrows the bytes and takes no memory.
     ///
     /// ```text
     /// let mut piece = ArrayVec::new();
@@ -135,21 +141,16 @@ impl<'a> SrecWriter<'a> {
             ended: false,
         }
     }
+}
 
-    /// Makes `out` the next piece of the text, which is a line, and answers true; or empties it, where nothing is left.
-    ///
-    /// ```text
-    /// let mut piece = ArrayVec::new();
-    /// let mut writer = SrecWriter::new(0, &[]);
-    /// assert!(rt; writer.next_piece(&mut piece));
-    /// assert_eq!(rt; piece.as_slice(), b"S9030000FC\n".as_slice());
-    /// assert!(rt; !writer.next_piece(&mut piece));
-    /// ```
-    pub fn next_piece(&mut self, out: &mut ArrayVec<u8, 80>) -> bool
-        ensures joined { self.old ≡ out.new.items ++ self.new }
-        ensures some { IsTrue result ↔ (0 < length out.new.items) }
-        ensures ends { IsTrue result ↔ (0 < length self.old) }
-    {
+impl Pieces for SrecWriter<'_> {
+    ghost use Rattle.avr_records.specs.Text.{IsLine};
+
+    ghost rest = { λ w. w };
+
+    ghost IsPiece = { IsLine };
+
+    fn next_piece(&mut self, out: &mut ArrayVec<u8, 80>) -> bool {
         if self.ended {
             out.clear();
             return false;

@@ -240,9 +240,24 @@ fn answers_line_by_line(rt: HostRuntime) -> Result<(), Fail> {
 
 #[test]
 fn prints_faults(rt: HostRuntime) -> Result<(), Fail> {
-    let fault = RecordFault::OutOfRange(2, 0x10000);
-    let text = format!(in rt.alloc(); "{fault}")?;
-    assert_eq!(rt; text.as_str(), "line 2: address 00010000 out of range");
+    for (fault, want) in [
+        (RecordFault::BadMark(1), "line 1: no record mark"),
+        (RecordFault::BadDigit(2), "line 2: bad digit"),
+        (RecordFault::BadLength(3), "line 3: bad length"),
+        (RecordFault::BadSum(4), "line 4: bad checksum"),
+        (RecordFault::BadType(5), "line 5: bad record type"),
+        (
+            RecordFault::OutOfRange(2, 0x10000),
+            "line 2: address 00010000 out of range",
+        ),
+        (RecordFault::LineTooLong(7), "line 7: line too long"),
+        (RecordFault::BadCount(8), "line 8: bad record count"),
+        (RecordFault::Failed, "the reader met a fault before"),
+        (RecordFault::Memory, "out of memory"),
+    ] {
+        let text = format!(in rt.alloc(); "{fault}")?;
+        assert_eq!(rt; text.as_str(), want);
+    }
     Ok(())
 }
 
@@ -267,8 +282,9 @@ fn detects(rt: HostRuntime) {
 #[test]
 fn agrees_with_the_plain_reader(rt: HostRuntime) -> Result<(), Fail> {
     let alloc = rt.alloc();
-    let texts: [(Kind, &[u8]); 10] = [
+    let texts: [(Kind, &[u8]); 11] = [
         (Kind::Ihex, b""),
+        (Kind::Ihex, b" \t\n:0100000011EE\x0c\n"),
         (Kind::Ihex, b"\n\r\n \n"),
         (
             Kind::Ihex,

@@ -5,6 +5,7 @@ ghost use Rattle.std.specs.Prelude.{◌+◌, ◌^◌, ◌≤◌, length};
 
 use crate::{IhexWriter, SrecWriter, what_is_written_reads_back};
 use arrayvec::ArrayVec;
+use avr_image::Pieces;
 use std::alloc::{AllocError, Global};
 use std::test::Fail;
 

@@ -1,7 +1,10 @@
 //! A line that is written: the fields of a record as digits, behind its marks.
 #![tactic(auto)]
 
-ghost use Rattle.std.specs.Prelude.{◌≡◌, ◌+◌, ◌*◌, ◌<◌, ◌≤◌, [], ◌∷◌, ◌++◌, length, map};
+ghost use Rattle.std.specs.Prelude.{◌≡◌, ◌+◌, ◌*◌, ◌<◌, ◌≤◌, [], ◌∷◌, ◌++◌, length, map, not, true};
+ghost use Rattle.std.specs.List.{list_all};
+ghost use Rattle.avr_records.specs.Lines.{is_line_end};
+ghost use Rattle.avr_records.specs.Text.{IsLine};
 ghost use Rattle.std.specs.Char.{to_ascii_uppercase};
 ghost use Rattle.hex.specs.Hex.{encode_upper};
 
@@ -39,8 +42,10 @@ fn put_digits(bytes: &[u8], digits: &mut [u8])
 
 /// Makes `out` the line of some marks and the upper-case digits of some bytes.
 pub(crate) fn put_line(marks: &[u8], bytes: &[u8], out: &mut ArrayVec<u8, 80>)
-    requires { length marks.now + 2 * length bytes.now < 80 }
-    ensures { out.new.items ≡ marks.now ++ encode_upper bytes.now ++ 10 ∷ [] }
+    requires room { length marks.now + 2 * length bytes.now < 80 }
+    requires marks { list_all (λ c. not (is_line_end c)) marks.now ≡ true }
+    ensures text { out.new.items ≡ marks.now ++ encode_upper bytes.now ++ 10 ∷ [] }
+    ensures line { IsLine out.new.items }
 {
     let mut room = [0; 80];
     let digits = &mut room[..2 * bytes.len()];

@@ -3,22 +3,12 @@ use Rattle.std.proofs.Common.{◌≡◌, ℕ, ◌+◌, ◌<◌, List, [], ◌++�
 use Rattle.std.proofs.lemmas.List.{take-append-drop}
 use Rattle.std.proofs.Math.Seq.{take-add}
 use Rattle.stk_host.specs.Talk.{Talk, sent}
-use Rattle.stk_host.specs.Reach.{Says}
+use Rattle.stk_host.specs.Reach.{Says, SaysPart}
 use Rattle.stk_host.proofs.Talks.{sent_append, grows_none, grows_on, quiet_append}
 use Rattle.stk_emu.specs.Emulator.{Machine, Answers}
 use Rattle.avr_serve.specs.Serving.{AnswersAll, BreaksOff}
-use Rattle.avr_serve.specs.Replying.{SaysPart, Replies, RepliesPart}
+use Rattle.avr_serve.specs.Replying.{Replies, RepliesPart}
 use Rattle.avr_serve.proofs.Answering.{all_nothing, all_fed, all_more, breaks_here, breaks_more}
-
--- so many bytes of an answer were sent, and not all
-pub part_of : (bytes : List ℕ) (n : ℕ) (o q : Option Talk) → n < length bytes → Says (take n bytes) o q → SaysPart bytes o q
-part_of bytes n o q few says = record {
-  part = take n bytes;
-  unsent = drop n bytes;
-  bytes_are = sym (take-append-drop n bytes);
-  not_whole = rw length-drop (omega arith);
-  says = says;
-}
 
 says_both : (x y : List ℕ) (a b c : Option Talk) → Says x a b → Says y b c → Says (x ++ y) a c
 says_both x y a b c first then = record {

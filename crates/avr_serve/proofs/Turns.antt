@@ -98,11 +98,8 @@ serves_within served few many old now a b other le s = record {
   leaves = s.leaves;
 }
 
-pub fails_more : (served : Served) (a b c : ℕ) → a ≤ b → FailsBy served b c → FailsBy served a c
-fails_more Ended a b c le f = tt
-fails_more RecvFailed a b c le f = elim f [ inl less ↦ inl (omega arith) | inr full ↦ inr full ]
-fails_more SendFailed a b c le f = elim f [ inl less ↦ inl (omega arith) | inr full ↦ inr full ]
-fails_more TooManyReads a b c le f = tt
+pub fails_more : (served : Served) (a b c : ℕ) → b ≡ a → FailsBy served b c → FailsBy served a c
+fails_more served a b c same f = subst (λ n. FailsBy served n c) same f
 
 -- what one read comes to
 

@@ -1,18 +1,10 @@
 -- The answers to one piece. (For contracts inside this crate.)
-use Rattle.std.specs.Prelude.{ℕ, List, ◌++◌, ◌≡◌, ◌<◌, length, Option}
+use Rattle.std.specs.Prelude.{ℕ, List, Option}
 use Rattle.stk_host.specs.Talk.{Talk}
 use Rattle.stk_host.specs.Reach.{Says}
 use Rattle.stk_emu.specs.Programmer.{Programmer}
 use Rattle.stk_emu.specs.Emulator.{Machine, IsFed}
 use Rattle.avr_serve.specs.Serving.{AnswersAll, BreaksOff}
-
--- a part of the bytes was sent, and not the whole
-pub record SaysPart (bytes : List ℕ) (before after : Option Talk) : Type 0 where
-  pub part : List ℕ
-  pub unsent : List ℕ
-  pub bytes_are : bytes ≡ part ++ unsent
-  pub not_whole : 0 < length unsent
-  pub says : Says part before after
 
 -- the emulator was fed these bytes, and all answers to them were sent
 pub record Replies (old : Machine) (bytes : List ℕ) (before after : Option Talk) (now : Machine) : Type 0 where

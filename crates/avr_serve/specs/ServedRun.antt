@@ -31,7 +31,8 @@ settings_chip s file = settings_part s >>= λ part. chip_stage part file
 abbrev pub fresh_machine : chips.State → Machine
 fresh_machine chip = record { held = []; programmer = fresh_programmer chip }
 
--- Of an end that was heard nothing is told; of any other the line was printed, or the desk has failed and a front of it was.
+-- Of an end that was heard nothing is told; of any other the line was printed, or the desk has failed and a front of it
+-- was.
 abbrev pub TellsEnd : Served → Option Record → Option Record → ℕ → ℕ → Type 0
 TellsEnd Ended old new before now = (new ≡ old) × (now ≡ before)
 TellsEnd RecvFailed old new before now = IsTold old new (error (codes "link cannot be read" ∷ [])) before now
@@ -48,12 +49,14 @@ status_of TooManyReads = 1
 -- The chip's file was written, and the status is that of how serving ended; or it couldn't be, and the status is 1.
 abbrev pub IsSaved : Served → Option Record → Option Record → Bytes → Bytes → ℕ → ℕ → ℕ → Type 0
 IsSaved served old new file bytes before now status =
-    (Saves old new file bytes before now (Ok tt) × (status ≡ status_of served)) ⊎ ((fault : ℕ) × Saves old new file bytes before now (Err fault) × (status ≡ 1))
+    (Saves old new file bytes before now (Ok tt) × (status ≡ status_of served))
+    ⊎ ((fault : ℕ) × Saves old new file bytes before now (Err fault) × (status ≡ 1))
 
--- A fresh emulator with this chip served a link in at most so many reads: what was sent are its answers to what was heard, all
--- of them before the next read, unless a send failed. How that ended was told, and whatever it was, the chip was saved as it is
--- after the frames that came.
-pub record ServesChip (chip : chips.State) (file : Bytes) (turns : ℕ) (talk talked : Option Talk) (link_before link_now : ℕ)
+-- A fresh emulator with this chip served a link in at most so many reads: what was sent are its answers to what was
+-- heard, all of them before the next read, unless a send failed. How that ended was told, and whatever it was, the chip
+-- was saved as it is after the frames that came.
+pub record ServesChip (chip : chips.State) (file : Bytes) (turns : ℕ) (talk talked : Option Talk)
+    (link_before link_now : ℕ)
     (old new : Option Record) (before now status : ℕ) : Type 0 where
   pub served : Served
   pub left : Machine
@@ -69,7 +72,8 @@ pub record ServesChip (chip : chips.State) (file : Bytes) (turns : ℕ) (talk ta
   pub counted : told_failures ≤ now
 
 -- The chip of the settings was loaded, and it was served.
-pub record ServesLoaded (settings : Settings) (file : Bytes) (turns : ℕ) (talk talked : Option Talk) (link_before link_now : ℕ)
+pub record ServesLoaded (settings : Settings) (file : Bytes) (turns : ℕ) (talk talked : Option Talk)
+    (link_before link_now : ℕ)
     (old new : Option Record) (before now status : ℕ) : Type 0 where
   pub chip : chips.State
   pub loaded_desk : Option Record
@@ -86,7 +90,8 @@ pub record LacksChip (settings : Settings) (file : Bytes) (talk talked : Option 
   pub unfailed : link_now ≡ link_before
 
 -- the one or the other
-abbrev pub RunsServed : Settings → Bytes → ℕ → Option Talk → Option Talk → ℕ → ℕ → Option Record → Option Record → ℕ → ℕ → ℕ → Type 0
+abbrev pub RunsServed : Settings → Bytes → ℕ → Option Talk → Option Talk → ℕ → ℕ → Option Record → Option Record → ℕ → ℕ
+    → ℕ → Type 0
 RunsServed settings file turns talk talked link_before link_now old new before now status =
     ServesLoaded settings file turns talk talked link_before link_now old new before now status
     ⊎ LacksChip settings file talk talked link_before link_now old new before now status

@@ -31,8 +31,8 @@ reads [] = 0
 reads (Sent bytes ∷ talk) = reads talk
 reads (Got tape ∷ talk) = reads talk + 1
 
--- What was heard, in at most so many reads, by how serving ended: the end was heard last where it ended with it, and never
--- where it didn't.
+-- What was heard, in at most so many reads, by how serving ended: the end was heard last where it ended with it, and
+-- never where it didn't.
 abbrev pub Hears : Served → ℕ → Talk → Type 0
 Hears Ended turns talk = (before : Tape) × HasNoEnd before × (heard talk ≡ before ++ End ∷ []) × (reads talk ≤ turns)
 Hears RecvFailed turns talk = HasNoEnd (heard talk) × (reads talk < turns)
@@ -44,15 +44,16 @@ Hears TooManyReads turns talk = HasNoEnd (heard talk) × (reads talk ≡ turns)
 abbrev pub AnswersInTurn : Programmer → List ℕ → List ℕ → Talk → Type 0
 AnswersInTurn p text answered [] = Unit {0}
 AnswersInTurn p text answered (Sent bytes ∷ talk) = AnswersInTurn p text (answered ++ bytes) talk
-AnswersInTurn p text answered (Got tape ∷ talk) = (answered ≡ emulate p text) × AnswersInTurn p (text ++ bytes_of tape) answered talk
+AnswersInTurn p text answered (Got tape ∷ talk) =
+    (answered ≡ emulate p text) × AnswersInTurn p (text ++ bytes_of tape) answered talk
 
 -- An emulator that had been fed a text was fed these bytes behind it, and these are exactly its answers to them.
 pub record AnswersAll (p : Programmer) (text bytes out : List ℕ) (now : Machine) : Type 0 where
   pub fed : IsFed p (text ++ bytes) now
   pub answered : emulate p (text ++ bytes) ≡ emulate p text ++ out
 
--- It was fed a front of these bytes, and the answer to the last frame that ends in it was not sent whole: what was sent is
--- all answers to the frames before, and a part of this one.
+-- It was fed a front of these bytes, and the answer to the last frame that ends in it was not sent whole: what was sent
+-- is all answers to the frames before, and a part of this one.
 pub record BreaksOff (p : Programmer) (text bytes out : List ℕ) (now : Machine) : Type 0 where
   pub used : List ℕ
   pub unused : List ℕ
@@ -71,20 +72,24 @@ pub record BreaksOff (p : Programmer) (text bytes out : List ℕ) (now : Machine
 -- was sent.
 abbrev pub Leaves : Served → Programmer → List ℕ → Talk → Machine → Type 0
 Leaves SendFailed p text talk now =
-    IsPrefixOf (emulate p text ++ sent talk) (emulate p (text ++ bytes_of (heard talk))) × BreaksOff p text (bytes_of (heard talk)) (sent talk) now
+    IsPrefixOf (emulate p text ++ sent talk) (emulate p (text ++ bytes_of (heard talk)))
+    × BreaksOff p text (bytes_of (heard talk)) (sent talk) now
 Leaves _ p text talk now = AnswersAll p text (bytes_of (heard talk)) (sent talk) now
 
--- An emulator served a link that showed these talks before and after it, in at most so many reads, and this is how it ended:
--- so it is whatever programmer it began with and whatever text it was fed before.
-pub record Serves (old : Machine) (turns : ℕ) (served : Served) (before after : Option Talk) (now : Machine) : Type 0 where
+-- An emulator served a link that showed these talks before and after it, in at most so many reads, and this is how it
+-- ended: so it is whatever programmer it began with and whatever text it was fed before.
+pub record Serves (old : Machine) (turns : ℕ) (served : Served) (before after : Option Talk)
+    (now : Machine) : Type 0 where
   pub during : Talk
   pub grows : Grows before during after
   pub hears : Hears served turns during
   pub in_turn : (p : Programmer) (text : List ℕ) → IsFed p text old → AnswersInTurn p text (emulate p text) during
   pub leaves : (p : Programmer) (text : List ℕ) → IsFed p text old → Leaves served p text during now
 
--- where the link is said to have failed, its count of failures rose or stands at its end
+-- Where the link is said to have failed, its count of failures rose or stands at its end; where it isn't, the count is
+-- what it was.
 abbrev pub FailsBy : Served → ℕ → ℕ → Type 0
+FailsBy Ended before now = now ≡ before
 FailsBy RecvFailed before now = HasFailed before now
 FailsBy SendFailed before now = HasFailed before now
-FailsBy _ before now = Unit {0}
+FailsBy TooManyReads before now = now ≡ before

@@ -14,7 +14,8 @@ use std::alloc::Global;
 
 /// Prints an error, as far as the desk takes it.
 fn tell<D: Desk>(desk: &mut D, text: &str)
-    ensures told { IsTold (D.kept desk.old) (D.kept desk.new) (error (text.now ∷ [])) (D.failures desk.old) (D.failures desk.new) }
+    ensures told { IsTold (D.kept desk.old) (D.kept desk.new) (error (text.now ∷ [])) (D.failures desk.old)
+        (D.failures desk.new) }
     ensures rises { D.failures desk.old ≤ D.failures desk.new }
 {
     let _ = print_error(desk, &[Piece::Text(text)]);
@@ -51,7 +52,8 @@ pub(crate) fn save_served<D: Desk>(
     desk: &mut D,
     served: Served,
 ) -> u8
-    ensures saved { IsSaved served (D.kept desk.old) (D.kept desk.new) file.now (chip_file chip.now) (D.failures desk.old) (D.failures desk.new) result }
+    ensures saved { IsSaved served (D.kept desk.old) (D.kept desk.new) file.now (chip_file chip.now)
+        (D.failures desk.old) (D.failures desk.new) result }
     ensures rises { D.failures desk.old ≤ D.failures desk.new }
 {
     match save_chip(alloc, chip, file, desk) {

@@ -1,7 +1,7 @@
 //! An emulated programmer that answers whoever speaks on a link.
 //!
-//! The one idea: whatever pieces the bytes come in, what is sent are exactly the answers of the emulator to what was heard,
-//! and before the link is read again all answers to what was heard before have been sent.
+//! The one idea: whatever pieces the bytes come in, what is sent are exactly the answers of the emulator to what was
+//! heard, and before the link is read again all answers to what was heard before have been sent.
 //!
 //!     let mut emulator = Emulator::new(chip);
 //!     let served = answer_all(&mut emulator, &mut link, 1_000_000);
@@ -12,7 +12,6 @@
 #![tactic(auto)]
 
 // the answers to what is heard
-mod send;
 mod serving;
 // from settings to status
 mod ending;

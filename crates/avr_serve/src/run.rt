@@ -19,7 +19,8 @@ pub const READS: u32 = 16_777_216;
 
 /// The part of the settings: looked up in their part file, where they have one, before the built-in parts.
 fn find_part<D: Desk>(alloc: Global, desk: &mut D, settings: &Settings) -> Result<Part, u8>
-    ensures goes { Goes (settings_part settings.now) (D.kept desk.old) (D.kept desk.new) (D.failures desk.old) (D.failures desk.new) result }
+    ensures goes { Goes (settings_part settings.now) (D.kept desk.old) (D.kept desk.new) (D.failures desk.old)
+        (D.failures desk.new) result }
     ensures rises { D.failures desk.old ≤ D.failures desk.new }
 {
     let parts = match given_parts(alloc, desk, &settings.parts) {
@@ -29,17 +30,19 @@ fn find_part<D: Desk>(alloc: Global, desk: &mut D, settings: &Settings) -> Resul
     chosen_part(desk, &parts, settings.part.as_str())
 }
 
-/// The chip that is served: of the settings' part, loaded from the file of this name, and fresh where there is no such file.
+/// The chip that is served: of the settings' part, loaded from the file of this name, and fresh where there is no such
+/// file.
 ///
-/// Where the part file, the name of the part or the chip file is refused, where the desk fails or memory is refused, the
-/// answer is `Err(1)`, and the line that tells why was printed as far as the desk takes it.
+/// Where the part file, the name of the part or the chip file is refused, where the desk fails or memory is refused,
+/// the answer is `Err(1)`, and the line that tells why was printed as far as the desk takes it.
 pub fn find_chip<D: Desk>(
     alloc: Global,
     settings: &Settings,
     file: &str,
     desk: &mut D,
 ) -> Result<Chip, u8>
-    ensures goes { Goes (settings_chip settings.now file.now) (D.kept desk.old) (D.kept desk.new) (D.failures desk.old) (D.failures desk.new) result }
+    ensures goes { Goes (settings_chip settings.now file.now) (D.kept desk.old) (D.kept desk.new) (D.failures desk.old)
+        (D.failures desk.new) result }
     ensures rises { D.failures desk.old ≤ D.failures desk.new }
 {
     let part = match find_part(alloc, desk, settings) {
@@ -49,11 +52,12 @@ pub fn find_chip<D: Desk>(
     load_chip(alloc, &part, file, desk)
 }
 
-/// Serves a chip over a link, in at most `turns` reads, tells how that ended, and saves the chip to the file of this name.
+/// Serves a chip over a link, in at most `turns` reads, tells how that ended, and saves the chip to the file of this
+/// name.
 ///
-/// What is sent are the answers of a fresh programmer with this chip to what is heard, and all of them are sent before the next
-/// read. An end that was heard has no line, any other its own; whichever it is, the chip is saved as the frames that came had
-/// left it.
+/// What is sent are the answers of a fresh programmer with this chip to what is heard, and all of them are sent before
+/// the next read. An end that was heard has no line, any other its own; whichever it is, the chip is saved as the
+/// frames that came had left it.
 ///
 /// The status is 0 where an end was heard and the chip was saved, else 1.
 pub fn serve_chip<D: Desk, L: Link>(
@@ -64,7 +68,8 @@ pub fn serve_chip<D: Desk, L: Link>(
     link: &mut L,
     turns: u32,
 ) -> u8
-    ensures serves { ServesChip chip file.now turns (L.talk link.old) (L.talk link.new) (L.failures link.old) (L.failures link.new)
+    ensures serves { ServesChip chip file.now turns (L.talk link.old) (L.talk link.new) (L.failures link.old)
+        (L.failures link.new)
         (D.kept desk.old) (D.kept desk.new) (D.failures desk.old) (D.failures desk.new) result }
     ensures rises { D.failures desk.old ≤ D.failures desk.new }
     ensures counted { L.failures link.old ≤ L.failures link.new }
@@ -77,12 +82,12 @@ pub fn serve_chip<D: Desk, L: Link>(
 
 /// Serves the emulated programmer of the settings' part over a link, in at most `turns` reads.
 ///
-/// The chip is loaded from the file of this name, and is fresh where there is no such file. What is sent are the answers of
-/// a fresh programmer with this chip to what is heard, and all of them are sent before the next read. However that ends, its
-/// line is printed, but for an end that was heard, and the chip is saved to the file.
+/// The chip is loaded from the file of this name, and is fresh where there is no such file. What is sent are the
+/// answers of a fresh programmer with this chip to what is heard, and all of them are sent before the next read.
+/// However that ends, its line is printed, but for an end that was heard, and the chip is saved to the file.
 ///
-/// The status is 0 where an end was heard and the chip was saved, else 1. Where the part or the chip file is refused, nothing
-/// is heard or sent, and no file is written.
+/// The status is 0 where an end was heard and the chip was saved, else 1. Where the part or the chip file is refused,
+/// nothing is heard or sent, and no file is written.
 pub fn serve_for<D: Desk, L: Link>(
     alloc: Global,
     settings: &Settings,
@@ -91,7 +96,8 @@ pub fn serve_for<D: Desk, L: Link>(
     link: &mut L,
     turns: u32,
 ) -> u8
-    ensures runs { RunsServed settings.now file.now turns (L.talk link.old) (L.talk link.new) (L.failures link.old) (L.failures link.new)
+    ensures runs { RunsServed settings.now file.now turns (L.talk link.old) (L.talk link.new) (L.failures link.old)
+        (L.failures link.new)
         (D.kept desk.old) (D.kept desk.new) (D.failures desk.old) (D.failures desk.new) result }
     ensures rises { D.failures desk.old ≤ D.failures desk.new }
     ensures counted { L.failures link.old ≤ L.failures link.new }
@@ -111,7 +117,8 @@ pub fn serve<D: Desk, L: Link>(
     desk: &mut D,
     link: &mut L,
 ) -> u8
-    ensures runs { RunsServed settings.now file.now 16777216 (L.talk link.old) (L.talk link.new) (L.failures link.old) (L.failures link.new)
+    ensures runs { RunsServed settings.now file.now 16777216 (L.talk link.old) (L.talk link.new) (L.failures link.old)
+        (L.failures link.new)
         (D.kept desk.old) (D.kept desk.new) (D.failures desk.old) (D.failures desk.new) result }
     ensures rises { D.failures desk.old ≤ D.failures desk.new }
     ensures counted { L.failures link.old ≤ L.failures link.new }

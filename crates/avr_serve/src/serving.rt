@@ -4,10 +4,9 @@ ghost use Rattle.stk_host.specs.Talk.{HasFailed};
 ghost use Rattle.avr_serve.specs.Serving.{Serves, FailsBy};
 ghost use Rattle.avr_serve.specs.Replying.{Replies, RepliesPart};
 
-use crate::send::send_all;
 use arrayvec::ArrayVec;
 use stk_emu::Emulator;
-use stk_host::{Heard, Link, LinkFault};
+use stk_host::{Heard, Link, LinkFault, send_all};
 
 /// How serving a link ended.
 #[derive(Clone, Copy, Debug, PartialEq, Eq)]
@@ -31,6 +30,7 @@ fn answer_piece<L: Link>(
     ensures ok { OnOk result (Replies emulator.old piece.now (L.talk link.old) (L.talk link.new) emulator.new) }
     ensures err { OnErr result (RepliesPart emulator.old piece.now (L.talk link.old) (L.talk link.new) emulator.new) }
     ensures counted { L.failures link.old ≤ L.failures link.new }
+    ensures sound { OnOk result (L.failures link.new ≡ L.failures link.old) }
     ensures failed { OnErr result (HasFailed (L.failures link.old) (L.failures link.new)) }
 {
     let mut answer = ArrayVec::new();
@@ -64,7 +64,8 @@ fn answer_next<L: Link>(emulator: &mut Emulator, link: &mut L) -> Served
     }
 }
 
-/// Serves a link in at most `turns` reads: feeds what is heard to the emulator, and sends all answers before the next read.
+/// Serves a link in at most `turns` reads: feeds what is heard to the emulator, and sends all answers before the next
+/// read.
 ///
 /// A silence counts for nothing but the read that it took. What the last read brings is still answered.
 pub fn answer_all<L: Link>(emulator: &mut Emulator, link: &mut L, turns: u32) -> Served

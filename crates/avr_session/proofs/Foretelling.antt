@@ -1,5 +1,5 @@
 -- How a part of a session stands at its end says whether a fault was told in it: laws of dialogs alone.
-use Rattle.std.proofs.Common.{◌≡◌, ℕ, Bool, true, false, ◌||◌, List, [], ◌∷◌, ◌++◌, length, drop, refl, sym, ap, ◌∙◌, subst, append_assoc, append-nil, nat_lt, bytes_eq, codes, decimal, if◌then◌else◌, Option, Some, None, Result, Ok, Err, inl, inr}
+use Rattle.std.proofs.Common.{◌≡◌, ℕ, Bool, true, false, ◌||◌, List, [], ◌∷◌, ◌++◌, length, drop, map, refl, sym, ap, ◌∙◌, subst, append_assoc, append-nil, nat_lt, bytes_eq, codes, decimal, if◌then◌else◌, Option, Some, None, Result, Ok, Err, inl, inr}
 use Rattle.std.proofs.lemmas.Bool.{cases_Bool}
 use Rattle.std.proofs.lemmas.List.Folds.{list_any-append}
 use Rattle.std.proofs.lemmas.Slice.Eq.{starts_is}
@@ -18,17 +18,18 @@ use Rattle.stk_host.specs.declared.fault.HostFault.{HostFault}
 use Rattle.stk_host.specs.declared.fault.HostFault.TheVariants.{NoAnswer, LinkEnded, SendFailed, Babble, Refused, BadAnswer, WrongSignature, Differs, ReadOnly, Memory, RecvFailed}
 use Rattle.stk_host.specs.Tape.{Tape, Reading, on_tape, answer}
 use Rattle.stk_host.specs.Talk.{Talk, heard}
-use Rattle.stk_host.specs.Dialog.{Dialog, Done, Say, Ask, ◌>>=◌, lifted, Played, played, by_answer, next, sayings}
+use Rattle.stk_host.specs.Dialog.{Dialog, Done, Say, Ask, ◌>>=◌, lifted, Event, Frame, Said, Played, played, by_answer, next, sayings}
 use Rattle.stk_host.specs.Operations.{opening, erasing, writing, reading, verifying}
 use Rattle.avr_message.specs.Lines.{Bytes, information, warning, error}
-use Rattle.avr_message.specs.Said.{Saying, Opens, Line, Creates, Writes, Outs, SaidPart, IsBegun, IsPrefixOf, SaysFront}
+use Rattle.avr_message.specs.Said.{Saying, Line, Creates, Writes, Outs, IsPrefixOf}
 use Rattle.avr_session.specs.declared.standing.Standing.{Standing}
 use Rattle.avr_session.specs.declared.standing.Standing.TheVariants.{Fine, Faulty, Over}
 use Rattle.avr_session.specs.FileText.{file_text}
 use Rattle.avr_session.specs.Lines.{informs, warns, other_signature, fault_line}
 use Rattle.avr_session.specs.Parts.{is_told}
-use Rattle.avr_session.specs.Runs.{is_error, tells_fault, Ran}
+use Rattle.avr_session.specs.Runs.{Cause, OfSending, OfListening, OfFile, OfPrinting, OfMemory, NotCreated, NotWritten, is_error, tells_fault, Ran, AtFrame, StopsAt, SaysFront}
 use Rattle.avr_session.specs.Session.{says, standing, reported, unless_fault, fault_or, opening_says, warns_of_signature, signature_says, bytes_say, saved, kept_of, erased_says, written_says, verified_says, read_says, left_out_erase, left_out_write, opening_part, chip_erasing_part, is_erase_due, erasing_part, verifying_part, writing_part, read_back_part, write_part, reading_part, task_part, tasks_part, beginning, working}
+use Rattle.avr_session.proofs.Places.{sayings_by}
 
 -- ---- along every way of a dialog
 
@@ -254,31 +255,35 @@ error_front front whole is f =
     let begins : front ≡ mark ++ rest = (starts_is unsigned_Decides front mark (is_error (Line front)) refl).0 f in
     (starts_is unsigned_Decides whole mark (is_error (Line whole)) refl).1 (rest ++ is.0) (sym is.1 ∙ (ap (λ (xs : Bytes). xs ++ is.0) begins ∙ append_assoc mark rest is.0))
 
-part_none : (part whole : Saying) → SaidPart part whole → is_error whole ≡ false → is_error part ≡ false
-part_none (Line part) (Line whole) is none = elim (cases_Bool (is_error (Line part))) [
+line_none : (part whole : Bytes) → IsPrefixOf part whole → is_error (Line whole) ≡ false → is_error (Line part) ≡ false
+line_none part whole is none = elim (cases_Bool (is_error (Line part))) [
   | inl t ↦ let e = error_front part whole is t in absurd (cc)
   | inr f ↦ f
 ]
-part_none (Line part) (Opens o) is none = absurd is
-part_none (Line part) (Creates o) is none = absurd is
-part_none (Line part) (Writes o) is none = absurd is
-part_none (Line part) (Outs o) is none = absurd is
-part_none (Opens part) whole is none = refl
-part_none (Creates part) whole is none = refl
-part_none (Writes part) whole is none = refl
-part_none (Outs part) whole is none = refl
 
 or_none : (a b : Bool) → (a || b) ≡ false → (a ≡ false) × (b ≡ false)
 or_none false b f = (refl, f)
 or_none true b f = absurd (cc)
 
-begun_none : (begun later : List Saying) → IsBegun begun later → tells_fault later ≡ false → tells_fault begun ≡ false
-begun_none [] later is none = refl
-begun_none (x ∷ []) [] is none = absurd is
-begun_none (x ∷ []) (y ∷ later) is none = ap (λ b. b || false) (part_none x y is (or_none (is_error y) (tells_fault later) none).0)
-begun_none (x ∷ y ∷ begun) later is none = absurd is
+quiet_by : (begun : List Saying) (events : List (Event Saying)) → map Said begun ≡ events → tells_fault (sayings events) ≡ false → tells_fault begun ≡ false
+quiet_by begun events is none = ap tells_fault (sayings_by begun events is) ∙ none
 
-pub front_tells_none : {old new : Option Record} {sayings : List Saying} (front : SaysFront old new sayings) → tells_fault sayings ≡ false → tells_fault (front.whole ++ front.begun) ≡ false
-front_tells_none front none =
+of_frame : (begun later : List Saying) → AtFrame (map Said begun) (map Said later) → tells_fault begun ≡ false
+of_frame begun later x = quiet_by begun (Frame x.done ∷ []) x.part refl
+
+begun_none : (cause : Cause) (whole begun later : List Saying) → StopsAt cause (map Said whole) (map Said begun) (map Said later) → tells_fault later ≡ false → tells_fault begun ≡ false
+begun_none OfSending whole begun later x none = of_frame begun later x
+begun_none OfListening whole begun later x none = quiet_by begun [] x.0 refl
+begun_none (OfFile file NotCreated) whole begun later x none = quiet_by begun [] x.none refl
+begun_none (OfFile file NotWritten) whole begun later (inl x) none = quiet_by begun (Said (Writes x.done) ∷ []) x.part refl
+begun_none (OfFile file NotWritten) whole begun later (inr x) none = quiet_by begun (Said (Outs x.done) ∷ []) x.part refl
+begun_none OfPrinting whole begun later x none =
+    let due = sym (ap tells_fault (sayings_by later (Said (Line x.bytes) ∷ x.more) x.due)) ∙ none in
+    let one = line_none x.done x.bytes x.front (or_none (is_error (Line x.bytes)) (tells_fault (sayings x.more)) due).0 in
+    quiet_by begun (Said (Line x.done) ∷ []) x.part (ap (λ b. b || false) one)
+begun_none OfMemory whole begun later x none = quiet_by begun [] x refl
+
+pub front_tells_none : {cause : Cause} {old new : Option Record} {sayings : List Saying} (front : SaysFront cause old new sayings) → tells_fault sayings ≡ false → tells_fault (front.whole ++ front.begun) ≡ false
+front_tells_none {cause = cause} front none =
     let both = or_none (tells_fault front.whole) (tells_fault front.later) (sym (list_any-append is_error front.whole front.later) ∙ (ap tells_fault (sym front.sayings_are) ∙ none)) in
-    both_none front.whole front.begun both.0 (begun_none front.begun front.later front.part both.1)
+    both_none front.whole front.begun both.0 (begun_none cause front.whole front.begun front.later front.place both.1)

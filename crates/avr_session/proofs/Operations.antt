@@ -1,29 +1,35 @@
 -- An operation of the host and its report, as a part of a session.
-use Rattle.std.proofs.Common.{◌≡◌, ℕ, ◌≤◌, List, [], ◌++◌, length, refl, sym, ap, ◌∙◌, ◌∷◌, subst, Option, Some, None, Result, Ok, Err, inl, inr, ◌⊎◌}
+use Rattle.std.proofs.Common.{◌≡◌, ℕ, ◌≤◌, Bool, true, false, List, [], ◌++◌, length, refl, sym, ap, ◌∙◌, ◌∷◌, subst, bytes_eq, if◌then◌else◌, Option, Some, None, Result, Ok, Err, inl, inr, ◌⊎◌}
 use Rattle.avr_desk.specs.Record.{Record}
 use Rattle.avr_part.specs.Part.{Part}
 use Rattle.stk_host.specs.declared.fault.HostFault.{HostFault}
 use Rattle.stk_host.specs.declared.fault.HostFault.TheVariants.{NoAnswer, LinkEnded, SendFailed, Babble, Refused, BadAnswer, WrongSignature, Differs, ReadOnly, Memory, RecvFailed}
 use Rattle.stk_host.specs.Talk as link
 use Rattle.stk_host.specs.declared.fault.StepFault.TheVariants as of_step
-use Rattle.stk_frame.specs.HostCommands.{leave}
+use Rattle.stk_host.specs.declared.fault.StepFault.{StepFault}
+use Rattle.stk_frame.specs.declared.command.Command.{Command}
+use Rattle.stk_frame.specs.HostCommands.{leave, erase}
+use Rattle.avr_part.specs.Mem.{is_writable}
+use Rattle.avr_part.specs.declared.mem.Mem.{Mem}
 use Rattle.stk_host.specs.Tape.{Tape, on_tape}
-use Rattle.stk_host.specs.Steps.{Outcome, step}
-use Rattle.stk_host.specs.Operations.{ended, closing}
+use Rattle.stk_host.specs.Steps.{Outcome, step, play}
+use Rattle.stk_host.specs.WriteSteps.{write_steps}
+use Rattle.stk_host.specs.Operations.{host_fault, signature_judged, ended, beginning, opening, closing, operation, judged_by, done, erasing, writing}
 use Rattle.stk_host.specs.Talk.{Talk, heard}
-use Rattle.stk_host.specs.Dialog.{Dialog, Done, ◌>>=◌, played}
-use Rattle.stk_host.specs.Play.{NoPart, PlaysOver, BreaksOver}
+use Rattle.stk_host.specs.Dialog.{Dialog, Done, ◌>>=◌, Played, played}
+use Rattle.stk_host.specs.declared.fault.Broken.{Broken}
+use Rattle.stk_host.specs.declared.fault.Broken.TheVariants.{Send, Recv}
+use Rattle.stk_host.specs.Play.{PlaysOver, FailsOver}
 use Rattle.stk_host.specs.Calls.{EndsCall, EndsOrLacks, IsBroken}
-use Rattle.stk_host.proofs.Talks.{grows_none}
-use Rattle.stk_host.proofs.Leading.{continued, played_bind, breaks_here}
-use Rattle.avr_message.specs.Said.{Saying, SaysFront}
+use Rattle.stk_host.proofs.Leading.{continued, played_bind}
+use Rattle.avr_message.specs.Said.{Saying}
 use Rattle.avr_session.specs.declared.standing.Stopped.{Stopped}
 use Rattle.avr_session.specs.Concluding.{after_outcome, concluded}
 use Rattle.avr_session.specs.Lines.{fault_line}
 use Rattle.avr_session.specs.Session.{says, standing, reported, fault_or}
-use Rattle.avr_session.specs.Runs.{Cause, OfSending, OfListening, OfMemory, cause_line, HasCome, PrintStops, PrintsSome, Reports, BrokeOff, Runs}
+use Rattle.avr_session.specs.Runs.{Cause, OfSending, OfListening, OfMemory, cause_line, HasCome, PrintStops, PrintsSome, SaysFront, Reports, BrokeOff, Runs}
 use Rattle.avr_session.proofs.Reporting.{told_some}
-use Rattle.avr_session.proofs.Running.{came_lifted, came_said, came_on, ran_from, broke_lifted, broke_saying, broke_operation, ToldBy, broke_here}
+use Rattle.avr_session.proofs.Running.{came_lifted, came_said, came_on, ran_from, broke_lifted, broke_saying, broke_operation, broke_lacking, broken_cause, ToldBy}
 
 -- the outcome stops the run
 abbrev pub IsStop : {A : Type 0} → Result A HostFault → Type 0
@@ -37,96 +43,172 @@ cause_of (Err SendFailed) = OfSending
 cause_of (Err RecvFailed) = OfListening
 cause_of outcome = OfMemory
 
--- how a call ended: it was played whole, or an outcome that stops the run broke it off
-abbrev pub Ended : {A : Type 0} → Dialog ⊥ (Result A HostFault) → ℕ → List ℕ → Option Talk → Option Talk → Result A HostFault → ℕ → List ℕ → Type 0
-Ended dialog m u o p outcome n v = PlaysOver dialog m u o p outcome n v ⊎ (IsStop outcome × BreaksOver dialog m u o p)
+-- memory was refused
+abbrev pub IsMemory : {A : Type 0} → Result A HostFault → Type 0
+IsMemory (Err Memory) = Unit {0}
+IsMemory outcome = ⊥
 
-pub call_ended : {A : Type 0} (dialog : Dialog ⊥ (Result A HostFault)) (m : ℕ) (u : List ℕ) (o p : Option Talk) (outcome : Result A HostFault) (n : ℕ) (v : List ℕ) → EndsCall dialog m u o p outcome n v → Ended dialog m u o p outcome n v
-call_ended dialog m u o p (Ok a) n v ends = inl ends
-call_ended dialog m u o p (Err NoAnswer) n v ends = inl ends
-call_ended dialog m u o p (Err LinkEnded) n v ends = inl ends
-call_ended dialog m u o p (Err SendFailed) n v ends = inr (tt, ends)
-call_ended dialog m u o p (Err Babble) n v ends = inl ends
-call_ended dialog m u o p (Err (Refused command status)) n v ends = inl ends
-call_ended dialog m u o p (Err (BadAnswer command)) n v ends = inl ends
-call_ended dialog m u o p (Err (WrongSignature found)) n v ends = inl ends
-call_ended dialog m u o p (Err (Differs mem address want found)) n v ends = inl ends
-call_ended dialog m u o p (Err (ReadOnly mem)) n v ends = inl ends
-call_ended dialog m u o p (Err Memory) n v ends = inl ends
-call_ended dialog m u o p (Err RecvFailed) n v ends = inr (tt, ends)
+memory_is : {A : Type 0} (outcome : Result A HostFault) → IsMemory outcome → outcome ≡ Err Memory
+memory_is (Ok a) is = absurd is
+memory_is (Err NoAnswer) is = absurd is
+memory_is (Err LinkEnded) is = absurd is
+memory_is (Err SendFailed) is = absurd is
+memory_is (Err Babble) is = absurd is
+memory_is (Err (Refused command status)) is = absurd is
+memory_is (Err (BadAnswer command)) is = absurd is
+memory_is (Err (WrongSignature found)) is = absurd is
+memory_is (Err (Differs mem address want found)) is = absurd is
+memory_is (Err (ReadOnly mem)) is = absurd is
+memory_is (Err Memory) is = refl
+memory_is (Err RecvFailed) is = absurd is
 
--- leaving programming mode takes no memory
-ended_not : (outcome : Outcome) → ended outcome ≡ Err Memory → ⊥
-ended_not (Ok bytes) is = cc
-ended_not (Err of_step.NoAnswer) is = cc
-ended_not (Err of_step.LinkEnded) is = cc
-ended_not (Err of_step.Babble) is = cc
-ended_not (Err (of_step.Refused command status)) is = cc
-ended_not (Err (of_step.BadAnswer command)) is = cc
+-- an outcome that stops the run is one or the other
+stop_kind : {A : Type 0} (outcome : Result A HostFault) → IsStop outcome → IsBroken outcome ⊎ IsMemory outcome
+stop_kind (Ok a) stop = absurd stop
+stop_kind (Err NoAnswer) stop = absurd stop
+stop_kind (Err LinkEnded) stop = absurd stop
+stop_kind (Err SendFailed) stop = inl tt
+stop_kind (Err Babble) stop = absurd stop
+stop_kind (Err (Refused command status)) stop = absurd stop
+stop_kind (Err (BadAnswer command)) stop = absurd stop
+stop_kind (Err (WrongSignature found)) stop = absurd stop
+stop_kind (Err (Differs mem address want found)) stop = absurd stop
+stop_kind (Err (ReadOnly mem)) stop = absurd stop
+stop_kind (Err Memory) stop = inr tt
+stop_kind (Err RecvFailed) stop = inl tt
 
-abbrev result_in : Option (Result (Unit {0}) HostFault × ℕ × Tape) → Result (Unit {0}) HostFault
-result_in None = Ok tt
-result_in (Some x) = x.0
+memory_stops : {A : Type 0} (outcome : Result A HostFault) → IsMemory outcome → IsStop outcome
+memory_stops outcome is = subst IsStop (sym (memory_is outcome is)) tt
 
-not_lacking : (o : Option (Outcome × ℕ × Tape)) → result_in (continued {E = ⊥} o (λ a. played (Done (ended a)))).outcome ≡ Err Memory → ⊥
-not_lacking None is = cc
-not_lacking (Some x) is = ended_not x.0 is
+-- the link failed at this
+abbrev fault_of : Broken → HostFault
+fault_of Send = SendFailed
+fault_of Recv = RecvFailed
 
-lacks_none : {m n : ℕ} {u v : List ℕ} {o p : Option Talk} (first : Dialog ⊥ Outcome) → PlaysOver (first >>= λ outcome. Done (ended outcome)) m u o p (Err Memory) n v → ⊥
-lacks_none {m = m} {u = u} first f =
+link_stops : {A : Type 0} (by : Broken) (outcome : Result A HostFault) → outcome ≡ Err (fault_of by) → IsStop outcome
+link_stops Send outcome is = subst IsStop (sym is) tt
+link_stops Recv outcome is = subst IsStop (sym is) tt
+
+link_cause : {A : Type 0} (by : Broken) (outcome : Result A HostFault) → outcome ≡ Err (fault_of by) → cause_of outcome ≡ broken_cause by
+link_cause Send outcome is = ap cause_of is
+link_cause Recv outcome is = ap cause_of is
+
+link_not : {A : Type 0} (by : Broken) (outcome : Result A HostFault) → outcome ≡ Err (fault_of by) → outcome ≡ Err Memory → ⊥
+link_not Send outcome is other = cc
+link_not Recv outcome is other = cc
+
+-- How a call ended: it was played whole to an outcome that does not stop the run; or the link broke it off; or memory was
+-- refused before anything was sent or heard, where memory is taken.
+abbrev pub Ended : {A : Type 0} → Bool → Dialog ⊥ (Result A HostFault) → ℕ → List ℕ → Option Talk → Option Talk → Result A HostFault → ℕ → List ℕ → Type 0
+Ended takes dialog m u o p outcome n v =
+    (PlaysOver dialog m u o p outcome n v × (after_outcome outcome ≡ Ok (standing outcome)))
+    ⊎ (((by : Broken) × (outcome ≡ Err (fault_of by)) × FailsOver by dialog m u o p) ⊎ ((takes ≡ true) × IsMemory outcome × (p ≡ o)))
+
+-- memory is refused only where it is taken
+pub lacks_where : {A : Type 0} (takes : Bool) (dialog : Dialog ⊥ (Result A HostFault)) (m : ℕ) (u : List ℕ) (o p : Option Talk) (outcome : Result A HostFault) (n : ℕ) (v : List ℕ) → Ended takes dialog m u o p outcome n v → IsMemory outcome → takes ≡ true
+lacks_where takes dialog m u o p outcome n v (inl played) is =
+    let e = subst (λ x. after_outcome x ≡ Ok (standing x)) (memory_is outcome is) played.1 in
+    cc
+lacks_where takes dialog m u o p outcome n v (inr (inl broke)) is = absurd (link_not broke.0 outcome broke.1 (memory_is outcome is))
+lacks_where takes dialog m u o p outcome n v (inr (inr lacks)) is = lacks.0
+
+-- where none is taken, only the link breaks off a call
+pub only_broken : {A : Type 0} (dialog : Dialog ⊥ (Result A HostFault)) (m : ℕ) (u : List ℕ) (o p : Option Talk) (outcome : Result A HostFault) (n : ℕ) (v : List ℕ) → Ended false dialog m u o p outcome n v → IsStop outcome → IsBroken outcome
+only_broken dialog m u o p outcome n v ended stop = elim (stop_kind outcome stop) [
+  | inl broken ↦ broken
+  | inr lacks ↦ let e = lacks_where false dialog m u o p outcome n v ended lacks in absurd (cc)
+]
+
+pub call_ended : {A : Type 0} (dialog : Dialog ⊥ (Result A HostFault)) (m : ℕ) (u : List ℕ) (o p : Option Talk) (outcome : Result A HostFault) (n : ℕ) (v : List ℕ) → (PlaysOver dialog m u o p (Err Memory) n v → ⊥) → EndsCall dialog m u o p outcome n v → Ended false dialog m u o p outcome n v
+call_ended dialog m u o p (Ok a) n v never ends = inl (ends, refl)
+call_ended dialog m u o p (Err NoAnswer) n v never ends = inl (ends, refl)
+call_ended dialog m u o p (Err LinkEnded) n v never ends = inl (ends, refl)
+call_ended dialog m u o p (Err SendFailed) n v never ends = inr (inl (Send, refl, ends))
+call_ended dialog m u o p (Err Babble) n v never ends = inl (ends, refl)
+call_ended dialog m u o p (Err (Refused command status)) n v never ends = inl (ends, refl)
+call_ended dialog m u o p (Err (BadAnswer command)) n v never ends = inl (ends, refl)
+call_ended dialog m u o p (Err (WrongSignature found)) n v never ends = inl (ends, refl)
+call_ended dialog m u o p (Err (Differs mem address want found)) n v never ends = inl (ends, refl)
+call_ended dialog m u o p (Err (ReadOnly mem)) n v never ends = inl (ends, refl)
+call_ended dialog m u o p (Err Memory) n v never ends = absurd (never ends)
+call_ended dialog m u o p (Err RecvFailed) n v never ends = inr (inl (Recv, refl, ends))
+
+pub lack_ended : {A : Type 0} (dialog : Dialog ⊥ (Result A HostFault)) (m : ℕ) (u : List ℕ) (o p : Option Talk) (outcome : Result A HostFault) (n : ℕ) (v : List ℕ) → EndsOrLacks dialog m u o p outcome n v → Ended true dialog m u o p outcome n v
+lack_ended dialog m u o p (Ok a) n v ends = inl (ends, refl)
+lack_ended dialog m u o p (Err NoAnswer) n v ends = inl (ends, refl)
+lack_ended dialog m u o p (Err LinkEnded) n v ends = inl (ends, refl)
+lack_ended dialog m u o p (Err SendFailed) n v ends = inr (inl (Send, refl, ends))
+lack_ended dialog m u o p (Err Babble) n v ends = inl (ends, refl)
+lack_ended dialog m u o p (Err (Refused command status)) n v ends = inl (ends, refl)
+lack_ended dialog m u o p (Err (BadAnswer command)) n v ends = inl (ends, refl)
+lack_ended dialog m u o p (Err (WrongSignature found)) n v ends = inl (ends, refl)
+lack_ended dialog m u o p (Err (Differs mem address want found)) n v ends = inl (ends, refl)
+lack_ended dialog m u o p (Err (ReadOnly mem)) n v ends = inl (ends, refl)
+lack_ended dialog m u o p (Err Memory) n v ends = inr (inr (refl, tt, ends.0))
+lack_ended dialog m u o p (Err RecvFailed) n v ends = inr (inl (Recv, refl, ends))
+
+-- no step answers that memory was refused: what is judged of its outcome doesn't either
+
+abbrev IsLacking : {A : Type 0} → Option (Result A HostFault × ℕ × Tape) → Type 0
+IsLacking None = ⊥
+IsLacking (Some x) = IsMemory x.0
+
+judged_not : {A : Type 0} (judge : Outcome → Result A HostFault) → ((outcome : Outcome) → IsMemory (judge outcome) → ⊥) → (o : Option (Outcome × ℕ × Tape)) → IsLacking (continued {E = ⊥} o (λ a. played (Done (judge a)))).outcome → ⊥
+judged_not judge not None is = is
+judged_not judge not (Some x) is = not x.0 is
+
+judged_lacks_none : {A : Type 0} {m n : ℕ} {u v : List ℕ} {o p : Option Talk} (first : Dialog ⊥ Outcome) (judge : Outcome → Result A HostFault) → ((outcome : Outcome) → IsMemory (judge outcome) → ⊥)
+    → PlaysOver (first >>= λ outcome. Done (judge outcome)) m u o p (Err Memory) n v → ⊥
+judged_lacks_none {A = A} {m = m} {u = u} first judge not f =
     let tape = on_tape u ++ (heard f.during ++ []) in
-    not_lacking (played first m tape).outcome (ap (λ p. result_in p.outcome) (sym (played_bind first (λ outcome. Done (ended outcome)) m tape) ∙ f.plays.plays []))
+    judged_not judge not (played first m tape).outcome
+    (subst (λ (p : Played ⊥ (Result A HostFault)). IsLacking p.outcome) (sym (f.plays.plays []) ∙ played_bind first (λ outcome. Done (judge outcome)) m tape) tt)
 
-closing_lacks_none : {m n : ℕ} {u v : List ℕ} {o p : Option Talk} → PlaysOver closing m u o p (Err Memory) n v → ⊥
+host_fault_not : (A : Type 0) (fault : StepFault) → IsMemory {A = A} (Err (host_fault fault)) → ⊥
+host_fault_not A of_step.NoAnswer is = is
+host_fault_not A of_step.LinkEnded is = is
+host_fault_not A of_step.Babble is = is
+host_fault_not A (of_step.Refused command status) is = is
+host_fault_not A (of_step.BadAnswer command) is = is
+
+ended_not : (outcome : Outcome) → IsMemory (ended outcome) → ⊥
+ended_not (Ok bytes) is = is
+ended_not (Err fault) is = host_fault_not (Unit {0}) fault is
+
+done_not : (outcome : Outcome) → IsMemory (judged_by done outcome) → ⊥
+done_not (Ok bytes) is = is
+done_not (Err fault) is = host_fault_not (Unit {0}) fault is
+
+signature_not : (wanted : List ℕ) (force : Bool) (outcome : Outcome) → IsMemory (signature_judged wanted force outcome) → ⊥
+signature_not wanted true (Ok found) is = is
+signature_not wanted false (Ok found) is = by_test (bytes_eq found wanted) is
+  where
+    by_test : (same : Bool) → IsMemory {A = List ℕ} (if same then Ok found else Err (WrongSignature found)) → ⊥
+    by_test true is = is
+    by_test false is = is
+signature_not wanted force (Err fault) is = host_fault_not (List ℕ) fault is
+
+pub opening_lacks_none : {m n : ℕ} {u v : List ℕ} {o p : Option Talk} (wanted : List ℕ) (force : Bool) → PlaysOver (opening wanted force) m u o p (Err Memory) n v → ⊥
+unfolding opening
+opening_lacks_none wanted force f = judged_lacks_none beginning (signature_judged wanted force) (signature_not wanted force) f
+
+pub closing_lacks_none : {m n : ℕ} {u v : List ℕ} {o p : Option Talk} → PlaysOver closing m u o p (Err Memory) n v → ⊥
 unfolding closing
-closing_lacks_none f = lacks_none (step (leave ∷ [])) f
+closing_lacks_none f = judged_lacks_none (step (leave ∷ [])) ended ended_not f
 
-pub closing_only : (m : ℕ) (u : List ℕ) (o p : Option Talk) (outcome : Result (Unit {0}) HostFault) (n : ℕ) (v : List ℕ) → EndsCall closing m u o p outcome n v → IsStop outcome → IsBroken outcome
-closing_only m u o p (Ok a) n v ends stop = absurd stop
-closing_only m u o p (Err NoAnswer) n v ends stop = absurd stop
-closing_only m u o p (Err LinkEnded) n v ends stop = absurd stop
-closing_only m u o p (Err SendFailed) n v ends stop = tt
-closing_only m u o p (Err Babble) n v ends stop = absurd stop
-closing_only m u o p (Err (Refused command status)) n v ends stop = absurd stop
-closing_only m u o p (Err (BadAnswer command)) n v ends stop = absurd stop
-closing_only m u o p (Err (WrongSignature found)) n v ends stop = absurd stop
-closing_only m u o p (Err (Differs mem address want found)) n v ends stop = absurd stop
-closing_only m u o p (Err (ReadOnly mem)) n v ends stop = absurd stop
-closing_only m u o p (Err Memory) n v ends stop = absurd (closing_lacks_none ends)
-closing_only m u o p (Err RecvFailed) n v ends stop = tt
+operation_lacks_none : {m n : ℕ} {u v : List ℕ} {o p : Option Talk} (steps : List (List Command)) → PlaysOver (operation steps done) m u o p (Err Memory) n v → ⊥
+unfolding operation
+operation_lacks_none steps f = judged_lacks_none (play steps []) (judged_by done) done_not f
 
--- nothing was sent or heard
-breaks_none : {A : Type 0} (dialog : Dialog ⊥ A) (m : ℕ) (u : List ℕ) (o p : Option Talk) → p ≡ o → BreaksOver dialog m u o p
-breaks_none dialog m u o p same = subst (BreaksOver dialog m u o) (sym same) (record { during = []; shown = []; grows = grows_none o; breaks = breaks_here NoPart dialog m u })
+pub erasing_lacks_none : {m n : ℕ} {u v : List ℕ} {o p : Option Talk} → PlaysOver erasing m u o p (Err Memory) n v → ⊥
+erasing_lacks_none f = operation_lacks_none ((erase ∷ []) ∷ []) f
 
-pub lack_ended : {A : Type 0} (dialog : Dialog ⊥ (Result A HostFault)) (m : ℕ) (u : List ℕ) (o p : Option Talk) (outcome : Result A HostFault) (n : ℕ) (v : List ℕ) → EndsOrLacks dialog m u o p outcome n v → Ended dialog m u o p outcome n v
-lack_ended dialog m u o p (Ok a) n v ends = inl ends
-lack_ended dialog m u o p (Err NoAnswer) n v ends = inl ends
-lack_ended dialog m u o p (Err LinkEnded) n v ends = inl ends
-lack_ended dialog m u o p (Err SendFailed) n v ends = inr (tt, ends)
-lack_ended dialog m u o p (Err Babble) n v ends = inl ends
-lack_ended dialog m u o p (Err (Refused command status)) n v ends = inl ends
-lack_ended dialog m u o p (Err (BadAnswer command)) n v ends = inl ends
-lack_ended dialog m u o p (Err (WrongSignature found)) n v ends = inl ends
-lack_ended dialog m u o p (Err (Differs mem address want found)) n v ends = inl ends
-lack_ended dialog m u o p (Err (ReadOnly mem)) n v ends = inl ends
-lack_ended dialog m u o p (Err Memory) n v ends = inr (tt, breaks_none dialog m u o p ends.0)
-lack_ended dialog m u o p (Err RecvFailed) n v ends = inr (tt, ends)
-
--- an outcome stops the run, or the session stands as it says
-goes : {A : Type 0} (outcome : Result A HostFault) → (after_outcome outcome ≡ Ok (standing outcome)) ⊎ (IsStop outcome × (after_outcome outcome ≡ Err (record {})))
-goes (Ok a) = inl refl
-goes (Err NoAnswer) = inl refl
-goes (Err LinkEnded) = inl refl
-goes (Err SendFailed) = inr (tt, refl)
-goes (Err Babble) = inl refl
-goes (Err (Refused command status)) = inl refl
-goes (Err (BadAnswer command)) = inl refl
-goes (Err (WrongSignature found)) = inl refl
-goes (Err (Differs mem address want found)) = inl refl
-goes (Err (ReadOnly mem)) = inl refl
-goes (Err Memory) = inr (tt, refl)
-goes (Err RecvFailed) = inr (tt, refl)
+pub writing_lacks_none : {m n : ℕ} {u v : List ℕ} {o p : Option Talk} (part : Part) (mem : Mem) (image : List (Option ℕ)) → PlaysOver (writing part mem image) m u o p (Err Memory) n v → ⊥
+writing_lacks_none {m = m} {n = n} {u = u} {v = v} {o = o} {p = p} part mem image f = by_test (is_writable mem) f
+  where
+    by_test : (writes : Bool) → PlaysOver (if writes then operation (write_steps part mem image) done else Done (Err (ReadOnly mem))) m u o p (Err Memory) n v → ⊥
+    by_test true f = operation_lacks_none (write_steps part mem image) f
+    by_test false f = subst (λ (p : Played ⊥ (Result (Unit {0}) HostFault)). IsLacking p.outcome) (sym (f.plays.plays [])) tt
 
 stop_goes : {A : Type 0} (outcome : Result A HostFault) (told : Result (Unit {0}) Stopped) → IsStop outcome → concluded outcome told ≡ Err (record {})
 stop_goes (Ok a) told stop = absurd stop
@@ -163,42 +245,39 @@ told_of old new part good a b (Err Memory) told reports stop = told_some old new
 told_of old new part good a b (Err RecvFailed) told reports stop = told_some old new (fault_line part RecvFailed) a b told reports
 
 -- what stops a run is counted, or is want of memory
-pub stop_is : {A : Type 0} (outcome : Result A HostFault) (k l a b : ℕ) → (IsBroken outcome → link.HasFailed k l) → IsStop outcome → HasCome k l a b (cause_of outcome)
-stop_is (Ok x) k l a b failed stop = absurd stop
-stop_is (Err NoAnswer) k l a b failed stop = absurd stop
-stop_is (Err LinkEnded) k l a b failed stop = absurd stop
-stop_is (Err SendFailed) k l a b failed stop = failed tt
-stop_is (Err Babble) k l a b failed stop = absurd stop
-stop_is (Err (Refused command status)) k l a b failed stop = absurd stop
-stop_is (Err (BadAnswer command)) k l a b failed stop = absurd stop
-stop_is (Err (WrongSignature found)) k l a b failed stop = absurd stop
-stop_is (Err (Differs mem address want found)) k l a b failed stop = absurd stop
-stop_is (Err (ReadOnly mem)) k l a b failed stop = absurd stop
-stop_is (Err Memory) k l a b failed stop = tt
-stop_is (Err RecvFailed) k l a b failed stop = failed tt
-
--- a played outcome that stops the run: it broke off behind the operation
-broke_behind : {A : Type 0} {operation : Dialog ⊥ (Result A HostFault)} (outcome_says : Result A HostFault → List Saying) {m n : ℕ} {u v : List ℕ} {o p : Option Talk} (outcome : Result A HostFault) (d e : Option Record) {S : List Saying → Cause → List ℕ → Type 0}
-    → PlaysOver operation m u o p outcome n v → length v ≤ 281 → ToldBy S (cause_of outcome) d e → BrokeOff (reported operation outcome_says) m u o p d e S
-broke_behind outcome_says {n = n} {v = v} {p = p} outcome d e {S = S} plays few some =
-    broke_lifted (λ outcome. says (outcome_says outcome) (Done (standing outcome))) plays few
-    (broke_here (says (outcome_says outcome) (Done (standing outcome))) n v p (cause_of outcome) some)
+pub stop_is : {A : Type 0} (outcome : Result A HostFault) (takes : Bool) (k l a b : ℕ) → (IsBroken outcome → link.HasFailed k l) → (IsMemory outcome → takes ≡ true) → IsStop outcome → HasCome takes k l a b (cause_of outcome)
+stop_is (Ok x) takes k l a b failed lacks stop = absurd stop
+stop_is (Err NoAnswer) takes k l a b failed lacks stop = absurd stop
+stop_is (Err LinkEnded) takes k l a b failed lacks stop = absurd stop
+stop_is (Err SendFailed) takes k l a b failed lacks stop = failed tt
+stop_is (Err Babble) takes k l a b failed lacks stop = absurd stop
+stop_is (Err (Refused command status)) takes k l a b failed lacks stop = absurd stop
+stop_is (Err (BadAnswer command)) takes k l a b failed lacks stop = absurd stop
+stop_is (Err (WrongSignature found)) takes k l a b failed lacks stop = absurd stop
+stop_is (Err (Differs mem address want found)) takes k l a b failed lacks stop = absurd stop
+stop_is (Err (ReadOnly mem)) takes k l a b failed lacks stop = absurd stop
+stop_is (Err Memory) takes k l a b failed lacks stop = lacks tt
+stop_is (Err RecvFailed) takes k l a b failed lacks stop = failed tt
 
 -- An operation and its report are a part of a session.
-pub operation_runs : {A : Type 0} {operation : Dialog ⊥ (Result A HostFault)} (outcome_says : Result A HostFault → List Saying) {m n : ℕ} {u v : List ℕ} {o p : Option Talk} (outcome : Result A HostFault) (d e : Option Record)
-    (told : Result (Unit {0}) Stopped) (S : List Saying → Cause → List ℕ → Type 0) (T : Cause → List ℕ → Type 0)
-    → ((mid : Option Record) (front : SaysFront d mid (outcome_says outcome)) (cause : Cause) (told : List ℕ) → T cause told → S (front.whole ++ front.begun) cause told)
-    → Ended operation m u o p outcome n v → length v ≤ 281 → Reports d e (outcome_says outcome) T told → (IsStop outcome → ToldBy S (cause_of outcome) d e)
-    → Runs (reported operation outcome_says) m u o p d e S (concluded outcome told) n v
-operation_runs {operation = operation} outcome_says {m = m} {n = n} {u = u} {v = v} {o = o} {p = p} outcome d e (Ok done) S T why (inl plays) few reports some = elim (goes outcome) [
-  | inl fine ↦ subst (λ r. Runs (reported operation outcome_says) m u o p d e S r n v) (sym fine)
-      (ran_from (came_on (came_lifted (λ outcome. says (outcome_says outcome) (Done (standing outcome))) d plays few) (came_said (outcome_says outcome) (Done (standing outcome)) n v p reports)))
-  | inr stop ↦ subst (λ r. Runs (reported operation outcome_says) m u o p d e S r n v) (sym stop.1) (broke_behind outcome_says outcome d e plays few (some stop.0))
-]
-operation_runs {operation = operation} outcome_says {n = n} {v = v} {p = p} outcome d e (Err stopped) S T why (inl plays) few reports some =
-    broke_lifted (λ outcome. says (outcome_says outcome) (Done (standing outcome))) plays few
+pub operation_runs : {A : Type 0} {operation : Dialog ⊥ (Result A HostFault)} (takes : Bool) (outcome_says : Result A HostFault → List Saying) {m n : ℕ} {u v : List ℕ} {o p : Option Talk} (outcome : Result A HostFault) (d e : Option Record)
+    (said : Result (Unit {0}) Stopped) (S : List Saying → Cause → List ℕ → Type 0) (T : Cause → List ℕ → Type 0)
+    → ((mid : Option Record) (cause : Cause) (front : SaysFront cause d mid (outcome_says outcome)) (told : List ℕ) → T cause told → S (front.whole ++ front.begun) cause told)
+    → Ended takes operation m u o p outcome n v → length v ≤ 281 → Reports d e (outcome_says outcome) T said → (IsStop outcome → ToldBy S (cause_of outcome) d e)
+    → Runs (reported operation outcome_says) m u o p d e S (concluded outcome said) n v
+operation_runs {operation = operation} takes outcome_says {m = m} {n = n} {u = u} {v = v} {o = o} {p = p} outcome d e (Ok done) S T why (inl played) few reports some =
+    subst (λ r. Runs (reported operation outcome_says) m u o p d e S r n v) (sym played.1)
+    (ran_from (came_on (came_lifted (λ outcome. says (outcome_says outcome) (Done (standing outcome))) d played.0 few) (came_said (outcome_says outcome) (Done (standing outcome)) n v p reports)))
+operation_runs {operation = operation} takes outcome_says {n = n} {v = v} {p = p} outcome d e (Err stopped) S T why (inl played) few reports some =
+    broke_lifted (λ outcome. says (outcome_says outcome) (Done (standing outcome))) played.0 few
     (broke_saying (outcome_says outcome) (Done (standing outcome)) n v p why reports)
-operation_runs {operation = operation} outcome_says {m = m} {n = n} {u = u} {v = v} {o = o} {p = p} outcome d e told S T why (inr broke) few reports some =
-    let front = some broke.0 in
-    subst (λ r. Runs (reported operation outcome_says) m u o p d e S r n v) (sym (stop_goes outcome told broke.0))
-    (broke_operation (λ outcome. says (outcome_says outcome) (Done (standing outcome))) (cause_of outcome) front.0 broke.1 front.1 front.2)
+operation_runs {operation = operation} takes outcome_says {m = m} {n = n} {u = u} {v = v} {o = o} {p = p} outcome d e said S T why (inr (inl broke)) few reports some =
+    let stop = link_stops broke.0 outcome broke.1 in
+    let why_not : ToldBy S (broken_cause broke.0) d e = subst (λ cause. ToldBy S cause d e) (link_cause broke.0 outcome broke.1) (some stop) in
+    subst (λ r. Runs (reported operation outcome_says) m u o p d e S r n v) (sym (stop_goes outcome said stop))
+    (broke_operation broke.0 (λ outcome. says (outcome_says outcome) (Done (standing outcome))) broke.2 why_not)
+operation_runs {operation = operation} takes outcome_says {m = m} {n = n} {u = u} {v = v} {o = o} {p = p} outcome d e said S T why (inr (inr lacks)) few reports some =
+    let stop = memory_stops outcome lacks.1 in
+    let why_not : ToldBy S OfMemory d e = subst (λ cause. ToldBy S cause d e) (ap cause_of (memory_is outcome lacks.1)) (some stop) in
+    subst (λ r. Runs (reported operation outcome_says) m u o p d e S r n v) (sym (stop_goes outcome said stop))
+    (subst (λ q. BrokeOff (reported operation outcome_says) m u o q d e S) (sym lacks.2) (broke_lacking (reported operation outcome_says) m u o why_not))

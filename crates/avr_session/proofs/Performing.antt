@@ -15,7 +15,7 @@ use Rattle.stk_host.specs.Talk as link
 use Rattle.stk_host.specs.Talk.{Talk}
 use Rattle.stk_host.specs.Calls.{IsBroken, given}
 use Rattle.stk_host.specs.Dialog.{Dialog, Done, ◌>>=◌, sayings}
-use Rattle.avr_message.specs.Said.{Saying, Line, SaysFront}
+use Rattle.avr_message.specs.Said.{Saying, Line}
 use Rattle.avr_plan.specs.Plan.{Plan}
 use Rattle.avr_plan.specs.declared.task.Task.{Task}
 use Rattle.avr_session.specs.declared.standing.Standing.{Standing}
@@ -23,14 +23,14 @@ use Rattle.avr_session.specs.declared.standing.Standing.TheVariants.{Fine, Fault
 use Rattle.avr_session.specs.declared.standing.Stopped.{Stopped}
 use Rattle.avr_session.specs.Concluding.{Serves, after_outcome, concluded, fine_if_said}
 use Rattle.avr_session.specs.Lines.{fault_line}
-use Rattle.avr_session.specs.Session.{says, standing, reported, unless_fault, fault_or, read_says, opening_says, playing, session, status_of}
-use Rattle.avr_session.specs.Runs.{Cause, OfSending, OfListening, OfFile, OfPrinting, OfMemory, cause_line, is_error, tells_fault, HasCome, TellsCause, StopsBehind, Stops, DeskStops, PrintStops, ReadStops, PrintsSome, Reports, BrokeOff, Ran, Runs, RunsTo}
+use Rattle.avr_session.specs.Session.{says, standing, reported, unless_fault, fault_or, read_says, opening_says, playing, session, status_of, takes_memory}
+use Rattle.avr_session.specs.Runs.{Cause, OfSending, OfListening, OfFile, OfPrinting, OfMemory, cause_line, is_error, tells_fault, HasCome, TellsCause, StopsBehind, Stops, DeskStops, PrintStops, ReadStops, PrintsSome, SaysFront, Reports, BrokeOff, Ran, Runs, RunsTo}
 use Rattle.avr_session.specs.Parts.{is_told, PerformsBehind, Performs, LeavesOut}
 use Rattle.avr_session.proofs.Reporting.{failed_later, failed_before, tells_longer, told_some, kept_nothing}
 use Rattle.avr_message.proofs.Saying.{kept_none}
 use Rattle.avr_session.proofs.Running.{came_here, came_said, came_part, ran_from, ran_on, broke_after, broke_part, broke_saying, ToldBy}
 use Rattle.avr_session.proofs.Foretelling.{Foretells, foretold, front_tells_none, read_none}
-use Rattle.avr_session.proofs.Operations.{IsStop, cause_of, Ended, operation_runs, stop_is, told_of}
+use Rattle.avr_session.proofs.Operations.{IsStop, IsMemory, cause_of, Ended, lacks_where, only_broken, operation_runs, stop_is, told_of}
 
 -- what stopped a part stopped the whole
 
@@ -42,22 +42,22 @@ tells_longer_of true (OfFile file trouble) told a b c first then tells = absurd 
 tells_longer_of true OfPrinting told a b c first then tells = tells
 tells_longer_of true OfMemory told a b c first then tells = absurd tells
 
-has_come_in : (k l m n a b c : ℕ) → k ≤ l → l ≤ m → m ≤ n → a ≤ b → (cause : Cause) → HasCome l m b c cause → HasCome k n a c cause
-has_come_in k l m n a b c p q r s OfSending come = failed_before k m n (omega arith) r (failed_later k l m p come)
-has_come_in k l m n a b c p q r s OfListening come = failed_before k m n (omega arith) r (failed_later k l m p come)
-has_come_in k l m n a b c p q r s (OfFile file trouble) come = failed_later a b c s come
-has_come_in k l m n a b c p q r s OfPrinting come = failed_later a b c s come
-has_come_in k l m n a b c p q r s OfMemory come = tt
+has_come_in : (some takes : Bool) (k l m n a b c : ℕ) → (some ≡ true → takes ≡ true) → k ≤ l → l ≤ m → m ≤ n → a ≤ b → (cause : Cause) → HasCome some l m b c cause → HasCome takes k n a c cause
+has_come_in some takes k l m n a b c t p q r s OfSending come = failed_before k m n (omega arith) r (failed_later k l m p come)
+has_come_in some takes k l m n a b c t p q r s OfListening come = failed_before k m n (omega arith) r (failed_later k l m p come)
+has_come_in some takes k l m n a b c t p q r s (OfFile file trouble) come = failed_later a b c s come
+has_come_in some takes k l m n a b c t p q r s OfPrinting come = failed_later a b c s come
+has_come_in some takes k l m n a b c t p q r s OfMemory come = t come
 
 -- behind other sayings, where they tell what is taken to be told
-stops_in : (was is : Bool) (before : List Saying) (k l m n a b c f : ℕ) → k ≤ l → l ≤ m → m ≤ n → a ≤ b → c ≤ f → (was || tells_fault before) ≡ is → (said : List Saying) (cause : Cause) (told : List ℕ)
-    → StopsBehind is l m b c said cause told → StopsBehind was k n a f (before ++ said) cause told
-stops_in was is before k l m n a b c f p q r s u same said cause told stops =
+stops_in : (some takes was is : Bool) (before : List Saying) (k l m n a b c f : ℕ) → (some ≡ true → takes ≡ true) → k ≤ l → l ≤ m → m ≤ n → a ≤ b → c ≤ f → (was || tells_fault before) ≡ is → (said : List Saying) (cause : Cause) (told : List ℕ)
+    → StopsBehind some is l m b c said cause told → StopsBehind takes was k n a f (before ++ said) cause told
+stops_in some takes was is before k l m n a b c f t p q r s u same said cause told stops =
     let flags : (is || tells_fault said) ≡ (was || tells_fault (before ++ said)) =
     ap (λ x. x || tells_fault said) (sym same) ∙ (or_assoc was (tells_fault before) (tells_fault said) ∙ ap (λ x. was || x) (sym (list_any-append is_error before said))) in
     record {
       count = stops.count;
-      has_come = has_come_in k l m n a b stops.count p q r s cause stops.has_come;
+      has_come = has_come_in some takes k l m n a b stops.count t p q r s cause stops.has_come;
       tells = subst (λ x. TellsCause x cause told stops.count f) flags (tells_longer_of (is || tells_fault said) cause told stops.count c f stops.until u stops.tells);
       since = omega (arith, s, stops.since);
       until = omega (arith, u, stops.until);
@@ -69,36 +69,36 @@ unfolding cause_line
 printing_tells false told a b none = inl none
 printing_tells true told a b none = none
 
-pub print_stops_run : (was : Bool) (k l a b : ℕ) → a ≤ b → (said : List Saying) (cause : Cause) (told : List ℕ) → PrintStops a b cause told → StopsBehind was k l a b said cause told
-print_stops_run was k l a b le said OfSending told stops = absurd stops
-print_stops_run was k l a b le said OfListening told stops = absurd stops
-print_stops_run was k l a b le said (OfFile file trouble) told stops = absurd stops
-print_stops_run was k l a b le said OfPrinting told stops = record { count = b; has_come = stops.0; tells = printing_tells (was || tells_fault said) told b b stops.1; since = le; until = omega arith }
-print_stops_run was k l a b le said OfMemory told stops = absurd stops
+pub print_stops_run : (takes was : Bool) (k l a b : ℕ) → a ≤ b → (said : List Saying) (cause : Cause) (told : List ℕ) → PrintStops a b cause told → StopsBehind takes was k l a b said cause told
+print_stops_run takes was k l a b le said OfSending told stops = absurd stops
+print_stops_run takes was k l a b le said OfListening told stops = absurd stops
+print_stops_run takes was k l a b le said (OfFile file trouble) told stops = absurd stops
+print_stops_run takes was k l a b le said OfPrinting told stops = record { count = b; has_come = stops.0; tells = printing_tells (was || tells_fault said) told b b stops.1; since = le; until = omega arith }
+print_stops_run takes was k l a b le said OfMemory told stops = absurd stops
 
 -- at a file too, where no fault was told
-pub desk_stops_run : (k l a b : ℕ) → a ≤ b → (said : List Saying) → tells_fault said ≡ false → (cause : Cause) (told : List ℕ) → DeskStops a b cause told → Stops k l a b said cause told
-desk_stops_run k l a b le said none OfSending told stops = absurd stops
-desk_stops_run k l a b le said none OfListening told stops = absurd stops
-desk_stops_run k l a b le said none (OfFile file trouble) told stops = record {
+pub desk_stops_run : (takes : Bool) (k l a b : ℕ) → a ≤ b → (said : List Saying) → tells_fault said ≡ false → (cause : Cause) (told : List ℕ) → DeskStops a b cause told → Stops takes k l a b said cause told
+desk_stops_run takes k l a b le said none OfSending told stops = absurd stops
+desk_stops_run takes k l a b le said none OfListening told stops = absurd stops
+desk_stops_run takes k l a b le said none (OfFile file trouble) told stops = record {
   count = stops.count;
   has_come = stops.failed;
   tells = subst (λ x. TellsCause x (OfFile file trouble) told stops.count b) (sym none) stops.tells;
   since = stops.since;
   until = stops.until;
 }
-desk_stops_run k l a b le said none OfPrinting told stops = print_stops_run false k l a b le said OfPrinting told stops
-desk_stops_run k l a b le said none OfMemory told stops = absurd stops
+desk_stops_run takes k l a b le said none OfPrinting told stops = print_stops_run takes false k l a b le said OfPrinting told stops
+desk_stops_run takes k l a b le said none OfMemory told stops = absurd stops
 
 -- what a report stops by, behind a front of what it says
-abbrev pub StopsReport : ℕ → ℕ → ℕ → ℕ → Option Record → List Saying → (Cause → List ℕ → Type 0) → Type 0
-StopsReport k l a b d sayings T = (mid : Option Record) (front : SaysFront d mid sayings) (cause : Cause) (told : List ℕ) → T cause told → Stops k l a b (front.whole ++ front.begun) cause told
+abbrev pub StopsReport : Bool → ℕ → ℕ → ℕ → ℕ → Option Record → List Saying → (Cause → List ℕ → Type 0) → Type 0
+StopsReport takes k l a b d sayings T = (mid : Option Record) (cause : Cause) (front : SaysFront cause d mid sayings) (told : List ℕ) → T cause told → Stops takes k l a b (front.whole ++ front.begun) cause told
 
-pub print_stops_report : (k l a b : ℕ) (d : Option Record) (sayings : List Saying) → a ≤ b → StopsReport k l a b d sayings (PrintStops a b)
-print_stops_report k l a b d sayings le mid front cause told stops = print_stops_run false k l a b le (front.whole ++ front.begun) cause told stops
+pub print_stops_report : (takes : Bool) (k l a b : ℕ) (d : Option Record) (sayings : List Saying) → a ≤ b → StopsReport takes k l a b d sayings (PrintStops a b)
+print_stops_report takes k l a b d sayings le mid cause front told stops = print_stops_run takes false k l a b le (front.whole ++ front.begun) cause told stops
 
-pub desk_stops_report : (k l a b : ℕ) (d : Option Record) (sayings : List Saying) → a ≤ b → tells_fault sayings ≡ false → StopsReport k l a b d sayings (DeskStops a b)
-desk_stops_report k l a b d sayings le none mid front cause told stops = desk_stops_run k l a b le (front.whole ++ front.begun) (front_tells_none front none) cause told stops
+pub desk_stops_report : (takes : Bool) (k l a b : ℕ) (d : Option Record) (sayings : List Saying) → a ≤ b → tells_fault sayings ≡ false → StopsReport takes k l a b d sayings (DeskStops a b)
+desk_stops_report takes k l a b d sayings le none mid cause front told stops = desk_stops_run takes k l a b le (front.whole ++ front.begun) (front_tells_none front none) cause told stops
 
 -- the line of another fault than a signature's stands alone
 pub opening_told : (old new : Option Record) (quiet : ℕ) (part : Part) (a b : ℕ) (outcome : Result (List ℕ) HostFault) (told : Result (Unit {0}) Stopped) → Reports old new (opening_says quiet part outcome) (PrintStops a b) told
@@ -134,38 +134,41 @@ serves_after (Err RecvFailed) (Ok ok) broken is = tt
 serves_after outcome (Err stopped) broken is = tt
 
 -- a cause that was told
-told_by : {A : Type 0} (outcome : Result A HostFault) {k l a b : ℕ} (d e : Option Record) → a ≤ b → (IsBroken outcome → link.HasFailed k l) → IsStop outcome → PrintsSome d e (cause_line (cause_of outcome)) a b → ToldBy (Stops k l a b) (cause_of outcome) d e
-told_by outcome {k = k} {l = l} {a = a} {b = b} d e le failed stop some = (some.0, record { count = a; has_come = stop_is outcome k l a a failed stop; tells = some.1; since = omega arith; until = le }, some.2)
+told_by : {A : Type 0} (takes : Bool) (outcome : Result A HostFault) {k l a b : ℕ} (d e : Option Record) → a ≤ b → (IsBroken outcome → link.HasFailed k l) → (IsMemory outcome → takes ≡ true) → IsStop outcome → PrintsSome d e (cause_line (cause_of outcome)) a b
+    → ToldBy (Stops takes k l a b) (cause_of outcome) d e
+told_by takes outcome {k = k} {l = l} {a = a} {b = b} d e le failed lacks stop some = (some.0, record { count = a; has_come = stop_is outcome takes k l a a failed lacks stop; tells = some.1; since = omega arith; until = le }, some.2)
 
 -- an operation of the host and its report
-pub operation_performs : {A : Type 0} {operation : Dialog ⊥ (Result A HostFault)} (outcome_says : Result A HostFault → List Saying) {old new : HostState} {o p : Option Talk} {k l a b : ℕ} {d e : Option Record} (outcome : Result A HostFault) (told : Result (Unit {0}) Stopped) (result : Result Standing Stopped)
-    (T : Cause → List ℕ → Type 0) → StopsReport k l a b d (outcome_says outcome) T
-    → result ≡ concluded outcome told → Ended operation old.next old.unread o p outcome new.next new.unread → length new.unread ≤ 281 → Reports d e (outcome_says outcome) T told → (IsStop outcome → PrintsSome d e (cause_line (cause_of outcome)) a b)
+pub operation_performs : {A : Type 0} {operation : Dialog ⊥ (Result A HostFault)} (takes : Bool) (outcome_says : Result A HostFault → List Saying) {old new : HostState} {o p : Option Talk} {k l a b : ℕ} {d e : Option Record} (outcome : Result A HostFault) (told : Result (Unit {0}) Stopped) (result : Result Standing Stopped)
+    (T : Cause → List ℕ → Type 0) → StopsReport takes k l a b d (outcome_says outcome) T
+    → result ≡ concluded outcome told → Ended takes operation old.next old.unread o p outcome new.next new.unread → length new.unread ≤ 281 → Reports d e (outcome_says outcome) T told → (IsStop outcome → PrintsSome d e (cause_line (cause_of outcome)) a b)
     → (IsBroken outcome → link.HasFailed k l) → new.broken ≡ left_by outcome → new.part ≡ old.part → k ≤ l → a ≤ b
-    → Performs (reported operation outcome_says) old new o p k l d e a b result
-operation_performs {operation = operation} outcome_says {old = old} {new = new} {o = o} {p = p} {k = k} {l = l} {a = a} {b = b} {d = d} {e = e} outcome told result T why is ended few reports some failed lasts part link_counted desk_counted = record {
-  runs = subst (λ r. Runs (reported operation outcome_says) old.next old.unread o p d e (Stops k l a b) r new.next new.unread) (sym is)
-      (operation_runs outcome_says outcome d e told (Stops k l a b) T why ended few reports (λ stop. told_by outcome d e desk_counted failed stop (some stop)));
-  serves = subst (λ r. Serves r new.broken) (sym is) (serves_after outcome told new.broken lasts);
-  part = part;
-  link = link_counted;
-  desk = desk_counted;
-}
+    → Performs takes (reported operation outcome_says) old new o p k l d e a b result
+operation_performs {operation = operation} takes outcome_says {old = old} {new = new} {o = o} {p = p} {k = k} {l = l} {a = a} {b = b} {d = d} {e = e} outcome told result T why is ended few reports some failed lasts part link_counted desk_counted =
+    let lacks = lacks_where takes operation old.next old.unread o p outcome new.next new.unread ended in
+    record {
+      runs = subst (λ r. Runs (reported operation outcome_says) old.next old.unread o p d e (Stops takes k l a b) r new.next new.unread) (sym is)
+          (operation_runs takes outcome_says outcome d e told (Stops takes k l a b) T why ended few reports (λ stop. told_by takes outcome d e desk_counted failed lacks stop (some stop)));
+      serves = subst (λ r. Serves r new.broken) (sym is) (serves_after outcome told new.broken lasts);
+      part = part;
+      link = link_counted;
+      desk = desk_counted;
+    }
 
-left_out_runs : (sayings : List Saying) (seq : ℕ) (unread : List ℕ) (o : Option Talk) (k : ℕ) (d e : Option Record) (a b : ℕ) → a ≤ b → (told : Result (Unit {0}) Stopped) → Reports d e sayings (PrintStops a b) told
-    → Runs (says sayings (Done Fine)) seq unread o o d e (Stops k k a b) (fine_if_said told) seq unread
-left_out_runs sayings seq unread o k d e a b le (Ok done) reports = ran_from (came_said sayings (Done Fine) seq unread o reports)
-left_out_runs sayings seq unread o k d e a b le (Err stopped) reports = broke_saying sayings (Done Fine) seq unread o (print_stops_report k k a b d sayings le) reports
+left_out_runs : (takes : Bool) (sayings : List Saying) (seq : ℕ) (unread : List ℕ) (o : Option Talk) (k : ℕ) (d e : Option Record) (a b : ℕ) → a ≤ b → (told : Result (Unit {0}) Stopped) → Reports d e sayings (PrintStops a b) told
+    → Runs (says sayings (Done Fine)) seq unread o o d e (Stops takes k k a b) (fine_if_said told) seq unread
+left_out_runs takes sayings seq unread o k d e a b le (Ok done) reports = ran_from (came_said sayings (Done Fine) seq unread o reports)
+left_out_runs takes sayings seq unread o k d e a b le (Err stopped) reports = broke_saying sayings (Done Fine) seq unread o (print_stops_report takes k k a b d sayings le) reports
 
 left_out_serves : (told : Result (Unit {0}) Stopped) (broken : Option HostFault) → broken ≡ None → Serves (fine_if_said told) broken
 left_out_serves (Ok done) broken sound = sound
 left_out_serves (Err stopped) broken sound = tt
 
 -- something said in its place
-pub left_out_performs : (sayings : List Saying) {host : HostState} {o : Option Talk} (k : ℕ) {d e : Option Record} {a b : ℕ} (result : Result Standing Stopped) → host.broken ≡ None → LeavesOut sayings d e a b result
-    → Performs (says sayings (Done Fine)) host host o o k k d e a b result
-left_out_performs sayings {host = host} {o = o} k {d = d} {e = e} {a = a} {b = b} result sound leaves = record {
-  runs = subst (λ r. Runs (says sayings (Done Fine)) host.next host.unread o o d e (Stops k k a b) r host.next host.unread) (sym leaves.result_is) (left_out_runs sayings host.next host.unread o k d e a b leaves.desk leaves.told leaves.reports);
+pub left_out_performs : (takes : Bool) (sayings : List Saying) {host : HostState} {o : Option Talk} (k : ℕ) {d e : Option Record} {a b : ℕ} (result : Result Standing Stopped) → host.broken ≡ None → LeavesOut sayings d e a b result
+    → Performs takes (says sayings (Done Fine)) host host o o k k d e a b result
+left_out_performs takes sayings {host = host} {o = o} k {d = d} {e = e} {a = a} {b = b} result sound leaves = record {
+  runs = subst (λ r. Runs (says sayings (Done Fine)) host.next host.unread o o d e (Stops takes k k a b) r host.next host.unread) (sym leaves.result_is) (left_out_runs takes sayings host.next host.unread o k d e a b leaves.desk leaves.told leaves.reports);
   serves = subst (λ r. Serves r host.broken) (sym leaves.result_is) (left_out_serves leaves.told host.broken sound);
   part = refl;
   link = omega arith;
@@ -173,8 +176,8 @@ left_out_performs sayings {host = host} {o = o} k {d = d} {e = e} {a = a} {b = b
 }
 
 -- nothing
-pub nothing_performs : (host : HostState) (o : Option Talk) (k : ℕ) (d : Option Record) (a : ℕ) → host.broken ≡ None → Performs (Done Fine) host host o o k k d d a a (Ok Fine)
-nothing_performs host o k d a sound = record {
+pub nothing_performs : (takes : Bool) (host : HostState) (o : Option Talk) (k : ℕ) (d : Option Record) (a : ℕ) → host.broken ≡ None → Performs takes (Done Fine) host host o o k k d d a a (Ok Fine)
+nothing_performs takes host o k d a sound = record {
   runs = ran_from (came_here (Done Fine) host.next host.unread o d);
   serves = sound;
   part = refl;
@@ -183,35 +186,64 @@ nothing_performs host o k d a sound = record {
 }
 
 -- any part goes on as its result chooses
-pub performs_on : {first : Dialog Saying Standing} (go_on : Standing → Dialog Saying Standing) {x y z : HostState} {o p q : Option Talk} {k l m : ℕ} {d e f : Option Record} {a b c : ℕ} (standing : Standing) (result : Result Standing Stopped)
-    → Foretells first → Performs first x y o p k l d e a b (Ok standing) → PerformsBehind (is_told standing) (go_on standing) y z p q l m e f b c result → Performs (first >>= go_on) x z o q k m d f a c result
-performs_on go_on {k = k} {l = l} {m = m} {a = a} {b = b} {c = c} standing (Ok then) foretells done rest = record {
+pub performs_on : {first : Dialog Saying Standing} (takes more_takes : Bool) (go_on : Standing → Dialog Saying Standing) {x y z : HostState} {o p q : Option Talk} {k l m : ℕ} {d e f : Option Record} {a b c : ℕ} (standing : Standing) (result : Result Standing Stopped)
+    → (more_takes ≡ true → takes ≡ true) → Foretells first → Performs takes first x y o p k l d e a b (Ok standing) → PerformsBehind more_takes (is_told standing) (go_on standing) y z p q l m e f b c result → Performs takes (first >>= go_on) x z o q k m d f a c result
+performs_on takes more_takes go_on {k = k} {l = l} {m = m} {a = a} {b = b} {c = c} standing (Ok then) both foretells done rest = record {
   runs = ran_on (came_part go_on done.runs) rest.runs;
   serves = rest.serves;
   part = rest.part ∙ done.part;
   link = omega (arith, done.link, rest.link);
   desk = omega (arith, done.desk, rest.desk);
 }
-performs_on go_on {k = k} {l = l} {m = m} {a = a} {b = b} {c = c} standing (Err stopped) foretells done rest = record {
-  runs = broke_after go_on done.runs (stops_in false (is_told standing) (sayings done.runs.events) k l m m a b c c done.link rest.link (omega arith) done.desk (omega arith) (foretold foretells done.runs)) rest.runs;
+performs_on takes more_takes go_on {k = k} {l = l} {m = m} {a = a} {b = b} {c = c} standing (Err stopped) both foretells done rest = record {
+  runs = broke_after go_on done.runs (stops_in more_takes takes false (is_told standing) (sayings done.runs.events) k l m m a b c c both done.link rest.link (omega arith) done.desk (omega arith) (foretold foretells done.runs)) rest.runs;
   serves = tt;
   part = rest.part ∙ done.part;
   link = omega (arith, done.link, rest.link);
   desk = omega (arith, done.desk, rest.desk);
 }
 
+-- memory is taken in the one or in the other
+
+or_first : (b c : Bool) → b ≡ true → (b || c) ≡ true
+or_first true c is = refl
+or_first false c is = absurd (cc)
+
+or_then : (b c : Bool) → c ≡ true → (b || c) ≡ true
+or_then true c is = refl
+or_then false c is = is
+
+takes_too : (takes more_takes : Bool) (k l a b : ℕ) (said : List Saying) (cause : Cause) (told : List ℕ) → k ≤ l → Stops takes k l a b said cause told → Stops (takes || more_takes) k l a b said cause told
+takes_too takes more_takes k l a b said cause told counted stops = record {
+  count = stops.count;
+  has_come = has_come_in takes (takes || more_takes) k k l l a a stops.count (or_first takes more_takes) (omega arith) counted (omega arith) (omega arith) cause stops.has_come;
+  tells = stops.tells;
+  since = stops.since;
+  until = stops.until;
+}
+
+performs_with : {dialog : Dialog Saying Standing} (takes more_takes : Bool) {x y : HostState} {o p : Option Talk} {k l : ℕ} {d e : Option Record} {a b : ℕ} (standing : Standing) → Performs takes dialog x y o p k l d e a b (Ok standing) → Performs (takes || more_takes) dialog x y o p k l d e a b (Ok standing)
+performs_with takes more_takes standing done = record { runs = done.runs; serves = done.serves; part = done.part; link = done.link; desk = done.desk }
+
 -- one part after another
-pub performs_then : {first more : Dialog Saying Standing} {x y z : HostState} {o p q : Option Talk} {k l m : ℕ} {d e f : Option Record} {a b c : ℕ} (result : Result Standing Stopped)
-    → Foretells first → Performs first x y o p k l d e a b (Ok Fine) → Performs more y z p q l m e f b c result → Performs (first >>= unless_fault more) x z o q k m d f a c result
-performs_then {more = more} result foretells done rest = performs_on (unless_fault more) Fine result foretells done rest
+pub performs_then : {first more : Dialog Saying Standing} (takes more_takes : Bool) {x y z : HostState} {o p q : Option Talk} {k l m : ℕ} {d e f : Option Record} {a b c : ℕ} (result : Result Standing Stopped)
+    → Foretells first → Performs takes first x y o p k l d e a b (Ok Fine) → Performs more_takes more y z p q l m e f b c result → Performs (takes || more_takes) (first >>= unless_fault more) x z o q k m d f a c result
+performs_then {more = more} takes more_takes result foretells done rest =
+    performs_on (takes || more_takes) more_takes (unless_fault more) Fine result (or_then takes more_takes) foretells (performs_with takes more_takes Fine done) rest
 
 -- a part that is the last
-pub performs_last : {first : Dialog Saying Standing} (more : Dialog Saying Standing) {x y : HostState} {o p : Option Talk} {k l : ℕ} {d e : Option Record} {a b : ℕ} (result : Result Standing Stopped) → (result ≡ Ok Fine → ⊥)
-    → Performs first x y o p k l d e a b result → Performs (first >>= unless_fault more) x y o p k l d e a b result
-performs_last more (Ok Fine) not done = absurd (not refl)
-performs_last more (Ok Faulty) not done = record { runs = ran_from (came_part (unless_fault more) done.runs); serves = done.serves; part = done.part; link = done.link; desk = done.desk }
-performs_last more (Ok Over) not done = record { runs = ran_from (came_part (unless_fault more) done.runs); serves = done.serves; part = done.part; link = done.link; desk = done.desk }
-performs_last more (Err stopped) not done = record { runs = broke_part (unless_fault more) (λ said cause told s. s) done.runs; serves = done.serves; part = done.part; link = done.link; desk = done.desk }
+pub performs_last : {first : Dialog Saying Standing} (takes more_takes : Bool) (more : Dialog Saying Standing) {x y : HostState} {o p : Option Talk} {k l : ℕ} {d e : Option Record} {a b : ℕ} (result : Result Standing Stopped) → (result ≡ Ok Fine → ⊥)
+    → Performs takes first x y o p k l d e a b result → Performs (takes || more_takes) (first >>= unless_fault more) x y o p k l d e a b result
+performs_last takes more_takes more (Ok Fine) not done = absurd (not refl)
+performs_last takes more_takes more (Ok Faulty) not done = record { runs = ran_from (came_part (unless_fault more) done.runs); serves = done.serves; part = done.part; link = done.link; desk = done.desk }
+performs_last takes more_takes more (Ok Over) not done = record { runs = ran_from (came_part (unless_fault more) done.runs); serves = done.serves; part = done.part; link = done.link; desk = done.desk }
+performs_last takes more_takes more {k = k} {l = l} {a = a} {b = b} (Err stopped) not done = record {
+  runs = broke_part (unless_fault more) (λ said cause told s. takes_too takes more_takes k l a b said cause told done.link s) done.runs;
+  serves = done.serves;
+  part = done.part;
+  link = done.link;
+  desk = done.desk;
+}
 
 -- a read, whose data stand in a vector
 
@@ -268,10 +300,10 @@ given_told a good old new part k l (Ok ok) told reports stop = absurd stop
 given_told a good old new part k l (Err fault) told reports stop = told_of old new part good k l (Err fault) told reports stop
 
 -- only where bytes were read there is something to save
-pub read_stops_report : (part : Part) (s : Switches) (mem : Mem) (format : Format) (file items : List ℕ) (outcome : Result (Unit {0}) HostFault) (k l a b : ℕ) (d : Option Record) → a ≤ b
-    → StopsReport k l a b d (fault_or part (read_says s mem format file) (given items outcome)) (ReadStops outcome a b)
-read_stops_report part s mem format file items (Ok done) k l a b d le = desk_stops_report k l a b d (read_says s mem format file items) le (read_none s mem format file items)
-read_stops_report part s mem format file items (Err fault) k l a b d le = print_stops_report k l a b d (Line (fault_line part fault) ∷ []) le
+pub read_stops_report : (part : Part) (s : Switches) (mem : Mem) (format : Format) (file items : List ℕ) (outcome : Result (Unit {0}) HostFault) (takes : Bool) (k l a b : ℕ) (d : Option Record) → a ≤ b
+    → StopsReport takes k l a b d (fault_or part (read_says s mem format file) (given items outcome)) (ReadStops outcome a b)
+read_stops_report part s mem format file items (Ok done) takes k l a b d le = desk_stops_report takes k l a b d (read_says s mem format file items) le (read_none s mem format file items)
+read_stops_report part s mem format file items (Err fault) takes k l a b d le = print_stops_report takes k l a b d (Line (fault_line part fault) ∷ []) le
 
 -- the tasks are the first and those behind it
 pub first_task : (tasks : List Task) (task : Task) → 1 ≤ length tasks → task ≡ get_or tasks 0 task → task ∷ drop 1 tasks ≡ tasks
@@ -287,12 +319,12 @@ tasks_behind tasks = grind (arith, common_steps)
 
 -- the end of a session
 
-pub performs_until : {was : Bool} {first : Dialog Saying Standing} (go_on : Standing → Dialog Saying Standing) {x y : HostState} {o p : Option Talk} {k l : ℕ} {d e : Option Record} {a b : ℕ} (stopped : Stopped)
-    → PerformsBehind was first x y o p k l d e a b (Err stopped) → PerformsBehind was (first >>= go_on) x y o p k l d e a b (Err stopped)
+pub performs_until : {takes was : Bool} {first : Dialog Saying Standing} (go_on : Standing → Dialog Saying Standing) {x y : HostState} {o p : Option Talk} {k l : ℕ} {d e : Option Record} {a b : ℕ} (stopped : Stopped)
+    → PerformsBehind takes was first x y o p k l d e a b (Err stopped) → PerformsBehind takes was (first >>= go_on) x y o p k l d e a b (Err stopped)
 performs_until go_on stopped done = record { runs = broke_part go_on (λ said cause told s. s) done.runs; serves = tt; part = done.part; link = done.link; desk = done.desk }
 
-pub over_performs : (was : Bool) (host : HostState) (o : Option Talk) (k : ℕ) (d : Option Record) (a : ℕ) → PerformsBehind was (Done Over) host host o o k k d d a a (Ok Over)
-over_performs was host o k d a = record {
+pub over_performs : (takes was : Bool) (host : HostState) (o : Option Talk) (k : ℕ) (d : Option Record) (a : ℕ) → PerformsBehind takes was (Done Over) host host o o k k d d a a (Ok Over)
+over_performs takes was host o k d a = record {
   runs = ran_from (came_here (Done Over) host.next host.unread o d);
   serves = tt;
   part = refl;
@@ -301,7 +333,7 @@ over_performs was host o k d a = record {
 }
 
 -- nothing is told of a link that failed, behind a fault that was told
-told_nothing : {A : Type 0} (outcome : Result A HostFault) {k l : ℕ} (d : Option Record) (a : ℕ) → (IsBroken outcome → link.HasFailed k l) → IsBroken outcome → ToldBy (StopsBehind true k l a a) (cause_of outcome) d d
+told_nothing : {A : Type 0} (outcome : Result A HostFault) {k l : ℕ} (d : Option Record) (a : ℕ) → (IsBroken outcome → link.HasFailed k l) → IsBroken outcome → ToldBy (StopsBehind false true k l a a) (cause_of outcome) d d
 told_nothing (Ok x) d a failed broken = absurd broken
 told_nothing (Err NoAnswer) d a failed broken = absurd broken
 told_nothing (Err LinkEnded) d a failed broken = absurd broken
@@ -317,21 +349,23 @@ told_nothing (Err RecvFailed) d a failed broken = ([], record { count = a; has_c
 
 -- an operation of which nothing is told
 pub quietly_performs : {operation : Dialog ⊥ (Result (Unit {0}) HostFault)} {old new : HostState} {o p : Option Talk} {k l : ℕ} (d : Option Record) (a : ℕ) (outcome : Result (Unit {0}) HostFault) (result : Result Standing Stopped)
-    → result ≡ concluded outcome (Ok tt) → Ended operation old.next old.unread o p outcome new.next new.unread → length new.unread ≤ 281 → (IsStop outcome → IsBroken outcome)
-    → (IsBroken outcome → link.HasFailed k l) → new.broken ≡ left_by outcome → new.part ≡ old.part → k ≤ l → PerformsBehind true (reported operation (λ _. [])) old new o p k l d d a a result
-quietly_performs {operation = operation} {old = old} {new = new} {o = o} {p = p} {k = k} {l = l} d a outcome result is ended few only failed lasts part counted = record {
-  runs = subst (λ r. Runs (reported operation (λ _. [])) old.next old.unread o p d d (StopsBehind true k l a a) r new.next new.unread) (sym is)
-      (operation_runs (λ _. []) outcome d d (Ok tt) (StopsBehind true k l a a) (PrintStops a a)
-      (λ mid front cause told stops. print_stops_run true k l a a (omega arith) (front.whole ++ front.begun) cause told stops) ended few (kept_none d) (λ stop. told_nothing outcome d a failed (only stop)));
-  serves = subst (λ r. Serves r new.broken) (sym is) (serves_after outcome (Ok tt) new.broken lasts);
-  part = part;
-  link = counted;
-  desk = omega arith;
-}
+    → result ≡ concluded outcome (Ok tt) → Ended false operation old.next old.unread o p outcome new.next new.unread → length new.unread ≤ 281
+    → (IsBroken outcome → link.HasFailed k l) → new.broken ≡ left_by outcome → new.part ≡ old.part → k ≤ l → PerformsBehind false true (reported operation (λ _. [])) old new o p k l d d a a result
+quietly_performs {operation = operation} {old = old} {new = new} {o = o} {p = p} {k = k} {l = l} d a outcome result is ended few failed lasts part counted =
+    let only = only_broken operation old.next old.unread o p outcome new.next new.unread ended in
+    record {
+      runs = subst (λ r. Runs (reported operation (λ _. [])) old.next old.unread o p d d (StopsBehind false true k l a a) r new.next new.unread) (sym is)
+          (operation_runs false (λ _. []) outcome d d (Ok tt) (StopsBehind false true k l a a) (PrintStops a a)
+          (λ mid cause front told stops. print_stops_run false true k l a a (omega arith) (front.whole ++ front.begun) cause told stops) ended few (kept_none d) (λ stop. told_nothing outcome d a failed (only stop)));
+      serves = subst (λ r. Serves r new.broken) (sym is) (serves_after outcome (Ok tt) new.broken lasts);
+      part = part;
+      link = counted;
+      desk = omega arith;
+    }
 
 -- what follows a quiet operation is done
 pub quietly_on : {first : Dialog Saying Standing} (go_on : Standing → Dialog Saying Standing) {x y : HostState} {o p : Option Talk} {k l : ℕ} {d e : Option Record} {a b : ℕ} (standing then : Standing) → go_on standing ≡ Done then → Serves (Ok then) y.broken
-    → PerformsBehind true first x y o p k l d e a b (Ok standing) → PerformsBehind true (first >>= go_on) x y o p k l d e a b (Ok then)
+    → PerformsBehind false true first x y o p k l d e a b (Ok standing) → PerformsBehind false true (first >>= go_on) x y o p k l d e a b (Ok then)
 quietly_on go_on {y = y} {p = p} {e = e} standing then is serves done = record {
   runs = ran_on (came_part go_on done.runs) (subst (λ dialog. Ran dialog y.next y.unread p p e e then y.next y.unread) (sym is) (ran_from (came_here (Done then) y.next y.unread p e)));
   serves = serves;
@@ -347,7 +381,7 @@ StatusIs (Err stopped) status = status ≡ 1
 
 -- a whole session
 pub session_runs : (plan : Plan) {x y : HostState} {o p : Option Talk} {k l : ℕ} {d e : Option Record} {a b : ℕ} (result : Result Standing Stopped) (status : ℕ) → x.next ≡ 1 → x.unread ≡ []
-    → Performs (playing plan) x y o p k l d e a b result → StatusIs result status → RunsTo (session plan) o p d e (Stops k l a b) status
+    → Performs (takes_memory plan) (playing plan) x y o p k l d e a b result → StatusIs result status → RunsTo (session plan) o p d e (Stops (takes_memory plan) k l a b) status
 unfolding session
 session_runs plan {x = x} {y = y} {o = o} {p = p} {d = d} {e = e} (Ok standing) status first none done is =
     let ran = ran_on (came_part (λ standing. Done (status_of standing)) done.runs) (ran_from (came_here (Done (status_of standing)) y.next y.unread p e)) in
@@ -360,7 +394,7 @@ session_runs plan {x = x} {y = y} {o = o} {p = p} {d = d} {e = e} (Ok standing) 
 session_runs plan {x = x} {y = y} {o = o} {p = p} {k = k} {l = l} {d = d} {e = e} {a = a} {b = b} (Err stopped) status first none done is =
     let broke = broke_part (λ standing. Done (status_of standing)) (λ said cause told s. s) done.runs in
     inr (
-      subst (λ u. BrokeOff (playing plan >>= λ standing. Done (status_of standing)) 1 u o p d e (Stops k l a b)) none
-          (subst (λ n. BrokeOff (playing plan >>= λ standing. Done (status_of standing)) n x.unread o p d e (Stops k l a b)) first broke),
+      subst (λ u. BrokeOff (playing plan >>= λ standing. Done (status_of standing)) 1 u o p d e (Stops (takes_memory plan) k l a b)) none
+          (subst (λ n. BrokeOff (playing plan >>= λ standing. Done (status_of standing)) n x.unread o p d e (Stops (takes_memory plan) k l a b)) first broke),
       is,
     )

@@ -6,11 +6,13 @@ use Rattle.avr_desk.specs.Record.{Record, after_err}
 use Rattle.avr_desk.specs.Fault.{Counts, HasFailed}
 use Rattle.avr_desk.specs.declared.fault.DeskFault.{DeskFault}
 use Rattle.avr_desk.specs.declared.fault.DeskFault.TheVariants.{NotFound, Failed}
-use Rattle.avr_message.specs.Said.{Saying, Opens, Line, Creates, Writes, Outs, SaysFront, IsBegun, IsPrefixOf, IsPrinted, after_all}
-use Rattle.avr_message.proofs.Saying.{line_part, front_behind, front_of, kept_append, kept_none}
-use Rattle.avr_session.specs.Runs.{cause_line, Cause, OfSending, OfListening, OfFile, OfPrinting, OfMemory, Trouble, TellsLine, SaidSome, Reports, PrintStops, FileStops, DeskStops, PrintsSome}
+use Rattle.stk_host.specs.Dialog.{sayings}
+use Rattle.avr_message.specs.Said.{Saying, Line, IsPrefixOf, IsPrinted, after_all}
+use Rattle.avr_message.proofs.Saying.{kept_append, kept_none}
+use Rattle.avr_session.specs.Runs.{cause_line, Cause, OfSending, OfListening, OfFile, OfPrinting, OfMemory, Trouble, TellsLine, SaysFront, SaidSome, Reports, PrintStops, FileStops, DeskStops, PrintsSome}
 use Rattle.avr_session.specs.declared.standing.Stopped.{Stopped}
 use Rattle.avr_session.specs.Concluding.{stopped_of}
+use Rattle.avr_session.proofs.Places.{sayings_by, line_part, front_behind, front_of}
 
 -- a failure later is a failure
 pub failed_later : (a b c : ℕ) → a ≤ b → HasFailed b c → HasFailed a c
@@ -58,11 +60,11 @@ kept_nothing None = refl
 kept_nothing (Some r) = ap Some (sym (nothing_printed r))
 
 -- nothing more is printed where printing failed
-said_until : {old new : Option Record} (sayings : List Saying) (before now : ℕ) → SaysFront old new sayings → HasFailed before now → SaidSome old new sayings (PrintStops before now)
+said_until : {old new : Option Record} (sayings : List Saying) (before now : ℕ) → SaysFront OfPrinting old new sayings → HasFailed before now → SaidSome old new sayings (PrintStops before now)
 said_until {new = new} sayings before now front failed = record {
   between = new;
-  front = front;
   cause = OfPrinting;
+  front = front;
   told = [];
   stops = (failed, refl);
   kept = kept_nothing new;
@@ -75,7 +77,7 @@ reports_line old new bytes before now (Ok done) (Ok ok) is counts only same = is
 reports_line old new bytes before now (Ok done) (Err stopped) is counts only same = cc
 reports_line old new bytes before now (Err fault) (Ok ok) is counts only same = cc
 reports_line old new bytes before now (Err NotFound) (Err stopped) is counts only same = cc
-reports_line old new bytes before now (Err Failed) (Err stopped) is counts only same = said_until (Line bytes ∷ []) before now (line_part old new bytes [] is) counts.1
+reports_line old new bytes before now (Err Failed) (Err stopped) is counts only same = said_until (Line bytes ∷ []) before now (line_part old new bytes is) counts.1
 
 -- nothing is said
 pub reports_none : (d : Option Record) (before now : ℕ) → Reports d d [] (PrintStops before now) (Ok tt)
@@ -87,8 +89,8 @@ pub reports_then : (old new : Option Record) (first more : List Saying) (mid : O
 reports_then old new first more mid a b c (Ok done) kept le then = kept_append first more old mid new kept then
 reports_then old new first more mid a b c (Err stopped) kept le then = record {
   between = then.between;
-  front = front_behind first more kept then.front;
   cause = then.cause;
+  front = front_behind first more kept then.front;
   told = then.told;
   stops = print_stops_later a b c le then.cause then.told then.stops;
   kept = then.kept;
@@ -98,8 +100,8 @@ reports_then old new first more mid a b c (Err stopped) kept le then = record {
 pub reports_until : {old new : Option Record} (first more : List Saying) {a b : ℕ} (stopped : Stopped) → Reports old new first (PrintStops a b) (Err stopped) → Reports old new (first ++ more) (PrintStops a b) (Err stopped)
 reports_until first more stopped some = record {
   between = some.between;
-  front = front_of first more some.front;
   cause = some.cause;
+  front = front_of first more some.front;
   told = some.told;
   stops = some.stops;
   kept = some.kept;
@@ -109,8 +111,8 @@ reports_until first more stopped some = record {
 pub stops_for : {old new : Option Record} {sayings : List Saying} (A B : Cause → List ℕ → Type 0) → ((cause : Cause) (told : List ℕ) → A cause told → B cause told) → SaidSome old new sayings A → SaidSome old new sayings B
 stops_for A B why some = record {
   between = some.between;
-  front = some.front;
   cause = some.cause;
+  front = some.front;
   told = some.told;
   stops = why some.cause some.told some.stops;
   kept = some.kept;
@@ -118,58 +120,41 @@ stops_for A B why some = record {
 
 -- of one line a front was printed
 
-abbrev IsOther : Saying → Type 0
-IsOther (Line l) = ⊥
-IsOther saying = Unit {0}
+one_only : (l x : List ℕ) (whole more : List Saying) → Line l ∷ [] ≡ whole ++ (Line x ∷ more) → (whole ≡ []) × (x ≡ l)
+one_only l x [] more is = let e : Line l ≡ Line x = cc in let same : l ≡ x = cc in (refl, sym same)
+one_only l x (s ∷ []) more is = let e : [] ≡ Line x ∷ more = cc in absurd (cc)
+one_only l x (s ∷ t ∷ whole) more is = let e : [] ≡ t ∷ (whole ++ (Line x ∷ more)) = cc in absurd (cc)
 
-not_line : (l : List ℕ) (x : Saying) (later : List Saying) → Line l ∷ [] ≡ x ∷ later → IsOther x → ⊥
-not_line l x later is other = let e : Line l ≡ x = cc in subst IsOther (sym e) other
+one_line : {d e : Option Record} (l : List ℕ) → SaysFront OfPrinting d e (Line l ∷ []) → (front : List ℕ) × IsPrefixOf front l × (e ≡ option_map (after_err front) d)
+one_line {d = d} {e = e} l front =
+    let p = front.place in
+    let begun : front.begun ≡ Line p.done ∷ [] = sayings_by front.begun _ p.part in
+    let later : front.later ≡ Line p.bytes ∷ sayings p.more = sayings_by front.later _ p.due in
+    let one = one_only l p.bytes front.whole (sayings p.more) (front.sayings_are ∙ ap (λ ss. front.whole ++ ss) later) in
+    (p.done, subst (IsPrefixOf p.done) one.1 p.front, subst (λ ss. e ≡ option_map (after_all ss) d) (ap (λ ss. ss ++ front.begun) one.0 ∙ begun) front.kept)
 
-one_line : (d e : Option Record) (l : List ℕ) (whole begun later : List Saying) → Line l ∷ [] ≡ whole ++ later → IsBegun begun later → e ≡ option_map (after_all (whole ++ begun)) d → (front : List ℕ) × IsPrefixOf front l × (e ≡ option_map (after_err front) d)
-one_line d e l [] [] later is part kept = ([], (l, refl), kept ∙ (sym (kept_none d) ∙ kept_nothing d))
-one_line d e l [] (Line some ∷ []) (Line all ∷ later) is part kept = (some, (part.0, part.1 ∙ cc), kept)
-one_line d e l [] (x ∷ []) [] is part kept = absurd part
-one_line d e l [] (x ∷ y ∷ begun) later is part kept = absurd part
-one_line d e l [] (Opens o ∷ []) (Line p ∷ later) is part kept = absurd part
-one_line d e l [] (Creates o ∷ []) (Line p ∷ later) is part kept = absurd part
-one_line d e l [] (Writes o ∷ []) (Line p ∷ later) is part kept = absurd part
-one_line d e l [] (Outs o ∷ []) (Line p ∷ later) is part kept = absurd part
-one_line d e l [] (z ∷ []) (Opens p ∷ later) is part kept = absurd (not_line l (Opens p) later is tt)
-one_line d e l [] (z ∷ []) (Creates p ∷ later) is part kept = absurd (not_line l (Creates p) later is tt)
-one_line d e l [] (z ∷ []) (Writes p ∷ later) is part kept = absurd (not_line l (Writes p) later is tt)
-one_line d e l [] (z ∷ []) (Outs p ∷ later) is part kept = absurd (not_line l (Outs p) later is tt)
-one_line d e l (x ∷ []) [] [] is part kept =
-    let first : x ≡ Line l = cc in
-    (l, ([], append-nil l), subst (λ s. e ≡ option_map (after_all (s ∷ [])) d) first kept)
-one_line d e l (x ∷ []) [] (y ∷ later) is part kept = absurd (let e : [] ≡ y ∷ later = cc in cc)
-one_line d e l (x ∷ []) (y ∷ []) [] is part kept = absurd part
-one_line d e l (x ∷ []) (y ∷ []) (z ∷ later) is part kept = cc
-one_line d e l (x ∷ []) (y ∷ z ∷ begun) later is part kept = absurd part
-one_line d e l (x ∷ y ∷ whole) begun later is part kept = cc
-
-between_is : (cause : Cause) (told : List ℕ) (between new : Option Record) (a b : ℕ) → PrintStops a b cause told → new ≡ option_map (after_err told) between → (new ≡ between) × HasFailed a b
-between_is OfPrinting told between new a b stops kept = (kept ∙ (ap (λ told. option_map (after_err told) between) stops.1 ∙ sym (kept_nothing between)), stops.0)
-between_is OfSending told between new a b stops kept = absurd stops
-between_is OfListening told between new a b stops kept = absurd stops
-between_is (OfFile file trouble) told between new a b stops kept = absurd stops
-between_is OfMemory told between new a b stops kept = absurd stops
+told_line : (cause : Cause) (told l : List ℕ) (old between new : Option Record) (a b : ℕ) → SaysFront cause old between (Line l ∷ []) → PrintStops a b cause told → new ≡ option_map (after_err told) between → PrintsSome old new l a b
+told_line OfPrinting told l old between new a b front stops kept =
+    let same : new ≡ between = kept ∙ (ap (λ told. option_map (after_err told) between) stops.1 ∙ sym (kept_nothing between)) in
+    let some = one_line l front in
+    (some.0, inr (some.1, stops.0), same ∙ some.2)
+told_line OfSending told l old between new a b front stops kept = absurd stops
+told_line OfListening told l old between new a b front stops kept = absurd stops
+told_line (OfFile file trouble) told l old between new a b front stops kept = absurd stops
+told_line OfMemory told l old between new a b front stops kept = absurd stops
 
 -- what was printed of a line that was told
 pub told_some : (old new : Option Record) (l : List ℕ) (a b : ℕ) (result : Result (Unit {0}) Stopped) → Reports old new (Line l ∷ []) (PrintStops a b) result → PrintsSome old new l a b
 told_some old new l a b (Ok done) kept = (l, inl refl, kept)
-told_some old new l a b (Err stopped) some =
-    let f = some.front in
-    let same = between_is some.cause some.told some.between new a b some.stops some.kept in
-    let front = one_line old new l f.whole f.begun f.later f.sayings_are f.part (same.0 ∙ f.kept) in
-    (front.0, inr (front.1, same.1), front.2)
+told_some old new l a b (Err stopped) some = told_line some.cause some.told l old some.between new a b some.front some.stops some.kept
 
 -- a file's trouble is told behind what was done
-pub file_stops : (old mid new : Option Record) (sayings : List Saying) (file : List ℕ) (trouble : Trouble) (a b c : ℕ) (S : Cause → List ℕ → Type 0) → SaysFront old mid sayings → HasFailed a b → a ≤ b → b ≤ c
+pub file_stops : (old mid new : Option Record) (sayings : List Saying) (file : List ℕ) (trouble : Trouble) (a b c : ℕ) (S : Cause → List ℕ → Type 0) → SaysFront (OfFile file trouble) old mid sayings → HasFailed a b → a ≤ b → b ≤ c
     → ((told : List ℕ) → FileStops a c file trouble told → S (OfFile file trouble) told) → PrintsSome mid new (cause_line (OfFile file trouble)) b c → SaidSome old new sayings S
 file_stops old mid new sayings file trouble a b c S front failed first then why some = record {
   between = mid;
-  front = front;
   cause = OfFile file trouble;
+  front = front;
   told = some.0;
   stops = why some.0 (record { count = b; failed = failed; tells = some.1; since = first; until = then });
   kept = some.2;

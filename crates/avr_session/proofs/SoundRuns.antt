@@ -1,19 +1,21 @@
 -- Where no device failed, a run was played whole, or its messages say that memory was refused.
-use Rattle.std.proofs.Common.{◌≡◌, ℕ, ◌≤◌, Bool, true, false, List, [], ◌++◌, refl, sym, ap, ◌∙◌, subst, append-nil, Option, Some, None, inl, inr}
+use Rattle.std.proofs.Common.{◌≡◌, ℕ, ◌≤◌, Bool, true, false, List, [], ◌∷◌, ◌++◌, refl, sym, ap, ◌∙◌, subst, append-nil, Option, Some, None, inl, inr}
+use Rattle.std.specs.List.{list_any}
 use Rattle.std.proofs.lemmas.List.{append_cancel_left}
 use Rattle.avr_desk.specs.Fault.{HasFailed}
 use Rattle.avr_desk.specs.Record.{Record, after_err}
 use Rattle.avr_plan.specs.Plan.{Plan}
+use Rattle.avr_plan.specs.declared.task.Task.{Task}
 use Rattle.stk_host.specs.Operations as operations
 use Rattle.stk_host.specs.Operations.{opening}
 use Rattle.stk_host.specs.Steps.{tries, attempt, exchange}
-use Rattle.stk_host.specs.Tape.{Tape, answer}
+use Rattle.stk_host.specs.Tape.{Tape, on_tape, answer}
 use Rattle.stk_host.specs.Talk.{Talk, heard, Grows}
-use Rattle.stk_host.specs.Dialog.{Dialog, Played, played, sayings}
+use Rattle.stk_host.specs.Dialog.{Dialog, Event, Said, Played, played, sayings}
 use Rattle.avr_message.specs.Lines.{Bytes}
-use Rattle.avr_message.specs.Said.{Saying, after_all}
-use Rattle.avr_session.specs.Runs.{Cause, OfSending, OfListening, OfFile, OfPrinting, OfMemory, cause_line, tells_fault, TellsCause, Stops, BrokeOff, RunsTo}
-use Rattle.avr_session.specs.Session.{session}
+use Rattle.avr_message.specs.Said.{Saying, Line, Creates, Writes, Outs, after_all}
+use Rattle.avr_session.specs.Runs.{Cause, OfSending, OfListening, OfFile, OfPrinting, OfMemory, NotCreated, NotWritten, cause_line, tells_fault, TellsCause, StopsAt, Stops, BrokeOff, RunsTo}
+use Rattle.avr_session.specs.Session.{session, takes_memory, task_takes_memory}
 use Rattle.avr_session.specs.Stopping.{IsSound, LacksMemory, IsPlayed}
 use Rattle.avr_session.proofs.Reporting.{failed_later, failed_before}
 
@@ -23,7 +25,7 @@ told_of_memory false told a count b since sound (inl whole) = whole
 told_of_memory false told a count b since sound (inr part) = absurd (sound (failed_later a count b since part.1))
 told_of_memory true told a count b since sound tells = absurd tells
 
-lacks : {k l a b : ℕ} {said : List Saying} {told : Bytes} (cause : Cause) → IsSound k l a b → Stops k l a b said cause told → told ≡ cause_line OfMemory
+lacks : {takes : Bool} {k l a b : ℕ} {said : List Saying} {told : Bytes} (cause : Cause) → IsSound k l a b → Stops takes k l a b said cause told → told ≡ cause_line OfMemory
 lacks OfSending sound stops = absurd (sound.link stops.has_come)
 lacks OfListening sound stops = absurd (sound.link stops.has_come)
 lacks {a = a} {b = b} (OfFile file trouble) sound stops = absurd (sound.desk (failed_before a stops.count b stops.since stops.until stops.has_come))
@@ -38,15 +40,35 @@ told_last before after said told line whole kept =
     (r.messages, ap (λ (x : Record). x.messages) same ∙ ap (λ (xs : Bytes). r.messages ++ xs) whole)
 
 -- so what broke off says so
-pub broke_lacks : {R : Type 0} (dialog : Dialog Saying R) (seq : ℕ) (unread : List ℕ) (old new : Option Talk) (before after : Record) (k l a b : ℕ) → IsSound k l a b
-    → BrokeOff dialog seq unread old new (Some before) (Some after) (Stops k l a b) → LacksMemory after.messages
-broke_lacks dialog seq unread old new before after k l a b sound f = told_last before after (sayings f.shown) f.told (cause_line OfMemory) (lacks f.cause sound f.stops) f.kept
+pub broke_lacks : {R : Type 0} (dialog : Dialog Saying R) (seq : ℕ) (unread : List ℕ) (old new : Option Talk) (before after : Record) (takes : Bool) (k l a b : ℕ) → IsSound k l a b
+    → BrokeOff dialog seq unread old new (Some before) (Some after) (Stops takes k l a b) → LacksMemory after.messages
+broke_lacks dialog seq unread old new before after takes k l a b sound f = told_last before after (sayings f.shown) f.told (cause_line OfMemory) (lacks f.cause sound f.stops) f.kept
 
 -- and a run is played whole where no device failed and memory was not refused, by its messages.
-pub sound_run : (dialog : Dialog Saying ℕ) (old new : Option Talk) (before after : Record) (k l a b status : ℕ) → IsSound k l a b → (LacksMemory after.messages → ⊥)
-    → RunsTo dialog old new (Some before) (Some after) (Stops k l a b) status → IsPlayed dialog old new (Some before) (Some after) status
-sound_run dialog old new before after k l a b status sound has_memory (inl ran) = ran
-sound_run dialog old new before after k l a b status sound has_memory (inr broke) = absurd (has_memory (broke_lacks dialog 1 [] old new before after k l a b sound broke.0))
+pub sound_run : (dialog : Dialog Saying ℕ) (old new : Option Talk) (before after : Record) (takes : Bool) (k l a b status : ℕ) → IsSound k l a b → (LacksMemory after.messages → ⊥)
+    → RunsTo dialog old new (Some before) (Some after) (Stops takes k l a b) status → IsPlayed dialog old new (Some before) (Some after) status
+sound_run dialog old new before after takes k l a b status sound has_memory (inl ran) = ran
+sound_run dialog old new before after takes k l a b status sound has_memory (inr broke) = absurd (has_memory (broke_lacks dialog 1 [] old new before after takes k l a b sound broke.0))
+
+-- Where no memory is taken it is played whole, whatever the messages are.
+never_lacks : {k l a b : ℕ} {said : List Saying} {told : Bytes} (cause : Cause) → IsSound k l a b → Stops false k l a b said cause told → ⊥
+never_lacks OfSending sound stops = sound.link stops.has_come
+never_lacks OfListening sound stops = sound.link stops.has_come
+never_lacks {a = a} {b = b} (OfFile file trouble) sound stops = sound.desk (failed_before a stops.count b stops.since stops.until stops.has_come)
+never_lacks {a = a} {b = b} OfPrinting sound stops = sound.desk (failed_before a stops.count b stops.since stops.until stops.has_come)
+never_lacks OfMemory sound stops = let e = stops.has_come in absurd (cc)
+
+abbrev pub Exact : Bool → Plan → Option Talk → Option Talk → Option Record → Option Record → ℕ → ℕ → ℕ → ℕ → ℕ → Type 0
+Exact takes plan old new old_desk new_desk k l a b status = RunsTo (session plan) old new old_desk new_desk (Stops takes k l a b) status → IsPlayed (session plan) old new old_desk new_desk status
+
+exact_without : (plan : Plan) (old new : Option Talk) (old_desk new_desk : Option Record) (k l a b status : ℕ) → IsSound k l a b → Exact false plan old new old_desk new_desk k l a b status
+exact_without plan old new old_desk new_desk k l a b status sound (inl ran) = ran
+exact_without plan old new old_desk new_desk k l a b status sound (inr broke) = absurd (never_lacks broke.0.cause sound broke.0.stops)
+
+pub exact_run : (plan : Plan) (old new : Option Talk) (old_desk new_desk : Option Record) (k l a b status : ℕ) → IsSound k l a b → takes_memory plan ≡ false
+    → RunsTo (session plan) old new old_desk new_desk (Stops (takes_memory plan) k l a b) status → IsPlayed (session plan) old new old_desk new_desk status
+exact_run plan old new old_desk new_desk k l a b status sound none =
+    subst (λ takes. Exact takes plan old new old_desk new_desk k l a b status) (sym none) (exact_without plan old new old_desk new_desk k l a b status sound)
 
 -- ---- wrong ends that the contract refuses
 
@@ -73,39 +95,76 @@ one_status dialog old new before after m n x y =
     ap_status p = status_in p.outcome
 
 -- a session that was played to status 0 has no other
-pub perfect_is_0 : (dialog : Dialog Saying ℕ) (old new : Talk) (before after : Record) (k l a b : ℕ) → IsSound k l a b → (LacksMemory after.messages → ⊥)
-    → IsPlayed dialog (Some old) (Some new) (Some before) (Some after) 0 → RunsTo dialog (Some old) (Some new) (Some before) (Some after) (Stops k l a b) 1 → ⊥
-perfect_is_0 dialog old new before after k l a b sound has_memory ran other =
-    let e : ◌≡◌ {A = ℕ} 0 1 = one_status dialog old new (Some before) (Some after) 0 1 ran (sound_run dialog (Some old) (Some new) before after k l a b 1 sound has_memory other) in
+pub perfect_is_0 : (dialog : Dialog Saying ℕ) (old new : Talk) (before after : Record) (takes : Bool) (k l a b : ℕ) → IsSound k l a b → (LacksMemory after.messages → ⊥)
+    → IsPlayed dialog (Some old) (Some new) (Some before) (Some after) 0 → RunsTo dialog (Some old) (Some new) (Some before) (Some after) (Stops takes k l a b) 1 → ⊥
+perfect_is_0 dialog old new before after takes k l a b sound has_memory ran other =
+    let e : ◌≡◌ {A = ℕ} 0 1 = one_status dialog old new (Some before) (Some after) 0 1 ran (sound_run dialog (Some old) (Some new) before after takes k l a b 1 sound has_memory other) in
     cc
+
+-- a run that ends though its play waits
+grown : (talk x y : Talk) → Grows (Some talk) x (Some (talk ++ y)) → x ≡ y
+grown talk x y is =
+    let inner : talk ++ y ≡ talk ++ x = cc in
+    append_cancel_left talk x y (sym inner)
+
+pub waiting_is_no_run : (dialog : Dialog Saying ℕ) (talk during : Talk) (before after : Record) (takes : Bool) (k l a b status : ℕ) → IsSound k l a b → (LacksMemory after.messages → ⊥)
+    → (played dialog 1 (heard during)).outcome ≡ None → RunsTo dialog (Some talk) (Some (talk ++ during)) (Some before) (Some after) (Stops takes k l a b) status → ⊥
+waiting_is_no_run dialog talk during before after takes k l a b status sound has_memory waits runs =
+    let p = sound_run dialog (Some talk) (Some (talk ++ during)) before after takes k l a b status sound has_memory runs in
+    let f = p.2 in
+    let same = grown talk f.during during f.grows in
+    let comes = subst (λ (x : Talk). (played dialog 1 (heard x ++ [])).outcome ≡ Some (status, p.0, on_tape p.1 ++ [])) same (ap (λ (p : Played Saying ℕ). p.outcome) (f.plays.plays [])) in
+    let clash = sym waits ∙ (ap (λ (tape : Tape). (played dialog 1 tape).outcome) (sym (append-nil (heard during))) ∙ comes) in
+    absurd (cc)
 
 -- to do nothing and say nothing is no run of a session
 waits_at_once : (plan : Plan) → (played (session plan) 1 []).outcome ≡ None
 unfolding session opening operations.beginning tries attempt exchange answer
 waits_at_once plan = refl
 
-nothing_heard : (talk x : Talk) → Grows (Some talk) x (Some talk) → x ≡ []
-nothing_heard talk x is =
-    let both : ◌≡◌ {A = Option Talk} (Some (talk ++ x)) (Some (talk ++ [])) = sym is ∙ ap Some (sym (append-nil talk)) in
-    let inner : talk ++ x ≡ talk ++ [] = cc in
-    append_cancel_left talk x [] inner
-
-pub nothing_is_no_run : (plan : Plan) (talk : Talk) (r : Record) (k l a b status : ℕ) → IsSound k l a b → (LacksMemory r.messages → ⊥) → RunsTo (session plan) (Some talk) (Some talk) (Some r) (Some r) (Stops k l a b) status → ⊥
-nothing_is_no_run plan talk r k l a b status sound has_memory runs =
-    let f = (sound_run (session plan) (Some talk) (Some talk) r r k l a b status sound has_memory runs).2 in
-    let quiet = nothing_heard talk f.during f.grows in
-    let waits = subst (λ (x : Talk). (played (session plan) 1 (heard x ++ [])).outcome ≡ None) (sym quiet) (waits_at_once plan) in
-    let comes = ap (λ (p : Played Saying ℕ). p.outcome) (f.plays.plays []) in
-    let clash = sym comes ∙ waits in
-    absurd (cc)
+pub nothing_is_no_run : (plan : Plan) (talk : Talk) (r : Record) (takes : Bool) (k l a b status : ℕ) → IsSound k l a b → (LacksMemory r.messages → ⊥) → RunsTo (session plan) (Some talk) (Some talk) (Some r) (Some r) (Stops takes k l a b) status → ⊥
+nothing_is_no_run plan talk r takes k l a b status sound has_memory runs =
+    waiting_is_no_run (session plan) talk [] r r takes k l a b status sound has_memory (waits_at_once plan)
+    (subst (λ (new : Talk). RunsTo (session plan) (Some talk) (Some new) (Some r) (Some r) (Stops takes k l a b) status) (sym (append-nil talk)) runs)
 
 -- behind the line of a fault nothing more is told
-pub told_once : {k l a b : ℕ} {said : List Saying} {told : Bytes} (cause : Cause) → Stops k l a b said cause told → tells_fault said ≡ true → told ≡ []
-told_once {b = b} {said = said} {told = told} cause stops is = silent cause told stops.count b (subst (λ flag. TellsCause flag cause told stops.count b) is stops.tells)
+silent : (cause : Cause) (told : Bytes) (before now : ℕ) → TellsCause true cause told before now → told ≡ []
+silent OfSending told before now tells = tells
+silent OfListening told before now tells = tells
+silent (OfFile file trouble) told before now tells = absurd tells
+silent OfPrinting told before now tells = tells
+silent OfMemory told before now tells = absurd tells
+
+pub told_once : (takes : Bool) (k l a b : ℕ) (said : List Saying) (cause : Cause) (told : Bytes) → Stops takes k l a b said cause told → tells_fault said ≡ true → told ≡ []
+told_once takes k l a b said cause told stops is = silent cause told stops.count b (subst (λ flag. TellsCause flag cause told stops.count b) is stops.tells)
+
+-- memory is not refused in a session without updates
+pub no_memory : (plan : Plan) (k l a b : ℕ) (said : List Saying) (told : Bytes) → plan.tasks ≡ [] → Stops (takes_memory plan) k l a b said OfMemory told → ⊥
+no_memory plan k l a b said told none stops =
+    let e : takes_memory plan ≡ false = ap (λ (tasks : List Task). list_any (task_takes_memory plan.switches) tasks) none in
+    let clash = sym e ∙ stops.has_come in
+    absurd (cc)
+
+-- a file that was not created is the one that was due
+pub its_own_file : (file named : Bytes) (whole begun later : List (Event Saying)) → StopsAt (OfFile named NotCreated) whole begun (Said (Creates file) ∷ later) → named ≡ file
+its_own_file file named whole begun later place =
+    let event : ◌≡◌ {A = Event Saying} (Said (Creates file)) (Said (Creates named)) = let due = place.due in cc in
+    let saying : Creates file ≡ Creates named = cc in
+    let same : file ≡ named = cc in
+    sym same
+
+-- a line stands in part only where printing failed
+pub half_a_line : (cause : Cause) (bytes : Bytes) (whole begun later : List (Event Saying)) → StopsAt cause whole (Said (Line bytes) ∷ begun) later → cause ≡ OfPrinting
+half_a_line OfSending bytes whole begun later place = let part = place.part in absurd (cc)
+half_a_line OfListening bytes whole begun later place = let none = place.0 in absurd (cc)
+half_a_line (OfFile file NotCreated) bytes whole begun later place = let none = place.none in absurd (cc)
+half_a_line (OfFile file NotWritten) bytes whole begun later (inl place) = let part = place.part in absurd (not_written bytes place.done begun part)
   where
-    silent : (cause : Cause) (told : Bytes) (before now : ℕ) → TellsCause true cause told before now → told ≡ []
-    silent OfSending told before now tells = tells
-    silent OfListening told before now tells = tells
-    silent (OfFile file trouble) told before now tells = absurd tells
-    silent OfPrinting told before now tells = tells
-    silent OfMemory told before now tells = absurd tells
+    not_written : (x y : Bytes) (more : List (Event Saying)) → Said (Line x) ∷ more ≡ Said (Writes y) ∷ [] → ⊥
+    not_written x y more is = let e : Line x ≡ Writes y = cc in cc
+half_a_line (OfFile file NotWritten) bytes whole begun later (inr place) = let part = place.part in absurd (not_put bytes place.done begun part)
+  where
+    not_put : (x y : Bytes) (more : List (Event Saying)) → Said (Line x) ∷ more ≡ Said (Outs y) ∷ [] → ⊥
+    not_put x y more is = let e : Line x ≡ Outs y = cc in cc
+half_a_line OfPrinting bytes whole begun later place = refl
+half_a_line OfMemory bytes whole begun later none = absurd (cc)

@@ -17,7 +17,8 @@ warns quiet pieces = if nat_lt 1 quiet then [] else Line (warning pieces) ∷ []
 
 -- a signature is another than the part's
 abbrev pub other_signature : Part → Bytes → List Bytes
-other_signature part found = codes "signature is " ∷ spaced found ∷ codes ", " ∷ part.id ∷ codes " has " ∷ spaced part.signature ∷ []
+other_signature part found =
+    codes "signature is " ∷ spaced found ∷ codes ", " ∷ part.id ∷ codes " has " ∷ spaced part.signature ∷ []
 
 -- the pieces of the line of a host's fault in the work on a part
 abbrev pub fault_pieces : Part → HostFault → List Bytes
@@ -25,11 +26,13 @@ fault_pieces part NoAnswer = codes "no answer" ∷ []
 fault_pieces part LinkEnded = codes "link ended" ∷ []
 fault_pieces part SendFailed = codes "link cannot be written" ∷ []
 fault_pieces part Babble = codes "no answer in 4096 bytes" ∷ []
-fault_pieces part (Refused command status) = codes "command " ∷ digits (command ∷ []) ∷ codes " refused with status " ∷ digits (status ∷ []) ∷ []
+fault_pieces part (Refused command status) =
+    codes "command " ∷ digits (command ∷ []) ∷ codes " refused with status " ∷ digits (status ∷ []) ∷ []
 fault_pieces part (BadAnswer command) = codes "command " ∷ digits (command ∷ []) ∷ codes ": bad answer" ∷ []
 fault_pieces part (WrongSignature found) = other_signature part found
 fault_pieces part (Differs mem address want found) =
-    name_of mem ∷ codes ": address " ∷ digits (big_bytes 4 address) ∷ codes ": " ∷ digits (want ∷ []) ∷ codes " expected, " ∷ digits (found ∷ []) ∷ codes " found" ∷ []
+    name_of mem ∷ codes ": address " ∷ digits (big_bytes 4 address) ∷ codes ": " ∷ digits (want ∷ [])
+    ∷ codes " expected, " ∷ digits (found ∷ []) ∷ codes " found" ∷ []
 fault_pieces part (ReadOnly mem) = name_of mem ∷ codes " is read-only" ∷ []
 fault_pieces part Memory = codes "out of memory" ∷ []
 fault_pieces part RecvFailed = codes "link cannot be read" ∷ []

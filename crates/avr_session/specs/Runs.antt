@@ -1,20 +1,19 @@
 -- What a call over a link and a desk comes to: its dialog played whole, or broken off.
-use Rattle.std.specs.Prelude.{ℕ, Bool, true, false, ◌||◌, List, [], ◌∷◌, ◌≡◌, ◌≤◌, ◌⊎◌, length, nat_eq, Option, option_map, Result, Ok, Err, codes, ⊤}
+use Rattle.std.specs.Prelude.{ℕ, Bool, true, false, ◌||◌, List, [], ◌∷◌, ◌++◌, map, ◌≡◌, ◌<◌, ◌≤◌, ◌⊎◌, length, nat_eq, Option, None, option_map, Result, Ok, Err, codes, ⊤}
 use Rattle.std.specs.List.{list_any, starts_with}
 use Rattle.avr_desk.specs.Record.{Record, after_err}
 use Rattle.avr_desk.specs.Fault as desk
 use Rattle.stk_host.specs.Talk as link
-use Rattle.stk_host.specs.Talk.{Talk, Grows}
-use Rattle.stk_host.specs.Dialog.{Dialog, Event, sayings}
+use Rattle.stk_host.specs.Tape.{on_tape}
+use Rattle.stk_host.specs.Talk.{Talk, heard, Grows}
+use Rattle.stk_host.specs.Dialog.{Dialog, Event, Frame, Said, played, sayings}
 use Rattle.stk_host.specs.Play.{Plays, Breaks}
 use Rattle.avr_message.specs.Lines.{Bytes, error}
-use Rattle.avr_message.specs.Said.{Saying, Line, SaidPart, SaysFront, IsPrefixOf, after_all}
+use Rattle.avr_message.specs.Said.{Saying, Line, Creates, Writes, Outs, SaidPart, IsPrefixOf, after_all}
 use Rattle.avr_session.specs.declared.standing.Stopped.{Stopped}
 
--- what a desk can't do with a file
+-- what a desk can't do with a file of a session
 pub data Trouble : Type 0 where
-  NotOpened : Trouble
-  NotRead : Trouble
   NotCreated : Trouble
   NotWritten : Trouble
 
@@ -28,8 +27,6 @@ pub data Cause : Type 0 where
   OfMemory : Cause
 
 abbrev pub trouble_text : Trouble → Bytes
-trouble_text NotOpened = codes ": cannot be opened"
-trouble_text NotRead = codes ": cannot be read"
 trouble_text NotCreated = codes ": cannot be created"
 trouble_text NotWritten = codes ": cannot be written"
 
@@ -50,19 +47,86 @@ is_error saying = false
 abbrev pub tells_fault : List Saying → Bool
 tells_fault sayings = list_any is_error sayings
 
--- The cause has come: a device has failed, by the count of its failures before and then. (No count shows that memory was
--- refused.)
-abbrev pub HasCome : ℕ → ℕ → ℕ → ℕ → Cause → Type 0
-HasCome link_before link_then desk_before desk_then OfSending = link.HasFailed link_before link_then
-HasCome link_before link_then desk_before desk_then OfListening = link.HasFailed link_before link_then
-HasCome link_before link_then desk_before desk_then OfMemory = Unit {0}
-HasCome link_before link_then desk_before desk_then cause = desk.HasFailed desk_before desk_then
+-- of a frame that was due a front was sent, perhaps nothing, and not the whole
+pub record AtFrame (begun later : List (Event Saying)) : Type 0 where
+  pub done : Bytes
+  pub unsent : Bytes
+  pub more : List (Event Saying)
+  pub due : later ≡ Frame (done ++ unsent) ∷ more
+  pub part : begun ≡ Frame done ∷ []
+  pub not_whole : 0 < length unsent
+
+-- a front of a line was printed, and the line was due
+pub record AtLine (begun later : List (Event Saying)) : Type 0 where
+  pub bytes : Bytes
+  pub done : Bytes
+  pub more : List (Event Saying)
+  pub due : later ≡ Said (Line bytes) ∷ more
+  pub part : begun ≡ Said (Line done) ∷ []
+  pub front : IsPrefixOf done bytes
+
+-- nothing was done, and a file of this name was due to be created
+pub record AtCreation (file : Bytes) (begun later : List (Event Saying)) : Type 0 where
+  pub more : List (Event Saying)
+  pub due : later ≡ Said (Creates file) ∷ more
+  pub none : begun ≡ []
+
+-- a front of some bytes was written, and they were due, to a file of this name that was created just before
+pub record AtFile (file : Bytes) (whole begun later : List (Event Saying)) : Type 0 where
+  pub bytes : Bytes
+  pub done : Bytes
+  pub before : List (Event Saying)
+  pub more : List (Event Saying)
+  pub created : whole ≡ before ++ Said (Creates file) ∷ []
+  pub due : later ≡ Said (Writes bytes) ∷ more
+  pub part : begun ≡ Said (Writes done) ∷ []
+  pub front : IsPrefixOf done bytes
+
+-- a front of some bytes was written, and they were due, to standard output, which is named `-`
+pub record AtOutput (file : Bytes) (begun later : List (Event Saying)) : Type 0 where
+  pub bytes : Bytes
+  pub done : Bytes
+  pub more : List (Event Saying)
+  pub named : file ≡ codes "-"
+  pub due : later ≡ Said (Outs bytes) ∷ more
+  pub part : begun ≡ Said (Outs done) ∷ []
+  pub front : IsPrefixOf done bytes
+
+-- Where a cause stops a run: behind the events that happened whole, in the first of those that were due, of which a
+-- part may have happened.
+abbrev pub StopsAt : Cause → List (Event Saying) → List (Event Saying) → List (Event Saying) → Type 0
+StopsAt OfSending whole begun later = AtFrame begun later
+StopsAt OfListening whole begun later = (begun ≡ []) × (later ≡ [])
+StopsAt (OfFile file NotCreated) whole begun later = AtCreation file begun later
+StopsAt (OfFile file NotWritten) whole begun later = AtFile file whole begun later ⊎ AtOutput file begun later
+StopsAt OfPrinting whole begun later = AtLine begun later
+StopsAt OfMemory whole begun later = begun ≡ []
+
+-- where listening failed, all that was due has happened, and the play waits
+abbrev pub Listens : {A : Type 0} → Cause → Option A → Type 0
+Listens OfListening outcome = outcome ≡ None
+Listens cause outcome = Unit {0}
+
+-- only the desk stops what is said
+abbrev pub IsOfDesk : Cause → Type 0
+IsOfDesk (OfFile file trouble) = Unit {0}
+IsOfDesk OfPrinting = Unit {0}
+IsOfDesk cause = ⊥
+
+-- The cause has come: a device has failed, by the count of its failures before and then. No count shows that memory was
+-- refused; that comes only where memory is taken (`takes`).
+abbrev pub HasCome : Bool → ℕ → ℕ → ℕ → ℕ → Cause → Type 0
+HasCome takes link_before link_then desk_before desk_then OfSending = link.HasFailed link_before link_then
+HasCome takes link_before link_then desk_before desk_then OfListening = link.HasFailed link_before link_then
+HasCome takes link_before link_then desk_before desk_then OfMemory = takes ≡ true
+HasCome takes link_before link_then desk_before desk_then cause = desk.HasFailed desk_before desk_then
 
 -- The line was told whole; or the desk has failed, and a front of it was.
 abbrev pub TellsLine : Bytes → Bytes → ℕ → ℕ → Type 0
 TellsLine line told before now = (told ≡ line) ⊎ (IsPrefixOf told line × desk.HasFailed before now)
 
--- The cause's line was told. But behind the line of a fault only the link or the printing fails, and nothing more is told.
+-- The cause's line was told. But behind the line of a fault only the link or the printing fails, and nothing more is
+-- told.
 abbrev pub TellsCause : Bool → Cause → Bytes → ℕ → ℕ → Type 0
 TellsCause false cause told before now = TellsLine (cause_line cause) told before now
 TellsCause true OfSending told before now = told ≡ []
@@ -70,21 +134,24 @@ TellsCause true OfListening told before now = told ≡ []
 TellsCause true OfPrinting told before now = told ≡ []
 TellsCause true cause told before now = ⊥
 
--- Why it stops behind these sayings, and what is told of it: the cause has come by some count of the desk's failures, and
--- from then on it was told. `was_told`: a fault was told before these sayings.
-pub record StopsBehind (was_told : Bool) (link_before link_now desk_before desk_now : ℕ) (said : List Saying) (cause : Cause) (told : Bytes) : Type 0 where
+-- Why it stops behind these sayings, and what is told of it: the cause has come by some count of the desk's failures,
+-- and from then on it was told. `takes`: memory is taken. `was_told`: a fault was told before these sayings.
+pub record StopsBehind (takes was_told : Bool) (link_before link_now desk_before desk_now : ℕ) (said : List Saying)
+    (cause : Cause) (told : Bytes) : Type 0 where
   pub count : ℕ
-  pub has_come : HasCome link_before link_now desk_before count cause
+  pub has_come : HasCome takes link_before link_now desk_before count cause
   pub tells : TellsCause (was_told || tells_fault said) cause told count desk_now
   pub since : desk_before ≤ count
   pub until : count ≤ desk_now
 
-abbrev pub Stops : ℕ → ℕ → ℕ → ℕ → List Saying → Cause → Bytes → Type 0
-Stops link_before link_now desk_before desk_now = StopsBehind false link_before link_now desk_before desk_now
+abbrev pub Stops : Bool → ℕ → ℕ → ℕ → ℕ → List Saying → Cause → Bytes → Type 0
+Stops takes link_before link_now desk_before desk_now =
+    StopsBehind takes false link_before link_now desk_before desk_now
 
 -- The dialog was played whole over what was unread and what was heard: what was sent, said and answered is its play's,
 -- whatever may follow on the line, and at most one piece heard is left.
-pub record Ran {R : Type 0} (dialog : Dialog Saying R) (seq : ℕ) (unread : List ℕ) (old new : Option Talk) (old_desk new_desk : Option Record) (result : R) (next : ℕ) (left : List ℕ) : Type 0 where
+pub record Ran {R : Type 0} (dialog : Dialog Saying R) (seq : ℕ) (unread : List ℕ) (old new : Option Talk)
+    (old_desk new_desk : Option Record) (result : R) (next : ℕ) (left : List ℕ) : Type 0 where
   pub during : Talk
   pub events : List (Event Saying)
   pub grows : Grows old during new
@@ -92,33 +159,51 @@ pub record Ran {R : Type 0} (dialog : Dialog Saying R) (seq : ℕ) (unread : Lis
   pub few : length unread ≤ 281 → length left ≤ 281
   pub kept : new_desk ≡ option_map (after_all (sayings events)) old_desk
 
--- The dialog broke off: what was sent and said is a front of its events, the last one perhaps in part, and behind it
--- stands what was told of the cause.
-pub record BrokeOff {R : Type 0} (dialog : Dialog Saying R) (seq : ℕ) (unread : List ℕ) (old new : Option Talk) (old_desk new_desk : Option Record) (StopsBy : List Saying → Cause → Bytes → Type 0) : Type 0 where
+-- The dialog broke off: what was sent and said is a front of its events, the last one perhaps in part, where its cause
+-- stops it; and behind it stands what was told of the cause.
+pub record BrokeOff {R : Type 0} (dialog : Dialog Saying R) (seq : ℕ) (unread : List ℕ) (old new : Option Talk)
+    (old_desk new_desk : Option Record) (StopsBy : List Saying → Cause → Bytes → Type 0) : Type 0 where
   pub during : Talk
   pub shown : List (Event Saying)
   pub cause : Cause
   pub told : Bytes
   pub grows : Grows old during new
   pub breaks : Breaks SaidPart dialog seq unread during shown
+  pub place : StopsAt cause breaks.front.whole breaks.front.begun breaks.front.later
+  pub listens : Listens cause (played dialog seq (on_tape unread ++ heard during)).outcome
   pub stops : StopsBy (sayings shown) cause told
   pub kept : new_desk ≡ option_map (λ r. after_err told (after_all (sayings shown) r)) old_desk
 
 -- the one or the other, as a call answers
-abbrev pub Runs : {R : Type 0} → Dialog Saying R → ℕ → List ℕ → Option Talk → Option Talk → Option Record → Option Record → (List Saying → Cause → Bytes → Type 0) → Result R Stopped → ℕ → List ℕ → Type 0
-Runs dialog seq unread old new old_desk new_desk StopsBy (Ok result) next left = Ran dialog seq unread old new old_desk new_desk result next left
-Runs dialog seq unread old new old_desk new_desk StopsBy (Err stopped) next left = BrokeOff dialog seq unread old new old_desk new_desk StopsBy
+abbrev pub Runs : {R : Type 0} → Dialog Saying R → ℕ → List ℕ → Option Talk → Option Talk → Option Record
+    → Option Record → (List Saying → Cause → Bytes → Type 0) → Result R Stopped → ℕ → List ℕ → Type 0
+Runs dialog seq unread old new old_desk new_desk StopsBy (Ok result) next left =
+    Ran dialog seq unread old new old_desk new_desk result next left
+Runs dialog seq unread old new old_desk new_desk StopsBy (Err stopped) next left =
+    BrokeOff dialog seq unread old new old_desk new_desk StopsBy
 
 -- A whole run: it was played to its status, or it broke off, and then the status is 1.
-abbrev pub RunsTo : Dialog Saying ℕ → Option Talk → Option Talk → Option Record → Option Record → (List Saying → Cause → Bytes → Type 0) → ℕ → Type 0
+abbrev pub RunsTo : Dialog Saying ℕ → Option Talk → Option Talk → Option Record → Option Record
+    → (List Saying → Cause → Bytes → Type 0) → ℕ → Type 0
 RunsTo dialog old new old_desk new_desk StopsBy status =
-    ((next : ℕ) × (left : List ℕ) × Ran dialog 1 [] old new old_desk new_desk status next left) ⊎ (BrokeOff dialog 1 [] old new old_desk new_desk StopsBy × (status ≡ 1))
+    ((next : ℕ) × (left : List ℕ) × Ran dialog 1 [] old new old_desk new_desk status next left)
+    ⊎ (BrokeOff dialog 1 [] old new old_desk new_desk StopsBy × (status ≡ 1))
 
--- Sayings were done, or a front of them, and behind it stands what was told of the cause.
+-- A front of the sayings was done: some of them, and perhaps a part of the next, where this cause stops them.
+pub record SaysFront (cause : Cause) (old new : Option Record) (sayings : List Saying) : Type 0 where
+  pub whole : List Saying
+  pub begun : List Saying
+  pub later : List Saying
+  pub sayings_are : sayings ≡ whole ++ later
+  pub place : StopsAt cause (map Said whole) (map Said begun) (map Said later)
+  pub by_desk : IsOfDesk cause
+  pub kept : new ≡ option_map (after_all (whole ++ begun)) old
+
+-- A front of the sayings was done, and behind it stands what was told of the cause.
 pub record SaidSome (old new : Option Record) (sayings : List Saying) (StopsBy : Cause → Bytes → Type 0) : Type 0 where
   pub between : Option Record
-  pub front : SaysFront old between sayings
   pub cause : Cause
+  pub front : SaysFront cause old between sayings
   pub told : Bytes
   pub stops : StopsBy cause told
   pub kept : new ≡ option_map (after_err told) between
@@ -152,4 +237,5 @@ ReadStops (Err fault) before now = PrintStops before now
 
 -- a line was printed, or a front of it, and then the desk has failed
 abbrev pub PrintsSome : Option Record → Option Record → Bytes → ℕ → ℕ → Type 0
-PrintsSome old new line before now = (told : Bytes) × TellsLine line told before now × (new ≡ option_map (after_err told) old)
+PrintsSome old new line before now =
+    (told : Bytes) × TellsLine line told before now × (new ≡ option_map (after_err told) old)

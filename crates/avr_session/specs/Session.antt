@@ -37,7 +37,8 @@ standing (Err LinkEnded) = Over
 standing (Err fault) = Faulty
 
 -- an operation of the host, and what is said of its outcome
-abbrev pub reported : {A : Type 0} → Dialog ⊥ (Result A HostFault) → (Result A HostFault → List Saying) → Dialog Saying Standing
+abbrev pub reported : {A : Type 0} → Dialog ⊥ (Result A HostFault) → (Result A HostFault → List Saying)
+    → Dialog Saying Standing
 reported operation outcome_says = lifted operation >>= λ outcome. says (outcome_says outcome) (Done (standing outcome))
 
 -- the next part of a session, which is left out after a fault
@@ -57,11 +58,13 @@ signature_says quiet found = informs quiet (codes "device signature = " ∷ spac
 
 -- another signature than the part's is told, though it be taken
 abbrev pub warns_of_signature : ℕ → Part → Bytes → List Saying
-warns_of_signature quiet part found = if bytes_eq found part.signature then [] else warns quiet (other_signature part found)
+warns_of_signature quiet part found =
+    if bytes_eq found part.signature then [] else warns quiet (other_signature part found)
 
 abbrev pub opening_says : ℕ → Part → Result Bytes HostFault → List Saying
 opening_says quiet part (Ok found) = signature_says quiet found ++ warns_of_signature quiet part found
-opening_says quiet part (Err (WrongSignature found)) = signature_says quiet found ++ Line (fault_line part (WrongSignature found)) ∷ []
+opening_says quiet part (Err (WrongSignature found)) =
+    signature_says quiet found ++ Line (fault_line part (WrongSignature found)) ∷ []
 opening_says quiet part (Err fault) = Line (fault_line part fault) ∷ []
 
 -- of a memory: so many bytes were written, not written, verified or read
@@ -179,3 +182,13 @@ status_of _ = 1
 
 unfoldable pub session : Plan → Dialog Saying ℕ
 session plan = playing plan >>= λ standing. Done (status_of standing)
+
+-- Memory is taken to read, to compare, and for a write that is read back. (What a plan takes, its planning took
+-- before.)
+abbrev pub task_takes_memory : Switches → Task → Bool
+task_takes_memory s (Write mem image) = not (s.dry || s.no_verify)
+task_takes_memory s (Verify mem image) = true
+task_takes_memory s (Read mem format file) = true
+
+abbrev pub takes_memory : Plan → Bool
+takes_memory plan = list_any (task_takes_memory plan.switches) plan.tasks

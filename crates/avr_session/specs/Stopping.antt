@@ -20,4 +20,5 @@ LacksMemory messages = (before : Bytes) × (messages ≡ before ++ cause_line Of
 
 -- a run was played whole to this status
 abbrev pub IsPlayed : Dialog Saying ℕ → Option Talk → Option Talk → Option Record → Option Record → ℕ → Type 0
-IsPlayed dialog old new old_desk new_desk status = (next : ℕ) × (left : List ℕ) × Ran dialog 1 [] old new old_desk new_desk status next left
+IsPlayed dialog old new old_desk new_desk status =
+    (next : ℕ) × (left : List ℕ) × Ran dialog 1 [] old new old_desk new_desk status next left

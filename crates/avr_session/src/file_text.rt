@@ -1,5 +1,5 @@
 //! The text of a file, in any format, to where it goes.
-ghost use Rattle.std.specs.Prelude.{◌≡◌, ◌++◌, ◌+◌, ◌<◌, ◌≤◌, ◌^◌, ◌↔◌, ℕ, List, length, take, IsTrue, option_map, OnOk, OnErr, IfErr};
+ghost use Rattle.std.specs.Prelude.{◌≡◌, ◌+◌, ◌≤◌, ◌^◌, length, option_map, OnOk, OnErr, IfErr};
 ghost use Rattle.avr_desk.specs.Fault.{Counts};
 ghost use Rattle.avr_desk.specs.Stream.{SendsPart, after_sent};
 ghost use Rattle.avr_session.specs.FileText.{file_text, used, trimmed};
@@ -8,43 +8,8 @@ ghost use Rattle.avr_session.specs.Saving.{SendsFront};
 use arrayvec::ArrayVec;
 use avr_cli::Format;
 use avr_desk::{Desk, DeskFault, Stream, write_all};
-use avr_image::{Base, ListWriter};
+use avr_image::{Base, ListWriter, Pieces};
 use avr_records::{IhexWriter, SrecWriter};
-
-/// A text that comes in pieces.
-trait Pieces {
-    ghost rest: { Self → List ℕ };
-
-    /// Makes `piece` the next piece, or empties it where nothing is left.
-    fn next_piece(&mut self, piece: &mut ArrayVec<u8, 80>) -> bool
-        ensures joined { rest self.old ≡ piece.new.items ++ rest self.new }
-        ensures some { IsTrue result ↔ (0 < length piece.new.items) }
-        ensures ends { IsTrue result ↔ (0 < length (rest self.old)) };
-}
-
-impl Pieces for IhexWriter<'_> {
-    ghost rest = { λ w. w };
-
-    fn next_piece(&mut self, piece: &mut ArrayVec<u8, 80>) -> bool {
-        IhexWriter::next_piece(self, piece)
-    }
-}
-
-impl Pieces for SrecWriter<'_> {
-    ghost rest = { λ w. w };
-
-    fn next_piece(&mut self, piece: &mut ArrayVec<u8, 80>) -> bool {
-        SrecWriter::next_piece(self, piece)
-    }
-}
-
-impl Pieces for ListWriter<'_> {
-    ghost rest = { λ w. w };
-
-    fn next_piece(&mut self, piece: &mut ArrayVec<u8, 80>) -> bool {
-        ListWriter::next_piece(self, piece)
-    }
-}
 
 /// Makes room for so many bytes behind those that wait: where they don't fit, what waits is written.
 fn make_room<D: Desk>(

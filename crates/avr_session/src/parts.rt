@@ -1,12 +1,12 @@
 //! The parts of a session: each is an operation of the host and its report.
-ghost use Rattle.std.specs.Prelude.{◌≡◌, ◌∷◌, ◌≤◌, [], None, codes, length, All};
+ghost use Rattle.std.specs.Prelude.{◌≡◌, ◌∷◌, ◌≤◌, ◌||◌, [], None, codes, length, All, true, false, not};
 ghost use Rattle.std.specs.List.{list_any};
 ghost use Rattle.avr_part.specs.Part.{size_of};
 ghost use Rattle.avr_plan.specs.Plan.{IsFitted};
 ghost use Rattle.avr_session.specs.Lines.{warns};
 ghost use Rattle.avr_session.specs.Runs.{Reports, PrintStops};
 ghost use Rattle.avr_session.specs.Parts.{Performs, LeavesOut};
-ghost use Rattle.avr_session.specs.Session.{opening_part, chip_erasing_part, left_out_erase, erasing_part, verifying_part, writing_part, read_back_part, reading_part, left_out_write, write_part, task_part, tasks_part, writes_flash, is_erase_due};
+ghost use Rattle.avr_session.specs.Session.{opening_part, chip_erasing_part, left_out_erase, erasing_part, verifying_part, writing_part, read_back_part, reading_part, left_out_write, write_part, task_part, tasks_part, writes_flash, is_erase_due, task_takes_memory};
 ghost use Rattle.stk_host.specs.Talk.{Stays};
 
 use crate::reports::{report_bytes, report_done, report_erased, report_opening, warn};
@@ -30,7 +30,7 @@ pub(crate) fn open_session<D: Desk, L: Link>(
 ) -> Result<Standing, Stopped>
     requires sound { host.old.broken ≡ None }
     requires signature { host.old.signature ≡ plan.now.part.signature }
-    ensures performs { Performs (opening_part plan.now.part plan.now.switches) host.old host.new
+    ensures performs { Performs false (opening_part plan.now.part plan.now.switches) host.old host.new
         (L.talk link.old) (L.talk link.new) (L.failures link.old) (L.failures link.new)
         (D.kept desk.old) (D.kept desk.new) (D.failures desk.old) (D.failures desk.new) result }
     ensures comes { Stays L.comes_of link.old link.new }
@@ -49,7 +49,7 @@ fn erase_chip<D: Desk, L: Link>(
     plan: &Plan,
 ) -> Result<Standing, Stopped>
     requires sound { host.old.broken ≡ None }
-    ensures performs { Performs (chip_erasing_part plan.now.part plan.now.switches) host.old host.new
+    ensures performs { Performs false (chip_erasing_part plan.now.part plan.now.switches) host.old host.new
         (L.talk link.old) (L.talk link.new) (L.failures link.old) (L.failures link.new)
         (D.kept desk.old) (D.kept desk.new) (D.failures desk.old) (D.failures desk.new) result }
     ensures comes { Stays L.comes_of link.old link.new }
@@ -110,7 +110,7 @@ pub(crate) fn erase_if_due<D: Desk, L: Link>(
     plan: &Plan,
 ) -> Result<Standing, Stopped>
     requires sound { host.old.broken ≡ None }
-    ensures performs { Performs (erasing_part plan.now.part plan.now.switches plan.now.tasks) host.old host.new
+    ensures performs { Performs false (erasing_part plan.now.part plan.now.switches plan.now.tasks) host.old host.new
         (L.talk link.old) (L.talk link.new) (L.failures link.old) (L.failures link.new)
         (D.kept desk.old) (D.kept desk.new) (D.failures desk.old) (D.failures desk.new) result }
     ensures comes { Stays L.comes_of link.old link.new }
@@ -138,12 +138,12 @@ fn verify<D: Desk, L: Link>(
     requires sound { host.old.broken ≡ None }
     requires part { host.old.part ≡ plan.now.part }
     requires fits { length image.now ≤ size_of mem plan.now.part }
-    ensures performs { Performs (verifying_part plan.now.part plan.now.switches mem image.now) host.old host.new
+    ensures performs { Performs true (verifying_part plan.now.part plan.now.switches mem image.now) host.old host.new
         (L.talk link.old) (L.talk link.new) (L.failures link.old) (L.failures link.new)
         (D.kept desk.old) (D.kept desk.new) (D.failures desk.old) (D.failures desk.new) result }
     ensures comes { Stays L.comes_of link.old link.new }
 {
-    let verified = host.verify(link, alloc, mem, image);
+    let verified = host.verify(alloc, link, mem, image);
     let count = image.len();
     let reported = report_done(
         desk,
@@ -169,7 +169,7 @@ fn write<D: Desk, L: Link>(
     requires sound { host.old.broken ≡ None }
     requires part { host.old.part ≡ plan.now.part }
     requires fits { length image.now ≤ size_of mem plan.now.part }
-    ensures performs { Performs (writing_part plan.now.part plan.now.switches mem image.now) host.old host.new
+    ensures performs { Performs false (writing_part plan.now.part plan.now.switches mem image.now) host.old host.new
         (L.talk link.old) (L.talk link.new) (L.failures link.old) (L.failures link.new)
         (D.kept desk.old) (D.kept desk.new) (D.failures desk.old) (D.failures desk.new) result }
     ensures comes { Stays L.comes_of link.old link.new }
@@ -201,7 +201,8 @@ fn read_back<D: Desk, L: Link>(
     requires sound { host.old.broken ≡ None }
     requires part { host.old.part ≡ plan.now.part }
     requires fits { length image.now ≤ size_of mem plan.now.part }
-    ensures performs { Performs (read_back_part plan.now.part plan.now.switches mem image.now) host.old host.new
+    ensures performs { Performs (not plan.now.switches.no_verify)
+        (read_back_part plan.now.part plan.now.switches mem image.now) host.old host.new
         (L.talk link.old) (L.talk link.new) (L.failures link.old) (L.failures link.new)
         (D.kept desk.old) (D.kept desk.new) (D.failures desk.old) (D.failures desk.new) result }
     ensures comes { Stays L.comes_of link.old link.new }
@@ -245,7 +246,8 @@ fn write_and_verify<D: Desk, L: Link>(
     requires sound { host.old.broken ≡ None }
     requires part { host.old.part ≡ plan.now.part }
     requires fits { length image.now ≤ size_of mem plan.now.part }
-    ensures performs { Performs (write_part plan.now.part plan.now.switches mem image.now) host.old host.new
+    ensures performs { Performs (not (plan.now.switches.dry || plan.now.switches.no_verify))
+        (write_part plan.now.part plan.now.switches mem image.now) host.old host.new
         (L.talk link.old) (L.talk link.new) (L.failures link.old) (L.failures link.new)
         (D.kept desk.old) (D.kept desk.new) (D.failures desk.old) (D.failures desk.new) result }
     ensures comes { Stays L.comes_of link.old link.new }
@@ -271,7 +273,7 @@ fn read<D: Desk, L: Link>(
 ) -> Result<Standing, Stopped>
     requires sound { host.old.broken ≡ None }
     requires part { host.old.part ≡ plan.now.part }
-    ensures performs { Performs
+    ensures performs { Performs true
         (reading_part plan.now.part plan.now.switches mem target.entry.format target.entry.file.now)
         host.old host.new (L.talk link.old) (L.talk link.new) (L.failures link.old) (L.failures link.new)
         (D.kept desk.old) (D.kept desk.new) (D.failures desk.old) (D.failures desk.new) result }
@@ -295,7 +297,8 @@ fn perform<D: Desk, L: Link>(
     requires sound { host.old.broken ≡ None }
     requires part { host.old.part ≡ plan.now.part }
     requires fits { IsFitted plan.now.part task.now }
-    ensures performs { Performs (task_part plan.now.part plan.now.switches task.now) host.old host.new
+    ensures performs { Performs (task_takes_memory plan.now.switches task.now)
+        (task_part plan.now.part plan.now.switches task.now) host.old host.new
         (L.talk link.old) (L.talk link.new) (L.failures link.old) (L.failures link.new)
         (D.kept desk.old) (D.kept desk.new) (D.failures desk.old) (D.failures desk.new) result }
     ensures comes { Stays L.comes_of link.old link.new }
@@ -329,7 +332,8 @@ pub(crate) fn perform_all<D: Desk, L: Link>(
     requires sound { host.old.broken ≡ None }
     requires part { host.old.part ≡ plan.now.part }
     requires fits { All (IsFitted plan.now.part) tasks.now }
-    ensures performs { Performs (tasks_part plan.now.part plan.now.switches tasks.now) host.old host.new
+    ensures performs { Performs (list_any (task_takes_memory plan.now.switches) tasks.now)
+        (tasks_part plan.now.part plan.now.switches tasks.now) host.old host.new
         (L.talk link.old) (L.talk link.new) (L.failures link.old) (L.failures link.new)
         (D.kept desk.old) (D.kept desk.new) (D.failures desk.old) (D.failures desk.new) result }
     ensures comes { Stays L.comes_of link.old link.new }

@@ -105,11 +105,12 @@ fn print_refusal<D: Desk>(desk: &mut D, fault: &SettingsFault) -> Result<(), Des
     }
 }
 
-/// Prints the line of a fault on the desk's messages, and answers the status, 1. Where the desk fails a front of the line
-/// was printed, and nothing more is.
+/// Prints the line of a fault on the desk's messages, and answers the status, 1. Where the desk fails a front of the
+/// line was printed, and nothing more is.
 pub fn refuse<D: Desk>(fault: &SettingsFault, desk: &mut D) -> u8
     ensures status { result ≡ 1 }
-    ensures told { Tells (D.kept desk.old) (D.kept desk.new) (refusal_line fault.now) (D.failures desk.old) (D.failures desk.new) }
+    ensures told { Tells (D.kept desk.old) (D.kept desk.new) (refusal_line fault.now) (D.failures desk.old)
+        (D.failures desk.new) }
 {
     let _ = print_refusal(desk, fault);
     REFUSED

@@ -4,7 +4,7 @@ ghost use Rattle.avr_message.specs.Lines.{error};
 ghost use Rattle.avr_message.specs.Said.{Creates, Writes, Tells};
 ghost use Rattle.avr_session.specs.FileText.{file_text};
 ghost use Rattle.avr_session.specs.Runs.{Reports, DeskStops, ReadStops};
-ghost use Rattle.avr_session.specs.Saving.{sent_says, SaveStops};
+ghost use Rattle.avr_session.specs.Saving.{SaveStops, WritesAll};
 ghost use Rattle.avr_session.specs.Session.{saved, kept_of, read_says, fault_or};
 ghost use Rattle.stk_host.specs.Calls.{given};
 
@@ -42,9 +42,8 @@ fn write_file<D: Desk>(
     bytes: &[u8],
 ) -> Result<(), Stopped>
     requires { length bytes.now ≤ 2 ^ 32 }
-    ensures reports { Reports (D.kept desk.old) (D.kept desk.new)
-        (sent_says stream (file_text target.entry.format bytes.now))
-        (SaveStops target.entry.file.now (D.failures desk.old) (D.failures desk.new)) result }
+    ensures writes { WritesAll stream target.entry.file.now (D.kept desk.old) (D.kept desk.new)
+        (file_text target.entry.format bytes.now) (D.failures desk.old) (D.failures desk.new) result }
     ensures counted { D.failures desk.old ≤ D.failures desk.new }
 {
     match write_text(desk, stream, target.format, bytes) {

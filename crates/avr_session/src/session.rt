@@ -1,10 +1,10 @@
 //! The session of a plan: what it asks of a programmer, and what it reports at the desk.
-ghost use Rattle.std.specs.Prelude.{◌≡◌, ◌∷◌, [], None, Ok, codes, true};
+ghost use Rattle.std.specs.Prelude.{◌≡◌, ◌∷◌, [], None, Ok, codes, true, false};
 ghost use Rattle.avr_session.specs.declared.standing.Standing.TheVariants.{Fine, Faulty};
 ghost use Rattle.avr_session.specs.Concluding.{Serves};
 ghost use Rattle.avr_session.specs.Parts.{is_told, Performs, PerformsBehind};
 ghost use Rattle.avr_session.specs.Runs.{RunsTo, Stops};
-ghost use Rattle.avr_session.specs.Session.{beginning, working, ending, playing, session};
+ghost use Rattle.avr_session.specs.Session.{beginning, working, ending, playing, session, takes_memory};
 ghost use Rattle.stk_host.specs.Talk.{Stays};
 
 use crate::parts::{erase_if_due, open_session, perform_all};
@@ -24,7 +24,7 @@ fn open_and_erase<D: Desk, L: Link>(
 ) -> Result<Standing, Stopped>
     requires sound { host.old.broken ≡ None }
     requires signature { host.old.signature ≡ plan.now.part.signature }
-    ensures performs { Performs (beginning plan.now) host.old host.new
+    ensures performs { Performs false (beginning plan.now) host.old host.new
         (L.talk link.old) (L.talk link.new) (L.failures link.old) (L.failures link.new)
         (D.kept desk.old) (D.kept desk.new) (D.failures desk.old) (D.failures desk.new) result }
     ensures comes { Stays L.comes_of link.old link.new }
@@ -46,7 +46,7 @@ fn work<D: Desk, L: Link>(
     requires sound { host.old.broken ≡ None }
     requires signature { host.old.signature ≡ plan.now.part.signature }
     requires part { host.old.part ≡ plan.now.part }
-    ensures performs { Performs (working plan.now) host.old host.new
+    ensures performs { Performs (takes_memory plan.now) (working plan.now) host.old host.new
         (L.talk link.old) (L.talk link.new) (L.failures link.old) (L.failures link.new)
         (D.kept desk.old) (D.kept desk.new) (D.failures desk.old) (D.failures desk.new) result }
     ensures comes { Stays L.comes_of link.old link.new }
@@ -65,7 +65,7 @@ fn close<D: Desk, L: Link>(
     plan: &Plan,
 ) -> Result<Standing, Stopped>
     requires { host.old.broken ≡ None }
-    ensures performs { Performs (ending plan.now.part plan.now.switches Fine) host.old host.new
+    ensures performs { Performs false (ending plan.now.part plan.now.switches Fine) host.old host.new
         (L.talk link.old) (L.talk link.new) (L.failures link.old) (L.failures link.new)
         (D.kept desk.old) (D.kept desk.new) (D.failures desk.old) (D.failures desk.new) result }
     ensures comes { Stays L.comes_of link.old link.new }
@@ -83,7 +83,7 @@ fn close_after_fault<D: Desk, L: Link>(
     plan: &Plan,
 ) -> Result<Standing, Stopped>
     requires { host.old.broken ≡ None }
-    ensures performs { PerformsBehind true (ending plan.now.part plan.now.switches Faulty) host.old host.new
+    ensures performs { PerformsBehind false true (ending plan.now.part plan.now.switches Faulty) host.old host.new
         (L.talk link.old) (L.talk link.new) (L.failures link.old) (L.failures link.new)
         (D.kept desk.old) (D.kept desk.new) (D.failures desk.old) (D.failures desk.new) result }
     ensures comes { Stays L.comes_of link.old link.new }
@@ -102,7 +102,8 @@ fn end<D: Desk, L: Link>(
     standing: Standing,
 ) -> Result<Standing, Stopped>
     requires { Serves (Ok standing) host.old.broken }
-    ensures performs { PerformsBehind (is_told standing) (ending plan.now.part plan.now.switches standing) host.old host.new
+    ensures performs { PerformsBehind false (is_told standing)
+        (ending plan.now.part plan.now.switches standing) host.old host.new
         (L.talk link.old) (L.talk link.new) (L.failures link.old) (L.failures link.new)
         (D.kept desk.old) (D.kept desk.new) (D.failures desk.old) (D.failures desk.new) result }
     ensures comes { Stays L.comes_of link.old link.new }
@@ -125,7 +126,7 @@ fn play<D: Desk, L: Link>(
     requires sound { host.old.broken ≡ None }
     requires signature { host.old.signature ≡ plan.now.part.signature }
     requires part { host.old.part ≡ plan.now.part }
-    ensures performs { Performs (playing plan.now) host.old host.new
+    ensures performs { Performs (takes_memory plan.now) (playing plan.now) host.old host.new
         (L.talk link.old) (L.talk link.new) (L.failures link.old) (L.failures link.new)
         (D.kept desk.old) (D.kept desk.new) (D.failures desk.old) (D.failures desk.new) result }
     ensures comes { Stays L.comes_of link.old link.new }
@@ -137,11 +138,12 @@ fn play<D: Desk, L: Link>(
 /// Plays the session of a plan over a link, reports it at the desk, writes the files that were read, and answers the
 /// status: 0 where no fault came, else 1.
 ///
-/// After a fault of the link or the desk, or where memory was refused, its line is printed, as far as the desk prints, and
-/// nothing more is sent or said.
+/// After a fault of the link or the desk, or where memory was refused to read or to compare, its line is printed, whole
+/// unless the desk fails, and nothing more is sent or said. Behind the line of a fault a second one is not told.
 pub fn drive<D: Desk, L: Link>(alloc: Global, plan: &Plan, desk: &mut D, link: &mut L) -> u8
     ensures runs { RunsTo (session plan.now) (L.talk link.old) (L.talk link.new) (D.kept desk.old) (D.kept desk.new)
-        (Stops (L.failures link.old) (L.failures link.new) (D.failures desk.old) (D.failures desk.new)) result }
+        (Stops (takes_memory plan.now) (L.failures link.old) (L.failures link.new) (D.failures desk.old)
+        (D.failures desk.new)) result }
     ensures comes { Stays L.comes_of link.old link.new }
 {
     let mut host = Host::new(plan.part());

@@ -16,7 +16,8 @@ pub enum Standing {
     Over,
 }
 
-/// The run stops where it stands, since the link or the desk failed or memory was refused: nothing more is sent or said.
+/// The run stops where it stands, since the link or the desk failed or memory was refused: nothing more is sent or
+/// said.
 #[derive(Clone, Copy, Debug, PartialEq, Eq)]
 pub(crate) struct Stopped;
 

@@ -12,7 +12,7 @@ use Rattle.avr_plan.specs.Playing as planning
 use Rattle.avr_plan.specs.Playing.{Went}
 use Rattle.avr_plan.specs.Stage.{Made, Refused}
 use Rattle.avr_session.specs.Runs.{Cause, Stops, Ran, BrokeOff, RunsTo}
-use Rattle.avr_session.specs.Session.{session}
+use Rattle.avr_session.specs.Session.{session, takes_memory}
 use Rattle.stk_frame.specs.Cut.{frames}
 use Rattle.stk_host.specs.Dialog.{played, bytes_sent}
 use Rattle.stk_host.specs.Play.{Plays, Breaks, IsPrefixOf}
@@ -144,20 +144,20 @@ module _ (plan : Plan) (w v : State) (fresh : IsFresh w) (stays : Stays ComesOf 
 module _ (settings : Settings) (old new : Option Record) (before now status : ℕ) where
   -- a plan that was made, and its session
   module _ (plan : Plan) (w v : State) (between : Option Record) (count : ℕ) (made : Went (planned settings) old between (Made plan)) (rises : before ≤ count) where
-    run_or_stop : RunsTo (session plan) (Some w.talk) (Some v.talk) between new (Stops w.failures v.failures count now) status
+    run_or_stop : RunsTo (session plan) (Some w.talk) (Some v.talk) between new (Stops (takes_memory plan) w.failures v.failures count now) status
         → ((r : IsRun settings (Some w.talk) (Some v.talk) old new status) × (r.openings ≡ made.passed))
         ⊎ ((s : StoppedPlaying settings (Some w.talk) (Some v.talk) old new w.failures v.failures before now status) × (s.plan ≡ plan) × (s.between ≡ between))
     run_or_stop (inl ran) = inl (ran_whole settings plan (Some w.talk) (Some v.talk) old between new status ran.0 ran.1 made ran.2, ran_openings settings plan (Some w.talk) (Some v.talk) old between new status ran.0 ran.1 made ran.2)
     run_or_stop (inr broke) = inr (record { plan = plan; between = between; count = count; made = made; rises = rises; broke = broke.0; status_is = broke.1 }, refl, refl)
 
     pub runs_over_wire : (fresh : IsFresh w) (stays : Stays ComesOf w v) (is_sound : IsSound w.wire.programmer.chip) (fitted : All (IsFitted plan.part) plan.tasks)
-        → RunsTo (session plan) (Some w.talk) (Some v.talk) between new (Stops w.failures v.failures count now) status → RunsOverWire settings w v old new before now status
+        → RunsTo (session plan) (Some w.talk) (Some v.talk) between new (Stops (takes_memory plan) w.failures v.failures count now) status → RunsOverWire settings w v old new before now status
     runs_over_wire fresh stays is_sound fitted runs = record {
       plan = plan;
       between = between;
       made = made;
       runs = run_or_stop runs;
-      line = λ part_is. over_any_line plan w v fresh stays is_sound fitted between new (Stops w.failures v.failures count now) status runs part_is;
+      line = λ part_is. over_any_line plan w v fresh stays is_sound fitted between new (Stops (takes_memory plan) w.failures v.failures count now) status runs part_is;
     }
 
   -- no plan

@@ -21,10 +21,12 @@ pub record IsRefused (words : List Bytes) (old new : Option Record) (before now 
   pub told : Tells old new (refusal_line fault) before now
   pub status_is : status ≡ 1
 
--- Settings are those of words that the command takes. A fault of them was told. Other words have an error of a kind that they
--- call for; words that the command takes, only for want of memory; and then nothing was done at the desk.
+-- Settings are those of words that the command takes. A fault of them was told. Other words have an error of a kind
+-- that they call for; words that the command takes, only for want of memory; and then nothing was done at the desk.
 abbrev pub Asks : List Bytes → Option Record → Option Record → ℕ → ℕ → Result Settings NotAsked → Type 0
-Asks words old new before now (Ok settings) = (Ok settings ≡ asked_by words) × (fault_of avrstk words ≡ []) × (new ≡ old) × (now ≡ before)
+Asks words old new before now (Ok settings) =
+    (Ok settings ≡ asked_by words) × (fault_of avrstk words ≡ []) × (new ≡ old) × (now ≡ before)
 Asks words old new before now (Err (Refused status)) = IsRefused words old new before now status
 Asks words old new before now (Err (Words error)) =
-    HasKind (fault_of avrstk words) error × (takes avrstk words ≡ true → kind_of error ≡ OutOfMemory) × (new ≡ old) × (now ≡ before)
+    HasKind (fault_of avrstk words) error × (takes avrstk words ≡ true → kind_of error ≡ OutOfMemory) × (new ≡ old)
+    × (now ≡ before)

@@ -1,5 +1,6 @@
--- THE HEADLINE. What a run does, from settings to status, and what it leaves in a chip behind a line that loses, delays and
--- spoils. Read it from top to bottom: each word is defined here, or one step below in the file that its `use` names.
+-- THE HEADLINE. What a run does, from settings to status, and what it leaves in a chip behind a line that loses, delays
+-- and spoils. Read it from top to bottom: each word is defined here, or one step below in the file that its `use`
+-- names.
 use Rattle.std.specs.Prelude.{ℕ, ◌+◌, ◌*◌, ◌≡◌, ◌≤◌, ◌⊎◌, false, List, [], ◌∷◌, ◌++◌, map, length, Option, option_map, Some, None}
 use Rattle.avr_cli.specs.declared.chosen.Settings.{Settings}
 use Rattle.avr_desk.specs.Record.{Record}
@@ -12,7 +13,7 @@ use Rattle.avr_plan.specs.Playing.{Went}
 use Rattle.avr_plan.specs.Stage as stage
 use Rattle.avr_plan.specs.Stage.{Answer, Made, Refused, Unread}
 use Rattle.avr_session.specs.Runs.{BrokeOff, Stops}
-use Rattle.avr_session.specs.Session.{session}
+use Rattle.avr_session.specs.Session.{session, takes_memory}
 use Rattle.avr_emulated.specs.Bound.{run_steps}
 use Rattle.avr_emulated.specs.Course.{course}
 use Rattle.avr_emulated.specs.Outcome.{IsDone, MakesStrokes}
@@ -58,15 +59,18 @@ IsInTurn plays tape bytes [] = Unit {0}
 IsInTurn plays tape bytes (Sent more ∷ talk) = IsInTurn plays tape (bytes ++ more) talk
 IsInTurn plays tape bytes (Got items ∷ talk) = Waits (plays tape) bytes × IsInTurn plays (tape ++ items) bytes talk
 
--- For these openings and what was heard, whatever follows on either, the run is these events and this status. What was sent
--- are its frames, what the desk was given to do are its sayings, in their order, and at most one piece heard is left.
-pub record IsRun (settings : Settings) (talk_before talk_now : Option Talk) (desk_before desk_now : Option Record) (status : ℕ) : Type 0 where
+-- For these openings and what was heard, whatever follows on either, the run is these events and this status. What was
+-- sent are its frames, what the desk was given to do are its sayings, in their order, and at most one piece heard is
+-- left.
+pub record IsRun (settings : Settings) (talk_before talk_now : Option Talk) (desk_before desk_now : Option Record)
+    (status : ℕ) : Type 0 where
   pub openings : List Opening
   pub during : Talk
   pub events : List (Event Saying)
   pub next : ℕ
   pub left : List ℕ
-  pub is : (later : List Opening) (more : Tape) → run settings (openings ++ later) (heard during ++ more) ≡ record { events = events; outcome = Some (status, next, on_tape left ++ more) }
+  pub is : (later : List Opening) (more : Tape) → run settings (openings ++ later) (heard during ++ more)
+      ≡ record { events = events; outcome = Some (status, next, on_tape left ++ more) }
   pub in_turn : (later : List Opening) → IsInTurn (run settings (openings ++ later)) [] [] during
   pub all_sent : bytes_sent events ≡ sent during
   pub grows : Grows talk_before during talk_now
@@ -76,24 +80,28 @@ pub record IsRun (settings : Settings) (talk_before talk_now : Option Talk) (des
 -- ---- 3. Or it stopped: a device failed, or memory was refused. The status is 1.
 
 -- As its plan was played: a front of what the session sends and says went out, and then what was told of the cause.
-pub record StoppedPlaying (settings : Settings) (talk_before talk_now : Option Talk) (desk_before desk_now : Option Record) (link_failed link_fails desk_failed desk_fails status : ℕ) : Type 0 where
+pub record StoppedPlaying (settings : Settings) (talk_before talk_now : Option Talk)
+    (desk_before desk_now : Option Record) (link_failed link_fails desk_failed desk_fails status : ℕ) : Type 0 where
   pub plan : Plan
   pub between : Option Record
   pub count : ℕ
   pub made : Went (planned settings) desk_before between (Made plan)
   pub rises : desk_failed ≤ count
-  pub broke : BrokeOff (session plan) 1 [] talk_before talk_now between desk_now (Stops link_failed link_fails count desk_fails)
+  pub broke : BrokeOff (session plan) 1 [] talk_before talk_now between desk_now
+      (Stops (takes_memory plan) link_failed link_fails count desk_fails)
   pub status_is : status ≡ 1
 
 -- As it was planned: a front of what planning says was done, and nothing was sent or heard.
-pub record StoppedPlanning (settings : Settings) (talk_before talk_now : Option Talk) (desk_before desk_now : Option Record) (desk_failed desk_fails status : ℕ) : Type 0 where
+pub record StoppedPlanning (settings : Settings) (talk_before talk_now : Option Talk)
+    (desk_before desk_now : Option Record) (desk_failed desk_fails status : ℕ) : Type 0 where
   pub broke : planning.BrokeOff (planned settings) desk_before desk_now desk_failed desk_fails
   pub same : talk_now ≡ talk_before
   pub status_is : status ≡ 1
 
 abbrev pub IsStopped : Settings → Option Talk → Option Talk → Option Record → Option Record → ℕ → ℕ → ℕ → ℕ → ℕ → Type 0
 IsStopped settings talk_before talk_now desk_before desk_now link_failed link_fails desk_failed desk_fails status =
-    StoppedPlaying settings talk_before talk_now desk_before desk_now link_failed link_fails desk_failed desk_fails status
+    StoppedPlaying settings talk_before talk_now desk_before desk_now link_failed link_fails desk_failed desk_fails
+    status
     ⊎ StoppedPlanning settings talk_before talk_now desk_before desk_now desk_failed desk_fails status
 
 -- So what happened of a stop is a front of the run over what was heard, the last event perhaps in part.
@@ -135,24 +143,28 @@ pub record IsItsCourse (plan : Plan) (before after : Memories) (desk_before desk
   pub memories : after ≡ (course plan before).memories
 
 -- What a session of this plan did from one state of a wire to another, whatever the fates of its frames.
-pub record OverAnyLine (plan : Plan) (before after : State) (desk_before desk_now : Option Record) (status : ℕ) : Type 0 where
+pub record OverAnyLine (plan : Plan) (before after : State) (desk_before desk_now : Option Record)
+    (status : ℕ) : Type 0 where
   -- status 0 can be trusted: nothing but the line's own trouble was hidden
   pub success : status ≡ 0 → IsItsCourse plan (memories before) (memories after) desk_before desk_now
   -- all that the plan writes was written, and all that it compares agreed
   pub done : status ≡ 0 → IsDone plan (memories before) (memories after)
   -- each memory holds its images, later over earlier, and the rest is as it was, or as an erase leaves it
-  pub images : status ≡ 0 → plan.switches.dry ≡ false → plan.switches.no_verify ≡ false → IsWritten plan (memories before) (memories after)
+  pub images : status ≡ 0 → plan.switches.dry ≡ false → plan.switches.no_verify ≡ false
+      → IsWritten plan (memories before) (memories after)
   -- whatever the status: the first strokes of the plan were made, those that came to data, and perhaps one more
-  pub strokes : MakesStrokes plan (fresh_programmer before.wire.programmer.chip) before.wire.fates (length (frames_over after)) (memories before) (memories after)
+  pub strokes : MakesStrokes plan (fresh_programmer before.wire.programmer.chip) before.wire.fates
+      (length (frames_over after)) (memories before) (memories after)
   -- where no frame went out the chip is untouched
   pub untouched : frames_over after ≡ [] → memories after ≡ memories before
   -- at most four frames for each command of the plan's steps, by every weight of bodies
-  pub four : (weight : Weight) → weighed weight (map body_of (frames_over after)) ≤ 4 * weighed weight (bodies_in (run_steps plan))
+  pub four : (weight : Weight) → weighed weight (map body_of (frames_over after))
+      ≤ 4 * weighed weight (bodies_in (run_steps plan))
 
 -- ---- 5. From settings to the bytes of the chip, over a wire that is new
 
--- Nothing is held of a frame, nothing waits to be heard, comes late or has passed; the programmer has done nothing yet; and
--- whatever spoils an answer doesn't make another good frame of it.
+-- Nothing is held of a frame, nothing waits to be heard, comes late or has passed; the programmer has done nothing yet;
+-- and whatever spoils an answer doesn't make another good frame of it.
 pub record IsNew (w : State) : Type 0 where
   pub none_held : w.held ≡ []
   pub none_waits : w.waits ≡ []
@@ -161,18 +173,22 @@ pub record IsNew (w : State) : Type 0 where
   pub programmer : w.wire.programmer ≡ fresh_programmer w.wire.programmer.chip
   pub lawful : AreLawful w.wire.fates
 
--- A plan was made of these openings; its session was run, or stopped; and if the chip is of the plan's part, that is what became
--- of it.
-pub record RunsOverWire (settings : Settings) (before after : State) (desk_before desk_now : Option Record) (desk_failed desk_fails status : ℕ) : Type 0 where
+-- A plan was made of these openings; its session was run, or stopped; and if the chip is of the plan's part, that is
+-- what became of it.
+pub record RunsOverWire (settings : Settings) (before after : State) (desk_before desk_now : Option Record)
+    (desk_failed desk_fails status : ℕ) : Type 0 where
   pub plan : Plan
   pub between : Option Record
   pub made : Went (planned settings) desk_before between (Made plan)
-  pub runs : ((r : IsRun settings (Some before.talk) (Some after.talk) desk_before desk_now status) × (r.openings ≡ made.passed))
-      ⊎ ((s : StoppedPlaying settings (Some before.talk) (Some after.talk) desk_before desk_now before.failures after.failures desk_failed desk_fails status) × (s.plan ≡ plan) × (s.between ≡ between))
+  pub runs : ((r : IsRun settings (Some before.talk) (Some after.talk) desk_before desk_now status)
+      × (r.openings ≡ made.passed))
+      ⊎ ((s : StoppedPlaying settings (Some before.talk) (Some after.talk) desk_before desk_now before.failures
+      after.failures desk_failed desk_fails status) × (s.plan ≡ plan) × (s.between ≡ between))
   pub line : before.wire.programmer.chip.part ≡ plan.part → OverAnyLine plan before after between desk_now status
 
 -- There is no plan: that was told, or planning stopped, and the wire is untouched.
-pub record RunsNowhere (settings : Settings) (before after : State) (desk_before desk_now : Option Record) (desk_failed desk_fails status : ℕ) : Type 0 where
+pub record RunsNowhere (settings : Settings) (before after : State) (desk_before desk_now : Option Record)
+    (desk_failed desk_fails status : ℕ) : Type 0 where
   pub runs : IsRun settings (Some before.talk) (Some after.talk) desk_before desk_now status
       ⊎ StoppedPlanning settings (Some before.talk) (Some after.talk) desk_before desk_now desk_failed desk_fails status
   pub untouched : after ≡ before
@@ -180,16 +196,20 @@ pub record RunsNowhere (settings : Settings) (before after : State) (desk_before
 
 abbrev pub RunsWired : Settings → State → State → Option Record → Option Record → ℕ → ℕ → ℕ → Type 0
 RunsWired settings before after desk_before desk_now desk_failed desk_fails status =
-    RunsOverWire settings before after desk_before desk_now desk_failed desk_fails status ⊎ RunsNowhere settings before after desk_before desk_now desk_failed desk_fails status
+    RunsOverWire settings before after desk_before desk_now desk_failed desk_fails status
+    ⊎ RunsNowhere settings before after desk_before desk_now desk_failed desk_fails status
 
 -- ---- 6. Over any link that behaves so
 
--- These events are a whole session of a plan over a link that was sent these bytes and gave this tape, as `Talks` has it: each
--- frame had its fate, and the programmer ended as this one.
-pub record OverAnyLink (plan : Plan) (p q : Programmer) (fates : List Fate) (bytes : List ℕ) (events : List (Event Saying)) (status : ℕ) : Type 0 where
+-- These events are a whole session of a plan over a link that was sent these bytes and gave this tape, as `Talks` has
+-- it: each frame had its fate, and the programmer ended as this one.
+pub record OverAnyLink (plan : Plan) (p q : Programmer) (fates : List Fate) (bytes : List ℕ)
+    (events : List (Event Saying)) (status : ℕ) : Type 0 where
   pub agrees : status ≡ 0 → (course plan (memories_of p.chip)).status ≡ 0
   pub said : status ≡ 0 → sayings events ≡ (course plan (memories_of p.chip)).says
   pub done : status ≡ 0 → IsDone plan (memories_of p.chip) (memories_of q.chip)
-  pub images : status ≡ 0 → plan.switches.dry ≡ false → plan.switches.no_verify ≡ false → IsWritten plan (memories_of p.chip) (memories_of q.chip)
+  pub images : status ≡ 0 → plan.switches.dry ≡ false → plan.switches.no_verify ≡ false
+      → IsWritten plan (memories_of p.chip) (memories_of q.chip)
   pub strokes : MakesStrokes plan p fates (length (frames bytes)) (memories_of p.chip) (memories_of q.chip)
-  pub four : (weight : Weight) → weighed weight (map body_of (frames bytes)) ≤ 4 * weighed weight (bodies_in (run_steps plan))
+  pub four : (weight : Weight) → weighed weight (map body_of (frames bytes))
+      ≤ 4 * weighed weight (bodies_in (run_steps plan))

@@ -10,7 +10,8 @@ use Rattle.avr_serve.specs.ServedRun.{settings_chip}
 use Rattle.avr_net.specs.ServedNet.{ServesOn}
 
 -- The chip of the settings was loaded; then it was served, or no connection could be accepted.
-pub record ServesFirst (settings : Settings) (port file : Bytes) (old new : Option Record) (before now status : ℕ) : Type 0 where
+pub record ServesFirst (settings : Settings) (port file : Bytes) (old new : Option Record)
+    (before now status : ℕ) : Type 0 where
   pub chip : chips.State
   pub loaded_desk : Option Record
   pub loaded_failures : ℕ
@@ -21,4 +22,5 @@ pub record ServesFirst (settings : Settings) (port file : Bytes) (old new : Opti
 -- so it was, or there is no chip
 abbrev pub ServesListener : Settings → Bytes → Bytes → Option Record → Option Record → ℕ → ℕ → ℕ → Type 0
 ServesListener settings port file old new before now status =
-    ServesFirst settings port file old new before now status ⊎ Goes (settings_chip settings file) old new before now (Err status)
+    ServesFirst settings port file old new before now status ⊎ Goes (settings_chip settings file) old new before now
+    (Err status)

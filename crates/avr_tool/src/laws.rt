@@ -28,15 +28,16 @@ ghost use Rattle.stk_host.specs.Dialog.{Done, Event, played, bytes_sent};
 ghost use Rattle.stk_host.specs.Talk.{Talk, heard, sent};
 ghost use Rattle.stk_host.specs.Tape.{Tape};
 
-/// Whatever the line does, a session that comes to status 0 has said what its course says, and no more, and leaves the course's
-/// memories: so each message is that of a perfect line, and each file that was read is the memory's.
+/// Whatever the line does, a session that comes to status 0 has said what its course says, and no more, and leaves the
+/// course's memories: so each message is that of a perfect line, and each file that was read is the memory's.
 pub fn a_run_of_status_0_is_its_course()
     ensures status { (plan : Plan) (m : Memories) (k : ℕ) (p : Programmer) (fates : List Fate)
         → IsPart plan.part → All (IsFitted plan.part) plan.tasks → FitsPart plan.part m → Idle plan.part m p
         → (along device k (session plan) p fates).dialog ≡ Done 0 → (course plan m).status ≡ 0 }
     ensures says { (plan : Plan) (m : Memories) (k : ℕ) (p : Programmer) (fates : List Fate)
         → IsPart plan.part → All (IsFitted plan.part) plan.tasks → FitsPart plan.part m → Idle plan.part m p
-        → (along device k (session plan) p fates).dialog ≡ Done 0 → said_along device k (session plan) p fates ≡ (course plan m).says }
+        → (along device k (session plan) p fates).dialog ≡ Done 0
+        → said_along device k (session plan) p fates ≡ (course plan m).says }
     ensures memories { (plan : Plan) (m : Memories) (k : ℕ) (p : Programmer) (fates : List Fate)
         → IsPart plan.part → All (IsFitted plan.part) plan.tasks → FitsPart plan.part m → Idle plan.part m p
         → (along device k (session plan) p fates).dialog ≡ Done 0
@@ -54,13 +55,14 @@ pub fn a_run_is_one_function()
 pub fn a_stop_is_a_front()
     ensures front { (s : AnySettings) (o p : Option Talk) (d f : Option Record) (k l a b status : ℕ)
         → StoppedPlaying s o p d f k l a b status → IsFrontOfRun s o p }
-    ensures one { (s : AnySettings) (o p q r : Option Talk) (d e f g : Option Record) (m n : ℕ) (x : IsRun s o p d e m) (y : IsRun s q r f g n)
+    ensures one { (s : AnySettings) (o p q r : Option Talk) (d e f g : Option Record) (m n : ℕ) (x : IsRun s o p d e m)
+        (y : IsRun s q r f g n)
         → x.openings ≡ y.openings → heard x.during ≡ heard y.during → m ≡ n }
 {}
 
-/// What the page refuses of a run over a wire: with status 0 other memories than all that was to be written leaves, or other
-/// sayings than those of a perfect line; with any status a chip that changed though no frame went out, or more frames than four for
-/// each command, by any weight of them.
+/// What the page refuses of a run over a wire: with status 0 other memories than all that was to be written leaves, or
+/// other sayings than those of a perfect line; with any status a chip that changed though no frame went out, or more
+/// frames than four for each command, by any weight of them.
 pub fn a_wrong_outcome_is_refused()
     ensures memories { (plan : Plan) (w v : State) (d e : Option Record)
         → (memories v ≡ effects plan.part (items plan) (memories w) → ⊥) → OverAnyLine plan w v d e 0 → ⊥ }
@@ -69,24 +71,29 @@ pub fn a_wrong_outcome_is_refused()
     ensures silence { (plan : Plan) (w v : State) (d e : Option Record) (status : ℕ)
         → frames_over v ≡ [] → (memories v ≡ memories w → ⊥) → OverAnyLine plan w v d e status → ⊥ }
     ensures frames { (plan : Plan) (w v : State) (d e : Option Record) (status : ℕ) (weight : Weight)
-        → 4 * weighed weight (bodies_in (run_steps plan)) < weighed weight (map body_of (frames_over v)) → OverAnyLine plan w v d e status → ⊥ }
+        → 4 * weighed weight (bodies_in (run_steps plan)) < weighed weight (map body_of (frames_over v))
+        → OverAnyLine plan w v d e status → ⊥ }
 {}
 
 /// A worked run, `-p m328p`, to which all answers came: another status, another frame or another line is no run.
 pub fn a_worked_run_has_one_outcome()
-    ensures status { (talk : Talk) (d e : Option Record) → heard talk ≡ answers → IsRun asked (Some []) (Some talk) d e 1 → ⊥ }
+    ensures status { (talk : Talk) (d e : Option Record) → heard talk ≡ answers
+        → IsRun asked (Some []) (Some talk) d e 1 → ⊥ }
     ensures frames { (talk : Talk) (d e : Option Record) (status : ℕ)
         → heard talk ≡ answers → (sent talk ≡ frames_due → ⊥) → IsRun asked (Some []) (Some talk) d e status → ⊥ }
     ensures lines { (talk : Talk) (d e : Record) (status : ℕ)
-        → heard talk ≡ answers → (e ≡ after_all lines_due d → ⊥) → IsRun asked (Some []) (Some talk) (Some d) (Some e) status → ⊥ }
+        → heard talk ≡ answers → (e ≡ after_all lines_due d → ⊥)
+        → IsRun asked (Some []) (Some talk) (Some d) (Some e) status → ⊥ }
 {}
 
-/// Over any link that behaves as the definition of a line with fates has it, a session that was played whole did what the page
-/// says of one over a wire. (`Wired` is such a link; nothing rests on its being the only one.)
+/// Over any link that behaves as the definition of a line with fates has it, a session that was played whole did what
+/// the page says of one over a wire. (`Wired` is such a link; nothing rests on its being the only one.)
 pub fn a_session_over_any_link_that_behaves_so()
-    ensures { (plan : Plan) (s : Chip) (q : Programmer) (fates : List Fate) (bytes : List ℕ) (tape left : Tape) (events : List (Event Saying)) (status next : ℕ)
+    ensures { (plan : Plan) (s : Chip) (q : Programmer) (fates : List Fate) (bytes : List ℕ) (tape left : Tape)
+        (events : List (Event Saying)) (status next : ℕ)
         → IsSound s → s.part ≡ plan.part → All (IsFitted plan.part) plan.tasks → AreLawful fates
         → Talks device fates (fresh_programmer s) bytes tape q
-        → played (session plan) 1 tape ≡ record { events = events; outcome = Some (status, next, left) } → bytes_sent events ≡ bytes
+        → played (session plan) 1 tape ≡ record { events = events; outcome = Some (status, next, left) }
+        → bytes_sent events ≡ bytes
         → OverAnyLink plan (fresh_programmer s) q fates bytes events status }
 {}

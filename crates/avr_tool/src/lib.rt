@@ -1,8 +1,8 @@
 //! The front door: AVRDUDE over a programmer of the STK500 protocol, version 2, as one crate.
 //!
-//! The words of a command line become settings, the settings a plan, and the plan a run over a line, which answers a status:
-//! 0 where no fault came, else 1. All of it is made by the crates below; here their calls have one roof, and those that need
-//! a port take it from the settings, so that no caller can pass another.
+//! The words of a command line become settings, the settings a plan, and the plan a run over a line, which answers a
+//! status: 0 where no fault came, else 1. All of it is made by the crates below; here their calls have one roof, and
+//! those that need a port take it from the settings, so that no caller can pass another.
 //!
 //! ```text
 //! let settings = settings(alloc, &read_words(alloc, &words)?)?;

@@ -76,8 +76,8 @@ where
 
 /// Serves the emulator to the first caller of a listener, in at most 16,777,216 reads.
 ///
-/// The part and the chip file of the settings are judged before a connection is accepted: where they are refused nobody is
-/// waited for. A connection that can't be accepted is told of the settings' port, and then no file is written.
+/// The part and the chip file of the settings are judged before a connection is accepted: where they are refused nobody
+/// is waited for. A connection that can't be accepted is told of the settings' port, and then no file is written.
 ///
 /// The status is 0 where the caller ended it and the chip was saved, else 1.
 pub fn serve_on<L: OpenListener, D: Desk>(
@@ -105,8 +105,8 @@ where
     )
 }
 
-/// Serves the emulator at the port of 127.0.0.1 that the settings name, as [`avr_net::serve_net`] does with that port and the
-/// chip file of the settings.
+/// Serves the emulator at the port of 127.0.0.1 that the settings name, as [`avr_net::serve_net`] does with that port
+/// and the chip file of the settings.
 pub fn serve_net<R: Net, D: Desk>(rt: &R, alloc: Global, settings: &Settings, desk: &mut D) -> u8
     requires port { IsServed settings.now.port }
     ensures serves { ServesNet settings.now (name_of settings.now.port) (chip_file_of settings.now.port)

@@ -11,8 +11,8 @@ use std::alloc::Global;
 use stk_emu::Wired;
 use stk_host::Link;
 
-/// Plans what the settings ask for, runs it over a link, reports it at the desk, and answers the status: 0 where no fault
-/// came, else 1. What is refused is told before any frame is sent or file created.
+/// Plans what the settings ask for, runs it over a link, reports it at the desk, and answers the status: 0 where no
+/// fault came, else 1. What is refused is told before any frame is sent or file created.
 #[tactic(auto, using(crate::proofs::Joining::is_run))]
 pub fn run<D: Desk, L: Link>(alloc: Global, settings: &Settings, desk: &mut D, link: &mut L) -> u8
     ensures runs { IsRun settings.now (L.talk link.old) (L.talk link.new) (D.kept desk.old) (D.kept desk.new) result
@@ -25,8 +25,8 @@ pub fn run<D: Desk, L: Link>(alloc: Global, settings: &Settings, desk: &mut D, l
 
 /// Runs what the settings ask for over a wire to the emulated programmer, whatever its line loses, delays and spoils.
 ///
-/// Nothing has passed over the wire yet. What is promised of the chip is so where it is of the plan's part; a chip of another
-/// part is met as any programmer is.
+/// Nothing has passed over the wire yet. What is promised of the chip is so where it is of the plan's part; a chip of
+/// another part is met as any programmer is.
 pub fn run_wired<D: Desk>(alloc: Global, settings: &Settings, desk: &mut D, wire: &mut Wired) -> u8
     requires new { IsNew wire.old }
     ensures runs { RunsWired settings.now wire.old wire.new (D.kept desk.old) (D.kept desk.new)

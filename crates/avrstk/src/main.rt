@@ -2,53 +2,56 @@
 #![tactic(auto)]
 
 use avr_tool::{
-    Desk, NotAsked, Port, Settings, StreamLink, SystemDesk, asked, run, run_emu, run_net, serve_net,
+    Desk, NotAsked, Port, Settings, SettingsFault, StreamLink, SystemDesk, asked, refuse, run,
+    run_emu, run_net, serve_net,
 };
 use clap::Error;
+use clap::error::ErrorKind;
 use std::process::ExitCode;
 use std::{env, io};
 
 fn main(rt: HostRuntime) -> ExitCode {
-    ExitCode::from(status(&rt))
-}
-
-/// The status of a run; what can't even be printed is 1 too.
-fn status(rt: &HostRuntime) -> u8 {
-    match try_run(rt) {
-        Ok(status) => status,
-        Err(_) => 1,
-    }
-}
-
-fn try_run(rt: &HostRuntime) -> io::Result<u8> {
-    let words: Vec<String> = match env::args(rt) {
-        Ok(words) => words.collect(rt.alloc())?,
-        Err(error) => {
-            eprintln!(rt; "avrstk: error: {error}")?;
-            return Ok(1);
-        }
+    let status = match read_arguments(&rt) {
+        Ok(words) => run_words(&rt, words.as_slice()),
+        Err(error) => tell_unread(&rt, &error),
     };
-    run_words(rt, words.as_slice())
+    ExitCode::from(status)
+}
+
+/// The words of the command line, the program's name first.
+fn read_arguments(rt: &HostRuntime) -> io::Result<Vec<String>> {
+    Ok(env::args(rt)?.collect(rt.alloc())?)
+}
+
+/// Tells why the words can't be read. What can't even be printed is 1 too.
+fn tell_unread(rt: &HostRuntime, error: &io::Error) -> u8 {
+    let _ = eprintln!(rt; "avrstk: error: {error}");
+    1
 }
 
 /// From words to settings, and from these to a status.
-fn run_words(rt: &HostRuntime, words: &[String]) -> io::Result<u8> {
+fn run_words(rt: &HostRuntime, words: &[String]) -> u8 {
     let mut desk = SystemDesk::new(rt, rt.stdout(), rt.stderr());
     match asked(rt.alloc(), words, &mut desk) {
-        Ok(settings) => Ok(run_settings(rt, &settings, &mut desk)),
-        Err(NotAsked::Refused(status)) => Ok(status),
-        Err(NotAsked::Words(error)) => refused(rt, &error),
+        Ok(settings) => run_settings(rt, &settings, &mut desk),
+        Err(NotAsked::Refused(status)) => status,
+        Err(NotAsked::Words(error)) if error.kind() == ErrorKind::OutOfMemory => {
+            refuse(&SettingsFault::Memory, &mut desk)
+        }
+        Err(NotAsked::Words(error)) => tell_usage(rt, &error),
     }
 }
 
 /// Prints what `clap` says: help is no mistake.
-fn refused(rt: &HostRuntime, error: &Error) -> io::Result<u8> {
-    error.print(rt)?;
-    if error.use_stderr() { Ok(1) } else { Ok(0) }
+fn tell_usage(rt: &HostRuntime, error: &Error) -> u8 {
+    match error.print(rt) {
+        Ok(()) if !error.use_stderr() => 0,
+        _ => 1,
+    }
 }
 
-/// Runs over the port of the settings: `stdio:` has its frames on standard input and output, `emu:` is the emulator, `net:`
-/// a connection; or serves the emulator.
+/// Runs over the port of the settings: `stdio:` has its frames on standard input and output, `emu:` is the emulator,
+/// `net:` a connection; or serves the emulator.
 fn run_settings<D: Desk>(rt: &HostRuntime, settings: &Settings, desk: &mut D) -> u8 {
     match &settings.port {
         Port::Stdio => {

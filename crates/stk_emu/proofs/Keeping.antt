@@ -1,9 +1,8 @@
 -- What a wire keeps, as frames pass and items are heard.
 use Rattle.std.proofs.Common.{◌≡◌, ℕ, List, [], ◌∷◌, ◌++◌, length, drop, refl, ap, sym, ◌∙◌, subst, append_assoc}
-use Rattle.std.specs.Prelude.{filter}
 use Rattle.std.proofs.lemmas.List.{append-nil, take-append-drop}
-use Rattle.stk_frame.specs.Cut.{frames, is_frame}
-use Rattle.stk_frame.specs.Reader.{Stands, Fed}
+use Rattle.stk_frame.specs.Cut.{frames}
+use Rattle.stk_frame.specs.Reader.{Stands}
 use Rattle.stk_host.specs.Tape.{Tape}
 use Rattle.stk_host.specs.Talk.{Talk, Sent, Got, sent, heard}
 use Rattle.stk_host.proofs.Talks.{sent_append, heard_append}
@@ -11,7 +10,7 @@ use Rattle.stk_emu.specs.declared.fate.Fate.{Fate}
 use Rattle.stk_emu.specs.Programmer.{Programmer}
 use Rattle.stk_emu.specs.Device.{Device, device}
 use Rattle.stk_emu.specs.Wire.{Wire, fresh, segment, passed, tape_of, wire_after}
-use Rattle.stk_emu.specs.Wired.{State, Keeps, NeverIdle, IsNext, brought, after_hearing}
+use Rattle.stk_emu.specs.Wired.{State, Keeps, NeverIdle, Passes, IsNext, brought, after_hearing}
 use Rattle.stk_emu.proofs.Answering.{frames_fed}
 
 pub tape_more : {P : Type 0} (m : Device P) (xs ys : List (List ℕ)) (w : Wire P) → tape_of m (xs ++ ys) w ≡ tape_of m xs w ++ tape_of m ys (wire_after m xs w)
@@ -28,15 +27,6 @@ wire_more m (x ∷ xs) ys w = wire_more m xs ys (passed m x w)
 never_before : (p : Programmer) (fates : List Fate) (talk more : Talk) → NeverIdle p fates (talk ++ more) → NeverIdle p fates talk
 never_before p fates talk more never before after items split =
     never before (after ++ more) items (ap (λ t. t ++ more) split ∙ append_assoc before (Got items ∷ after) more)
-
--- Bytes were sent, in which these frames ended; they brought these items, and left this wire.
-pub record Passes (old new : State) (used : List ℕ) : Type 0 where
-  pub found : List (List ℕ)
-  pub are_frames : filter is_frame found ≡ found
-  pub fed : Fed old.held used new.held found
-  pub waits : new.waits ≡ old.waits ++ tape_of device found old.wire
-  pub wire : new.wire ≡ wire_after device found old.wire
-  pub talk : new.talk ≡ old.talk ++ Sent used ∷ []
 
 pub keeps_passing : (old new : State) (used : List ℕ) (p : Programmer) (fates : List Fate) → Passes old new used → Keeps p fates old → Keeps p fates new
 keeps_passing old new used p fates passes keeps =

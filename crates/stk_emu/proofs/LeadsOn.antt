@@ -186,7 +186,7 @@ module _ (part : Part) (sound : IsPart part) where
   second m f (Err fault) q fates (inl i) = leads_done device (Err fault) q fates (Idle part m) (AfterBeginning part m) i i
   second m f (Err fault) q fates (inr i) = leads_done device (Err fault) q fates (Idle part m) (AfterBeginning part m) i i
 
-  leads_beginning : (m : Memories) (p : Programmer) (fates : List Fate) → FitsPart part m → Idle part m p → Leads device beginning p fates (Idle part m) (AfterBeginning part m)
+  pub leads_beginning : (m : Memories) (p : Programmer) (fates : List Fate) → FitsPart part m → Idle part m p → Leads device beginning p fates (Idle part m) (AfterBeginning part m)
   unfolding beginning
   leads_beginning m p fates f idle =
       leads_bind device (Idle part m) (OnData (Idle part m) (Idle part m)) (AfterBeginning part m) (if_done (λ name. step (enter ∷ []) >>= if_done (λ nothing. play signature_steps []))) (second m f) (step (SignOn ∷ [])) p fates

@@ -58,7 +58,7 @@ sends_whole (Ask bytes go_on) n t asks = (
 )
 
 -- the frames of all bytes of whole frames are these
-frames_sent : {E : Type 0} (events : List (Event E)) → AreWhole (frames_in events) → frames (bytes_sent events) ≡ frames_in events
+pub frames_sent : {E : Type 0} (events : List (Event E)) → AreWhole (frames_in events) → frames (bytes_sent events) ≡ frames_in events
 frames_sent [] whole = refl
 frames_sent (Frame f ∷ events) whole = frame_first f (bytes_sent events) whole.0 ∙ ap (λ fs. f ∷ fs) (frames_sent events whole.1)
 frames_sent (Said e ∷ events) whole = frames_sent events whole
@@ -167,7 +167,7 @@ begun_front SaidPart (Said x ∷ []) (Said y ∷ later) part = (bytes_sent later
 begun_front SaidPart (Frame x ∷ e ∷ begun) later part = absurd part
 begun_front SaidPart (Said x ∷ e ∷ begun) later part = absurd part
 
-shown_front : {E : Type 0} (SaidPart : E → E → Type 0) (shown events : List (Event E)) → IsFront SaidPart shown events → IsPrefixOf (bytes_sent shown) (bytes_sent events)
+pub shown_front : {E : Type 0} (SaidPart : E → E → Type 0) (shown events : List (Event E)) → IsFront SaidPart shown events → IsPrefixOf (bytes_sent shown) (bytes_sent events)
 shown_front SaidPart shown events f =
     let g = begun_front SaidPart f.begun f.later f.part in (
       g.0,

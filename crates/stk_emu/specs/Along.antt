@@ -30,7 +30,8 @@ along m k (Done r) p fates = record { dialog = Done r; programmer = p; fates = f
 along m k (Say e dialog) p fates = along m k dialog p fates
 along m zero (Ask bytes go_on) p fates = record { dialog = Ask bytes go_on; programmer = p; fates = fates; left = 0 }
 along m (suc k) (Ask bytes go_on) p fates =
-    along m k (go_on (reading_of (first_fate fates) (m.answer bytes p))) (after_fate (first_fate fates) (m.after bytes p) p) (other_fates fates)
+    along m k (go_on (reading_of (first_fate fates) (m.answer bytes p)))
+    (after_fate (first_fate fates) (m.after bytes p) p) (other_fates fates)
 
 -- what a dialog says beside the line in at most so many questions
 abbrev pub said_along : {E R P : Type 0} → Device P → ℕ → Dialog E R → P → List Fate → List E
@@ -38,7 +39,8 @@ said_along m k (Done r) p fates = []
 said_along m k (Say e dialog) p fates = e ∷ said_along m k dialog p fates
 said_along m zero (Ask bytes go_on) p fates = []
 said_along m (suc k) (Ask bytes go_on) p fates =
-    said_along m k (go_on (reading_of (first_fate fates) (m.answer bytes p))) (after_fate (first_fate fates) (m.after bytes p) p) (other_fates fates)
+    said_along m k (go_on (reading_of (first_fate fates) (m.answer bytes p)))
+    (after_fate (first_fate fates) (m.after bytes p) p) (other_fates fates)
 
 -- each question is a body that a frame can carry
 abbrev pub AsksBodies : {E R : Type 0} → Dialog E R → Type 0
@@ -46,9 +48,11 @@ AsksBodies (Done r) = Unit {0}
 AsksBodies (Say e dialog) = AsksBodies dialog
 AsksBodies (Ask bytes go_on) = IsBody bytes × ((reading : Reading) → AsksBodies (go_on reading))
 
--- A dialog whose frames went out over a wire, some of them, in their order: the programmer stands as along the line, and
--- where the play over the tape that they bring is done, so is the dialog, with the same result, and nothing of the tape is left.
-pub record Fused {E R P : Type 0} (m : Device P) (d : Dialog E R) (n : ℕ) (w : Wire P) (sent : List (List ℕ)) : Type 0 where
+-- A dialog whose frames went out over a wire, some of them, in their order: the programmer stands as along the line,
+-- and where the play over the tape that they bring is done, so is the dialog, with the same result, and nothing of the
+-- tape is left.
+pub record Fused {E R P : Type 0} (m : Device P) (d : Dialog E R) (n : ℕ) (w : Wire P)
+    (sent : List (List ℕ)) : Type 0 where
   pub programmer : (wire_after m sent w).programmer ≡ (along m (length sent) d w.programmer w.fates).programmer
   pub outcome : (r : R) (seq : ℕ) (left : Tape) → (played d n (tape_of m sent w)).outcome ≡ Some (r, seq, left)
       → ((along m (length sent) d w.programmer w.fates).dialog ≡ Done r) × (left ≡ [])

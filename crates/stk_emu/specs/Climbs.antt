@@ -26,7 +26,8 @@ counted (Done (Err fault)) more = 0
 counted (Say e dialog) more = 0
 counted (Ask bytes go_on) more = 0
 
--- how many steps have come to data after so many questions
+-- How many steps have come to data after so many questions, along the line: by what its fates bring, not by what
+-- somebody heard.
 abbrev pub steps_done : {P : Type 0} → Device P → List (List Command) → ℕ → P → List Fate → ℕ
 steps_done m [] k p fates = 0
 steps_done m (commands ∷ steps) k p fates =

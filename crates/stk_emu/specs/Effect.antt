@@ -17,7 +17,8 @@ pub record Memories : Type 0 where
   pub lock : ℕ
 
 abbrev pub memories_of : State → Memories
-memories_of s = record { flash = s.flash; eeprom = s.eeprom; lfuse = s.lfuse; hfuse = s.hfuse; efuse = s.efuse; lock = s.lock }
+memories_of s =
+    record { flash = s.flash; eeprom = s.eeprom; lfuse = s.lfuse; hfuse = s.hfuse; efuse = s.efuse; lock = s.lock }
 
 -- for each address a byte, or none
 abbrev pub Image : Type 0

@@ -58,10 +58,13 @@ reply_to m command p = replied command (Answered (m.answer (body command) p))
 -- what commands come to of which each is obeyed and answered: all data joined, behind those before
 abbrev pub gathered : {P : Type 0} → Device P → List Command → List ℕ → P → Reply
 gathered m [] before p = Data before
-gathered m (command ∷ commands) before p = on_data (reply_to m command p) (λ bytes. gathered m commands (before ++ bytes) (m.after (body command) p))
+gathered m (command ∷ commands) before p =
+    on_data (reply_to m command p) (λ bytes. gathered m commands (before ++ bytes) (m.after (body command) p))
 
--- The data of a step are those of one attempt, all of whose commands were obeyed in order, from under the one condition or the other.
-pub record Gives {P : Type 0} (m : Device P) (commands : List Command) (Before After : P → Type 0) (bytes : List ℕ) : Type 0 where
+-- The data of a step are those of one attempt, all of whose commands were obeyed in order, from under the one condition
+-- or the other.
+pub record Gives {P : Type 0} (m : Device P) (commands : List Command) (Before After : P → Type 0)
+    (bytes : List ℕ) : Type 0 where
   pub from : P
   pub stood : Before from ⊎ After from
   pub is : gathered m commands [] from ≡ Data bytes

@@ -1,4 +1,5 @@
--- Noise that can be told from an answer, bodies that a frame can carry, and late answers that can't be taken for another.
+-- Noise that can be told from an answer, bodies that a frame can carry, and late answers that can't be taken for
+-- another.
 use Rattle.std.specs.Prelude.{ℕ, List, [], ◌<◌, ◌≤◌, ◌≡◌, ◌≢◌, ◌⊎◌, length, filter}
 use Rattle.stk_frame.specs.Frame.{frame}
 use Rattle.stk_frame.specs.Cut.{cut, is_good}

@@ -22,7 +22,8 @@ use Rattle.stk_emu.specs.Given.{all_given}
 pub record Leads {E R P : Type 0} (m : Device P) (dialog : Dialog E R) (p : P) (fates : List Fate)
     (During : P → Type 0) (After : R → P → Type 0) : Type 0 where
   pub during : (k : ℕ) → During (along m k dialog p fates).programmer
-  pub after : (k : ℕ) (r : R) → (along m k dialog p fates).dialog ≡ Done r → After r (along m k dialog p fates).programmer
+  pub after : (k : ℕ) (r : R) → (along m k dialog p fates).dialog ≡ Done r
+      → After r (along m k dialog p fates).programmer
 
 -- after data the one, after a fault one or the other
 abbrev pub OnData : {P : Type 0} → (P → Type 0) → (P → Type 0) → Outcome → P → Type 0
@@ -36,7 +37,8 @@ pub record Reached (part : Part) (steps : List (List Command)) (m : Memories) (q
 
 -- after data of all steps their memories, and what they give; after a fault those of some first steps
 abbrev pub AfterSteps : Part → List (List Command) → Memories → List ℕ → Outcome → Programmer → Type 0
-AfterSteps part steps m before (Ok got) q = Settled part (struck_by part (length steps) steps m) q × (got ≡ before ++ all_given part steps m)
+AfterSteps part steps m before (Ok got) q =
+    Settled part (struck_by part (length steps) steps m) q × (got ≡ before ++ all_given part steps m)
 AfterSteps part steps m before (Err fault) q = Reached part steps m q
 
 -- after an operation on these steps that judges what they give
@@ -63,7 +65,8 @@ AreGood (fate ∷ fates) = (fate ≡ Good) × AreGood fates
 
 -- A talk over a wire was the whole play of a dialog: the programmer stands along the line, where the dialog has come to
 -- the same result, and nothing that came is left.
-pub record GoesAlong {E R : Type 0} (d : Dialog E R) (p : Programmer) (fates : List Fate) (w : State) (r : R) (left : List ℕ) : Type 0 where
+pub record GoesAlong {E R : Type 0} (d : Dialog E R) (p : Programmer) (fates : List Fate) (w : State) (r : R)
+    (left : List ℕ) : Type 0 where
   pub programmer : w.wire.programmer ≡ (along device (length (frames (sent w.talk))) d p fates).programmer
   pub result : (along device (length (frames (sent w.talk))) d p fates).dialog ≡ Done r
   pub none_left : left ≡ []

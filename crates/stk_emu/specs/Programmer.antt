@@ -107,7 +107,8 @@ abbrev pub enter_progmode : EnterFields → Programmer → Done
 enter_progmode f p =
     if nat_lt 4 f.poll_index
     then entered false p
-    else entered (is_polled f.poll_value f.poll_index (spi_of f.instruction p.chip).0) (instructed (f.instruction ∷ []) p)
+    else entered (is_polled f.poll_value f.poll_index (spi_of f.instruction p.chip).0)
+    (instructed (f.instruction ∷ []) p)
 
 abbrev pub leave_progmode : Programmer → Done
 leave_progmode p = (0x11 ∷ 0 ∷ [], record p { mode = false })
@@ -123,7 +124,11 @@ program_byte code instruction p = in_mode code p (code ∷ 0 ∷ 0 ∷ [], instr
 abbrev pub read_byte : ℕ → ReadByte → Programmer → Done
 read_byte code f p =
     in_mode code p (if nat_le 1 f.return_address && nat_le f.return_address 4
-    then (code ∷ 0 ∷ slice_index (spi_of f.instruction p.chip).0 (f.return_address - 1) ∷ 0 ∷ [], instructed (f.instruction ∷ []) p)
+    then (
+      code ∷ 0 ∷ slice_index (spi_of f.instruction p.chip).0 (f.return_address - 1) ∷ 0
+          ∷ [],
+      instructed (f.instruction ∷ []) p,
+    )
     else fail code p)
 
 abbrev pub flash_loads : Bool → ℕ → ℕ → ℕ → List ℕ → List (List ℕ)
@@ -221,7 +226,11 @@ read_eeprom f p =
 abbrev pub spi_multi : ℕ → ℕ → ℕ → List ℕ → Programmer → Done
 spi_multi send_count receive_count receive_start bytes p =
     in_mode 0x1D p (if send_count == 4 && length bytes == 4 && nat_le (receive_start + receive_count) 4
-    then (0x1D ∷ 0 ∷ (take receive_count (drop receive_start (spi_of bytes p.chip).0) ++ 0 ∷ []), instructed (bytes ∷ []) p)
+    then (
+      0x1D ∷ 0 ∷ (take receive_count (drop receive_start (spi_of bytes p.chip).0) ++ 0 ∷ []),
+      instructed
+          (bytes ∷ []) p,
+    )
     else fail 0x1D p)
 
 abbrev pub obey_command : Command → Programmer → Done
@@ -242,7 +251,8 @@ obey_command (ProgramLock instruction) p = program_byte 0x19 instruction p
 obey_command (ReadLock f) p = read_byte 0x1A f p
 obey_command (ReadSignature f) p = read_byte 0x1B f p
 obey_command (ReadOsccal f) p = read_byte 0x1C f p
-obey_command (SpiMulti send_count receive_count receive_start bytes) p = spi_multi send_count receive_count receive_start bytes p
+obey_command (SpiMulti send_count receive_count receive_start bytes) p =
+    spi_multi send_count receive_count receive_start bytes p
 
 -- the byte of a command
 abbrev pub is_known : ℕ → Bool

@@ -20,8 +20,8 @@ then_count m d first more k p fates =
     let s = along m k d p fates in
     with_next s.dialog (first k p fates) (λ a. more a s.left s.programmer s.fates)
 
--- At each moment of a dialog so many strokes are made: those that came to data and perhaps one more, which is counted by
--- the questions before the last, whose answer may not have come.
+-- At each moment of a dialog so many strokes are made: those that came to data and perhaps one more, which is counted
+-- by the questions before the last, whose answer may not have come.
 pub record Tallies {E R P : Type 0} (m : Device P) (d : Dialog E R) (done : Count P) (At : ℕ → P → Type 0)
     (p : P) (fates : List Fate) : Type 0 where
   pub count : ℕ → ℕ
@@ -32,7 +32,10 @@ pub record Tallies {E R P : Type 0} (m : Device P) (d : Dialog E R) (done : Coun
 
 -- How the next dialog goes on from a result: it makes its strokes behind those made; and either those had all come to
 -- data before the last question, or it makes none.
-pub record GoesOn {E A B P : Type 0} (m : Device P) (d : Dialog E A) (next : A → Dialog E B) (first : Count P) (more : A → Count P)
+pub record GoesOn {E A B P : Type 0} (m : Device P) (d : Dialog E A) (next : A → Dialog E B) (first : Count P)
+    (more : A → Count P)
     (At : ℕ → P → Type 0) (p : P) (fates : List Fate) (k made : ℕ) (a : A) : Type 0 where
-  pub rest : Tallies m (next a) (more a) (λ j. At (made + j)) (along m k d p fates).programmer (along m k d p fates).fates
-  pub sharp : ((l : ℕ) → (along m k d p fates).left ≡ suc l → made ≤ first (k - 1) p fates) ⊎ ((l : ℕ) → rest.count l ≡ 0)
+  pub rest : Tallies m (next a) (more a) (λ j. At (made + j)) (along m k d p fates).programmer
+      (along m k d p fates).fates
+  pub sharp : ((l : ℕ) → (along m k d p fates).left ≡ suc l → made ≤ first (k - 1) p fates)
+      ⊎ ((l : ℕ) → rest.count l ≡ 0)

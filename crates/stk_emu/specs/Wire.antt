@@ -89,6 +89,7 @@ abbrev pub fresh : {P : Type 0} → P → List Fate → Wire P
 fresh p fates = record { programmer = p; fates = fates; late = [] }
 
 -- These bytes were sent over a wire, this is the whole tape that they bring, and this programmer stands at its end.
-pub record Talks {P : Type 0} (m : Device P) (fates : List Fate) (p : P) (sent : List ℕ) (tape : Tape) (q : P) : Type 0 where
+pub record Talks {P : Type 0} (m : Device P) (fates : List Fate) (p : P) (sent : List ℕ) (tape : Tape)
+    (q : P) : Type 0 where
   pub tape_is : tape_of m (frames sent) (fresh p fates) ≡ tape
   pub end_is : (wire_after m (frames sent) (fresh p fates)).programmer ≡ q

@@ -1,10 +1,10 @@
 -- A wire as a link, and that what passes over it is what the fates say.
-use Rattle.std.specs.Prelude.{ℕ, List, [], ◌∷◌, ◌++◌, ◌≡◌, ◌≢◌, length, take, drop, ◌<◌}
-use Rattle.stk_frame.specs.Cut.{frames}
-use Rattle.stk_frame.specs.Reader.{Stands}
+use Rattle.std.specs.Prelude.{ℕ, List, [], ◌∷◌, ◌++◌, ◌≡◌, ◌≢◌, length, take, drop, ◌<◌, filter}
+use Rattle.stk_frame.specs.Cut.{frames, is_frame}
+use Rattle.stk_frame.specs.Reader.{Stands, Fed}
 use Rattle.stk_host.specs.declared.link.Item.TheVariants.{Silence}
 use Rattle.stk_host.specs.Tape.{Tape}
-use Rattle.stk_host.specs.Talk.{Talk, Got, sent, heard}
+use Rattle.stk_host.specs.Talk.{Talk, Sent, Got, sent, heard}
 use Rattle.stk_emu.specs.declared.fate.Fate.{Fate}
 use Rattle.stk_emu.specs.Programmer.{Programmer, fresh_programmer}
 use Rattle.stk_emu.specs.Device.{device}
@@ -25,7 +25,8 @@ brought p fates bytes = tape_of device (frames bytes) (fresh p fates)
 -- Nobody listened where all that was brought had been heard.
 abbrev pub NeverIdle : Programmer → List Fate → Talk → Type 0
 NeverIdle p fates talk =
-    (before after : Talk) (items : Tape) → talk ≡ before ++ Got items ∷ after → brought p fates (sent before) ≢ heard before
+    (before after : Talk) (items : Tape) → talk ≡ before ++ Got items ∷ after
+    → brought p fates (sent before) ≢ heard before
 
 -- A wire that began with this programmer and these fates: it stands where the frames sent have brought it, and, unless
 -- somebody listened where nothing waited, what was heard and what waits are what these frames bring.
@@ -47,6 +48,16 @@ pub record IsFresh (w : State) : Type 0 where
   pub silent : w.talk ≡ []
   pub begins : Keeps (fresh_programmer w.wire.programmer.chip) w.wire.fates w
   pub lawful : AreLawful w.wire.fates
+
+-- Bytes were sent, in which these frames ended: behind what waited now waits what they bring, and the wire stands
+-- behind them.
+pub record Passes (old new : State) (used : List ℕ) : Type 0 where
+  pub found : List (List ℕ)
+  pub are_frames : filter is_frame found ≡ found
+  pub fed : Fed old.held used new.held found
+  pub waits : new.waits ≡ old.waits ++ tape_of device found old.wire
+  pub wire : new.wire ≡ wire_after device found old.wire
+  pub talk : new.talk ≡ old.talk ++ Sent used ∷ []
 
 -- items are heard, and wait no more
 abbrev pub after_hearing : Tape → State → State

@@ -69,8 +69,8 @@ fn answer_event(reader: &FrameReader, event: Event, programmer: &mut Programmer,
 
 /// A programmer with its part, which is fed what comes over a line and answers each frame.
 ///
-/// A good frame is obeyed, and a frame whose XOR is wrong is answered with the body `B0 C1`. An answer carries the number
-/// of its frame, whatever the numbers before it were. Only the part of a frame that has come is held.
+/// A good frame is obeyed, and a frame whose XOR is wrong is answered with the body `B0 C1`. An answer carries the
+/// number of its frame, whatever the numbers before it were. Only the part of a frame that has come is held.
 #[derive(Drop)]
 pub struct Emulator {
     reader: FrameReader,
@@ -105,15 +105,16 @@ impl Emulator {
         self.programmer.chip()
     }
 
-    /// Uses bytes up to the end of the first frame that is answered, whose answer `out` becomes, and says how many. Where no
-    /// frame ends all bytes are used, and `out` is empty.
+    /// Uses bytes up to the end of the first frame that is answered, whose answer `out` becomes, and says how many.
+    /// Where no frame ends all bytes are used, and `out` is empty.
     pub fn feed(&mut self, piece: &[u8], out: &mut ArrayVec<u8, 281>) -> usize
         ensures within { result ≤ length piece.now }
         ensures all { out.new.items ≡ [] → result ≡ length piece.now }
         ensures progress { 0 < length piece.now → 0 < result }
         ensures one { Answers self.old (take result piece.now) self.new out.new.items }
         // Whatever it began with and was fed: all answers are those to the whole text, however it was cut.
-        ensures fed { (p : ProgrammerState) (text : List ℕ) → IsFed p text self.old → IsFed p (text ++ take result piece.now) self.new }
+        ensures fed { (p : ProgrammerState) (text : List ℕ) → IsFed p text self.old
+            → IsFed p (text ++ take result piece.now) self.new }
         ensures emulated { (p : ProgrammerState) (text : List ℕ) → IsFed p text self.old
             → emulate p (text ++ take result piece.now) ≡ emulate p text ++ out.new.items }
     {

@@ -1,8 +1,8 @@
-//! Laws of a conversation over a bad wire, over the definitions alone: what the programmer's memories are at each moment,
-//! and what is read of them. No code.
+//! Laws of a conversation over a bad wire, over the definitions alone: what the programmer's memories are at each
+//! moment, and what is read of them. No code.
 #![tactic(auto)]
 
-ghost use Rattle.std.specs.Prelude.{◌≡◌, ◌++◌, ℕ, List, [], ◌∷◌, Some, Ok, Result, Bool, None, length, take, replicate, slice_index, ◌<◌, ◌↔◌};
+ghost use Rattle.std.specs.Prelude.{◌≡◌, ◌++◌, ℕ, List, [], ◌∷◌, Some, Ok, Result, Bool, None, length, take, replicate, slice_index, ◌<◌, ◌≤◌, ◌↔◌, Err};
 ghost use Rattle.avr_image.specs.Image.{byte_at, or_blank};
 ghost use Rattle.avr_part.specs.State as chip;
 ghost use Rattle.avr_part.specs.Part.{Part, IsPart};
@@ -32,8 +32,12 @@ ghost use Rattle.stk_emu.specs.Strokes.{IsStep, AreSteps, struck, struck_by, str
 ghost use Rattle.stk_emu.specs.Given.{given_by, all_given, Holds};
 ghost use Rattle.stk_emu.specs.Wired.{State, Keeps, NeverIdle};
 ghost use Rattle.stk_emu.specs.Leads.{Leads, Reached, AfterOperation, AfterOpening, AreGood, GoesAlong};
+ghost use Rattle.stk_emu.specs.Few.{AreFew, FewOf, each_second};
 ghost use Rattle.stk_emu.specs.Climbs.{Climbs};
 ghost use Rattle.stk_emu.specs.declared.fate.Fate.{Fate};
+ghost use Rattle.stk_emu.specs.declared.fate.Fate.TheVariants.{LostCommand};
+ghost use Rattle.stk_host.specs.declared.fault.StepFault.TheVariants.{NoAnswer};
+ghost use Rattle.stk_frame.specs.declared.command.Command.TheVariants.{LoadAddress};
 
 /// Whatever is asked, the programmer answers with a body that a frame can carry.
 pub fn every_answer_fits_a_frame()
@@ -43,15 +47,18 @@ pub fn every_answer_fits_a_frame()
 /// Of what a frame brings over the wire nothing is left when its answer was read: it is the programmer's answer, the
 /// refusal or a silence, as the frame's fate is; a late answer to another frame is passed over.
 pub fn a_segment_is_read_whole()
-    ensures { (n : ℕ) (bytes : List ℕ) (w : Wire Programmer) (more : Tape) → IsBody bytes → IsClear n w.late → IsLawfulFate (first_fate w.fates)
-        → answer n (segment device (frame n bytes) w ++ more) ≡ Some (reading_of (first_fate w.fates) (device.answer bytes w.programmer), more) }
+    ensures { (n : ℕ) (bytes : List ℕ) (w : Wire Programmer) (more : Tape) → IsBody bytes → IsClear n w.late
+        → IsLawfulFate (first_fate w.fates)
+        → answer n (segment device (frame n bytes) w ++ more) ≡ Some
+        (reading_of (first_fate w.fates) (device.answer bytes w.programmer), more) }
 {}
 
 /// A conversation that is played over what a wire brings for its frames goes along the line question by question: the
 /// programmer obeys what the fates let through, in order, nothing waits, and what the conversation comes to is what it
 /// comes to along the line.
 pub fn a_conversation_goes_along_the_line<E, R>()
-    ensures { (d : Dialog E R) (n : ℕ) (w : Wire Programmer) (sent more : List (List ℕ)) → AsksBodies d → IsClear n w.late → AreLawful w.fates
+    ensures { (d : Dialog E R) (n : ℕ) (w : Wire Programmer) (sent more : List (List ℕ)) → AsksBodies d
+        → IsClear n w.late → AreLawful w.fates
         → frames_in (played d n (tape_of device sent w)).events ≡ sent ++ more → Fused device d n w sent }
 {}
 
@@ -66,7 +73,8 @@ pub fn a_programmer_begins_idle()
 /// however often.
 pub fn opening_and_closing_keep_the_memories()
     ensures sign_on { (part : Part) (m : Memories) → Fits device (Command.SignOn ∷ []) (Idle part m) (Idle part m) }
-    ensures sign_on_settled { (part : Part) (m : Memories) → Fits device (Command.SignOn ∷ []) (Settled part m) (Settled part m) }
+    ensures sign_on_settled { (part : Part) (m : Memories) → Fits device (Command.SignOn ∷ []) (Settled part m)
+        (Settled part m) }
     ensures enter { (part : Part) (m : Memories) → Fits device (enter ∷ []) (Idle part m) (Settled part m) }
     ensures leave { (part : Part) (m : Memories) → Fits device (leave ∷ []) (Idle part m) (Idle part m) }
     ensures settled_is_idle { (part : Part) (m : Memories) (p : Programmer) → Settled part m p → Idle part m p }
@@ -77,8 +85,8 @@ pub fn an_effect_twice_is_once()
     ensures { (part : Part) (item : Item) (m : Memories) → effect part item (effect part item m) ≡ effect part item m }
 {}
 
-/// Obeying any first commands of a step from a settled programmer leaves the memories or what the step makes of them; all
-/// of the step leaves the latter, and keeps it where it was made before: also where the chip is locked.
+/// Obeying any first commands of a step from a settled programmer leaves the memories or what the step makes of them;
+/// all of the step leaves the latter, and keeps it where it was made before: also where the chip is locked.
 pub fn a_step_leads_to_its_stroke()
     ensures { (part : Part) (commands : List Command) (m : Memories) → IsPart part → IsStep part commands
         → Fits device commands (Settled part m) (Settled part (struck part commands m)) }
@@ -87,30 +95,37 @@ pub fn a_step_leads_to_its_stroke()
 /// Whatever the line does: at each moment of a play of steps the memories are those of the first so many steps, as many
 /// as came to data and perhaps one more; and where the play came to data, of all.
 pub fn a_play_climbs_from_step_to_step()
-    ensures { (part : Part) (steps : List (List Command)) (m : Memories) (k : ℕ) (before : List ℕ) (p : Programmer) (fates : List Fate)
+    ensures { (part : Part) (steps : List (List Command)) (m : Memories) (k : ℕ) (before : List ℕ) (p : Programmer)
+        (fates : List Fate)
         → IsPart part → AreSteps part steps → Settled part m p
-        → Climbs device (λ j. Settled part (struck_by part j steps m)) 0 k steps p fates (along device k (play steps before) p fates) }
+        → Climbs device (λ j. Settled part (struck_by part j steps m)) 0 k steps p fates
+        (along device k (play steps before) p fates) }
 {}
 
 /// The steps of items are steps that the part can bear, and their strokes, one after another, do what the items do: the
 /// pages of flash with FF in gaps, the runs of EEPROM, the fuses and the lock.
 pub fn the_steps_of_items_do_what_they_do()
-    ensures steps { (part : Part) (items : List Item) → IsPart part → AllFitItems part items → AreSteps part (all_steps part items) }
+    ensures steps { (part : Part) (items : List Item) → IsPart part → AllFitItems part items
+        → AreSteps part (all_steps part items) }
     ensures reads { (part : Part) (mem : Mem) → IsPart part → AreSteps part (read_steps part mem) }
-    ensures effect { (part : Part) (items : List Item) (m : Memories) → IsPart part → AllFitItems part items → FitsPart part m
+    ensures effect { (part : Part) (items : List Item) (m : Memories) → IsPart part → AllFitItems part items
+        → FitsPart part m
         → effects part (strokes_of (all_steps part items)) m ≡ effects part items m }
     ensures all { (part : Part) (steps : List (List Command)) (m : Memories)
         → struck_by part (length steps) steps m ≡ effects part (strokes_of steps) m }
-    ensures sizes { (part : Part) (item : Item) (m : Memories) → IsPart part → FitsPart part m → FitsPart part (effect part item m) }
+    ensures sizes { (part : Part) (item : Item) (m : Memories) → IsPart part → FitsPart part m
+        → FitsPart part (effect part item m) }
 {}
 
 /// Over any line what a step gives is what the memories hold, and what a play of steps gives is that of its steps: the
 /// blocks of a memory are the memory.
 pub fn what_is_read_is_the_memory()
-    ensures step { (part : Part) (commands : List Command) (m : Memories) (k : ℕ) (p : Programmer) (fates : List Fate) (got : List ℕ)
+    ensures step { (part : Part) (commands : List Command) (m : Memories) (k : ℕ) (p : Programmer) (fates : List Fate)
+        (got : List ℕ)
         → IsPart part → IsStep part commands → FitsPart part m → Settled part m p
         → (along device k (step commands) p fates).dialog ≡ Done (Ok got) → got ≡ given_by part commands m }
-    ensures play { (part : Part) (steps : List (List Command)) (m : Memories) (k : ℕ) (before got : List ℕ) (p : Programmer) (fates : List Fate)
+    ensures play { (part : Part) (steps : List (List Command)) (m : Memories) (k : ℕ) (before got : List ℕ)
+        (p : Programmer) (fates : List Fate)
         → IsPart part → AreSteps part steps → FitsPart part m → Settled part m p
         → (along device k (play steps before) p fates).dialog ≡ Done (Ok got) → got ≡ before ++ all_given part steps m }
     ensures memory { (part : Part) (mem : Mem) (m : Memories) → IsPart part → FitsPart part m
@@ -122,15 +137,32 @@ pub fn what_is_read_is_the_memory()
 /// many as steps came to data and perhaps one more.
 pub fn steps_are_counted_as_strokes()
     ensures { (part : Part) (items : List Item) (count : ℕ) (m : Memories)
-        → struck_by part count (all_steps part items) m ≡ effects part (take count (strokes_of (all_steps part items))) m }
+        → struck_by part count (all_steps part items) m ≡ effects part
+        (take count (strokes_of (all_steps part items))) m }
 {}
 
-/// Over good fates a play of steps comes to all that they give, whenever it is done: no fault.
-pub fn good_fates_bring_all_data()
-    ensures { (part : Part) (steps : List (List Command)) (m : Memories) (k : ℕ) (before : List ℕ) (p : Programmer) (fates : List Fate)
+/// Where of any seven frames in a row at most three go wrong, a step comes to what it gives, and the line behind it is
+/// such a line; so a play of steps comes to all that they give. A good line is the simplest one. The bound is sharp:
+/// four lost commands in a row are too many, and of any six frames three are, where each second one is lost.
+pub fn few_bad_fates_bring_all_data()
+    ensures step { (part : Part) (commands : List Command) (m : Memories) (k : ℕ) (p : Programmer) (fates : List Fate)
+        → IsPart part → IsStep part commands → FitsPart part m → Settled part m p → AreFew fates → 8 ≤ k
+        → (along device k (step commands) p fates).dialog ≡ Done (Ok (given_by part commands m)) }
+    ensures rest { (k : ℕ) (commands : List Command) (p : Programmer) (fates : List Fate)
+        → AreFew fates → AreFew (along device k (step commands) p fates).fates }
+    ensures play { (part : Part) (steps : List (List Command)) (m : Memories) (k : ℕ) (before : List ℕ) (p : Programmer)
+        (fates : List Fate)
         (o : Outcome)
-        → IsPart part → AreSteps part steps → FitsPart part m → Settled part m p → AreGood fates
+        → IsPart part → AreSteps part steps → FitsPart part m → Settled part m p → AreFew fates
         → (along device k (play steps before) p fates).dialog ≡ Done o → o ≡ Ok (before ++ all_given part steps m) }
+    ensures good { (fates : List Fate) → AreGood fates → AreFew fates }
+    ensures four { (command : Command) (commands : List Command) (p : Programmer)
+        → (along device 4 (step (command ∷ commands)) p (LostCommand ∷ LostCommand ∷ LostCommand ∷ LostCommand
+        ∷ [])).dialog ≡ Done (Err NoAnswer) }
+    ensures six { FewOf 6 each_second }
+    ensures six_fail { (address : ℕ) (command : Command) (commands : List Command) (p : Programmer)
+        → (along device 7 (step (LoadAddress address ∷ command ∷ commands)) p each_second).dialog
+        ≡ Done (Err NoAnswer) }
 {}
 
 /// To open a session keeps the memories at each moment, and where a signature is answered it is the part's and the
@@ -138,8 +170,10 @@ pub fn good_fates_bring_all_data()
 /// memories of all its steps, or to a fault, with those of some first ones.
 pub fn a_session_is_led_from_call_to_call()
     ensures opening { (part : Part) (wanted : List ℕ) (force : Bool) (m : Memories) (p : Programmer) (fates : List Fate)
-        → IsPart part → FitsPart part m → Idle part m p → Leads device (opening wanted force) p fates (Idle part m) (AfterOpening part m) }
-    ensures operation { (part : Part) (steps : List (List Command)) (m : Memories) (judge : List ℕ → Result (List ℕ) HostFault)
+        → IsPart part → FitsPart part m → Idle part m p → Leads device (opening wanted force) p fates (Idle part m)
+        (AfterOpening part m) }
+    ensures operation { (part : Part) (steps : List (List Command)) (m : Memories)
+        (judge : List ℕ → Result (List ℕ) HostFault)
         (p : Programmer) (fates : List Fate)
         → IsPart part → AreSteps part steps → FitsPart part m → Settled part m p
         → Leads device (operation steps judge) p fates (Reached part steps m) (AfterOperation part steps m judge) }
@@ -153,8 +187,8 @@ pub fn a_talk_in_turn_is_never_idle<E, R>()
         → AsksBodies d → AreLawful fates → InTurn d n [] talk → NeverIdle p fates talk }
 {}
 
-/// What a talk says and comes to, and when a saying is a part of another: whatever these are, so that the law below holds of the
-/// host's operations and of a session alike.
+/// What a talk says and comes to, and when a saying is a part of another: whatever these are, so that the law below
+/// holds of the host's operations and of a session alike.
 pub trait Talks {
     ghost Saying: { Type 0 };
 
@@ -169,16 +203,19 @@ pub trait Talks {
 pub fn a_talk_over_a_wire_goes_along_the_line<T: Talks>()
     ensures whole { (d : Dialog T.Saying T.Outcome) (n : ℕ) (p : Programmer) (fates : List Fate) (w : State)
         (events : List (Event T.Saying)) (r : T.Outcome) (next : ℕ) (left : List ℕ)
-        → AsksBodies d → AreLawful fates → Keeps p fates w → Plays d n [] w.talk events r next left → GoesAlong d p fates w r left }
-    ensures broken { (d : Dialog T.Saying T.Outcome) (n : ℕ) (p : Programmer) (fates : List Fate) (w : State) (shown : List (Event T.Saying))
+        → AsksBodies d → AreLawful fates → Keeps p fates w → Plays d n [] w.talk events r next left
+        → GoesAlong d p fates w r left }
+    ensures broken { (d : Dialog T.Saying T.Outcome) (n : ℕ) (p : Programmer) (fates : List Fate) (w : State)
+        (shown : List (Event T.Saying))
         → AsksBodies d → AreLawful fates → Keeps p fates w → Breaks T.SaidPart d n [] w.talk shown
         → w.wire.programmer ≡ (along device (length (frames (sent w.talk))) d p fates).programmer }
 {}
 
-/// What is said beside the line over what a wire brings is what is said along the line of its fates, in as many questions as
-/// frames were sent: so far, and where a talk over the wire was a whole play.
+/// What is said beside the line over what a wire brings is what is said along the line of its fates, in as many
+/// questions as frames were sent: so far, and where a talk over the wire was a whole play.
 pub fn what_is_said_over_a_wire_is_said_along_the_line<E, R>()
-    ensures over { (d : Dialog E R) (n : ℕ) (w : Wire Programmer) (sent more : List (List ℕ)) → AsksBodies d → IsClear n w.late → AreLawful w.fates
+    ensures over { (d : Dialog E R) (n : ℕ) (w : Wire Programmer) (sent more : List (List ℕ)) → AsksBodies d
+        → IsClear n w.late → AreLawful w.fates
         → frames_in (played d n (tape_of device sent w)).events ≡ sent ++ more
         → sayings (played d n (tape_of device sent w)).events ≡ said_along device (length sent) d w.programmer w.fates }
     ensures whole { (d : Dialog E R) (n : ℕ) (p : Programmer) (fates : List Fate) (w : State)
@@ -187,8 +224,8 @@ pub fn what_is_said_over_a_wire_is_said_along_the_line<E, R>()
         → sayings events ≡ said_along device (length (frames (sent w.talk))) d p fates }
 {}
 
-/// A comparison finds no difference exactly where the memory holds the image; an image laid over a memory is held; and an
-/// erased flash into which one was ANDed holds it, and FF elsewhere.
+/// A comparison finds no difference exactly where the memory holds the image; an image laid over a memory is held; and
+/// an erased flash into which one was ANDed holds it, and FF elsewhere.
 pub fn no_difference_is_the_image()
     ensures same { (addr : ℕ) (image : Image) (bytes : List ℕ)
         → difference_from addr image bytes ≡ None ↔ Holds image bytes }

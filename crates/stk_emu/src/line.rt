@@ -57,8 +57,10 @@ fn pass_with(
     requires lawful { IsLawfulFate fate.now }
     requires holds { HoldsFrame reader.now }
     requires tells { is_good reader.now ≡ good }
-    ensures items { tape_in out.new.items ≡ on_tape late.old.items ++ back fate.now (answer_frame device reader.now programmer.old) (frame (seq_of reader.now) refusal) }
-    ensures programmer { programmer.new ≡ after_fate fate.now (after_frame device reader.now programmer.old) programmer.old }
+    ensures items { tape_in out.new.items ≡ on_tape late.old.items
+        ++ back fate.now (answer_frame device reader.now programmer.old) (frame (seq_of reader.now) refusal) }
+    ensures programmer { programmer.new ≡ after_fate fate.now (after_frame device reader.now programmer.old)
+        programmer.old }
     ensures late { late.new.items ≡ late_of fate.now (answer_frame device reader.now programmer.old) }
 {
     let mut frame = Frame::new();
@@ -91,7 +93,8 @@ fn pass_with(
 }
 
 impl Line {
-    /// A programmer with this chip, out of programming mode, and what will happen to each frame; after these fates all are good.
+    /// A programmer with this chip, out of programming mode, and what will happen to each frame; after these fates all
+    /// are good.
     pub fn new(chip: Chip, fates: Vec<Fate>) -> Line
         requires { AreLawful fates.items }
         ensures { result ≡ fresh (fresh_programmer chip) fates.items }

@@ -40,7 +40,8 @@ fn has_good_frame(noise: &[u8]) -> bool
     false
 }
 
-/// Whether noise can be told from an answer: it has at most 2,048 bytes, and no good frame where it is cut from its left.
+/// Whether noise can be told from an answer: it has at most 2,048 bytes, and no good frame where it is cut from its
+/// left.
 ///
 /// The noise of every [`crate::Fate::AnswerSpoiled`] of a [`crate::Wired`] is lawful, as its maker sees to.
 pub fn noise_is_lawful(noise: &[u8]) -> bool

@@ -14,7 +14,7 @@ use stk_frame::{Command, EnterProgmode, ProgramBlock, ReadBlock, ReadByte};
 
 /// The command was obeyed.
 const OK: u8 = 0x00;
-/// The command failed, and nothing changed.
+/// The command failed: nothing changed, but ENTER turned the mode off, and may have sent its bytes.
 const FAILED: u8 = 0xC0;
 /// There is no such command.
 const UNKNOWN: u8 = 0xC9;

@@ -8,7 +8,7 @@ ghost use Rattle.stk_host.specs.Talk as talk;
 ghost use Rattle.stk_host.specs.Talk.{Grows, HasFailed, Stays, FitsBuffer, items_of};
 ghost use Rattle.stk_emu.specs.Programmer.{fresh_programmer};
 ghost use Rattle.stk_emu.specs.Wire.{AreLawful, fresh};
-ghost use Rattle.stk_emu.specs.Wired.{Start, ComesOf, IsFresh, IsNext, after_hearing};
+ghost use Rattle.stk_emu.specs.Wired.{Start, ComesOf, IsFresh, Passes, IsNext, after_hearing};
 
 use crate::fate::Fate;
 use crate::line::Line;
@@ -22,8 +22,8 @@ use stk_host::{Heard, Link, LinkFault, Log};
 /// A link to an emulated programmer over a wire that loses, delays and spoils: the nth whole frame that is sent has the
 /// nth fate, and after the list all are [`Fate::Good`].
 ///
-/// What a frame brings waits until it is heard; where nothing waits a silence is heard. Memory that is refused is a failure
-/// of the link, which is counted and changes nothing else. It keeps all that passed.
+/// What a frame brings waits until it is heard; where nothing waits a silence is heard. Memory that is refused is a
+/// failure of the link, which is counted and changes nothing else. It keeps all that passed.
 #[derive(Drop)]
 pub struct Wired {
     reader: FrameReader,
@@ -134,6 +134,7 @@ impl Wired {
         ensures progress { IfOk result (λ n. 0 < length bytes.now → 0 < n) }
         ensures talk { IfOk result (λ n. self.new.talk ≡ self.old.talk ++ talk.Sent (take n bytes.now) ∷ []) }
         ensures failures { self.new.failures ≡ self.old.failures }
+        ensures passes { IfOk result (λ n. Passes self.old self.new (take n bytes.now)) }
         ensures comes { IfOk result (λ n. Stays ComesOf self.old self.new) }
         ensures err { OnErr result (self.new ≡ self.old) }
     {
@@ -195,11 +196,17 @@ impl Link for Wired {
 
     fn send(&mut self, bytes: &[u8]) -> Result<usize, LinkFault>
         ensures within { IfOk result (λ n. n ≤ length bytes.now) }
-        ensures ok { IfOk result (λ n. Grows (Some self.old.talk) (talk.Sent (take n bytes.now) ∷ []) (Some self.new.talk)) }
+        ensures ok { IfOk result (λ n. Grows (Some self.old.talk) (talk.Sent (take n bytes.now) ∷ [])
+            (Some self.new.talk)) }
         ensures err { OnErr result (Grows (Some self.old.talk) [] (Some self.new.talk)) }
         ensures counted { self.old.failures ≤ self.new.failures }
         ensures failed { OnErr result (HasFailed self.old.failures self.new.failures) }
-        ensures stuck { IfOk result (λ n. n ≡ 0 → 0 < length bytes.now → HasFailed self.old.failures self.new.failures) }
+        ensures stuck { IfOk result (λ n. n ≡ 0 → 0 < length bytes.now
+            → HasFailed self.old.failures self.new.failures) }
+        ensures sound { OnOk result (self.new.failures ≡ self.old.failures) }
+        // Whatever was sent and heard before, and whoever listened idly, what the frames bring waits behind what
+        // waited.
+        ensures passes { IfOk result (λ n. Passes self.old self.new (take n bytes.now)) }
         ensures same { OnErr result (self.new ≡ record self.old { failures = self.new.failures }) }
         // Sent and heard stay what the fates say.
         ensures comes { Stays ComesOf self.old self.new }
@@ -216,10 +223,12 @@ impl Link for Wired {
     fn recv(&mut self, buffer: &mut [u8]) -> Result<Heard, LinkFault>
         requires { 0 < length buffer.old }
         ensures within { IfOk result (λ heard. FitsBuffer heard (length buffer.new)) }
-        ensures ok { IfOk result (λ heard. Grows (Some self.old.talk) (talk.Got (items_of heard buffer.new) ∷ []) (Some self.new.talk)) }
+        ensures ok { IfOk result (λ heard. Grows (Some self.old.talk) (talk.Got (items_of heard buffer.new) ∷ [])
+            (Some self.new.talk)) }
         ensures err { OnErr result (Grows (Some self.old.talk) [] (Some self.new.talk)) }
         ensures counted { self.old.failures ≤ self.new.failures }
         ensures failed { OnErr result (HasFailed self.old.failures self.new.failures) }
+        ensures sound { OnOk result (self.new.failures ≡ self.old.failures) }
         // What is heard is what waited first; where nothing waited, a silence.
         ensures heard { IfOk result (λ heard. self.new ≡ after_hearing (items_of heard buffer.new) self.old) }
         ensures next { IfOk result (λ heard. IsNext (items_of heard buffer.new) self.old.waits) }

@@ -35,10 +35,13 @@ code (SpiMulti send_count receive_count receive_start bytes) = 0x1D
 
 -- the bytes of its fields, in their order; a number of several bytes has its highest byte first
 abbrev pub enter_progmode_fields : EnterFields → List ℕ
-enter_progmode_fields f = f.timeout ∷ f.stab_delay ∷ f.command_delay ∷ f.synch_loops ∷ f.byte_delay ∷ f.poll_value ∷ f.poll_index ∷ f.instruction
+enter_progmode_fields f =
+    f.timeout ∷ f.stab_delay ∷ f.command_delay ∷ f.synch_loops ∷ f.byte_delay ∷ f.poll_value ∷ f.poll_index
+    ∷ f.instruction
 
 abbrev pub program_block_fields : ProgramBlock → List ℕ
-program_block_fields f = big_bytes 2 f.count ++ f.mode ∷ f.delay ∷ f.cmd1 ∷ f.cmd2 ∷ f.cmd3 ∷ f.poll1 ∷ f.poll2 ∷ f.bytes
+program_block_fields f =
+    big_bytes 2 f.count ++ f.mode ∷ f.delay ∷ f.cmd1 ∷ f.cmd2 ∷ f.cmd3 ∷ f.poll1 ∷ f.poll2 ∷ f.bytes
 
 abbrev pub read_block_fields : ReadBlock → List ℕ
 read_block_fields f = big_bytes 2 f.count ++ f.cmd1 ∷ []

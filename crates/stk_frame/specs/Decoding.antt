@@ -26,7 +26,8 @@ load_address (a ∷ b ∷ c ∷ d ∷ []) = Some (LoadAddress (big_number 4 (a �
 load_address _ = None
 
 abbrev pub enter_progmode : List ℕ → Option EnterFields
-enter_progmode (timeout ∷ stab_delay ∷ command_delay ∷ synch_loops ∷ byte_delay ∷ poll_value ∷ poll_index ∷ a ∷ b ∷ c ∷ d ∷ []) =
+enter_progmode (timeout ∷ stab_delay ∷ command_delay ∷ synch_loops ∷ byte_delay ∷ poll_value ∷ poll_index ∷ a ∷ b ∷ c
+    ∷ d ∷ []) =
     Some (record {
       timeout = timeout;
       stab_delay = stab_delay;
@@ -44,7 +45,8 @@ leave_progmode (pre_delay ∷ post_delay ∷ []) = Some (LeaveProgmode pre_delay
 leave_progmode _ = None
 
 abbrev pub chip_erase : List ℕ → Option Command
-chip_erase (erase_delay ∷ poll_method ∷ a ∷ b ∷ c ∷ d ∷ []) = Some (ChipErase erase_delay poll_method (a ∷ b ∷ c ∷ d ∷ []))
+chip_erase (erase_delay ∷ poll_method ∷ a ∷ b ∷ c ∷ d ∷ []) =
+    Some (ChipErase erase_delay poll_method (a ∷ b ∷ c ∷ d ∷ []))
 chip_erase _ = None
 
 abbrev pub program_block : List ℕ → Option ProgramBlock
@@ -71,11 +73,13 @@ instruction (a ∷ b ∷ c ∷ d ∷ []) = Some (a ∷ b ∷ c ∷ d ∷ [])
 instruction _ = None
 
 abbrev pub read_byte : List ℕ → Option ReadByte
-read_byte (return_address ∷ a ∷ b ∷ c ∷ d ∷ []) = Some (record { return_address = return_address; instruction = a ∷ b ∷ c ∷ d ∷ [] })
+read_byte (return_address ∷ a ∷ b ∷ c ∷ d ∷ []) =
+    Some (record { return_address = return_address; instruction = a ∷ b ∷ c ∷ d ∷ [] })
 read_byte _ = None
 
 abbrev pub spi_multi : List ℕ → Option Command
-spi_multi (send_count ∷ receive_count ∷ receive_start ∷ bytes) = Some (SpiMulti send_count receive_count receive_start bytes)
+spi_multi (send_count ∷ receive_count ∷ receive_start ∷ bytes) =
+    Some (SpiMulti send_count receive_count receive_start bytes)
 spi_multi _ = None
 
 -- the command of this byte that has these fields

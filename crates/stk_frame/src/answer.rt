@@ -81,7 +81,8 @@ impl Shape {
     /// The data among what follows the first status: WrongLength where that has another length, and
     /// Status where the last status isn't 00.
     pub fn data_in<'a>(&self, more: &'a [u8]) -> Result<&'a [u8], FrameFault>
-        ensures judged { MatchResult result (λ found. data_of self.now more.now ≡ Ok found.now) (λ fault. data_of self.now more.now ≡ Err fault) }
+        ensures judged { MatchResult result (λ found. data_of self.now more.now ≡ Ok found.now)
+            (λ fault. data_of self.now more.now ≡ Err fault) }
         ensures fits { IfOk result (λ found. length found.now ≤ length more.now) }
         ensures sized { IfOk result (λ found. SizedBy self.now found.now) }
     {
@@ -103,7 +104,8 @@ impl Shape {
 /// So many bytes that a last status of 00 follows.
 fn closed_data(size: usize, more: &[u8]) -> Result<&[u8], FrameFault>
     requires { size < 65536 }
-    ensures judged { MatchResult result (λ found. data_of (Shape.Closed size) more.now ≡ Ok found.now) (λ fault. data_of (Shape.Closed size) more.now ≡ Err fault) }
+    ensures judged { MatchResult result (λ found. data_of (Shape.Closed size) more.now ≡ Ok found.now)
+        (λ fault. data_of (Shape.Closed size) more.now ≡ Err fault) }
     ensures fits { IfOk result (λ found. length found.now ≤ length more.now) }
     ensures sized { IfOk result (λ found. length found.now ≡ size) }
 {
@@ -122,7 +124,8 @@ impl<'a> Answer<'a> {
     /// a second byte other than 00 is Status; a length other than the command's is WrongLength; a last
     /// status other than 00, where the command has one, is Status.
     pub fn read(command: &Command<'_>, body: &'a [u8]) -> Result<Answer<'a>, FrameFault>
-        ensures judged { MatchResult result (λ answer. judge command.now body.now ≡ Ok answer.data.now) (λ fault. judge command.now body.now ≡ Err fault) }
+        ensures judged { MatchResult result (λ answer. judge command.now body.now ≡ Ok answer.data.now)
+            (λ fault. judge command.now body.now ≡ Err fault) }
         ensures fits { IfOk result (λ answer. length answer.data.now ≤ length body.now) }
         ensures sized { IfOk result (λ answer. SizedBy (shape command.now) answer.data.now) }
     {

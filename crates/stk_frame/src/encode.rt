@@ -125,8 +125,8 @@ impl Command<'_> {
         }
     }
 
-    /// Makes `out` the frame that carries the command under the sequence number `seq`. The bytes that the command lends are
-    /// copied into the frame and nowhere else.
+    /// Makes `out` the frame that carries the command under the sequence number `seq`. The bytes that the command lends
+    /// are copied into the frame and nowhere else.
     pub fn put_frame(&self, seq: u8, out: &mut ArrayVec<u8, 281>)
         requires { length (body self.now) ≤ 275 }
         ensures { out.new.items ≡ frame seq (body self.now) }

@@ -36,7 +36,10 @@ pub use reader::{Event, FrameReader};
 #[tactic(auto, using(crate::proofs::Laws::frame_is_piece, crate::proofs::Laws::frame_is_good))]
 pub fn cutting_is_the_only_one()
     ensures one { (bytes : List ℕ) → Cuts bytes (cut bytes) (rest bytes) }
-    ensures only { (bytes : List ℕ) (pieces : List (List ℕ)) (left : List ℕ) → Cuts bytes pieces left → (cut bytes ≡ pieces) × (rest bytes ≡ left) }
-    ensures good { (piece : List ℕ) → IsPiece piece → is_good piece ≡ true → ((i : ℕ) → slice_index piece i < 256) → piece ≡ frame (seq_of piece) (body_of piece) }
-    ensures frames { (seq : ℕ) (body : List ℕ) → 0 < length body → length body ≤ 275 → IsPiece (frame seq body) × (is_good (frame seq body) ≡ true) }
+    ensures only { (bytes : List ℕ) (pieces : List (List ℕ)) (left : List ℕ) → Cuts bytes pieces left
+        → (cut bytes ≡ pieces) × (rest bytes ≡ left) }
+    ensures good { (piece : List ℕ) → IsPiece piece → is_good piece ≡ true → ((i : ℕ) → slice_index piece i < 256)
+        → piece ≡ frame (seq_of piece) (body_of piece) }
+    ensures frames { (seq : ℕ) (body : List ℕ) → 0 < length body → length body ≤ 275 → IsPiece (frame seq body)
+        × (is_good (frame seq body) ≡ true) }
 {}

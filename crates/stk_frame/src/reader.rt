@@ -48,7 +48,8 @@ impl Model for FrameReader {
 
 /// How many bytes a body has whose header has these bytes, if a frame can have it.
 fn size_in(high: u8, low: u8, token: u8) -> Option<usize>
-    ensures { MatchOption result (is_header high low token ≡ false) (λ size. (is_header high low token ≡ true) × (size ≡ body_size high low) × (size ≤ 275)) }
+    ensures { MatchOption result (is_header high low token ≡ false)
+        (λ size. (is_header high low token ≡ true) × (size ≡ body_size high low) × (size ≤ 275)) }
 {
     let size = BigEndian::read_u16(&[high, low]) as usize;
     if 1 <= size && size <= 275 && token == 0x0E {
@@ -112,7 +113,8 @@ fn take_missing(held: &mut ArrayVec<u8, 281>, bytes: &[u8]) -> usize
 fn end_piece(held: &mut ArrayVec<u8, 281>) -> Event
     requires { IsHeld held.old.items }
     ensures held { IsHeld held.new.items }
-    ensures fed { (part bytes : List ℕ) → length part < piece_size part → held.old.items ≡ part ++ bytes → Fed part bytes held.new.items (found result held.new.items) }
+    ensures fed { (part bytes : List ℕ) → length part < piece_size part → held.old.items ≡ part ++ bytes
+        → Fed part bytes held.new.items (found result held.new.items) }
     ensures tells { Tells result held.new.items }
 {
     if held.len() < size_of_piece(held.as_slice()) {

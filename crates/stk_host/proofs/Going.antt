@@ -1,5 +1,5 @@
 -- The steps of an operation, one after another.
-use Rattle.std.proofs.Common.{◌≡◌, ℕ, ◌<◌, ◌≤◌, ◌^◌, lit≤, arith, List, [], ◌∷◌, ◌++◌, length, refl, subst, sym, ◌-◌, Bool, true, false, None, Some, ◌∙◌, inl, inr, Option, Ok, Err, Result}
+use Rattle.std.proofs.Common.{◌≡◌, ℕ, ◌<◌, ◌^◌, lit≤, arith, List, [], ◌∷◌, ◌++◌, length, refl, subst, sym, ◌-◌, Bool, true, false, None, Some, ◌∙◌, Option, Ok, Err, Result}
 use Rattle.std.specs.Prelude.{OnOk, if◌then◌else◌}
 use Rattle.avr_part.specs.declared.mem.Mem.{Mem}
 use Rattle.avr_part.specs.Mem.{is_writable}
@@ -15,7 +15,7 @@ use Rattle.stk_host.specs.declared.fault.Stop.TheVariants.{Fault, Link}
 use Rattle.stk_host.specs.declared.fault.StepFault.TheVariants as of_step
 use Rattle.stk_host.specs.declared.fault.HostFault.{HostFault}
 use Rattle.stk_host.specs.declared.fault.HostFault.TheVariants.{ReadOnly}
-use Rattle.stk_host.specs.Talk.{Talk, HasFailed}
+use Rattle.stk_host.specs.Talk.{Talk}
 use Rattle.stk_host.specs.Dialog.{Dialog, Done}
 use Rattle.stk_host.specs.Play.{PlaysOver}
 use Rattle.stk_host.specs.Reach.{Reaches}
@@ -23,7 +23,7 @@ use Rattle.stk_host.specs.Steps.{Outcome, step, play}
 use Rattle.stk_host.specs.Places.{each_from}
 use Rattle.stk_host.specs.WriteSteps.{write_steps}
 use Rattle.stk_host.specs.Operations.{judged_by, operation, writing, Difference, difference_from, differs, compared}
-use Rattle.stk_host.specs.Calls.{StopsSteps, EndsSteps, EndsCall, EndsOrLacks, GoesOn, CountsLink, IsCounted, data_count, told, closed, given, kept, verified}
+use Rattle.stk_host.specs.Calls.{StopsSteps, EndsSteps, EndsCall, EndsOrLacks, GoesOn, IsCounted, data_count, told, closed, given, kept, verified}
 use Rattle.stk_host.proofs.Reaching.{reaches_here, reaches_on, played_from, broken_bind, then_reaches}
 use Rattle.stk_host.proofs.Ends.{stops_on, play_on, play_stops, play_done}
 
@@ -84,16 +84,6 @@ pub plays_all : {a : Dialog ⊥ Outcome} {k m : ℕ} {s u : List ℕ} {r o : Opt
     → Reaches a k s r (play steps before) m u o → steps ≡ [] → PlaysOver a k s r o (Ok before) m u
 plays_all {a = a} {k = k} {m = m} {s = s} {u = u} {r = r} {o = o} steps before f is =
     play_done before (subst (λ ss. Reaches a k s r (play ss before) m u o) is f)
-
--- the count of failures, over calls one after another
-pub failed_on : (a b c : ℕ) → a ≤ b → HasFailed b c → HasFailed a c
-failed_on a b c le (inl lt) = inl (omega (arith, le, lt))
-failed_on a b c le (inr is) = inr is
-
-pub counts_on : {A : Type 0} (a b c : ℕ) (result : Result A Stop) → a ≤ b → CountsLink b c result → CountsLink a c result
-counts_on a b c (Ok done) le (more, by) = (omega (arith, le, more), tt)
-counts_on a b c (Err (Fault fault)) le (more, by) = (omega (arith, le, more), tt)
-counts_on a b c (Err (Link broken)) le (more, by) = (omega (arith, le, more), failed_on a b c le by)
 
 -- what an operation comes to, from what its steps come to
 

@@ -1,11 +1,13 @@
 -- How a talk goes on in a dialog: laws over talks alone.
-use Rattle.std.proofs.Common.{◌≡◌, ℕ, List, [], ◌∷◌, ◌++◌, refl, sym, ap, ◌∙◌, subst, append_assoc, Option, Some, None}
+use Rattle.std.proofs.Common.{◌≡◌, ℕ, ◌<◌, List, [], ◌∷◌, ◌++◌, length, refl, sym, ap, ◌∙◌, subst, append_assoc, Option, Some, None}
 use Rattle.std.proofs.lemmas.List.{append-nil}
 use Rattle.stk_frame.specs.Frame.{frame}
+use Rattle.stk_host.specs.declared.fault.Broken.{Broken}
+use Rattle.stk_host.specs.declared.fault.Broken.TheVariants as broken
 use Rattle.stk_host.specs.Tape.{Tape, Reading, on_tape, answer}
 use Rattle.stk_host.specs.Talk.{Talk, Sent, Got, sent, heard}
 use Rattle.stk_host.specs.Dialog.{Dialog, Done, Say, Ask, ◌>>=◌, Event, Frame, Said, Played, played, behind, by_answer, next, bytes_sent}
-use Rattle.stk_host.specs.Play.{IsDue, TurnsFrom, InTurn, Plays, Breaks, IsFront, IsBegun, IsPrefixOf}
+use Rattle.stk_host.specs.Play.{IsDue, TurnsFrom, InTurn, Plays, Breaks, BreaksSending, BreaksListening, BreaksBy, IsFront, IsBegun}
 use Rattle.stk_host.specs.Reach.{Leads, IsQuiet, WaitsFrom}
 use Rattle.stk_host.proofs.Talks.{sent_append, heard_append, heard_both, heard_quiet, sent_waiting}
 
@@ -96,13 +98,20 @@ due_behind {a = a} {b = b} {m = m} {n = n} {u = u} {v = v} {talk = talk} {events
           ∙ (ap (λ bs. bs ++ bytes_sent (played b n (on_tape v ++ x)).events) f.all_sent ∙ ap (λ bs. sent talk ++ bs) due.all_sent));
     }
 
+-- a play that waits, whatever follows its dialog
+waits_bind : {E A B : Type 0} (dialog : Dialog E A) (go_on : A → Dialog E B) (seq : ℕ) (x : Tape) → (played dialog seq x).outcome ≡ None
+    → played (dialog >>= go_on) seq x ≡ record { events = (played dialog seq x).events; outcome = None }
+waits_bind dialog go_on seq x waits =
+    played_bind dialog go_on seq x
+    ∙ (ap (λ o. behind (played dialog seq x).events (continued o (λ a. played (go_on a)))) waits
+    ∙ ap (λ es. record { events = es; outcome = None }) (append-nil (played dialog seq x).events))
+
 due_bind : {E A B : Type 0} (dialog : Dialog E A) (go_on : A → Dialog E B) (seq : ℕ) (x : Tape) (bytes : List ℕ) → IsDue dialog seq x bytes → IsDue (dialog >>= go_on) seq x bytes
 due_bind dialog go_on seq x bytes due =
-    let e : played (dialog >>= go_on) seq x ≡ record { events = (played dialog seq x).events ++ []; outcome = None } =
-    played_bind dialog go_on seq x ∙ ap (λ o. behind (played dialog seq x).events (continued o (λ a. played (go_on a)))) due.waits in
+    let e = waits_bind dialog go_on seq x due.waits in
     record {
       waits = ap (λ p. p.outcome) e;
-      all_sent = ap (λ p. bytes_sent p.events) e ∙ (ap bytes_sent (append-nil (played dialog seq x).events) ∙ due.all_sent);
+      all_sent = ap (λ p. bytes_sent p.events) e ∙ due.all_sent;
     }
 
 turns_bind : {E A B : Type 0} (dialog : Dialog E A) (go_on : A → Dialog E B) (seq : ℕ) (u : List ℕ) (talk : Talk) → InTurn dialog seq u talk → InTurn (dialog >>= go_on) seq u talk
@@ -254,34 +263,126 @@ breaks_here SaidPart dialog seq u = record {
   in_turn = tt;
 }
 
--- a part of a frame was sent
-pub breaks_asking : {E R : Type 0} (SaidPart : E → E → Type 0) (body : List ℕ) (answered : Reading → Dialog E R) (seq : ℕ) (u part : List ℕ) (x : Talk)
-    → IsQuiet x → sent x ≡ part → IsPrefixOf part (frame seq body) → Breaks SaidPart (Ask body answered) seq u x (Frame part ∷ [])
-breaks_asking SaidPart body answered seq u part x quiet is front = record {
-  front = record {
-    whole = [];
-    begun = Frame part ∷ [];
-    later = (played (Ask body answered) seq (on_tape u ++ heard x)).events;
-    shown_is = refl;
-    events_are = refl;
-    part = front;
-  };
-  all_sent = append-nil part ∙ sym is;
-  in_turn = turns_quiet (Ask body answered) seq (on_tape u) [] x quiet;
+-- breaking off as the link fails
+
+-- what is played over a talk that leads on, and what is played from there
+led : {E R : Type 0} {a b : Dialog E R} {m n : ℕ} {u v : List ℕ} {x : Talk} {events : List (Event E)} → Leads a m u x events b n v → (y : Talk)
+    → played a m (on_tape u ++ heard (x ++ y)) ≡ behind events (played b n (on_tape v ++ heard y))
+led {a = a} {m = m} {u = u} {x = x} f y = ap (λ t. played a m (on_tape u ++ t)) (heard_append x y) ∙ f.goes_on (heard y)
+
+led_turns : {E R : Type 0} {a b : Dialog E R} {m n : ℕ} {u v : List ℕ} {x : Talk} {events : List (Event E)} (f : Leads a m u x events b n v) (y : Talk) → InTurn b n v y → InTurn a m u (x ++ y)
+led_turns {a = a} {b = b} {m = m} {n = n} {u = u} {v = v} {x = x} f y in_turn =
+    turns_append a m (on_tape u) [] x y f.in_turn (turns_behind a b m n (on_tape u ++ heard x) (on_tape v) (sent x) (due_behind f) y in_turn)
+
+led_bytes : {E R : Type 0} {a b : Dialog E R} {m n : ℕ} {u v : List ℕ} {x : Talk} {events : List (Event E)} (f : Leads a m u x events b n v) (y : Talk) (shown : List (Event E))
+    → bytes_sent shown ≡ sent y → bytes_sent (events ++ shown) ≡ sent (x ++ y)
+led_bytes {x = x} {events = events} f y shown is =
+    bytes_append events shown ∙ (ap (λ bs. bs ++ bytes_sent shown) f.all_sent ∙ (ap (λ bs. sent x ++ bs) is ∙ sym (sent_append x y)))
+
+pub by_on : {E R : Type 0} (by : Broken) {a b : Dialog E R} {m n : ℕ} {u v : List ℕ} {x : Talk} {events : List (Event E)} (y : Talk) (shown : List (Event E))
+    → Leads a m u x events b n v → BreaksBy by b n v y shown → BreaksBy by a m u (x ++ y) (events ++ shown)
+by_on broken.Send {events = events} y shown f g = record {
+  whole = events ++ g.whole;
+  part = g.part;
+  unsent = g.unsent;
+  later = g.later;
+  shown_is = ap (λ es. events ++ es) g.shown_is ∙ sym (append_assoc events g.whole (Frame g.part ∷ []));
+  events_are =
+      ap (λ p. p.events) (led f y)
+      ∙ (ap (λ es. events ++ es) g.events_are ∙ sym (append_assoc events g.whole (Frame (g.part ++ g.unsent) ∷ g.later)));
+  not_whole = g.not_whole;
+  all_sent = led_bytes f y shown g.all_sent;
+  in_turn = led_turns f y g.in_turn;
+}
+by_on broken.Recv {events = events} y shown f g = record {
+  waits = ap (λ p. p.outcome) (led f y) ∙ g.waits;
+  shown_is = ap (λ es. events ++ es) g.shown_is ∙ sym (ap (λ p. p.events) (led f y));
+  all_sent = led_bytes f y shown g.all_sent;
+  in_turn = led_turns f y g.in_turn;
 }
 
--- a frame was sent, and listening broke off
-pub breaks_listening : {E R : Type 0} (SaidPart : E → E → Type 0) (body : List ℕ) (answered : Reading → Dialog E R) (seq : ℕ) (u : List ℕ) (x y : Talk)
-    → IsQuiet x → sent x ≡ frame seq body → WaitsFrom seq (on_tape u) y → Breaks SaidPart (Ask body answered) seq u (x ++ y) (Frame (frame seq body) ∷ [])
-breaks_listening SaidPart body answered seq u x y quiet is waits = record {
+pub by_bind : {E A B : Type 0} (by : Broken) (a : Dialog E A) (m : ℕ) (u : List ℕ) (talk : Talk) (shown : List (Event E)) (go_on : A → Dialog E B)
+    → BreaksBy by a m u talk shown → BreaksBy by (a >>= go_on) m u talk shown
+by_bind broken.Send a m u talk shown go_on f =
+    let p = played a m (on_tape u ++ heard talk) in
+    let more = (continued p.outcome (λ r. played (go_on r))).events in
+    record {
+      whole = f.whole;
+      part = f.part;
+      unsent = f.unsent;
+      later = f.later ++ more;
+      shown_is = f.shown_is;
+      events_are =
+          ap (λ q. q.events) (played_bind a go_on m (on_tape u ++ heard talk))
+          ∙ (ap (λ es. es ++ more) f.events_are ∙ append_assoc f.whole (Frame (f.part ++ f.unsent) ∷ f.later) more);
+      not_whole = f.not_whole;
+      all_sent = f.all_sent;
+      in_turn = turns_bind a go_on m u talk f.in_turn;
+    }
+by_bind broken.Recv a m u talk shown go_on f =
+    let e = waits_bind a go_on m (on_tape u ++ heard talk) f.waits in
+    record {
+      waits = ap (λ p. p.outcome) e;
+      shown_is = f.shown_is ∙ sym (ap (λ p. p.events) e);
+      all_sent = f.all_sent;
+      in_turn = turns_bind a go_on m u talk f.in_turn;
+    }
+
+-- whatever broke it off, it broke off
+pub by_any : {E R : Type 0} (SaidPart : E → E → Type 0) (by : Broken) (a : Dialog E R) (m : ℕ) (u : List ℕ) (talk : Talk) (shown : List (Event E))
+    → BreaksBy by a m u talk shown → Breaks SaidPart a m u talk shown
+by_any SaidPart broken.Send a m u talk shown f = record {
   front = record {
-    whole = Frame (frame seq body) ∷ [];
+    whole = f.whole;
+    begun = Frame f.part ∷ [];
+    later = Frame (f.part ++ f.unsent) ∷ f.later;
+    shown_is = f.shown_is;
+    events_are = f.events_are;
+    part = (f.unsent, refl);
+  };
+  all_sent = f.all_sent;
+  in_turn = f.in_turn;
+}
+by_any SaidPart broken.Recv a m u talk shown f = record {
+  front = record {
+    whole = shown;
     begun = [];
-    later = (by_answer (λ r. played (answered r) (next seq)) (answer seq (on_tape u ++ heard (x ++ y)))).events;
-    shown_is = refl;
-    events_are = refl;
+    later = [];
+    shown_is = sym (append-nil shown);
+    events_are = sym f.shown_is ∙ sym (append-nil shown);
     part = tt;
   };
-  all_sent = append-nil (frame seq body) ∙ (sym is ∙ (sym (append-nil (sent x)) ∙ (ap (λ bs. sent x ++ bs) (sym (sent_waiting seq (on_tape u) y waits)) ∙ sym (sent_append x y))));
-  in_turn = turns_asking body answered seq u x y quiet is waits;
+  all_sent = f.all_sent;
+  in_turn = f.in_turn;
 }
+
+-- a part of a frame was sent
+pub breaks_asking : {E R : Type 0} (body : List ℕ) (answered : Reading → Dialog E R) (seq : ℕ) (u part unsent : List ℕ) (x : Talk)
+    → IsQuiet x → sent x ≡ part → frame seq body ≡ part ++ unsent → 0 < length unsent → BreaksSending (Ask body answered) seq u x (Frame part ∷ [])
+breaks_asking body answered seq u part unsent x quiet is frame_is not_whole =
+    let later = (by_answer (λ r. played (answered r) (next seq)) (answer seq (on_tape u ++ heard x))).events in
+    record {
+      whole = [];
+      part = part;
+      unsent = unsent;
+      later = later;
+      shown_is = refl;
+      events_are = ap (λ bs. Frame bs ∷ later) frame_is;
+      not_whole = not_whole;
+      all_sent = append-nil part ∙ sym is;
+      in_turn = turns_quiet (Ask body answered) seq (on_tape u) [] x quiet;
+    }
+
+-- a frame was sent, and listening broke off
+pub breaks_listening : {E R : Type 0} (body : List ℕ) (answered : Reading → Dialog E R) (seq : ℕ) (u : List ℕ) (x y : Talk)
+    → IsQuiet x → sent x ≡ frame seq body → WaitsFrom seq (on_tape u) y → answer seq (on_tape u ++ heard y) ≡ None
+    → BreaksListening (Ask body answered) seq u (x ++ y) (Frame (frame seq body) ∷ [])
+breaks_listening body answered seq u x y quiet is waits none =
+    let all : heard (x ++ y) ≡ heard y = heard_append x y ∙ ap (λ t. t ++ heard y) (heard_quiet x quiet) in
+    let unheard : answer seq (on_tape u ++ heard (x ++ y)) ≡ None = ap (λ t. answer seq (on_tape u ++ t)) all ∙ none in
+    record {
+      waits = ap (λ o. (by_answer (λ r. played (answered r) (next seq)) o).outcome) unheard;
+      shown_is = ap (λ o. Frame (frame seq body) ∷ (by_answer (λ r. played (answered r) (next seq)) o).events) (sym unheard);
+      all_sent = append-nil (frame seq body) ∙ (sym is ∙ (sym (append-nil (sent x)) ∙ (ap (λ bs. sent x ++ bs) (sym (sent_waiting seq (on_tape u) y waits)) ∙ sym (sent_append x y))));
+      in_turn = turns_asking body answered seq u x y quiet is waits;
+    }

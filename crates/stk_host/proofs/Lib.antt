@@ -16,3 +16,4 @@ pub mod Pieces
 pub mod Streams
 pub mod Rows
 pub mod OperationRows
+pub mod EndRows

@@ -1,10 +1,12 @@
 -- A dialog that says nothing beside the line, as a part of one that does: laws for the crates above.
-use Rattle.std.proofs.Common.{◌≡◌, ℕ, List, [], ◌∷◌, ◌++◌, refl, ap, ◌∙◌, Some, None}
+use Rattle.std.proofs.Common.{◌≡◌, ℕ, List, [], ◌∷◌, ◌++◌, refl, sym, ap, ◌∙◌, Some, None}
 use Rattle.stk_frame.specs.Frame.{frame}
+use Rattle.stk_host.specs.declared.fault.Broken.{Broken}
+use Rattle.stk_host.specs.declared.fault.Broken.TheVariants as broken
 use Rattle.stk_host.specs.Tape.{Tape, on_tape, answer}
 use Rattle.stk_host.specs.Talk.{Talk, heard}
 use Rattle.stk_host.specs.Dialog.{Dialog, Done, Say, Ask, lifted, Event, Frame, Said, Played, played, behind, by_answer, next, bytes_sent, sayings}
-use Rattle.stk_host.specs.Play.{IsDue, InTurn, Plays, Breaks, IsBegun, NoPart}
+use Rattle.stk_host.specs.Play.{IsDue, InTurn, Plays, Breaks, BreaksBy, IsBegun, NoPart}
 use Rattle.stk_host.proofs.Leading.{turns_behind}
 
 -- events among which nothing is said
@@ -78,6 +80,28 @@ breaks_lifted {E = E} SaidPart {dialog = dialog} {m = m} {u = u} {talk = talk} {
     events_are = ap (λ p. p.events) (played_lifted {E = E} dialog m (on_tape u ++ heard talk)) ∙ (ap raised f.front.events_are ∙ raised_append f.front.whole f.front.later);
     part = begun_raised SaidPart f.front.begun f.front.later f.front.part;
   };
+  all_sent = bytes_raised E shown ∙ f.all_sent;
+  in_turn = turns_lifted E dialog m u talk f.in_turn;
+}
+
+pub by_lifted : {R : Type 0} (E : Type 0) (by : Broken) (dialog : Dialog ⊥ R) (m : ℕ) (u : List ℕ) (talk : Talk) (shown : List (Event ⊥))
+    → BreaksBy by dialog m u talk shown → BreaksBy {E = E} by (lifted dialog) m u talk (raised shown)
+by_lifted E broken.Send dialog m u talk shown f = record {
+  whole = raised f.whole;
+  part = f.part;
+  unsent = f.unsent;
+  later = raised f.later;
+  shown_is = ap raised f.shown_is ∙ raised_append f.whole (Frame f.part ∷ []);
+  events_are =
+      ap (λ p. p.events) (played_lifted {E = E} dialog m (on_tape u ++ heard talk))
+      ∙ (ap raised f.events_are ∙ raised_append f.whole (Frame (f.part ++ f.unsent) ∷ f.later));
+  not_whole = f.not_whole;
+  all_sent = bytes_raised E shown ∙ f.all_sent;
+  in_turn = turns_lifted E dialog m u talk f.in_turn;
+}
+by_lifted E broken.Recv dialog m u talk shown f = record {
+  waits = ap (λ p. p.outcome) (played_lifted {E = E} dialog m (on_tape u ++ heard talk)) ∙ f.waits;
+  shown_is = ap raised f.shown_is ∙ sym (ap (λ p. p.events) (played_lifted {E = E} dialog m (on_tape u ++ heard talk)));
   all_sent = bytes_raised E shown ∙ f.all_sent;
   in_turn = turns_lifted E dialog m u talk f.in_turn;
 }

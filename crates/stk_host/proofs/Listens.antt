@@ -1,6 +1,6 @@
 -- Listening for an answer, as the code takes it turn by turn.
 use Rattle.std.proofs.Common.{◌≡◌, ℕ, ◌+◌, ◌<◌, ◌≤◌, List, [], ◌∷◌, ◌++◌, length, refl, sym, ap, ◌∙◌, subst, append_assoc, arith, length-append, Option, Some, None, true}
-use Rattle.std.proofs.lemmas.List.{append-nil}
+use Rattle.std.proofs.lemmas.List.{append-nil, length-map}
 use Rattle.stk_frame.specs.declared.reader.Event.{Event}
 use Rattle.stk_frame.specs.declared.reader.Event.TheVariants as event
 use Rattle.stk_frame.specs.Cut.{rest, body_of}
@@ -9,7 +9,7 @@ use Rattle.stk_frame.proofs.Feeding.{rest_whole}
 use Rattle.stk_host.specs.declared.link.Heard.{Heard}
 use Rattle.stk_host.specs.declared.link.Heard.TheVariants as heard
 use Rattle.stk_host.specs.declared.link.Item.{Item}
-use Rattle.stk_host.specs.declared.link.Item.TheVariants.{Silence, End}
+use Rattle.stk_host.specs.declared.link.Item.TheVariants.{Byte, Silence, End}
 use Rattle.stk_host.specs.Tape.{Tape, Reading, on_tape, answer, first_answer, is_answer, limit, Answered, Silent, Ended, Babbled}
 use Rattle.stk_host.specs.Talk.{Talk, Got, heard as heard_in, Grows}
 use Rattle.stk_host.specs.Reach.{WaitsFrom, Listening, Hears, HearsNone}
@@ -17,11 +17,12 @@ use Rattle.stk_host.specs.Calls.{HearsPiece}
 use Rattle.stk_host.proofs.Tapes.{on_tape_append, answer_silent, answer_ended, answer_waits, answer_babbled, answer_found, still_none, now_found}
 use Rattle.stk_host.proofs.Talks.{heard_append, heard_both, grows_none, grows_on, waits_append}
 
-pub begins : (seq : ℕ) (u : List ℕ) (o : Option Talk) → Listening seq u o [] 0 u o
-begins seq u o = record {
+pub begins : (seq : ℕ) (u : List ℕ) (o : Option Talk) → length u ≤ limit → Listening seq u o [] 0 u o
+begins seq u o few = record {
   text = [];
   stands = refl;
   counted = refl;
+  few = omega (arith, few);
   no_answer = refl;
   during = [];
   grows = grows_none o;
@@ -29,20 +30,24 @@ begins seq u o = record {
   all_heard = append-nil (on_tape u);
 }
 
--- where nothing is unread, the answer isn't there yet, and one more piece may be heard
+-- where nothing is unread, the answer isn't there yet
+not_yet : {seq : ℕ} {u : List ℕ} {o : Option Talk} {held : List ℕ} {count : ℕ} {p : Option Talk} (l : Listening seq u o held count [] p)
+    → count < limit → answer seq (on_tape u ++ heard_in l.during) ≡ None
+not_yet {seq = seq} l few = ap (answer seq) (l.all_heard ∙ ap on_tape (append-nil l.text)) ∙ answer_waits seq l.text l.no_answer (omega (arith, l.counted))
+
+-- and one more piece may be heard
 waits_more : {seq : ℕ} {u : List ℕ} {o : Option Talk} {held : List ℕ} {count : ℕ} {p : Option Talk} (l : Listening seq u o held count [] p) (items : Tape)
     → count < limit → WaitsFrom seq (on_tape u) (l.during ++ Got items ∷ [])
 waits_more {seq = seq} {u = u} l items few =
-    let none : answer seq (on_tape u ++ heard_in l.during) ≡ None =
-    ap (answer seq) (l.all_heard ∙ ap on_tape (append-nil l.text)) ∙ answer_waits seq l.text l.no_answer (omega (arith, l.counted)) in
-    waits_append seq (on_tape u) l.during (Got items ∷ []) l.waits (none, tt)
+    waits_append seq (on_tape u) l.during (Got items ∷ []) l.waits (not_yet l few, tt)
 
 hears_bytes : {seq : ℕ} {u : List ℕ} {o : Option Talk} {held : List ℕ} {count : ℕ} {p q : Option Talk} (bytes : List ℕ)
-    → Listening seq u o held count [] p → count < limit → Grows p (Got (on_tape bytes) ∷ []) q → Listening seq u o held count bytes q
-hears_bytes {u = u} {o = o} {p = p} {q = q} bytes l few g = record {
+    → Listening seq u o held count [] p → count < limit → count + length bytes ≤ limit → Grows p (Got (on_tape bytes) ∷ []) q → Listening seq u o held count bytes q
+hears_bytes {u = u} {o = o} {p = p} {q = q} bytes l few most g = record {
   text = l.text;
   stands = l.stands;
   counted = l.counted;
+  few = most;
   no_answer = l.no_answer;
   during = l.during ++ Got (on_tape bytes) ∷ [];
   grows = grows_on o p q l.during (Got (on_tape bytes) ∷ []) l.grows g;
@@ -54,6 +59,13 @@ hears_bytes {u = u} {o = o} {p = p} {q = q} bytes l few g = record {
       ∙ sym (on_tape_append l.text bytes)));
 }
 
+-- how much was heard
+heard_count : {seq : ℕ} {u : List ℕ} {o : Option Talk} {held : List ℕ} {count : ℕ} {left : List ℕ} {p : Option Talk} (l : Listening seq u o held count left p)
+    → length u + length (heard_in l.during) ≡ count + length left
+heard_count {u = u} {left = left} l =
+    let all : length (on_tape u ++ heard_in l.during) ≡ length (on_tape (l.text ++ left)) = ap length l.all_heard in
+    omega (arith, all, length-append (on_tape u) (heard_in l.during), length-map u Byte, length-map (l.text ++ left) Byte, length-append l.text left, l.counted)
+
 -- a silence or an end
 stops : {seq : ℕ} {u : List ℕ} {o : Option Talk} {held : List ℕ} {count : ℕ} {p q : Option Talk} (item : Item) (reading : Reading)
     → (l : Listening seq u o held count [] p) → count < limit → Grows p (Got (item ∷ []) ∷ []) q
@@ -62,6 +74,7 @@ stops {seq = seq} {u = u} {o = o} {p = p} {q = q} item reading l few g answers =
   during = l.during ++ Got (item ∷ []) ∷ [];
   grows = grows_on o p q l.during (Got (item ∷ []) ∷ []) l.grows g;
   waits = waits_more l (item ∷ []) few;
+  few = omega (arith, heard_count l, few, ap length (heard_append l.during (Got (item ∷ []) ∷ [])), length-append (heard_in l.during) (item ∷ []));
   answers = λ more.
       ap (answer seq)
       (heard_both (on_tape u) l.during (Got (item ∷ []) ∷ []) more
@@ -80,8 +93,8 @@ none_left {seq = seq} {u = u} {o = o} {held = held} {count = count} {left = left
 -- what a piece heard comes to
 
 pub heard_bytes : {seq : ℕ} {u : List ℕ} {o : Option Talk} {held : List ℕ} {count : ℕ} {left : List ℕ} {p : Option Talk} (q : Option Talk) (what : Heard) (n : ℕ) (new : List ℕ)
-    → Listening seq u o held count left p → length left ≡ 0 → count < limit → what ≡ heard.Bytes n → HearsPiece what new p q → Listening seq u o held count new q
-heard_bytes q what n new l none few is piece = let h = rw is at piece in hears_bytes new (none_left l none) few h.1
+    → Listening seq u o held count left p → length left ≡ 0 → count < limit → count + length new ≤ limit → what ≡ heard.Bytes n → HearsPiece what new p q → Listening seq u o held count new q
+heard_bytes q what n new l none few most is piece = let h = rw is at piece in hears_bytes new (none_left l none) few most h.1
 
 pub heard_silence : {seq : ℕ} {u : List ℕ} {o : Option Talk} {held : List ℕ} {count : ℕ} {left : List ℕ} {p : Option Talk} (q : Option Talk) (what : Heard) (new : List ℕ)
     → Listening seq u o held count left p → length left ≡ 0 → count < limit → what ≡ heard.Silence → HearsPiece what new p q → Hears seq u o q Silent new
@@ -108,6 +121,7 @@ reads {seq = seq} used left new found l fed other = record {
   text = l.text ++ used;
   stands = fed.stands l.text l.stands;
   counted = length-append l.text used ∙ ap (λ n. n + length used) l.counted;
+  few = omega (arith, l.few, length-append used left);
   no_answer = still_none seq l.text used fed.skipped found l.no_answer fed.no_frames (fed.pieces l.text l.stands) other;
   during = l.during;
   grows = l.grows;
@@ -129,6 +143,7 @@ gives {seq = seq} {u = u} x rest_left reading l all answers = record {
   during = l.during;
   grows = l.grows;
   waits = l.waits;
+  few = omega (arith, heard_count l, l.few);
   answers = λ more.
       ap (answer seq)
       (sym (append_assoc (on_tape u) (heard_in l.during) more)
@@ -158,9 +173,14 @@ pub babbles : {seq : ℕ} {u : List ℕ} {o : Option Talk} {held : List ℕ} {co
 babbles {seq = seq} {left = left} l full =
     gives l.text left Babbled l l.all_heard (λ more. answer_babbled seq l.text more l.no_answer (l.counted ∙ full))
 
-pub hears_none : {seq : ℕ} {u : List ℕ} {o : Option Talk} {held : List ℕ} {count : ℕ} {left : List ℕ} {p : Option Talk} (q : Option Talk) → Listening seq u o held count left p → Grows p [] q → HearsNone seq u o q
-hears_none {o = o} {p = p} q l g = record {
-  during = l.during;
-  grows = subst (λ d. Grows o d q) (append-nil l.during) (grows_on o p q l.during [] l.grows g);
-  waits = l.waits;
-}
+pub hears_none : {seq : ℕ} {u : List ℕ} {o : Option Talk} {held : List ℕ} {count : ℕ} {left : List ℕ} {p : Option Talk} (q : Option Talk)
+    → Listening seq u o held count left p → length left ≡ 0 → count < limit → Grows p [] q → HearsNone seq u o q
+hears_none {o = o} {p = p} q l none few g =
+    let m = none_left l none in
+    record {
+      during = m.during;
+      grows = subst (λ d. Grows o d q) (append-nil m.during) (grows_on o p q m.during [] m.grows g);
+      waits = m.waits;
+      few = omega (arith, heard_count m, m.few);
+      no_answer = not_yet m few;
+    }

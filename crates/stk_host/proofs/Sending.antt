@@ -1,11 +1,10 @@
 -- What was sent in parts, and what is left of a range.
-use Rattle.std.proofs.Common.{◌≡◌, ℕ, ◌+◌, ◌-◌, ◌≤◌, List, [], ◌∷◌, ◌++◌, length, take, drop, sym, ap, ◌∙◌, subst, arith, Option}
+use Rattle.std.proofs.Common.{◌≡◌, ℕ, ◌+◌, ◌-◌, ◌<◌, ◌≤◌, List, [], ◌∷◌, ◌++◌, length, take, drop, sym, ap, ◌∙◌, subst, arith, Option}
 use Rattle.std.proofs.lemmas.List.{append-nil, drop-take, drop-drop, take-append-drop, length-take, length-drop, take_all}
 use Rattle.std.proofs.Math.Seq.{take-add}
 use Rattle.std.specs.Prelude.{slice_range}
 use Rattle.stk_host.specs.Talk.{Talk, Sent, sent, Grows}
-use Rattle.stk_host.specs.Reach.{Says}
-use Rattle.stk_host.specs.Calls.{SaysFront}
+use Rattle.stk_host.specs.Reach.{Says, SaysPart}
 use Rattle.stk_host.proofs.Talks.{sent_append, grows_on, quiet_append}
 
 pub says_more : (x y : List ℕ) (o p q : Option Talk) → Says x o p → Grows p (Sent y ∷ []) q → Says (x ++ y) o q
@@ -29,8 +28,15 @@ pub says_part : (bytes : List ℕ) (n m : ℕ) (part : List ℕ) (o p q : Option
 says_part bytes n m part o p q says is g =
     subst (λ bs. Says bs o q) (ap (λ bs. take n bytes ++ take m bs) is ∙ sym (take-add n m bytes)) (says_more (take n bytes) (take m part) o p q says g)
 
-pub front_of : (bytes : List ℕ) (n : ℕ) (o q : Option Talk) → Says (take n bytes) o q → SaysFront bytes o q
-front_of bytes n o q says = (take n bytes, (drop n bytes, take-append-drop n bytes), says)
+-- so many bytes were sent, and not all
+pub part_of : (bytes : List ℕ) (n : ℕ) (o q : Option Talk) → n < length bytes → Says (take n bytes) o q → SaysPart bytes o q
+part_of bytes n o q few says = record {
+  part = take n bytes;
+  unsent = drop n bytes;
+  bytes_are = sym (take-append-drop n bytes);
+  not_whole = rw length-drop (omega arith);
+  says = says;
+}
 
 -- what is left of a range behind its first places
 pub range_later : (xs : List ℕ) (a b n : ℕ) → a + n ≤ b → slice_range xs (a + n) b ≡ drop n (slice_range xs a b)

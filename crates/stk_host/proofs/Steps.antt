@@ -7,11 +7,13 @@ use Rattle.stk_host.specs.declared.fault.StepFault.{StepFault}
 use Rattle.stk_host.specs.Tape.{Reading}
 use Rattle.stk_host.specs.Talk.{Talk}
 use Rattle.stk_host.specs.Dialog.{Dialog, Done, Frame, next}
-use Rattle.stk_host.specs.Play.{PlaysOver, BreaksOver, NoPart}
-use Rattle.stk_host.specs.Reach.{Reaches, Says, Hears, HearsNone}
+use Rattle.stk_host.specs.declared.fault.Broken.{Broken}
+use Rattle.stk_host.specs.declared.fault.Broken.TheVariants as broken
+use Rattle.stk_host.specs.Play.{PlaysOver, FailsOver}
+use Rattle.stk_host.specs.Reach.{Reaches, Says, SaysPart, Hears, HearsNone}
 use Rattle.stk_host.specs.declared.conversation.Reply as said
 use Rattle.stk_host.specs.declared.conversation.Reply.TheVariants as replies
-use Rattle.stk_host.specs.Calls.{SaysFront, reply_of}
+use Rattle.stk_host.specs.Calls.{reply_of}
 use Rattle.stk_host.specs.Steps.{exchange, attempt, tries, Reply, Data, Again, Stop, replied, with_data, settled, Outcome}
 use Rattle.stk_host.proofs.Talks.{grows_on}
 use Rattle.stk_host.proofs.Leading.{leads_ask, plays_from, breaks_asking, breaks_listening}
@@ -29,22 +31,22 @@ exchange_done seq then command {u = u} {v = v} {o = o} {p = p} {q = q} {reading 
   plays = rw is (plays_from (leads_ask (body command) (λ r. Done (replied command r)) seq u v says.during hears.during reading says.quiet says.bytes_sent hears.waits hears.answers));
 }
 
-pub exchange_unsent : (seq : ℕ) (command : Command) (u : List ℕ) {o p : Option Talk} → SaysFront (frame seq (body command)) o p → BreaksOver (exchange command) seq u o p
+pub exchange_unsent : (seq : ℕ) (command : Command) (u : List ℕ) {o p : Option Talk} → SaysPart (frame seq (body command)) o p → FailsOver broken.Send (exchange command) seq u o p
 unfolding exchange
 exchange_unsent seq command u says = record {
-  during = says.2.during;
-  shown = Frame says.0 ∷ [];
-  grows = says.2.grows;
-  breaks = breaks_asking NoPart (body command) (λ r. Done (replied command r)) seq u says.0 says.2.during says.2.quiet says.2.bytes_sent says.1;
+  during = says.says.during;
+  shown = Frame says.part ∷ [];
+  grows = says.says.grows;
+  breaks = breaks_asking (body command) (λ r. Done (replied command r)) seq u says.part says.unsent says.says.during says.says.quiet says.says.bytes_sent says.bytes_are says.not_whole;
 }
 
-pub exchange_unheard : (seq : ℕ) (command : Command) {u : List ℕ} {o p q : Option Talk} → Says (frame seq (body command)) o p → HearsNone seq u p q → BreaksOver (exchange command) seq u o q
+pub exchange_unheard : (seq : ℕ) (command : Command) {u : List ℕ} {o p q : Option Talk} → Says (frame seq (body command)) o p → HearsNone seq u p q → FailsOver broken.Recv (exchange command) seq u o q
 unfolding exchange
 exchange_unheard seq command {u = u} {o = o} {p = p} {q = q} says hears = record {
   during = says.during ++ hears.during;
   shown = Frame (frame seq (body command)) ∷ [];
   grows = grows_on o p q says.during hears.during says.grows hears.grows;
-  breaks = breaks_listening NoPart (body command) (λ r. Done (replied command r)) seq u says.during hears.during says.quiet says.bytes_sent hears.waits;
+  breaks = breaks_listening (body command) (λ r. Done (replied command r)) seq u says.during hears.during says.quiet says.bytes_sent hears.waits hears.no_answer;
 }
 
 -- an attempt, whose next command was sent and answered
@@ -58,7 +60,7 @@ attempt_none : (before : List ℕ) → attempt [] before ≡ Done (Data before)
 unfolding attempt
 attempt_none before = refl
 
-attempt_off : (command : Command) (commands : List Command) (before : List ℕ) {seq : ℕ} {u : List ℕ} {o q : Option Talk} → BreaksOver (exchange command) seq u o q → BreaksOver (attempt (command ∷ commands) before) seq u o q
+attempt_off : {by : Broken} (command : Command) (commands : List Command) (before : List ℕ) {seq : ℕ} {u : List ℕ} {o q : Option Talk} → FailsOver by (exchange command) seq u o q → FailsOver by (attempt (command ∷ commands) before) seq u o q
 unfolding attempt
 attempt_off command commands before f = broken_bind (with_data (λ bytes. attempt commands (before ++ bytes))) f
 
@@ -98,8 +100,8 @@ turn_last {a = a} {m = m} {n = n} {s = s} {v = v} {k = k} {q = q} commands comma
 turn_last commands command (replies.Again fault) bytes f is g = played_from (turn commands [] command (Again fault) f is g)
 turn_last commands command (replies.Stop fault) bytes f is g = played_from (turn commands [] command (Stop fault) f is g)
 
-pub turn_breaks : {a : Dialog ⊥ Reply} {m seq : ℕ} {s u : List ℕ} {k o q : Option Talk} (commands rest : List Command) (command : Command)
-    → Reaches a m s k (attempt commands []) seq u o → commands ≡ command ∷ rest → BreaksOver (exchange command) seq u o q → BreaksOver a m s k q
+pub turn_breaks : {by : Broken} {a : Dialog ⊥ Reply} {m seq : ℕ} {s u : List ℕ} {k o q : Option Talk} (commands rest : List Command) (command : Command)
+    → Reaches a m s k (attempt commands []) seq u o → commands ≡ command ∷ rest → FailsOver by (exchange command) seq u o q → FailsOver by a m s k q
 turn_breaks {a = a} {m = m} {seq = seq} {s = s} {u = u} {k = k} {o = o} commands rest command f is g =
     broken_on (subst (λ cs. Reaches a m s k (attempt cs []) seq u o) is f) (attempt_off command rest [] g)
 
@@ -114,7 +116,7 @@ tries_none : (commands : List Command) (last : StepFault) → tries zero command
 unfolding tries
 tries_none commands last = refl
 
-tries_off : (more : ℕ) (commands : List Command) (last : StepFault) {seq : ℕ} {u : List ℕ} {o q : Option Talk} → BreaksOver (attempt commands []) seq u o q → BreaksOver (tries (suc more) commands last) seq u o q
+tries_off : {by : Broken} (more : ℕ) (commands : List Command) (last : StepFault) {seq : ℕ} {u : List ℕ} {o q : Option Talk} → FailsOver by (attempt commands []) seq u o q → FailsOver by (tries (suc more) commands last) seq u o q
 unfolding tries
 tries_off more commands last f = broken_bind (settled (tries more commands)) f
 
@@ -142,8 +144,8 @@ pub try_stop : {a : Dialog ⊥ Outcome} {l seq n : ℕ} {s u v : List ℕ} {j o 
 try_stop {seq = seq} {n = n} {u = u} {v = v} {o = o} {q = q} k more commands last fault bytes reply count f g stop =
     played_from (try k more commands last (Stop fault) count f (subst (λ r. PlaysOver (attempt commands []) seq u o q (reply_of r bytes) n v) stop g))
 
-pub try_breaks : {a : Dialog ⊥ Outcome} {l seq : ℕ} {s u : List ℕ} {j o q : Option Talk} (k more : ℕ) (commands : List Command) (last : StepFault)
-    → k ≡ suc more → Reaches a l s j (tries k commands last) seq u o → BreaksOver (attempt commands []) seq u o q → BreaksOver a l s j q
+pub try_breaks : {by : Broken} {a : Dialog ⊥ Outcome} {l seq : ℕ} {s u : List ℕ} {j o q : Option Talk} (k more : ℕ) (commands : List Command) (last : StepFault)
+    → k ≡ suc more → Reaches a l s j (tries k commands last) seq u o → FailsOver by (attempt commands []) seq u o q → FailsOver by a l s j q
 try_breaks {a = a} {l = l} {seq = seq} {s = s} {u = u} {j = j} {o = o} k more commands last count f g =
     broken_on (subst (λ t. Reaches a l s j (tries t commands last) seq u o) count f) (tries_off more commands last g)
 

@@ -16,10 +16,12 @@ AsksAtMost n (Say e dialog) = AsksAtMost n dialog
 AsksAtMost zero (Ask body answered) = ⊥
 AsksAtMost (suc n) (Ask body answered) = (reading : Reading) → AsksAtMost n (answered reading)
 
--- At most so many frames go out: over every tape, in every talk that is the whole play, and in every one that broke off.
+-- At most so many frames go out: over every tape, in every talk that is the whole play, and in every one that broke
+-- off.
 pub record SendsAtMost {E R : Type 0} (SaidPart : E → E → Type 0) (n : ℕ) (dialog : Dialog E R) : Type 0 where
   pub over_tape : (seq : ℕ) (tape : Tape) → length (frames_in (played dialog seq tape).events) ≤ n
-  pub whole : (seq : ℕ) (unread : List ℕ) (talk : Talk) (events : List (Event E)) (result : R) (next : ℕ) (left : List ℕ)
+  pub whole : (seq : ℕ) (unread : List ℕ) (talk : Talk) (events : List (Event E)) (result : R) (next : ℕ)
+      (left : List ℕ)
       → Plays dialog seq unread talk events result next left → length (frames_in events) ≤ n
   pub broken_off : (seq : ℕ) (unread : List ℕ) (talk : Talk) (shown : List (Event E))
       → Breaks SaidPart dialog seq unread talk shown → length (frames_in shown) ≤ n

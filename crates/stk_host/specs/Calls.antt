@@ -26,18 +26,14 @@ use Rattle.stk_host.specs.Steps.{play}
 use Rattle.stk_host.specs.Operations.{host_fault, signature_judged, compared}
 use Rattle.stk_host.specs.Talk.{Talk, Got, Grows, HasFailed}
 use Rattle.stk_host.specs.Dialog.{Dialog}
-use Rattle.stk_host.specs.Play.{PlaysOver, BreaksOver, IsPrefixOf}
-use Rattle.stk_host.specs.Reach.{Says, Reaches}
+use Rattle.stk_host.specs.Play.{PlaysOver, FailsOver}
+use Rattle.stk_host.specs.Reach.{Reaches}
 
 -- what was heard; bytes are unread now
 abbrev pub HearsPiece : Heard → List ℕ → Option Talk → Option Talk → Type 0
 HearsPiece (heard.Bytes n) unread old new = (0 < length unread) × Grows old (Got (on_tape unread) ∷ []) new
 HearsPiece heard.Silence unread old new = (unread ≡ []) × Grows old (Got (item.Silence ∷ []) ∷ []) new
 HearsPiece heard.End unread old new = (unread ≡ []) × Grows old (Got (item.End ∷ []) ∷ []) new
-
--- a front of the bytes was sent
-abbrev pub SaysFront : List ℕ → Option Talk → Option Talk → Type 0
-SaysFront bytes old new = (front : List ℕ) × IsPrefixOf front bytes × Says front old new
 
 -- how listening ended, by the reader that holds the answer
 abbrev pub reading_of : Reading → List ℕ → tape.Reading
@@ -58,20 +54,24 @@ reply_of said.Data bytes = steps.Data bytes
 reply_of (said.Again fault) bytes = steps.Again fault
 reply_of (said.Stop fault) bytes = steps.Stop fault
 
--- How steps end that stop: they were played up to a fault, or their play broke off with the link.
+-- How steps end that stop: they were played up to a fault, or their play broke off where the link failed.
 abbrev pub StopsSteps : Dialog ⊥ steps.Outcome → ℕ → List ℕ → Option Talk → Option Talk → Stop → ℕ → List ℕ → Type 0
 StopsSteps dialog seq unread old new (Fault fault) next left = PlaysOver dialog seq unread old new (Err fault) next left
-StopsSteps dialog seq unread old new (Link broken) next left = BreaksOver dialog seq unread old new
+StopsSteps dialog seq unread old new (Link broken) next left = FailsOver broken dialog seq unread old new
 
 -- How steps end that were asked to give these data: they were played whole, or they stop.
-abbrev pub EndsSteps : {A : Type 0} → Dialog ⊥ steps.Outcome → ℕ → List ℕ → Option Talk → Option Talk → (A → List ℕ) → Result A Stop → ℕ → List ℕ → Type 0
-EndsSteps dialog seq unread old new bytes (Ok a) next left = PlaysOver dialog seq unread old new (Ok (bytes a)) next left
+abbrev pub EndsSteps : {A : Type 0} → Dialog ⊥ steps.Outcome → ℕ → List ℕ → Option Talk → Option Talk → (A → List ℕ)
+    → Result A Stop → ℕ → List ℕ → Type 0
+EndsSteps dialog seq unread old new bytes (Ok a) next left =
+    PlaysOver dialog seq unread old new (Ok (bytes a)) next left
 EndsSteps dialog seq unread old new bytes (Err stop) next left = StopsSteps dialog seq unread old new stop next left
 
 -- How a step ends that others follow: they are left to play, behind all data so far; or with it all of them stop.
-abbrev pub GoesOn : List Command → List ℕ → List ℕ → ℕ → List ℕ → Option Talk → Option Talk → Result (Unit {0}) Stop → ℕ → List ℕ → Type 0
+abbrev pub GoesOn : List Command → List ℕ → List ℕ → ℕ → List ℕ → Option Talk → Option Talk → Result (Unit {0}) Stop → ℕ
+    → List ℕ → Type 0
 GoesOn commands before after seq unread old new (Ok done) next left =
-    (steps : List (List Command)) → Reaches (play (commands ∷ steps) before) seq unread old (play steps after) next left new
+    (steps : List (List Command)) → Reaches (play (commands ∷ steps) before) seq unread old
+    (play steps after) next left new
 GoesOn commands before after seq unread old new (Err stop) next left =
     (steps : List (List Command)) → StopsSteps (play (commands ∷ steps) before) seq unread old new stop next left
 
@@ -86,24 +86,28 @@ IsCounted Name = ⊥
 IsCounted (Bytes n) = Unit {0}
 IsCounted (Closed n) = Unit {0}
 
--- the count of failures never falls, and rose where the link is said to have failed
+-- the count of failures rose where the link is said to have failed, and is what it was where it isn't
 abbrev pub FailsByLink : {A : Type 0} → ℕ → ℕ → Result A Stop → Type 0
-FailsByLink before now (Ok done) = Unit {0}
-FailsByLink before now (Err (Fault fault)) = Unit {0}
+FailsByLink before now (Ok done) = now ≡ before
+FailsByLink before now (Err (Fault fault)) = now ≡ before
 FailsByLink before now (Err (Link broken)) = HasFailed before now
 
+-- and it never falls
 abbrev pub CountsLink : {A : Type 0} → ℕ → ℕ → Result A Stop → Type 0
 CountsLink before now result = (before ≤ now) × FailsByLink before now result
 
--- How a call of a host ends: after a fault of the link its dialog broke off, else it played it whole.
-abbrev pub EndsCall : {A : Type 0} → Dialog ⊥ (Result A HostFault) → ℕ → List ℕ → Option Talk → Option Talk → Result A HostFault → ℕ → List ℕ → Type 0
+-- How a call of a host ends: after a fault of the link its dialog broke off, in a frame that wasn't sent whole or where
+-- it listened; else it was played whole.
+abbrev pub EndsCall : {A : Type 0} → Dialog ⊥ (Result A HostFault) → ℕ → List ℕ → Option Talk → Option Talk
+    → Result A HostFault → ℕ → List ℕ → Type 0
 EndsCall dialog seq unread old new (Ok a) next left = PlaysOver dialog seq unread old new (Ok a) next left
-EndsCall dialog seq unread old new (Err SendFailed) next left = BreaksOver dialog seq unread old new
-EndsCall dialog seq unread old new (Err RecvFailed) next left = BreaksOver dialog seq unread old new
+EndsCall dialog seq unread old new (Err SendFailed) next left = FailsOver broken.Send dialog seq unread old new
+EndsCall dialog seq unread old new (Err RecvFailed) next left = FailsOver broken.Recv dialog seq unread old new
 EndsCall dialog seq unread old new (Err fault) next left = PlaysOver dialog seq unread old new (Err fault) next left
 
 -- How a call ends that takes its memory first: where that was refused nothing was said or heard.
-abbrev pub EndsOrLacks : {A : Type 0} → Dialog ⊥ (Result A HostFault) → ℕ → List ℕ → Option Talk → Option Talk → Result A HostFault → ℕ → List ℕ → Type 0
+abbrev pub EndsOrLacks : {A : Type 0} → Dialog ⊥ (Result A HostFault) → ℕ → List ℕ → Option Talk → Option Talk
+    → Result A HostFault → ℕ → List ℕ → Type 0
 EndsOrLacks dialog seq unread old new (Err Memory) next left = (new ≡ old) × (next ≡ seq) × (left ≡ unread)
 EndsOrLacks dialog seq unread old new result next left = EndsCall dialog seq unread old new result next left
 
@@ -118,6 +122,13 @@ IsBroken (Ok a) = ⊥
 IsBroken (Err SendFailed) = Unit {0}
 IsBroken (Err RecvFailed) = Unit {0}
 IsBroken (Err fault) = ⊥
+
+-- what holds unless the link failed
+abbrev pub UnlessBroken : {A : Type 0} → Result A HostFault → Type 0 → Type 0
+UnlessBroken (Ok a) P = P
+UnlessBroken (Err SendFailed) P = Unit {0}
+UnlessBroken (Err RecvFailed) P = Unit {0}
+UnlessBroken (Err fault) P = P
 
 -- the command fits a frame
 abbrev pub Fits : Command → Type 0

@@ -52,8 +52,8 @@ HearsKnown heard.End buffer old new = Keeps old new × IsAtEnd new
 abbrev pub AppendsFront : Option (List ℕ) → Option (List ℕ) → List ℕ → Type 0
 AppendsFront old new bytes = (front : List ℕ) × IsPrefixOf front bytes × Appends old new front
 
--- a link that fails once: the one below it, how many calls come before that and with it (0: it doesn't), the most bytes of
--- a piece, and how often it has failed itself
+-- a link that fails once: the one below it, how many calls come before that and with it (0: it doesn't), the most bytes
+-- of a piece, and how often it has failed itself
 pub record FailingState (L : Type 0) : Type 0 where
   pub inner : L
   pub due : ℕ

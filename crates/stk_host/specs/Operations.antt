@@ -54,7 +54,8 @@ judged_by judge (Ok bytes) = judge bytes
 judged_by judge (Err fault) = Err (host_fault fault)
 
 -- to play the steps of an operation
-unfoldable pub operation : {A : Type 0} → List (List Command) → (List ℕ → Result A HostFault) → Dialog ⊥ (Result A HostFault)
+unfoldable pub operation : {A : Type 0} → List (List Command) → (List ℕ → Result A HostFault)
+    → Dialog ⊥ (Result A HostFault)
 operation steps judge = play steps [] >>= λ outcome. Done (judged_by judge outcome)
 
 -- nothing is read
@@ -67,7 +68,8 @@ erasing = operation ((erase ∷ []) ∷ []) done
 
 -- to write an image to a memory, if it can be written
 abbrev pub writing : Part → Mem → List (Option ℕ) → Dialog ⊥ (Result ⊤ HostFault)
-writing part mem image = if is_writable mem then operation (write_steps part mem image) done else Done (Err (ReadOnly mem))
+writing part mem image =
+    if is_writable mem then operation (write_steps part mem image) done else Done (Err (ReadOnly mem))
 
 -- to read a whole memory
 abbrev pub reading : Part → Mem → Dialog ⊥ (Result (List ℕ) HostFault)
@@ -86,7 +88,8 @@ difference_from addr [] bytes = None
 difference_from addr (byte ∷ image) [] = None
 difference_from addr (None ∷ image) (found ∷ bytes) = difference_from (addr + 1) image bytes
 difference_from addr (Some want ∷ image) (found ∷ bytes) =
-    if found == want then difference_from (addr + 1) image bytes else Some (record { addr = addr; want = want; found = found })
+    if found == want then difference_from (addr + 1) image bytes
+    else Some (record { addr = addr; want = want; found = found })
 
 abbrev pub differs : Mem → Option Difference → Result ⊤ HostFault
 differs mem None = Ok tt

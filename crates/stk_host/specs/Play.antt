@@ -1,5 +1,7 @@
 -- A talk over a link as the play of a dialog: whole, or broken off.
-use Rattle.std.specs.Prelude.{ℕ, List, [], ◌∷◌, ◌++◌, ◌≡◌, Option, Some, None}
+use Rattle.std.specs.Prelude.{ℕ, List, [], ◌∷◌, ◌++◌, ◌≡◌, ◌<◌, length, Option, Some, None}
+use Rattle.stk_host.specs.declared.fault.Broken.{Broken}
+use Rattle.stk_host.specs.declared.fault.Broken.TheVariants.{Send, Recv}
 use Rattle.stk_host.specs.Tape.{Tape, on_tape}
 use Rattle.stk_host.specs.Talk.{Talk, Sent, Got, sent, heard, Grows}
 use Rattle.stk_host.specs.Dialog.{Dialog, Event, Frame, Said, played, bytes_sent}
@@ -13,16 +15,19 @@ pub record IsDue {E R : Type 0} (dialog : Dialog E R) (seq : ℕ) (tape : Tape) 
 abbrev pub TurnsFrom : {E R : Type 0} → Dialog E R → ℕ → Tape → List ℕ → Talk → Type 0
 TurnsFrom dialog seq tape bytes [] = Unit {0}
 TurnsFrom dialog seq tape bytes (Sent more ∷ talk) = TurnsFrom dialog seq tape (bytes ++ more) talk
-TurnsFrom dialog seq tape bytes (Got items ∷ talk) = IsDue dialog seq tape bytes × TurnsFrom dialog seq (tape ++ items) bytes talk
+TurnsFrom dialog seq tape bytes (Got items ∷ talk) =
+    IsDue dialog seq tape bytes × TurnsFrom dialog seq (tape ++ items) bytes talk
 
 -- a talk in turn, by one that had these bytes unread before it
 abbrev pub InTurn : {E R : Type 0} → Dialog E R → ℕ → List ℕ → Talk → Type 0
 InTurn dialog seq unread talk = TurnsFrom dialog seq (on_tape unread) [] talk
 
--- The talk is the whole play of the dialog over what was unread before it and what it heard: these events happened and no
--- others, and it came to this result with these bytes left unread, whatever may follow on the tape.
-pub record Plays {E R : Type 0} (dialog : Dialog E R) (seq : ℕ) (unread : List ℕ) (talk : Talk) (events : List (Event E)) (result : R) (next : ℕ) (left : List ℕ) : Type 0 where
-  pub plays : (more : Tape) → played dialog seq (on_tape unread ++ (heard talk ++ more)) ≡ record { events = events; outcome = Some (result, next, on_tape left ++ more) }
+-- The talk is the whole play of the dialog over what was unread before it and what it heard: these events happened and
+-- no others, and it came to this result with these bytes left unread, whatever may follow on the tape.
+pub record Plays {E R : Type 0} (dialog : Dialog E R) (seq : ℕ) (unread : List ℕ) (talk : Talk)
+    (events : List (Event E)) (result : R) (next : ℕ) (left : List ℕ) : Type 0 where
+  pub plays : (more : Tape) → played dialog seq (on_tape unread ++ (heard talk ++ more))
+      ≡ record { events = events; outcome = Some (result, next, on_tape left ++ more) }
   pub all_sent : bytes_sent events ≡ sent talk
   pub in_turn : InTurn dialog seq unread talk
 
@@ -52,24 +57,62 @@ pub record IsFront {E : Type 0} (SaidPart : E → E → Type 0) (shown events : 
   pub part : IsBegun SaidPart begun later
 
 -- The talk broke off in the play of the dialog: what happened is a front of its events over what was heard.
-pub record Breaks {E R : Type 0} (SaidPart : E → E → Type 0) (dialog : Dialog E R) (seq : ℕ) (unread : List ℕ) (talk : Talk) (shown : List (Event E)) : Type 0 where
+pub record Breaks {E R : Type 0} (SaidPart : E → E → Type 0) (dialog : Dialog E R) (seq : ℕ) (unread : List ℕ)
+    (talk : Talk) (shown : List (Event E)) : Type 0 where
   pub front : IsFront SaidPart shown (played dialog seq (on_tape unread ++ heard talk)).events
   pub all_sent : bytes_sent shown ≡ sent talk
   pub in_turn : InTurn dialog seq unread talk
+
+-- The talk broke off in a frame: what happened is a front of the events over what was heard, up to a frame of which
+-- only a part was sent, perhaps nothing.
+pub record BreaksSending {E R : Type 0} (dialog : Dialog E R) (seq : ℕ) (unread : List ℕ) (talk : Talk)
+    (shown : List (Event E)) : Type 0 where
+  pub whole : List (Event E)
+  pub part : List ℕ
+  pub unsent : List ℕ
+  pub later : List (Event E)
+  pub shown_is : shown ≡ whole ++ Frame part ∷ []
+  pub events_are : (played dialog seq (on_tape unread ++ heard talk)).events ≡ whole ++ Frame (part ++ unsent) ∷ later
+  pub not_whole : 0 < length unsent
+  pub all_sent : bytes_sent shown ≡ sent talk
+  pub in_turn : InTurn dialog seq unread talk
+
+-- The talk broke off in listening: the play over what was heard waits, and all its events have happened.
+pub record BreaksListening {E R : Type 0} (dialog : Dialog E R) (seq : ℕ) (unread : List ℕ) (talk : Talk)
+    (shown : List (Event E)) : Type 0 where
+  pub waits : (played dialog seq (on_tape unread ++ heard talk)).outcome ≡ None
+  pub shown_is : shown ≡ (played dialog seq (on_tape unread ++ heard talk)).events
+  pub all_sent : bytes_sent shown ≡ sent talk
+  pub in_turn : InTurn dialog seq unread talk
+
+-- the talk broke off as the link failed at this
+abbrev pub BreaksBy : {E R : Type 0} → Broken → Dialog E R → ℕ → List ℕ → Talk → List (Event E) → Type 0
+BreaksBy Send dialog seq unread talk shown = BreaksSending dialog seq unread talk shown
+BreaksBy Recv dialog seq unread talk shown = BreaksListening dialog seq unread talk shown
 
 -- where nothing is said beside the line
 abbrev pub NoPart : ⊥ → ⊥ → Type 0
 NoPart part whole = ⊥
 
 -- a call that played a dialog whole, over a link that showed these talks before and after it
-pub record PlaysOver {R : Type 0} (dialog : Dialog ⊥ R) (seq : ℕ) (unread : List ℕ) (old new : Option Talk) (result : R) (next : ℕ) (left : List ℕ) : Type 0 where
+pub record PlaysOver {R : Type 0} (dialog : Dialog ⊥ R) (seq : ℕ) (unread : List ℕ) (old new : Option Talk) (result : R)
+    (next : ℕ) (left : List ℕ) : Type 0 where
   pub during : Talk
   pub events : List (Event ⊥)
   pub grows : Grows old during new
   pub plays : Plays dialog seq unread during events result next left
 
--- a call that broke off
-pub record BreaksOver {R : Type 0} (dialog : Dialog ⊥ R) (seq : ℕ) (unread : List ℕ) (old new : Option Talk) : Type 0 where
+-- a call that broke off as the link failed at this
+pub record FailsOver {R : Type 0} (broken : Broken) (dialog : Dialog ⊥ R) (seq : ℕ) (unread : List ℕ)
+    (old new : Option Talk) : Type 0 where
+  pub during : Talk
+  pub shown : List (Event ⊥)
+  pub grows : Grows old during new
+  pub breaks : BreaksBy broken dialog seq unread during shown
+
+-- a call that broke off, at whatever it was
+pub record BreaksOver {R : Type 0} (dialog : Dialog ⊥ R) (seq : ℕ) (unread : List ℕ)
+    (old new : Option Talk) : Type 0 where
   pub during : Talk
   pub shown : List (Event ⊥)
   pub grows : Grows old during new

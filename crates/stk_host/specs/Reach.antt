@@ -1,21 +1,25 @@
--- How far a call has come in a dialog. (For contracts inside this crate.)
-use Rattle.std.specs.Prelude.{ℕ, List, [], ◌∷◌, ◌++◌, ◌≡◌, length, Option, Some, None}
+-- How far a call has come in a dialog. (For contracts below a host's calls, and of who sends and listens without a
+-- host.)
+use Rattle.std.specs.Prelude.{ℕ, List, [], ◌∷◌, ◌++◌, ◌+◌, ◌≡◌, ◌<◌, ◌≤◌, length, Option, Some, None}
 use Rattle.stk_frame.specs.Cut.{cut}
 use Rattle.stk_frame.specs.Reader.{Stands}
-use Rattle.stk_host.specs.Tape.{Tape, Reading, on_tape, answer, first_answer}
+use Rattle.stk_host.specs.Tape.{Tape, Reading, on_tape, answer, first_answer, limit}
 use Rattle.stk_host.specs.Talk.{Talk, Sent, Got, sent, heard, Grows}
 use Rattle.stk_host.specs.Dialog.{Dialog, Event, played, behind, bytes_sent}
 use Rattle.stk_host.specs.Play.{InTurn}
 
--- A talk leads from one dialog to what is left of it: whatever follows on the tape, the one plays as the other does from
--- there, behind these events.
-pub record Leads {E R : Type 0} (dialog : Dialog E R) (seq : ℕ) (unread : List ℕ) (talk : Talk) (events : List (Event E)) (rest : Dialog E R) (next : ℕ) (left : List ℕ) : Type 0 where
-  pub goes_on : (more : Tape) → played dialog seq (on_tape unread ++ (heard talk ++ more)) ≡ behind events (played rest next (on_tape left ++ more))
+-- A talk leads from one dialog to what is left of it: whatever follows on the tape, the one plays as the other does
+-- from there, behind these events.
+pub record Leads {E R : Type 0} (dialog : Dialog E R) (seq : ℕ) (unread : List ℕ) (talk : Talk)
+    (events : List (Event E)) (rest : Dialog E R) (next : ℕ) (left : List ℕ) : Type 0 where
+  pub goes_on : (more : Tape) → played dialog seq (on_tape unread ++ (heard talk ++ more))
+      ≡ behind events (played rest next (on_tape left ++ more))
   pub all_sent : bytes_sent events ≡ sent talk
   pub in_turn : InTurn dialog seq unread talk
 
 -- a call has come so far, over a link that showed these talks before and after it
-pub record Reaches {R : Type 0} (dialog : Dialog ⊥ R) (seq : ℕ) (unread : List ℕ) (old : Option Talk) (rest : Dialog ⊥ R) (next : ℕ) (left : List ℕ) (new : Option Talk) : Type 0 where
+pub record Reaches {R : Type 0} (dialog : Dialog ⊥ R) (seq : ℕ) (unread : List ℕ) (old : Option Talk)
+    (rest : Dialog ⊥ R) (next : ℕ) (left : List ℕ) (new : Option Talk) : Type 0 where
   pub during : Talk
   pub events : List (Event ⊥)
   pub grows : Grows old during new
@@ -34,31 +38,45 @@ pub record Says (bytes : List ℕ) (old new : Option Talk) : Type 0 where
   pub quiet : IsQuiet during
   pub bytes_sent : sent during ≡ bytes
 
+-- a part of these bytes was sent, and not the whole, and nothing was heard
+pub record SaysPart (bytes : List ℕ) (old new : Option Talk) : Type 0 where
+  pub part : List ℕ
+  pub unsent : List ℕ
+  pub bytes_are : bytes ≡ part ++ unsent
+  pub not_whole : 0 < length unsent
+  pub says : Says part old new
+
 -- at each piece heard there was no answer yet, and nothing was sent
 abbrev pub WaitsFrom : ℕ → Tape → Talk → Type 0
 WaitsFrom seq tape [] = Unit {0}
 WaitsFrom seq tape (Sent bytes ∷ talk) = ⊥
 WaitsFrom seq tape (Got items ∷ talk) = (answer seq tape ≡ None) × WaitsFrom seq (tape ++ items) talk
 
--- the answer was listened for
+-- the answer was listened for, in no more bytes than are read for one
 pub record Hears (seq : ℕ) (unread : List ℕ) (old new : Option Talk) (reading : Reading) (left : List ℕ) : Type 0 where
   pub during : Talk
   pub grows : Grows old during new
   pub waits : WaitsFrom seq (on_tape unread) during
-  pub answers : (more : Tape) → answer seq (on_tape unread ++ (heard during ++ more)) ≡ Some (reading, on_tape left ++ more)
+  pub few : length unread + length (heard during) ≤ limit
+  pub answers : (more : Tape) → answer seq (on_tape unread ++ (heard during ++ more))
+      ≡ Some (reading, on_tape left ++ more)
 
--- listening for it broke off
+-- listening for it broke off, and it had not come
 pub record HearsNone (seq : ℕ) (unread : List ℕ) (old new : Option Talk) : Type 0 where
   pub during : Talk
   pub grows : Grows old during new
   pub waits : WaitsFrom seq (on_tape unread) during
+  pub few : length unread + length (heard during) ≤ limit
+  pub no_answer : answer seq (on_tape unread ++ heard during) ≡ None
 
 -- An answer is listened for: so many bytes of a text were read, no answer is in them, a reader holds what is left of
 -- them, and behind them come the bytes that are still unread.
-pub record Listening (seq : ℕ) (unread : List ℕ) (old : Option Talk) (held : List ℕ) (count : ℕ) (left : List ℕ) (new : Option Talk) : Type 0 where
+pub record Listening (seq : ℕ) (unread : List ℕ) (old : Option Talk) (held : List ℕ) (count : ℕ) (left : List ℕ)
+    (new : Option Talk) : Type 0 where
   pub text : List ℕ
   pub stands : Stands held text
   pub counted : length text ≡ count
+  pub few : count + length left ≤ limit
   pub no_answer : first_answer seq (cut text) ≡ None
   pub during : Talk
   pub grows : Grows old during new

@@ -9,7 +9,8 @@ use Rattle.stk_host.specs.declared.fault.StepFault.TheVariants.{NoAnswer, LinkEn
 use Rattle.stk_host.specs.Tape.{Reading, Answered, Silent, Ended, Babbled}
 use Rattle.stk_host.specs.Dialog.{Dialog, Done, Ask, ◌>>=◌}
 
--- What the answer to a command comes to: its data; a fault after which the commands may be sent again; or one that ends the step.
+-- What the answer to a command comes to: its data; a fault after which the commands may be sent again; or one that ends
+-- the step.
 pub data Reply : Type 0 where
   Data : List ℕ → Reply
   Again : StepFault → Reply

@@ -31,12 +31,14 @@ page_end page addr = addr - addr % page + page
 
 -- a run of bytes begins at an address that holds one, if a page begins there or the address before holds none
 abbrev pub begins_run : ℕ → List (Option ℕ) → ℕ → Bool
-begins_run page image addr = is_some (byte_at image addr) && (addr % page == 0 || not (is_some (byte_at image (addr - 1))))
+begins_run page image addr =
+    is_some (byte_at image addr) && (addr % page == 0 || not (is_some (byte_at image (addr - 1))))
 
 -- to program the longest run of bytes inside one page that begins here
 abbrev pub run_step : Part → List (Option ℕ) → ℕ → List Command
 run_step part image addr =
-    load_eeprom addr ∷ program_eeprom (filled image addr (run_end image addr (page_end part.eeprom_page addr) - addr)) ∷ []
+    load_eeprom addr ∷ program_eeprom (filled image addr (run_end image addr (page_end part.eeprom_page addr) - addr))
+    ∷ []
 
 -- the step of the run that begins at this address, if one does
 abbrev pub run_steps : Part → List (Option ℕ) → ℕ → List (List Command)

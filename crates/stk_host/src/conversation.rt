@@ -1,15 +1,15 @@
 //! Commands and their answers, attempts and steps.
 #![tactic(auto)]
 
-ghost use Rattle.std.specs.Prelude.{◌≡◌, ◌<◌, ◌≤◌, ◌++◌, ◌∷◌, [], length, IfOk, IsOkAnd, OnOk, OnErr, All};
+ghost use Rattle.std.specs.Prelude.{◌≡◌, ◌<◌, ◌≤◌, ◌++◌, ◌∷◌, [], length, IfOk, IfErr, IsOkAnd, OnOk, OnErr, All};
 ghost use Rattle.stk_frame.specs.Frame.{frame};
 ghost use Rattle.stk_frame.specs.Commands.{body, judge, shape, SizedBy};
 ghost use Rattle.stk_host.specs.Talk.{HasFailed, Stays};
-ghost use Rattle.stk_host.specs.Play.{PlaysOver, BreaksOver};
-ghost use Rattle.stk_host.specs.Reach.{Says};
+ghost use Rattle.stk_host.specs.Play.{PlaysOver, FailsOver};
+ghost use Rattle.stk_host.specs.Reach.{Says, SaysPart};
 ghost use Rattle.stk_host.specs.Steps.{exchange, attempt, step, judged, replied};
 ghost use Rattle.stk_host.specs.State.{data_in, data_held};
-ghost use Rattle.stk_host.specs.Calls.{SaysFront, HoldsAnswer, reading_of, reply_of, EndsSteps, CountsLink, Fits, IsQuiet};
+ghost use Rattle.stk_host.specs.Calls.{HoldsAnswer, reading_of, reply_of, EndsSteps, CountsLink, Fits, IsQuiet};
 
 use crate::fault::{Broken, StepFault, Stop};
 use crate::link::{Link, LinkFault};
@@ -46,7 +46,11 @@ impl Model for Conversation {
 
     ghost Value = { State };
 
-    ghost view = { λ conversation. record { next = conversation.next; unread = conversation.unread; held = conversation.reader } };
+    ghost view = { λ conversation. record {
+      next = conversation.next;
+      unread = conversation.unread;
+      held = conversation.reader;
+    } };
 
     ghost use Rattle.std.specs.Prelude.{◌≤◌, length};
 
@@ -56,9 +60,10 @@ impl Model for Conversation {
 fn send_command<L: Link>(link: &mut L, seq: u8, command: &Command<'_>) -> Result<(), LinkFault>
     requires { Fits command.now }
     ensures ok { OnOk result (Says (frame seq (body command.now)) (L.talk link.old) (L.talk link.new)) }
-    ensures err { OnErr result (SaysFront (frame seq (body command.now)) (L.talk link.old) (L.talk link.new)) }
+    ensures err { OnErr result (SaysPart (frame seq (body command.now)) (L.talk link.old) (L.talk link.new)) }
     ensures counted { L.failures link.old ≤ L.failures link.new }
     ensures comes { Stays L.comes_of link.old link.new }
+    ensures sound { OnOk result (L.failures link.new ≡ L.failures link.old) }
     ensures failed { OnErr result (HasFailed (L.failures link.old) (L.failures link.new)) }
 {
     let mut frame = ArrayVec::new();
@@ -67,7 +72,8 @@ fn send_command<L: Link>(link: &mut L, seq: u8, command: &Command<'_>) -> Result
 }
 
 fn judge_body(command: &Command<'_>, body: &[u8]) -> Reply
-    ensures reply { reply_of result (data_in (judge command.now body.now)) ≡ judged command.now (judge command.now body.now) }
+    ensures reply { reply_of result (data_in (judge command.now body.now))
+        ≡ judged command.now (judge command.now body.now) }
     ensures sized { result ≡ Reply.Data → SizedBy (shape command.now) (data_in (judge command.now body.now)) }
 {
     match Answer::read(command, body) {
@@ -82,7 +88,8 @@ fn judge_body(command: &Command<'_>, body: &[u8]) -> Reply
 
 /// What this end of listening comes to.
 fn reply_to(reader: &FrameReader, reading: Reading, command: &Command<'_>) -> Reply
-    ensures reply { reply_of result (data_held command.now reader.now) ≡ replied command.now (reading_of reading reader.now) }
+    ensures reply { reply_of result (data_held command.now reader.now)
+        ≡ replied command.now (reading_of reading reader.now) }
     ensures sized { result ≡ Reply.Data → SizedBy (shape command.now) (data_held command.now reader.now) }
 {
     match reading {
@@ -119,13 +126,18 @@ impl Conversation {
     /// Sends a command and reads its answer.
     fn exchange<L: Link>(&mut self, link: &mut L, command: &Command<'_>) -> Result<Reply, Broken>
         requires { Fits command.now }
-        ensures ok { IfOk result (λ reply. PlaysOver (exchange command.now) self.old.next self.old.unread (L.talk link.old) (L.talk link.new)
+        ensures ok { IfOk result (λ reply. PlaysOver (exchange command.now) self.old.next self.old.unread
+            (L.talk link.old) (L.talk link.new)
             (reply_of reply (data_held command.now self.new.held)) self.new.next self.new.unread) }
-        ensures sized { IsOkAnd result (λ reply. reply ≡ Reply.Data) → SizedBy (shape command.now) (data_held command.now self.new.held) }
-        ensures quiet { IsQuiet command.now → IsOkAnd result (λ reply. reply ≡ Reply.Data) → data_held command.now self.new.held ≡ [] }
-        ensures err { OnErr result (BreaksOver (exchange command.now) self.old.next self.old.unread (L.talk link.old) (L.talk link.new)) }
+        ensures sized { IsOkAnd result (λ reply. reply ≡ Reply.Data)
+            → SizedBy (shape command.now) (data_held command.now self.new.held) }
+        ensures quiet { IsQuiet command.now → IsOkAnd result (λ reply. reply ≡ Reply.Data)
+            → data_held command.now self.new.held ≡ [] }
+        ensures err { IfErr result (λ broken. FailsOver broken (exchange command.now) self.old.next self.old.unread
+            (L.talk link.old) (L.talk link.new)) }
         ensures counted { L.failures link.old ≤ L.failures link.new }
         ensures comes { Stays L.comes_of link.old link.new }
+        ensures sound { OnOk result (L.failures link.new ≡ L.failures link.old) }
         ensures failed { OnErr result (HasFailed (L.failures link.old) (L.failures link.new)) }
         ensures bound { length self.new.unread ≤ 281 }
     {
@@ -149,12 +161,16 @@ impl Conversation {
     ) -> Result<Reply, Broken>
         requires quiet { All IsQuiet first.now }
         requires fits { Fits last.now }
-        ensures ok { IfOk result (λ reply. PlaysOver (attempt (first.now ++ last.now ∷ []) []) self.old.next self.old.unread (L.talk link.old) (L.talk link.new)
+        ensures ok { IfOk result (λ reply. PlaysOver (attempt (first.now ++ last.now ∷ []) []) self.old.next
+            self.old.unread (L.talk link.old) (L.talk link.new)
             (reply_of reply (data_held last.now self.new.held)) self.new.next self.new.unread) }
-        ensures err { OnErr result (BreaksOver (attempt (first.now ++ last.now ∷ []) []) self.old.next self.old.unread (L.talk link.old) (L.talk link.new)) }
-        ensures sized { IsOkAnd result (λ reply. reply ≡ Reply.Data) → SizedBy (shape last.now) (data_held last.now self.new.held) }
+        ensures err { IfErr result (λ broken. FailsOver broken (attempt (first.now ++ last.now ∷ []) []) self.old.next
+            self.old.unread (L.talk link.old) (L.talk link.new)) }
+        ensures sized { IsOkAnd result (λ reply. reply ≡ Reply.Data)
+            → SizedBy (shape last.now) (data_held last.now self.new.held) }
         ensures counted { L.failures link.old ≤ L.failures link.new }
         ensures comes { Stays L.comes_of link.old link.new }
+        ensures sound { OnOk result (L.failures link.new ≡ L.failures link.old) }
         ensures failed { OnErr result (HasFailed (L.failures link.old) (L.failures link.new)) }
         ensures bound { length self.new.unread ≤ 281 }
     {
@@ -179,7 +195,8 @@ impl Conversation {
     ) -> Result<(), Stop>
         requires quiet { All IsQuiet first.now }
         requires fits { Fits last.now }
-        ensures played { EndsSteps (step (first.now ++ last.now ∷ [])) self.old.next self.old.unread (L.talk link.old) (L.talk link.new)
+        ensures played { EndsSteps (step (first.now ++ last.now ∷ [])) self.old.next self.old.unread (L.talk link.old)
+            (L.talk link.new)
             (λ done. data_held last.now self.new.held) result self.new.next self.new.unread }
         ensures sized { OnOk result (SizedBy (shape last.now) (data_held last.now self.new.held)) }
         ensures counted { CountsLink (L.failures link.old) (L.failures link.new) result }

@@ -1,7 +1,7 @@
 //! A link that fails once, at a call that is chosen: for tests of what stands on links.
 #![tactic(auto)]
 
-ghost use Rattle.std.specs.Prelude.{◌≡◌, ◌==◌, ◌≢◌, ◌<◌, ◌≤◌, ◌+◌, ◌-◌, ◌^◌, ◌∷◌, [], ℕ, length, take, min, Err, IfOk, OnErr};
+ghost use Rattle.std.specs.Prelude.{◌≡◌, ◌==◌, ◌≢◌, ◌<◌, ◌≤◌, ◌+◌, ◌-◌, ◌^◌, ◌∷◌, [], ℕ, length, take, min, Err, IfOk, OnOk, OnErr};
 ghost use Rattle.stk_host.specs.declared.link.LinkFault.TheVariants.{Failed};
 ghost use Rattle.stk_host.specs.Links.{total_failures};
 ghost use Rattle.stk_host.specs.Talk.{Sent, Got, Grows, HasFailed, Stays, FitsBuffer, items_of};
@@ -11,9 +11,9 @@ use std::marker::Model;
 
 /// A link over another, which fails at one call and cuts what passes into short pieces.
 ///
-/// Calls of `send` and `recv` are counted together from 1. The chosen one answers [`LinkFault::Failed`], is counted as a
-/// failure and changes nothing else; all others go to the inner link, `send` with at most `cut` bytes and `recv` with a
-/// buffer of at most `cut` bytes.
+/// Calls of `send` and `recv` are counted together from 1. The chosen one answers [`LinkFault::Failed`], is counted as
+/// a failure and changes nothing else; all others go to the inner link, `send` with at most `cut` bytes and `recv` with
+/// a buffer of at most `cut` bytes.
 #[derive(Drop)]
 pub struct FailingLink<L> {
     inner: L,
@@ -85,18 +85,28 @@ impl<L: Link + Drop> Link for FailingLink<L> {
 
     fn send(&mut self, bytes: &[u8]) -> Result<usize, LinkFault>
         ensures within { IfOk result (λ n. n ≤ length bytes.now) }
-        ensures ok { IfOk result (λ n. Grows (L.talk self.old.inner) (Sent (take n bytes.now) ∷ []) (L.talk self.new.inner)) }
+        ensures ok { IfOk result (λ n. Grows (L.talk self.old.inner) (Sent (take n bytes.now) ∷ [])
+            (L.talk self.new.inner)) }
         ensures err { OnErr result (Grows (L.talk self.old.inner) [] (L.talk self.new.inner)) }
-        ensures counted { total_failures (L.failures self.old.inner) self.old.failed ≤ total_failures (L.failures self.new.inner) self.new.failed }
-        ensures failed { OnErr result (HasFailed (total_failures (L.failures self.old.inner) self.old.failed) (total_failures (L.failures self.new.inner) self.new.failed)) }
-        ensures stuck { IfOk result (λ n. n ≡ 0 → 0 < length bytes.now → HasFailed (total_failures (L.failures self.old.inner) self.old.failed) (total_failures (L.failures self.new.inner) self.new.failed)) }
+        ensures counted { total_failures (L.failures self.old.inner) self.old.failed
+            ≤ total_failures (L.failures self.new.inner) self.new.failed }
+        ensures failed { OnErr result (HasFailed (total_failures (L.failures self.old.inner) self.old.failed)
+            (total_failures (L.failures self.new.inner) self.new.failed)) }
+        ensures stuck { IfOk result (λ n. n ≡ 0 → 0 < length bytes.now
+            → HasFailed (total_failures (L.failures self.old.inner) self.old.failed)
+            (total_failures (L.failures self.new.inner) self.new.failed)) }
+        ensures sound { IfOk result (λ n. 0 < n → total_failures (L.failures self.new.inner) self.new.failed
+            ≡ total_failures (L.failures self.old.inner) self.old.failed) }
+        ensures idle { OnOk result (length bytes.now ≡ 0 → total_failures (L.failures self.new.inner) self.new.failed
+            ≡ total_failures (L.failures self.old.inner) self.old.failed) }
         ensures comes { Stays L.comes_of self.old.inner self.new.inner }
         ensures due { self.new.due ≡ self.old.due - 1 }
         ensures cut { self.new.cut ≡ self.old.cut }
         // The call that is due fails, and the inner link isn't called.
         ensures chosen { self.old.due ≡ 1 → (result ≡ Err Failed) × (self.new.inner ≡ self.old.inner) }
         // Every other call fails only with the inner link.
-        ensures others { self.old.due ≢ 1 → (self.new.failed ≡ self.old.failed) × OnErr result (HasFailed (L.failures self.old.inner) (L.failures self.new.inner)) }
+        ensures others { self.old.due ≢ 1 → (self.new.failed ≡ self.old.failed)
+            × OnErr result (HasFailed (L.failures self.old.inner) (L.failures self.new.inner)) }
         ensures short { IfOk result (λ n. n ≤ self.old.cut) }
     {
         if self.is_due() {
@@ -109,17 +119,23 @@ impl<L: Link + Drop> Link for FailingLink<L> {
     fn recv(&mut self, buffer: &mut [u8]) -> Result<Heard, LinkFault>
         requires { 0 < length buffer.old }
         ensures within { IfOk result (λ heard. FitsBuffer heard (length buffer.new)) }
-        ensures ok { IfOk result (λ heard. Grows (L.talk self.old.inner) (Got (items_of heard buffer.new) ∷ []) (L.talk self.new.inner)) }
+        ensures ok { IfOk result (λ heard. Grows (L.talk self.old.inner) (Got (items_of heard buffer.new) ∷ [])
+            (L.talk self.new.inner)) }
         ensures err { OnErr result (Grows (L.talk self.old.inner) [] (L.talk self.new.inner)) }
-        ensures counted { total_failures (L.failures self.old.inner) self.old.failed ≤ total_failures (L.failures self.new.inner) self.new.failed }
-        ensures failed { OnErr result (HasFailed (total_failures (L.failures self.old.inner) self.old.failed) (total_failures (L.failures self.new.inner) self.new.failed)) }
+        ensures counted { total_failures (L.failures self.old.inner) self.old.failed
+            ≤ total_failures (L.failures self.new.inner) self.new.failed }
+        ensures failed { OnErr result (HasFailed (total_failures (L.failures self.old.inner) self.old.failed)
+            (total_failures (L.failures self.new.inner) self.new.failed)) }
+        ensures sound { OnOk result (total_failures (L.failures self.new.inner) self.new.failed
+            ≡ total_failures (L.failures self.old.inner) self.old.failed) }
         ensures comes { Stays L.comes_of self.old.inner self.new.inner }
         ensures due { self.new.due ≡ self.old.due - 1 }
         ensures cut { self.new.cut ≡ self.old.cut }
         // The call that is due fails, and the inner link isn't called.
         ensures chosen { self.old.due ≡ 1 → (result ≡ Err Failed) × (self.new.inner ≡ self.old.inner) }
         // Every other call fails only with the inner link.
-        ensures others { self.old.due ≢ 1 → (self.new.failed ≡ self.old.failed) × OnErr result (HasFailed (L.failures self.old.inner) (L.failures self.new.inner)) }
+        ensures others { self.old.due ≢ 1 → (self.new.failed ≡ self.old.failed)
+            × OnErr result (HasFailed (L.failures self.old.inner) (L.failures self.new.inner)) }
         ensures short { IfOk result (λ heard. FitsBuffer heard self.old.cut) }
     {
         if self.is_due() {

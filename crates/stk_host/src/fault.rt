@@ -7,7 +7,8 @@ ghost use Rattle.stk_host.specs.Calls.{fault_number};
 use avr_part::Mem;
 use thiserror::Error;
 
-/// Why a step came to no data.
+/// Why a step came to no data. No call answers it: a [`crate::Host`] tells it as its [`HostFault`]. It is public as a
+/// word of the definitions of steps, which contracts of other crates cite.
 #[derive(Clone, Copy, Debug, Drop, PartialEq, Eq)]
 pub enum StepFault {
     /// No answer came to the last attempt.
@@ -22,10 +23,12 @@ pub enum StepFault {
     BadAnswer(u8),
 }
 
-/// What the link could not do.
+/// What the link could not do. It is public, as [`StepFault`] is, for definitions: of where a call breaks off.
 #[derive(Clone, Copy, Debug, Drop, PartialEq, Eq)]
-pub(crate) enum Broken {
+pub enum Broken {
+    /// Send a frame whole.
     Send,
+    /// Hear the answer to one.
     Recv,
 }
 
@@ -45,7 +48,7 @@ pub enum HostFault {
     /// The line is at its end: nothing more can be asked.
     #[error("the link ended")]
     LinkEnded,
-    /// The link takes nothing more.
+    /// The link failed at sending: the frames before went out whole, and of the next one a part, perhaps nothing.
     #[error("the link cannot be written")]
     SendFailed,
     /// 4,096 bytes came to the last of four attempts, and no answer was among them.
@@ -60,8 +63,8 @@ pub enum HostFault {
     /// The part has this signature, and not that of the part asked for.
     #[error("another signature was found")]
     WrongSignature([u8; 3]),
-    /// The memory has at this address another byte than the image: the memory, the address in bytes, the image's byte, the
-    /// memory's byte. No lower address differs.
+    /// The memory has at this address another byte than the image: the memory, the address in bytes, the image's byte,
+    /// the memory's byte. No lower address differs.
     #[error("address {1:08X}: {2:02X} expected, {3:02X} found")]
     Differs(Mem, u32, u8, u8),
     /// The memory can't be written: the signature or the calibration.
@@ -70,7 +73,7 @@ pub enum HostFault {
     /// Memory was refused.
     #[error("out of memory")]
     Memory,
-    /// The link gives nothing more.
+    /// The link failed at listening, where the answer to a frame that had gone out whole was due.
     #[error("the link cannot be read")]
     RecvFailed,
 }

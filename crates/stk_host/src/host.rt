@@ -7,7 +7,7 @@ ghost use Rattle.stk_host.specs.declared.fault.HostFault.{HostFault};
 ghost use Rattle.stk_host.specs.Talk.{HasFailed, Stays};
 ghost use Rattle.stk_host.specs.Operations.{opening, closing, erasing, writing, reading, verifying};
 ghost use Rattle.stk_host.specs.State.{left_by};
-ghost use Rattle.stk_host.specs.Calls.{EndsCall, EndsOrLacks, IsBroken, told, opened, closed, given, kept, verified};
+ghost use Rattle.stk_host.specs.Calls.{EndsCall, EndsOrLacks, IsBroken, UnlessBroken, told, opened, closed, given, kept, verified};
 
 use crate::comparing::compare;
 use crate::conversation::Conversation;
@@ -24,8 +24,8 @@ use std::marker::Model;
 
 /// The host's side of the STK500v2 protocol: it asks a programmer, over any link, to work on a part.
 ///
-/// A host keeps one conversation from its first call to its last: the sequence numbers run on, and bytes that were heard
-/// and not read are read by the next call. After [`HostFault::LinkEnded`], [`HostFault::SendFailed`] or
+/// A host keeps one conversation from its first call to its last: the sequence numbers run on, and bytes that were
+/// heard and not read are read by the next call. After [`HostFault::LinkEnded`], [`HostFault::SendFailed`] or
 /// [`HostFault::RecvFailed`] every call answers that fault again, and nothing is sent or heard; after every other fault
 /// the host goes on.
 ///
@@ -39,7 +39,7 @@ use std::marker::Model;
 /// let signature = host.open(&mut wire, false)?;
 /// host.erase(&mut wire)?;
 /// host.write(&mut wire, Mem::Flash, &image)?;
-/// host.verify(&mut wire, alloc, Mem::Flash, &image)?;
+/// host.verify(alloc, &mut wire, Mem::Flash, &image)?;
 /// host.close(&mut wire)?;
 /// assert!(rt; signature == [0x1E, 0x95, 0x0F]);
 /// assert!(rt; wire.chip().byte(Mem::Flash, 1) == Some(0x94));
@@ -163,20 +163,26 @@ impl Host {
         }
     }
 
-    /// Opens a session: signs on, enters programming mode, and reads the part's signature, which it answers, byte 0 first.
+    /// Opens a session: signs on, enters programming mode, and reads the part's signature, which it answers, byte 0
+    /// first.
     ///
-    /// Where the signature is another than the part's the fault is [`HostFault::WrongSignature`], unless `force` takes any.
+    /// Where the signature is another than the part's the fault is [`HostFault::WrongSignature`], unless `force` takes
+    /// any.
     pub fn open<L: Link>(&mut self, link: &mut L, force: bool) -> Result<[u8; 3], HostFault>
-        // After the link's end or a fault of it the same fault is answered, and nothing is sent or heard.
-        ensures stays { (fault : HostFault) → self.old.broken ≡ Some fault → (result ≡ Err fault) × (self.new ≡ self.old) × (L.talk link.new ≡ L.talk link.old) }
+        // After the link's end or a fault of it the same fault is answered, and the link stays as it is.
+        ensures stays { (fault : HostFault) → self.old.broken ≡ Some fault → (result ≡ Err fault)
+            × (self.new ≡ self.old) × (link.new ≡ link.old) }
         // Else the call is the play of the steps that open a session, or after a fault of the link a front of it.
-        ensures played { self.old.broken ≡ None → EndsCall (opening self.old.signature force) self.old.next self.old.unread
+        ensures played { self.old.broken ≡ None → EndsCall (opening self.old.signature force) self.old.next
+            self.old.unread
             (L.talk link.old) (L.talk link.new) result self.new.next self.new.unread }
         ensures lasts { self.old.broken ≡ None → self.new.broken ≡ left_by result }
         ensures part { self.new.part ≡ self.old.part }
         ensures signature { self.new.signature ≡ self.old.signature }
-        // A fault of the link is told only where the link has failed.
-        ensures failed { self.old.broken ≡ None → IsBroken result → HasFailed (L.failures link.old) (L.failures link.new) }
+        // A fault of the link is told where the link has failed, and only there.
+        ensures failed { self.old.broken ≡ None → IsBroken result
+            → HasFailed (L.failures link.old) (L.failures link.new) }
+        ensures sound { self.old.broken ≡ None → UnlessBroken result (L.failures link.new ≡ L.failures link.old) }
         ensures counted { L.failures link.old ≤ L.failures link.new }
         ensures comes { Stays L.comes_of link.old link.new }
         // Of what was heard at most one piece is left.
@@ -193,16 +199,19 @@ impl Host {
 
     /// Erases the chip: flash and lock, and EEPROM too unless the part's EESAVE fuse keeps it.
     pub fn erase<L: Link>(&mut self, link: &mut L) -> Result<(), HostFault>
-        // After the link's end or a fault of it the same fault is answered, and nothing is sent or heard.
-        ensures stays { (fault : HostFault) → self.old.broken ≡ Some fault → (result ≡ Err fault) × (self.new ≡ self.old) × (L.talk link.new ≡ L.talk link.old) }
+        // After the link's end or a fault of it the same fault is answered, and the link stays as it is.
+        ensures stays { (fault : HostFault) → self.old.broken ≡ Some fault → (result ≡ Err fault)
+            × (self.new ≡ self.old) × (link.new ≡ link.old) }
         // Else the call is the play of the step that erases the chip, or after a fault of the link a front of it.
         ensures played { self.old.broken ≡ None → EndsCall erasing self.old.next self.old.unread
             (L.talk link.old) (L.talk link.new) result self.new.next self.new.unread }
         ensures lasts { self.old.broken ≡ None → self.new.broken ≡ left_by result }
         ensures part { self.new.part ≡ self.old.part }
         ensures signature { self.new.signature ≡ self.old.signature }
-        // A fault of the link is told only where the link has failed.
-        ensures failed { self.old.broken ≡ None → IsBroken result → HasFailed (L.failures link.old) (L.failures link.new) }
+        // A fault of the link is told where the link has failed, and only there.
+        ensures failed { self.old.broken ≡ None → IsBroken result
+            → HasFailed (L.failures link.old) (L.failures link.new) }
+        ensures sound { self.old.broken ≡ None → UnlessBroken result (L.failures link.new ≡ L.failures link.old) }
         ensures counted { L.failures link.old ≤ L.failures link.new }
         ensures comes { Stays L.comes_of link.old link.new }
         // Of what was heard at most one piece is left.
@@ -217,22 +226,27 @@ impl Host {
         outcome
     }
 
-    /// Writes an image to a memory: whole pages of flash, FF where the image has gaps, and the image's bytes alone elsewhere.
+    /// Writes an image to a memory: whole pages of flash, FF where the image has gaps, and the image's bytes alone
+    /// elsewhere.
     ///
     /// A memory that can't be written is [`HostFault::ReadOnly`], and nothing is sent. The image is no larger than the
     /// memory. The call never answers [`HostFault::Memory`].
     pub fn write<L: Link>(&mut self, link: &mut L, mem: Mem, image: &Image) -> Result<(), HostFault>
         requires { length image.now ≤ size_of mem self.old.part }
-        // After the link's end or a fault of it the same fault is answered, and nothing is sent or heard.
-        ensures stays { (fault : HostFault) → self.old.broken ≡ Some fault → (result ≡ Err fault) × (self.new ≡ self.old) × (L.talk link.new ≡ L.talk link.old) }
+        // After the link's end or a fault of it the same fault is answered, and the link stays as it is.
+        ensures stays { (fault : HostFault) → self.old.broken ≡ Some fault → (result ≡ Err fault)
+            × (self.new ≡ self.old) × (link.new ≡ link.old) }
         // Else the call is the play of the steps that write the image, or after a fault of the link a front of it.
-        ensures played { self.old.broken ≡ None → EndsCall (writing self.old.part mem image.now) self.old.next self.old.unread
+        ensures played { self.old.broken ≡ None → EndsCall (writing self.old.part mem image.now) self.old.next
+            self.old.unread
             (L.talk link.old) (L.talk link.new) result self.new.next self.new.unread }
         ensures lasts { self.old.broken ≡ None → self.new.broken ≡ left_by result }
         ensures part { self.new.part ≡ self.old.part }
         ensures signature { self.new.signature ≡ self.old.signature }
-        // A fault of the link is told only where the link has failed.
-        ensures failed { self.old.broken ≡ None → IsBroken result → HasFailed (L.failures link.old) (L.failures link.new) }
+        // A fault of the link is told where the link has failed, and only there.
+        ensures failed { self.old.broken ≡ None → IsBroken result
+            → HasFailed (L.failures link.old) (L.failures link.new) }
+        ensures sound { self.old.broken ≡ None → UnlessBroken result (L.failures link.new ≡ L.failures link.old) }
         ensures counted { L.failures link.old ≤ L.failures link.new }
         ensures comes { Stays L.comes_of link.old link.new }
         // Of what was heard at most one piece is left.
@@ -259,10 +273,11 @@ impl Host {
         mem: Mem,
         out: &mut Vec<u8>,
     ) -> Result<(), HostFault>
-        // After the link's end or a fault of it the same fault is answered, and nothing is sent or heard.
-        ensures stays { (fault : HostFault) → self.old.broken ≡ Some fault → (result ≡ Err fault) × (self.new ≡ self.old) × (L.talk link.new ≡ L.talk link.old) }
-        // Else the call is the play of the steps that read the memory, or after a fault of the link a front of it. Where
-        // memory was refused nothing was sent or heard.
+        // After the link's end or a fault of it the same fault is answered, and the link stays as it is.
+        ensures stays { (fault : HostFault) → self.old.broken ≡ Some fault → (result ≡ Err fault)
+            × (self.new ≡ self.old) × (link.new ≡ link.old) }
+        // Else the call is the play of the steps that read the memory, or after a fault of the link a front of it.
+        // Where memory was refused nothing was sent or heard.
         ensures played { self.old.broken ≡ None → EndsOrLacks (reading self.old.part mem) self.old.next self.old.unread
             (L.talk link.old) (L.talk link.new) (given out.new.items result) self.new.next self.new.unread }
         ensures empty { OnErr result (out.new.items ≡ []) }
@@ -271,8 +286,10 @@ impl Host {
         ensures lasts { self.old.broken ≡ None → self.new.broken ≡ left_by result }
         ensures part { self.new.part ≡ self.old.part }
         ensures signature { self.new.signature ≡ self.old.signature }
-        // A fault of the link is told only where the link has failed.
-        ensures failed { self.old.broken ≡ None → IsBroken result → HasFailed (L.failures link.old) (L.failures link.new) }
+        // A fault of the link is told where the link has failed, and only there.
+        ensures failed { self.old.broken ≡ None → IsBroken result
+            → HasFailed (L.failures link.old) (L.failures link.new) }
+        ensures sound { self.old.broken ≡ None → UnlessBroken result (L.failures link.new ≡ L.failures link.old) }
         ensures counted { L.failures link.old ≤ L.failures link.new }
         ensures comes { Stays L.comes_of link.old link.new }
         // Of what was heard at most one piece is left.
@@ -292,29 +309,33 @@ impl Host {
         outcome
     }
 
-    /// Reads a whole memory and compares it with an image, no larger than the memory, at the addresses that the image holds:
-    /// the lowest at which they differ is told as [`HostFault::Differs`].
+    /// Reads a whole memory and compares it with an image, no larger than the memory, at the addresses that the image
+    /// holds: the lowest at which they differ is told as [`HostFault::Differs`].
     ///
     /// Its memory is taken before the first frame is sent; where it is refused the fault is [`HostFault::Memory`].
     pub fn verify<L: Link>(
         &mut self,
-        link: &mut L,
         alloc: Global,
+        link: &mut L,
         mem: Mem,
         image: &Image,
     ) -> Result<(), HostFault>
         requires { length image.now ≤ size_of mem self.old.part }
-        // After the link's end or a fault of it the same fault is answered, and nothing is sent or heard.
-        ensures stays { (fault : HostFault) → self.old.broken ≡ Some fault → (result ≡ Err fault) × (self.new ≡ self.old) × (L.talk link.new ≡ L.talk link.old) }
-        // Else the call is the play of the steps that read the memory and the comparison, or after a fault of the link a front
-        // of it. Where memory was refused nothing was sent or heard.
-        ensures played { self.old.broken ≡ None → EndsOrLacks (verifying self.old.part mem image.now) self.old.next self.old.unread
+        // After the link's end or a fault of it the same fault is answered, and the link stays as it is.
+        ensures stays { (fault : HostFault) → self.old.broken ≡ Some fault → (result ≡ Err fault)
+            × (self.new ≡ self.old) × (link.new ≡ link.old) }
+        // Else the call is the play of the steps that read the memory and the comparison, or after a fault of the link
+        // a front of it. Where memory was refused nothing was sent or heard.
+        ensures played { self.old.broken ≡ None → EndsOrLacks (verifying self.old.part mem image.now) self.old.next
+            self.old.unread
             (L.talk link.old) (L.talk link.new) result self.new.next self.new.unread }
         ensures lasts { self.old.broken ≡ None → self.new.broken ≡ left_by result }
         ensures part { self.new.part ≡ self.old.part }
         ensures signature { self.new.signature ≡ self.old.signature }
-        // A fault of the link is told only where the link has failed.
-        ensures failed { self.old.broken ≡ None → IsBroken result → HasFailed (L.failures link.old) (L.failures link.new) }
+        // A fault of the link is told where the link has failed, and only there.
+        ensures failed { self.old.broken ≡ None → IsBroken result
+            → HasFailed (L.failures link.old) (L.failures link.new) }
+        ensures sound { self.old.broken ≡ None → UnlessBroken result (L.failures link.new ≡ L.failures link.old) }
         ensures counted { L.failures link.old ≤ L.failures link.new }
         ensures comes { Stays L.comes_of link.old link.new }
         // Of what was heard at most one piece is left.
@@ -335,16 +356,20 @@ impl Host {
 
     /// Closes the session: leaves programming mode.
     pub fn close<L: Link>(&mut self, link: &mut L) -> Result<(), HostFault>
-        // After the link's end or a fault of it the same fault is answered, and nothing is sent or heard.
-        ensures stays { (fault : HostFault) → self.old.broken ≡ Some fault → (result ≡ Err fault) × (self.new ≡ self.old) × (L.talk link.new ≡ L.talk link.old) }
-        // Else the call is the play of the step that leaves programming mode, or after a fault of the link a front of it.
+        // After the link's end or a fault of it the same fault is answered, and the link stays as it is.
+        ensures stays { (fault : HostFault) → self.old.broken ≡ Some fault → (result ≡ Err fault)
+            × (self.new ≡ self.old) × (link.new ≡ link.old) }
+        // Else the call is the play of the step that leaves programming mode, or after a fault of the link a front of
+        // it.
         ensures played { self.old.broken ≡ None → EndsCall closing self.old.next self.old.unread
             (L.talk link.old) (L.talk link.new) result self.new.next self.new.unread }
         ensures lasts { self.old.broken ≡ None → self.new.broken ≡ left_by result }
         ensures part { self.new.part ≡ self.old.part }
         ensures signature { self.new.signature ≡ self.old.signature }
-        // A fault of the link is told only where the link has failed.
-        ensures failed { self.old.broken ≡ None → IsBroken result → HasFailed (L.failures link.old) (L.failures link.new) }
+        // A fault of the link is told where the link has failed, and only there.
+        ensures failed { self.old.broken ≡ None → IsBroken result
+            → HasFailed (L.failures link.old) (L.failures link.new) }
+        ensures sound { self.old.broken ≡ None → UnlessBroken result (L.failures link.new ≡ L.failures link.old) }
         ensures counted { L.failures link.old ≤ L.failures link.new }
         ensures comes { Stays L.comes_of link.old link.new }
         // Of what was heard at most one piece is left.

@@ -11,14 +11,17 @@ ghost use Rattle.stk_host.specs.ReadSteps.{read_steps};
 ghost use Rattle.stk_host.specs.Operations.{opening, erasing, writing, reading, verifying, closing};
 ghost use Rattle.stk_host.specs.Bound.{IsBoundedBy, opening_steps, erasing_steps, closing_steps};
 
-/// Whatever a programmer answers, and however its answers come, a play of steps, and so a call of a [`crate::Host`], asks at
-/// most four times as often as its steps have commands, and so many frames at most go out: also where the link fails.
+/// Whatever a programmer answers, and however its answers come, a play of steps, and so a call of a [`crate::Host`],
+/// asks at most four times as often as its steps have commands, and so many frames at most go out: also where the link
+/// fails.
 pub fn a_call_sends_at_most_four_times_its_commands()
     ensures plays { (steps : List (List Command)) (before : List ℕ) → IsBoundedBy steps (play steps before) }
     ensures opens { (signature : List ℕ) (force : Bool) → IsBoundedBy opening_steps (opening signature force) }
     ensures erases { IsBoundedBy erasing_steps erasing }
-    ensures writes { (part : Part) (mem : Mem) (image : List (Option ℕ)) → IsBoundedBy (write_steps part mem image) (writing part mem image) }
+    ensures writes { (part : Part) (mem : Mem) (image : List (Option ℕ))
+        → IsBoundedBy (write_steps part mem image) (writing part mem image) }
     ensures reads { (part : Part) (mem : Mem) → IsBoundedBy (read_steps part mem) (reading part mem) }
-    ensures verifies { (part : Part) (mem : Mem) (image : List (Option ℕ)) → IsBoundedBy (read_steps part mem) (verifying part mem image) }
+    ensures verifies { (part : Part) (mem : Mem) (image : List (Option ℕ))
+        → IsBoundedBy (read_steps part mem) (verifying part mem image) }
     ensures closes { IsBoundedBy closing_steps closing }
 {}

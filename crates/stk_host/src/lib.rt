@@ -1,7 +1,8 @@
 //! The host's side of the STK500 protocol, version 2 (Atmel AVR068), as AVRDUDE speaks it with `-c stk500v2`.
 //!
-//! The one idea: an operation is a dialog of commands and of what their answers come to, and a call of [`Host`] is the play
-//! of its dialog over the tape of all that was heard: these frames and no others, whatever the pieces that it came in.
+//! The one idea: an operation is a dialog of commands and of what their answers come to, and a call of [`Host`] is the
+//! play of its dialog over the tape of all that was heard: these frames and no others, whatever the pieces that it came
+//! in.
 //!
 //!     let mut link = StreamLink::new(reader, writer);
 //!     let mut host = Host::new(&part);
@@ -40,10 +41,11 @@ mod writing;
 mod laws;
 
 pub use failing_link::FailingLink;
-pub use fault::{HostFault, StepFault};
+pub use fault::{Broken, HostFault, StepFault};
 pub use host::Host;
 pub use laws::a_call_sends_at_most_four_times_its_commands;
 pub use link::{Heard, Item, Link, LinkFault};
 pub use log::Log;
+pub use send::send_all;
 pub use stream_link::StreamLink;
 pub use tape_link::TapeLink;

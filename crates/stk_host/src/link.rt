@@ -50,7 +50,8 @@ pub enum Item {
 /// A line to a programmer: a device that takes bytes, and gives bytes, silences and an end.
 ///
 /// Contracts see all that passed, as one list of the pieces sent and heard in their order, and how often the link has
-/// failed, at most 2^64 - 1. A fault is answered only where that count rose or stands at this end.
+/// failed, at most 2^64 - 1. A fault is answered only where that count rose or stands at this end, and no call that
+/// answers none raises it, but for a `send` that took none of some bytes.
 pub trait Link {
     /// What was sent and heard, or `None` where the link doesn't keep it.
     ghost talk: { Self → Option Talk };
@@ -66,14 +67,18 @@ pub trait Link {
 
     /// Sends the bytes or a front of them, and says how many.
     ///
-    /// It is 0 for bytes that aren't none only where the link has failed. After a fault nothing was sent.
+    /// It is 0 for bytes that aren't none only where the link has failed. After a fault no byte counts as sent: a link
+    /// that keeps what passed has passed nothing, and one that doesn't may have passed a front of them.
     fn send(&mut self, bytes: &[u8]) -> Result<usize, LinkFault>
         ensures within { IfOk result (λ n. n ≤ length bytes.now) }
         ensures ok { IfOk result (λ n. Grows (talk self.old) (Sent (take n bytes.now) ∷ []) (talk self.new)) }
         ensures err { OnErr result (Grows (talk self.old) [] (talk self.new)) }
         ensures counted { failures self.old ≤ failures self.new }
         ensures failed { OnErr result (HasFailed (failures self.old) (failures self.new)) }
-        ensures stuck { IfOk result (λ n. n ≡ 0 → 0 < length bytes.now → HasFailed (failures self.old) (failures self.new)) }
+        ensures stuck { IfOk result (λ n. n ≡ 0 → 0 < length bytes.now
+            → HasFailed (failures self.old) (failures self.new)) }
+        ensures sound { IfOk result (λ n. 0 < n → failures self.new ≡ failures self.old) }
+        ensures idle { OnOk result (length bytes.now ≡ 0 → failures self.new ≡ failures self.old) }
         ensures comes { Stays comes_of self.old self.new };
 
     /// Listens: for at least one byte and as many as the buffer holds, a silence or the end.
@@ -86,5 +91,6 @@ pub trait Link {
         ensures err { OnErr result (Grows (talk self.old) [] (talk self.new)) }
         ensures counted { failures self.old ≤ failures self.new }
         ensures failed { OnErr result (HasFailed (failures self.old) (failures self.new)) }
+        ensures sound { OnOk result (failures self.new ≡ failures self.old) }
         ensures comes { Stays comes_of self.old self.new };
 }

@@ -1,7 +1,7 @@
 //! Listening for an answer.
 #![tactic(auto)]
 
-ghost use Rattle.std.specs.Prelude.{◌≡◌, ◌<◌, ◌≤◌, ◌++◌, ℕ, List, length, IfOk, OnErr, true, false, None};
+ghost use Rattle.std.specs.Prelude.{◌≡◌, ◌<◌, ◌≤◌, ◌++◌, ℕ, List, length, IfOk, OnOk, OnErr, true, false, None};
 ghost use Rattle.stk_frame.specs.Reader.{Fed, found, Tells, HoldsFrame};
 ghost use Rattle.stk_host.specs.Tape.{is_answer, first_answer};
 ghost use Rattle.stk_host.specs.Talk.{HasFailed, Stays};
@@ -31,7 +31,8 @@ fn read_on(reader: &mut FrameReader, unread: &mut Unread, most: usize) -> (usize
     requires room { 0 < most }
     ensures within { result.0 ≤ most }
     ensures progress { 0 < result.0 }
-    ensures fed { (used : List ℕ) × (length used ≡ result.0) × (unread.old ≡ used ++ unread.new) × Fed reader.old used reader.new (found result.1 reader.new) }
+    ensures fed { (used : List ℕ) × (length used ≡ result.0) × (unread.old ≡ used ++ unread.new)
+        × Fed reader.old used reader.new (found result.1 reader.new) }
     ensures tells { Tells result.1 reader.new }
     ensures fits { length unread.new ≤ 281 }
 {
@@ -52,26 +53,30 @@ fn is_answer(reader: &FrameReader, event: Event, seq: u8) -> bool
     }
 }
 
-/// Listens for the answer to the frame of this sequence, from a fresh start.
+/// Listens for the answer to the frame of this sequence, from a fresh start. With what was unread it hears at most
+/// 4,096 bytes.
 pub(crate) fn listen<L: Link>(
     reader: &mut FrameReader,
     unread: &mut Unread,
     link: &mut L,
     seq: u8,
 ) -> Result<Reading, LinkFault>
-    ensures ok { IfOk result (λ reading. Hears seq unread.old (L.talk link.old) (L.talk link.new) (reading_of reading reader.new) unread.new) }
-    ensures fits { length unread.old ≤ 281 → length unread.new ≤ 281 }
+    requires few { length unread.old ≤ 281 }
+    ensures ok { IfOk result (λ reading. Hears seq unread.old (L.talk link.old) (L.talk link.new)
+        (reading_of reading reader.new) unread.new) }
+    ensures fits { length unread.new ≤ 281 }
     ensures holds { IfOk result (λ reading. HoldsAnswer reading reader.new) }
     ensures err { OnErr result (HearsNone seq unread.old (L.talk link.old) (L.talk link.new)) }
     ensures counted { L.failures link.old ≤ L.failures link.new }
     ensures comes { Stays L.comes_of link.old link.new }
+    ensures sound { OnOk result (L.failures link.new ≡ L.failures link.old) }
     ensures failed { OnErr result (HasFailed (L.failures link.old) (L.failures link.new)) }
 {
     reader.reset();
     let mut count = 0;
     while count < LIMIT {
         if unread.is_empty() {
-            match unread.hear(link)? {
+            match unread.hear(link, LIMIT - count)? {
                 Heard::Bytes(_) => {}
                 Heard::Silence => return Ok(Reading::Silent),
                 Heard::End => return Ok(Reading::Ended),

@@ -60,7 +60,8 @@ impl Log {
         self.out.as_slice()
     }
 
-    /// Makes room for one piece more, of at most so many bytes if it is sent. Where memory is refused nothing has passed.
+    /// Makes room for one piece more, of at most so many bytes if it is sent. Where memory is refused nothing has
+    /// passed.
     pub fn reserve(&mut self, count: usize) -> Result<(), AllocError>
         ensures talk { self.new.talk ≡ self.old.talk }
         ensures piece { OnOk result (0 < self.new.piece_room) }

@@ -81,7 +81,7 @@ fn reads_a_fuse_and_finds_it_different(rt: HostRuntime) -> Result<(), Fail> {
     let mut host = Host::new(&part);
     let mut bytes = Vec::new(rt.alloc());
     let differs = HostFault::Differs(Mem::Lfuse, 0, 0xE2, 0x62);
-    assert!(rt; host.verify(&mut link, rt.alloc(), Mem::Lfuse, &image) == Err(differs));
+    assert!(rt; host.verify(rt.alloc(), &mut link, Mem::Lfuse, &image) == Err(differs));
     assert!(rt; host.read(&mut link, Mem::Lfuse, &mut bytes) == Ok(()));
     assert_eq!(rt; bytes.as_slice(), [0x62].as_slice());
     assert!(rt; host.read(&mut link, Mem::Lfuse, &mut bytes) == Err(HostFault::LinkEnded));

@@ -64,7 +64,8 @@ fn read_blocks<L: Link>(
 ) -> Result<(), Stop>
     requires empty { out.old.items ≡ [] }
     requires room { parts.size_of mem part.now ≤ vec_capacity out.old }
-    ensures played { EndsSteps (play (each_from (block_steps part.now mem) 0 (block_count (parts.size_of mem part.now))) []) conversation.old.next conversation.old.unread (L.talk link.old) (L.talk link.new)
+    ensures played { EndsSteps (play (each_from (block_steps part.now mem) 0 (block_count (parts.size_of mem part.now)))
+        []) conversation.old.next conversation.old.unread (L.talk link.old) (L.talk link.new)
         (λ done. out.new.items) result conversation.new.next conversation.new.unread }
     ensures counted { CountsLink (L.failures link.old) (L.failures link.new) result }
     ensures comes { Stays L.comes_of link.old link.new }
@@ -89,7 +90,8 @@ fn read_signature<L: Link>(
 ) -> Result<(), Stop>
     requires empty { out.old.items ≡ [] }
     requires room { 3 ≤ vec_capacity out.old }
-    ensures played { EndsSteps (play signature_steps []) conversation.old.next conversation.old.unread (L.talk link.old) (L.talk link.new)
+    ensures played { EndsSteps (play signature_steps []) conversation.old.next conversation.old.unread (L.talk link.old)
+        (L.talk link.new)
         (λ done. out.new.items) result conversation.new.next conversation.new.unread }
     ensures counted { CountsLink (L.failures link.old) (L.failures link.new) result }
     ensures comes { Stays L.comes_of link.old link.new }
@@ -120,7 +122,8 @@ fn read_byte<L: Link>(
     requires one { data_count (shape command.now) ≡ 1 }
     requires empty { out.old.items ≡ [] }
     requires room { 1 ≤ vec_capacity out.old }
-    ensures played { EndsSteps (play ((command.now ∷ []) ∷ []) []) conversation.old.next conversation.old.unread (L.talk link.old) (L.talk link.new)
+    ensures played { EndsSteps (play ((command.now ∷ []) ∷ []) []) conversation.old.next conversation.old.unread
+        (L.talk link.old) (L.talk link.new)
         (λ done. out.new.items) result conversation.new.next conversation.new.unread }
     ensures counted { CountsLink (L.failures link.old) (L.failures link.new) result }
     ensures comes { Stays L.comes_of link.old link.new }
@@ -140,7 +143,8 @@ pub(crate) fn read_memory<L: Link>(
 ) -> Result<(), Stop>
     requires empty { out.old.items ≡ [] }
     requires room { parts.size_of mem part.now ≤ vec_capacity out.old }
-    ensures played { EndsSteps (play (read_steps part.now mem) []) conversation.old.next conversation.old.unread (L.talk link.old) (L.talk link.new)
+    ensures played { EndsSteps (play (read_steps part.now mem) []) conversation.old.next conversation.old.unread
+        (L.talk link.old) (L.talk link.new)
         (λ done. out.new.items) result conversation.new.next conversation.new.unread }
     ensures counted { CountsLink (L.failures link.old) (L.failures link.new) result }
     ensures comes { Stays L.comes_of link.old link.new }

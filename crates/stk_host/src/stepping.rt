@@ -31,7 +31,8 @@ pub(crate) fn play_step<L: Link>(
     requires fits { Fits last.now }
     requires counted { IsCounted (shape last.now) }
     requires no_data { data_count (shape last.now) ≡ 0 }
-    ensures played { GoesOn (first.now ++ last.now ∷ []) [] [] conversation.old.next conversation.old.unread (L.talk link.old) (L.talk link.new)
+    ensures played { GoesOn (first.now ++ last.now ∷ []) [] [] conversation.old.next conversation.old.unread
+        (L.talk link.old) (L.talk link.new)
         result conversation.new.next conversation.new.unread }
     ensures counted { CountsLink (L.failures link.old) (L.failures link.new) result }
     ensures comes { Stays L.comes_of link.old link.new }
@@ -52,7 +53,8 @@ pub(crate) fn read_step<L: Link>(
     requires fits { Fits last.now }
     requires counted { IsCounted (shape last.now) }
     requires room { length out.old.items + data_count (shape last.now) ≤ vec_capacity out.old }
-    ensures played { GoesOn (first.now ++ last.now ∷ []) out.old.items out.new.items conversation.old.next conversation.old.unread (L.talk link.old) (L.talk link.new)
+    ensures played { GoesOn (first.now ++ last.now ∷ []) out.old.items out.new.items conversation.old.next
+        conversation.old.unread (L.talk link.old) (L.talk link.new)
         result conversation.new.next conversation.new.unread }
     ensures counted { CountsLink (L.failures link.old) (L.failures link.new) result }
     ensures comes { Stays L.comes_of link.old link.new }

@@ -15,9 +15,9 @@ use std::marker::Model;
 
 /// A link over a reader and a writer, as standard input and output or the two sides of a socket.
 ///
-/// It keeps nothing of what passed. A read that timed out or would block is a silence, and a read of no bytes is the end;
-/// a call that was interrupted is made again. Every other fault of a read, a write or a flush, and a write of no bytes, is
-/// a failure. Each piece sent is flushed.
+/// It keeps nothing of what passed. A read that timed out or would block is a silence, and a read of no bytes is the
+/// end; a call that was interrupted is made again. Every other fault of a read, a write or a flush, and a write of no
+/// bytes, is a failure. Each piece sent is flushed.
 #[derive(Drop)]
 pub struct StreamLink<R, W> {
     reader: R,
@@ -132,9 +132,11 @@ impl<R: Read + Drop, W: Write + Drop> Link for StreamLink<R, W> {
         ensures err { OnErr result (Grows None [] None) }
         ensures counted { self.old.failures ≤ self.new.failures }
         ensures failed { OnErr result (HasFailed self.old.failures self.new.failures) }
-        ensures stuck { IfOk result (λ n. n ≡ 0 → 0 < length bytes.now → HasFailed self.old.failures self.new.failures) }
+        ensures stuck { IfOk result (λ n. n ≡ 0 → 0 < length bytes.now
+            → HasFailed self.old.failures self.new.failures) }
         // The writer took the bytes that are said to be sent, or at a failure a front of them.
-        ensures written { IfOk result (λ n. Appends (W.contents self.old.writer) (W.contents self.new.writer) (take n bytes.now)) }
+        ensures written { IfOk result (λ n. Appends (W.contents self.old.writer) (W.contents self.new.writer)
+            (take n bytes.now)) }
         ensures broken { OnErr result (AppendsFront (W.contents self.old.writer) (W.contents self.new.writer) bytes.now) }
         ensures reader { self.new.reader ≡ self.old.reader }
         ensures sound { OnOk result (self.new.failures ≡ self.old.failures) }
@@ -154,7 +156,8 @@ impl<R: Read + Drop, W: Write + Drop> Link for StreamLink<R, W> {
         ensures counted { self.old.failures ≤ self.new.failures }
         ensures failed { OnErr result (HasFailed self.old.failures self.new.failures) }
         // The bytes heard are the reader's next ones, none is lost, and an end comes only behind the last.
-        ensures read { IfOk result (λ heard. HearsKnown heard buffer.new (R.remaining self.old.reader) (R.remaining self.new.reader)) }
+        ensures read { IfOk result (λ heard. HearsKnown heard buffer.new (R.remaining self.old.reader)
+            (R.remaining self.new.reader)) }
         ensures kept { OnErr result (Keeps (R.remaining self.old.reader) (R.remaining self.new.reader)) }
         ensures writer { self.new.writer ≡ self.old.writer }
         ensures sound { OnOk result (self.new.failures ≡ self.old.failures) }

@@ -1,7 +1,7 @@
 //! A link over a tape.
 #![tactic(auto)]
 
-ghost use Rattle.std.specs.Prelude.{◌≡◌, ◌<◌, ◌≤◌, ◌++◌, ◌∷◌, [], ℕ, List, length, take, drop, min, slice_get, Some, IfOk, OnErr};
+ghost use Rattle.std.specs.Prelude.{◌≡◌, ◌<◌, ◌≤◌, ◌++◌, ◌∷◌, [], ℕ, List, length, take, drop, min, slice_get, Some, IfOk, OnOk, OnErr};
 ghost use Rattle.stk_host.specs.Tape.{bytes_in};
 ghost use Rattle.stk_host.specs.Talk.{Sent, Got, Grows, HasFailed, FitsBuffer, items_of};
 ghost use Rattle.stk_host.specs.Talk as talk;
@@ -14,8 +14,8 @@ use std::marker::Model;
 
 /// A link that gives the items of a tape in their order, and keeps what passed.
 ///
-/// A call of `send` takes, and one of `recv` gives, at most `cut` bytes. A silence or an end comes alone; behind the last
-/// item every call of `recv` gives an end. The link fails only where memory for what passed was refused.
+/// A call of `send` takes, and one of `recv` gives, at most `cut` bytes. A silence or an end comes alone; behind the
+/// last item every call of `recv` gives an end. The link fails only where memory for what passed was refused.
 #[derive(Drop)]
 pub struct TapeLink {
     items: Vec<Item>,
@@ -128,7 +128,9 @@ impl Link for TapeLink {
         ensures err { OnErr result (Grows (Some self.old.talk) [] (Some self.new.talk)) }
         ensures counted { self.old.failures ≤ self.new.failures }
         ensures failed { OnErr result (HasFailed self.old.failures self.new.failures) }
-        ensures stuck { IfOk result (λ n. n ≡ 0 → 0 < length bytes.now → HasFailed self.old.failures self.new.failures) }
+        ensures stuck { IfOk result (λ n. n ≡ 0 → 0 < length bytes.now
+            → HasFailed self.old.failures self.new.failures) }
+        ensures sound { OnOk result (self.new.failures ≡ self.old.failures) }
         // As many bytes are taken as a piece may have.
         ensures count { IfOk result (λ n. n ≡ min self.old.cut (length bytes.now)) }
         ensures left { self.new.left ≡ self.old.left }
@@ -146,12 +148,15 @@ impl Link for TapeLink {
     fn recv(&mut self, buffer: &mut [u8]) -> Result<Heard, LinkFault>
         requires { 0 < length buffer.old }
         ensures within { IfOk result (λ heard. FitsBuffer heard (length buffer.new)) }
-        ensures ok { IfOk result (λ heard. Grows (Some self.old.talk) (Got (items_of heard buffer.new) ∷ []) (Some self.new.talk)) }
+        ensures ok { IfOk result (λ heard. Grows (Some self.old.talk) (Got (items_of heard buffer.new) ∷ [])
+            (Some self.new.talk)) }
         ensures err { OnErr result (Grows (Some self.old.talk) [] (Some self.new.talk)) }
         ensures counted { self.old.failures ≤ self.new.failures }
         ensures failed { OnErr result (HasFailed self.old.failures self.new.failures) }
+        ensures sound { OnOk result (self.new.failures ≡ self.old.failures) }
         // The next piece of the tape is heard, and is no longer there.
-        ensures piece { IfOk result (λ heard. items_of heard buffer.new ≡ next_piece (min self.old.cut (length buffer.new)) self.old.left) }
+        ensures piece { IfOk result (λ heard. items_of heard buffer.new
+            ≡ next_piece (min self.old.cut (length buffer.new)) self.old.left) }
         ensures left { IfOk result (λ heard. self.new.left ≡ drop (length (items_of heard buffer.new)) self.old.left) }
         ensures kept { OnErr result (self.new.left ≡ self.old.left) }
         ensures cut { self.new.cut ≡ self.old.cut }

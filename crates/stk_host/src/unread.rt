@@ -1,7 +1,7 @@
 //! The bytes that were heard and not read yet.
 #![tactic(auto)]
 
-ghost use Rattle.std.specs.Prelude.{◌≡◌, ◌<◌, ◌≤◌, ◌↔◌, IsTrue, ℕ, length, take, drop, [], ◌∷◌, ◌++◌, IfOk, IfErr, OnErr};
+ghost use Rattle.std.specs.Prelude.{◌≡◌, ◌<◌, ◌≤◌, ◌↔◌, IsTrue, ℕ, length, take, drop, [], ◌∷◌, ◌++◌, IfOk, OnOk, OnErr};
 ghost use Rattle.stk_host.specs.Talk.{Grows, HasFailed, Stays};
 ghost use Rattle.stk_host.specs.Calls.{HearsPiece};
 
@@ -69,19 +69,23 @@ impl Unread {
         self.start += count;
     }
 
-    /// Listens for the next piece.
-    pub fn hear<L: Link>(&mut self, link: &mut L) -> Result<Heard, LinkFault>
-        requires { length self.old ≡ 0 }
+    /// Listens for the next piece, of at most so many bytes.
+    pub fn hear<L: Link>(&mut self, link: &mut L, most: usize) -> Result<Heard, LinkFault>
+        requires empty { length self.old ≡ 0 }
+        requires room { 0 < most }
+        ensures within { length self.new ≤ most }
         ensures fits { length self.new ≤ 281 }
         ensures ok { IfOk result (λ heard. HearsPiece heard self.new (L.talk link.old) (L.talk link.new)) }
         ensures err { OnErr result (Grows (L.talk link.old) [] (L.talk link.new)) }
         ensures counted { L.failures link.old ≤ L.failures link.new }
         ensures comes { Stays L.comes_of link.old link.new }
+        ensures sound { OnOk result (L.failures link.new ≡ L.failures link.old) }
         ensures failed { OnErr result (HasFailed (L.failures link.old) (L.failures link.new)) }
     {
         self.start = 0;
         self.end = 0;
-        let heard = link.recv(&mut self.piece)?;
+        let room = most.min(self.piece.len());
+        let heard = link.recv(&mut self.piece[..room])?;
         if let Heard::Bytes(count) = heard {
             self.end = count;
         }

@@ -32,7 +32,8 @@ fn program_page<L: Link>(
     start: u32,
 ) -> Result<(), Stop>
     requires { start < 2 ^ 20 }
-    ensures played { GoesOn (page_step part.now image.now start) [] [] conversation.old.next conversation.old.unread (L.talk link.old) (L.talk link.new)
+    ensures played { GoesOn (page_step part.now image.now start) [] [] conversation.old.next conversation.old.unread
+        (L.talk link.old) (L.talk link.new)
         result conversation.new.next conversation.new.unread }
     ensures counted { CountsLink (L.failures link.old) (L.failures link.new) result }
     ensures comes { Stays L.comes_of link.old link.new }
@@ -54,7 +55,8 @@ fn write_flash<L: Link>(
     image: &Image,
 ) -> Result<(), Stop>
     requires { length image.now ≤ size_of Mem.Flash part.now }
-    ensures played { EndsSteps (play (write_steps part.now Mem.Flash image.now) []) conversation.old.next conversation.old.unread (L.talk link.old) (L.talk link.new)
+    ensures played { EndsSteps (play (write_steps part.now Mem.Flash image.now) []) conversation.old.next
+        conversation.old.unread (L.talk link.old) (L.talk link.new)
         (λ done. []) result conversation.new.next conversation.new.unread }
     ensures counted { CountsLink (L.failures link.old) (L.failures link.new) result }
     ensures comes { Stays L.comes_of link.old link.new }
@@ -80,7 +82,8 @@ fn program_run<L: Link>(
 ) -> Result<(), Stop>
     requires order { start ≤ end }
     requires fits { end - start ≤ 256 }
-    ensures played { GoesOn (places.load_eeprom start ∷ host.program_eeprom (filled image.now start (end - start)) ∷ []) [] [] conversation.old.next conversation.old.unread (L.talk link.old) (L.talk link.new)
+    ensures played { GoesOn (places.load_eeprom start ∷ host.program_eeprom (filled image.now start (end - start)) ∷ [])
+        [] [] conversation.old.next conversation.old.unread (L.talk link.old) (L.talk link.new)
         result conversation.new.next conversation.new.unread }
     ensures counted { CountsLink (L.failures link.old) (L.failures link.new) result }
     ensures comes { Stays L.comes_of link.old link.new }
@@ -102,7 +105,8 @@ fn write_eeprom<L: Link>(
     image: &Image,
 ) -> Result<(), Stop>
     requires { length image.now ≤ size_of Mem.Eeprom part.now }
-    ensures played { EndsSteps (play (write_steps part.now Mem.Eeprom image.now) []) conversation.old.next conversation.old.unread (L.talk link.old) (L.talk link.new)
+    ensures played { EndsSteps (play (write_steps part.now Mem.Eeprom image.now) []) conversation.old.next
+        conversation.old.unread (L.talk link.old) (L.talk link.new)
         (λ done. []) result conversation.new.next conversation.new.unread }
     ensures counted { CountsLink (L.failures link.old) (L.failures link.new) result }
     ensures comes { Stays L.comes_of link.old link.new }
@@ -125,7 +129,8 @@ fn write_fuse<L: Link>(
     fuse: Fuse,
     byte: Option<u8>,
 ) -> Result<(), Stop>
-    ensures played { EndsSteps (play (byte_steps (host.program_fuse fuse) byte) []) conversation.old.next conversation.old.unread (L.talk link.old) (L.talk link.new)
+    ensures played { EndsSteps (play (byte_steps (host.program_fuse fuse) byte) []) conversation.old.next
+        conversation.old.unread (L.talk link.old) (L.talk link.new)
         (λ done. []) result conversation.new.next conversation.new.unread }
     ensures counted { CountsLink (L.failures link.old) (L.failures link.new) result }
     ensures comes { Stays L.comes_of link.old link.new }
@@ -143,7 +148,8 @@ fn write_lock<L: Link>(
     link: &mut L,
     byte: Option<u8>,
 ) -> Result<(), Stop>
-    ensures played { EndsSteps (play (byte_steps host.program_lock byte) []) conversation.old.next conversation.old.unread (L.talk link.old) (L.talk link.new)
+    ensures played { EndsSteps (play (byte_steps host.program_lock byte) []) conversation.old.next
+        conversation.old.unread (L.talk link.old) (L.talk link.new)
         (λ done. []) result conversation.new.next conversation.new.unread }
     ensures counted { CountsLink (L.failures link.old) (L.failures link.new) result }
     ensures comes { Stays L.comes_of link.old link.new }
@@ -164,7 +170,8 @@ pub(crate) fn write_memory<L: Link>(
     image: &Image,
 ) -> Result<(), Stop>
     requires { length image.now ≤ size_of mem part.now }
-    ensures played { EndsSteps (play (write_steps part.now mem image.now) []) conversation.old.next conversation.old.unread (L.talk link.old) (L.talk link.new)
+    ensures played { EndsSteps (play (write_steps part.now mem image.now) []) conversation.old.next
+        conversation.old.unread (L.talk link.old) (L.talk link.new)
         (λ done. []) result conversation.new.next conversation.new.unread }
     ensures counted { CountsLink (L.failures link.old) (L.failures link.new) result }
     ensures comes { Stays L.comes_of link.old link.new }

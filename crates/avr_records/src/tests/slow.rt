@@ -43,6 +43,17 @@ pub(super) fn slow_read(
     Ok(file)
 }
 
+/// A line without the spaces, tabs and returns at its end.
+fn trimmed(line: &[u8]) -> &[u8] {
+    let mut end = 0;
+    for (i, c) in line.iter().enumerate() {
+        if !matches!(*c, b' ' | b'\t' | b'\r') {
+            end = i + 1;
+        }
+    }
+    line.get(..end).unwrap_or(line)
+}
+
 /// The value of a hexadecimal digit.
 fn digit(c: u8) -> Option<u8> {
     match c {
@@ -97,7 +108,7 @@ impl Slow {
         if line.len() > 600 {
             return Ok(Some(RecordFault::LineTooLong(number)));
         }
-        let line = line.trim_ascii_end();
+        let line = trimmed(line);
         let (mark, digits) = match (kind, line) {
             (_, []) => return Ok(None),
             (Kind::Ihex, [b':', digits @ ..]) => (b':', digits),

@@ -231,7 +231,8 @@ fn front_of_answers(alloc: Global, count: usize) -> Result<Vec<Item>, Fail> {
     Ok(items)
 }
 
-/// Looks at runs over answers that are cut to each of these counts of bytes, of which this front of the sound run is sent.
+/// Looks at runs over answers that are cut to each of these counts of bytes, of which this front of the sound run is
+/// sent.
 fn look_at_cuts(
     rt: &impl Abort,
     alloc: Global,

@@ -1,10 +1,17 @@
-use Rattle.std.proofs.Common.{arith}
-use Rattle.avr_desk.proofs.Sending.{sent_on}
+use Rattle.std.proofs.Common.{arith, ◌∙◌}
+use Rattle.std.proofs.lemmas.Result.{err_from_is_err_and}
+use Rattle.avr_desk.proofs.Counting.{taken_uncounted}
+use Rattle.avr_desk.proofs.Sending.{sent_on, sent_on_part}
 use Rattle.avr_desk.proofs.stream.write_all.Goals as goal
 
 pub loop-at-preserved : goal.loop-at-preserved
 loop-at-preserved g c = record {
   within = grind arith;
   sent = sent_on _ _ _ _ _ _ _ c.loop-at.invariant.sent c.in_ok-count.ensures.kept;
-  counted = omega (arith, c.in_ok-count.ensures.counts.0);
+  counted = taken_uncounted _ _ _ c.in_ok-count.count c.if-count-eq0.false c.in_ok-count.ensures.counts ∙ c.loop-at.invariant.counted;
 }
+
+pub returns-in_err-count-clause-part : goal.returns-in_err-count-clause-part
+returns-in_err-count-clause-part g c =
+    let p = err_from_is_err_and c.from_residual.result c.from_residual.ensures.1 in
+    rw p.1 (sent_on_part c.args.stream _ _ _ _ c.loop-at.at c.loop-at.invariant.within c.loop-at.invariant.sent c.in_err-count.ensures.kept)

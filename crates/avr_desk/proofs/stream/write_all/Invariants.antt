@@ -6,7 +6,7 @@ abbrev pub invariant-loop-at : goal.invariant-loop-at
 invariant-loop-at g l = record {
   within : l.at ≤ length l.bytes;
   sent : g.D.Desk.kept l.desk ≡ option_map (after_sent l.fn.stream (take l.at l.bytes)) (g.D.Desk.kept l.initial.desk);
-  counted : g.D.Desk.failures l.initial.desk ≤ g.D.Desk.failures l.desk;
+  counted : g.D.Desk.failures l.desk ≡ g.D.Desk.failures l.initial.desk;
 }
 
 abbrev pub decreases-loop-at : goal.decreases-loop-at

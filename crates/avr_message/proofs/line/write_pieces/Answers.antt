@@ -1,4 +1,4 @@
-use Rattle.std.proofs.Common.{arith, ◌∙◌, ap, sym, subst, [], take, drop, get_or, ◌+◌, option_map, ℕ, List}
+use Rattle.std.proofs.Common.{◌∙◌, ap, sym, subst, [], take, drop, get_or, ◌+◌, option_map, ℕ, List}
 use Rattle.avr_desk.specs.Record.{after_err}
 use Rattle.avr_desk.specs.Stream.{SendsPart}
 use Rattle.avr_desk.specs.declared.stream.Stream.TheVariants.{Messages}
@@ -17,7 +17,7 @@ loop-piece-preserved g c =
     record {
       sent = sent_next Messages _ _ _ (all_text (take i ps)) (text_of (get_or ps i d)) c.loop-piece.invariant.sent c.in-Ok.ensures.all
           ∙ ap (λ (b : List ℕ). option_map (after_err b) (g.D.Desk.kept c.args.desk.now)) (sym (all_text_more ps i d c.loop-piece-test.true));
-      counted = omega (arith, c.in-Ok.ensures.counts.0);
+      counted = c.in-Ok.ensures.counts.1 ∙ c.loop-piece.invariant.counted;
     }
 
 pub returns-in-Err-clause-part : goal.returns-in-Err-clause-part

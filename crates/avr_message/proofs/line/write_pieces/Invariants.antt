@@ -1,4 +1,4 @@
-use Rattle.std.proofs.Common.{◌≡◌, ◌≤◌, take, option_map}
+use Rattle.std.proofs.Common.{◌≡◌, take, option_map}
 use Rattle.avr_desk.specs.Record.{after_err}
 use Rattle.avr_message.proofs.Pieces.{all_text}
 use Rattle.avr_message.proofs.line.write_pieces.Given as goal
@@ -6,5 +6,5 @@ use Rattle.avr_message.proofs.line.write_pieces.Given as goal
 abbrev pub invariant-loop-piece : goal.invariant-loop-piece
 invariant-loop-piece g l = record {
   sent : g.D.Desk.kept l.desk ≡ option_map (after_err (all_text (take l.piece-index l.pieces))) (g.D.Desk.kept l.initial.desk);
-  counted : g.D.Desk.failures l.initial.desk ≤ g.D.Desk.failures l.desk;
+  counted : g.D.Desk.failures l.desk ≡ g.D.Desk.failures l.initial.desk;
 }

@@ -1,4 +1,4 @@
-use Rattle.std.proofs.Common.{◌≤◌}
+use Rattle.std.proofs.Common.{◌≡◌}
 use Rattle.avr_serve.specs.declared.serving.Served.TheVariants.{TooManyReads}
 use Rattle.avr_serve.specs.Serving.{Serves}
 use Rattle.avr_serve.proofs.serving.answer_all.Given as goal
@@ -6,5 +6,5 @@ use Rattle.avr_serve.proofs.serving.answer_all.Given as goal
 abbrev pub invariant-loop-turn : goal.invariant-loop-turn
 invariant-loop-turn g l = record {
   serves : Serves l.fn.emulator l.turn TooManyReads (g.L.Link.talk l.fn.link) (g.L.Link.talk l.link) l.emulator;
-  counted : g.L.Link.failures l.fn.link ≤ g.L.Link.failures l.link;
+  counted : g.L.Link.failures l.link ≡ g.L.Link.failures l.fn.link;
 }

@@ -1,4 +1,4 @@
-use Rattle.std.proofs.Common.{arith}
+use Rattle.std.proofs.Common.{◌∙◌, refl, arith}
 use Rattle.std.proofs.lemmas.Result.{err_from_is_err_and}
 use Rattle.stk_host.proofs.Sending.{behind, part_fits}
 use Rattle.avr_serve.proofs.Replying.{replies_none, replies_more, replies_part}
@@ -8,7 +8,7 @@ pub loop-used-init : goal.loop-used-init
 loop-used-init g c = record {
   in_range = omega arith;
   replies = replies_none c.args.emulator.now (g.L.Link.talk c.args.link.now);
-  counted = omega arith;
+  counted = refl;
 }
 
 pub returns-in_err-send_all-clause-err : goal.returns-in_err-send_all-clause-err
@@ -24,5 +24,5 @@ loop-used-preserved g c = record {
   replies =
       replies_more c.args.piece.now _ _ c.loop-used.used c.feed-used.result _ _ _ _ _ _ c.loop-used.invariant.replies (behind c.args.piece.now c.loop-used.used)
       c.feed-used.ensures.one (rw c.as_slice.ensures.value at c.in_ok-send_all.ensures.ok);
-  counted = omega (arith, c.in_ok-send_all.ensures.counted);
+  counted = c.in_ok-send_all.ensures.sound ∙ c.loop-used.invariant.counted;
 }

@@ -1,4 +1,4 @@
-use Rattle.std.proofs.Common.{length, take, ◌-◌, ◌≤◌}
+use Rattle.std.proofs.Common.{length, take, ◌-◌, ◌≤◌, ◌≡◌}
 use Rattle.avr_serve.specs.Replying.{Replies}
 use Rattle.avr_serve.proofs.serving.answer_piece.Given as goal
 
@@ -6,7 +6,7 @@ abbrev pub invariant-loop-used : goal.invariant-loop-used
 invariant-loop-used g l = record {
   in_range : l.used ≤ length l.piece;
   replies : Replies l.fn.emulator (take l.used l.piece) (g.L.Link.talk l.fn.link) (g.L.Link.talk l.link) l.emulator;
-  counted : g.L.Link.failures l.fn.link ≤ g.L.Link.failures l.link;
+  counted : g.L.Link.failures l.link ≡ g.L.Link.failures l.fn.link;
 }
 
 abbrev pub decreases-loop-used : goal.decreases-loop-used

@@ -1,5 +1,6 @@
 use Rattle.std.proofs.Common.{◌∙◌, ap, sym, subst, refl, arith, ◌≡◌, ◌<◌, ℕ, List, [], ◌∷◌, ◌++◌, length, append_assoc, append-nil, Option, option_map, Result, Ok, Err, IsOk, OnOk, OnErr, IsTrue, Bool, true, false}
 use Rattle.std.proofs.lemmas.Result.{err_from_is_err_and}
+use Rattle.avr_desk.specs.Fault.{Counts}
 use Rattle.avr_desk.specs.Record.{Record}
 use Rattle.avr_desk.specs.Stream.{after_sent, SendsPart}
 use Rattle.avr_desk.specs.declared.fault.DeskFault.{DeskFault}
@@ -36,7 +37,7 @@ part_sent s old now new done waiting text (Err fault) is before part = subst (Se
 pub pieces-init : goal.pieces-init
 pieces-init g c = record {
   sent = ([], ap (λ (xs : List ℕ). xs ++ g.P.Pieces.rest c.args.text) (sym c.new-waiting.ensures), sent_none c.args.stream (g.D.Desk.kept c.args.desk.now));
-  counted = omega arith;
+  counted = refl;
 }
 
 pub pieces-preserved : goal.pieces-preserved
@@ -47,10 +48,10 @@ pieces-preserved g c =
     record {
       sent = (
         i.0 ++ w.0,
-        behind _ i.0 c.pieces.waiting.items c.next_piece.new.piece.items _ w.0 c.make_room.new.waiting.items _ _ i.1 c.next_piece.ensures.joined w.1 (rw c.as_slice.ensures.value at put),
+        behind _ i.0 c.pieces.waiting.items c.next_piece.new.out.items _ w.0 c.make_room.new.waiting.items _ _ i.1 c.next_piece.ensures.joined w.1 (rw c.as_slice.ensures.value at put),
         sent_next c.args.stream _ _ _ i.0 w.0 i.2 w.2,
       );
-      counted = omega (arith, c.pieces.invariant.counted, c.in_ok-make_room.ensures.counts.0);
+      counted = c.in_ok-make_room.ensures.counts.1 ∙ c.pieces.invariant.counted;
     }
 
 pub returns-in_err-make_room-clause-part : goal.returns-in_err-make_room-clause-part
@@ -73,3 +74,7 @@ returns-clause-part g c =
     let none = none_left (g.P.Pieces.rest c.pieces.text) c.next_piece.result c.pieces-test.false c.next_piece.ensures.ends.1 in
     let waits = c.pieces.waiting.items in
     part_sent c.args.stream _ _ _ i.0 waits _ c.write_all.result (i.1 ∙ ap (λ (xs : List ℕ). i.0 ++ xs) (ap (λ (xs : List ℕ). waits ++ xs) none ∙ append-nil waits)) i.2 (rw (← c.as_slice-rest.ensures.value) c.write_all.ensures.part)
+
+pub returns-clause-counts : goal.returns-clause-counts
+returns-clause-counts g c =
+    subst (λ n. Counts n (g.D.Desk.failures c.write_all.new.desk) c.write_all.result) c.pieces.invariant.counted c.write_all.ensures.counts

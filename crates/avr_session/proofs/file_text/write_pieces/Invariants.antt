@@ -1,11 +1,11 @@
-use Rattle.std.proofs.Common.{◌≡◌, ◌≤◌, ◌++◌, List, ℕ, length, option_map}
+use Rattle.std.proofs.Common.{◌≡◌, ◌++◌, List, ℕ, length, option_map}
 use Rattle.avr_desk.specs.Stream.{after_sent}
 use Rattle.avr_session.proofs.file_text.write_pieces.Given as goal
 
 abbrev pub invariant-pieces : goal.invariant-pieces
 invariant-pieces g l = record {
   sent : (done : List ℕ) × (g.P.Pieces.rest l.initial.text ≡ done ++ (l.waiting.items ++ g.P.Pieces.rest l.text)) × (g.D.Desk.kept l.desk ≡ option_map (after_sent l.initial.stream done) (g.D.Desk.kept l.initial.desk));
-  counted : g.D.Desk.failures l.initial.desk ≤ g.D.Desk.failures l.desk;
+  counted : g.D.Desk.failures l.desk ≡ g.D.Desk.failures l.initial.desk;
 }
 
 abbrev pub decreases-pieces : goal.decreases-pieces

@@ -1,13 +1,14 @@
+use Rattle.std.proofs.Common.{false}
 use Rattle.avr_session.specs.Session.{opening_says}
 use Rattle.avr_session.specs.Runs.{PrintStops}
-use Rattle.avr_session.proofs.Operations.{call_ended}
+use Rattle.avr_session.proofs.Operations.{call_ended, opening_lacks_none}
 use Rattle.avr_session.proofs.Performing.{operation_performs, print_stops_report, opening_told}
 use Rattle.avr_session.proofs.parts.open_session.Goals as goal
 
 pub returns-clause-performs : goal.returns-clause-performs
 returns-clause-performs g c =
     let reports = rw (c.part.ensures, c.switches-switches.ensures) at c.report_opening-reported.ensures.reports in
-    operation_performs (opening_says c.args.plan.now.switches.quiet c.args.plan.now.part) c.open-opened.result c.report_opening-reported.result c.conclude.result (PrintStops _ _) (print_stops_report _ _ _ _ _ _ c.report_opening-reported.ensures.counted) c.conclude.ensures
-    (call_ended _ _ _ _ _ c.open-opened.result _ _ (rw (c.requires.signature, c.switches-switches.ensures) at (c.open-opened.ensures.played c.requires.sound))) (c.open-opened.ensures.bound c.requires.sound) reports
+    operation_performs false (opening_says c.args.plan.now.switches.quiet c.args.plan.now.part) c.open-opened.result c.report_opening-reported.result c.conclude.result (PrintStops _ _) (print_stops_report _ _ _ _ _ _ _ c.report_opening-reported.ensures.counted) c.conclude.ensures
+    (call_ended _ _ _ _ _ c.open-opened.result _ _ (opening_lacks_none _ _) (rw (c.requires.signature, c.switches-switches.ensures) at (c.open-opened.ensures.played c.requires.sound))) (c.open-opened.ensures.bound c.requires.sound) reports
     (opening_told _ _ c.args.plan.now.switches.quiet c.args.plan.now.part _ _ c.open-opened.result c.report_opening-reported.result reports) (c.open-opened.ensures.failed c.requires.sound) (c.open-opened.ensures.lasts c.requires.sound) c.open-opened.ensures.part c.open-opened.ensures.counted
     c.report_opening-reported.ensures.counted

@@ -1,4 +1,4 @@
-use Rattle.std.proofs.Common.{sym, ◌∙◌}
+use Rattle.std.proofs.Common.{sym, ◌∙◌, true}
 use Rattle.avr_session.specs.Session.{fault_or, read_says}
 use Rattle.stk_host.specs.Calls.{given}
 use Rattle.avr_session.specs.Runs.{ReadStops}
@@ -12,8 +12,8 @@ report_read-reported-requires g c = rw c.as_slice.ensures.value c.read-outcome.e
 pub returns-clause-performs : goal.returns-clause-performs
 returns-clause-performs g c =
     let items = c.read-outcome.new.out.items in
-    operation_performs (fault_or c.args.plan.now.part (read_says c.args.plan.now.switches c.args.mem c.args.target.format c.args.target.file.now)) (given items c.read-outcome.result) c.report_read-reported.result c.conclude.result (ReadStops c.read-outcome.result _ _)
-    (read_stops_report c.args.plan.now.part c.args.plan.now.switches c.args.mem c.args.target.format c.args.target.file.now items c.read-outcome.result _ _ _ _ _ c.report_read-reported.ensures.counted)
+    operation_performs true (fault_or c.args.plan.now.part (read_says c.args.plan.now.switches c.args.mem c.args.target.format c.args.target.file.now)) (given items c.read-outcome.result) c.report_read-reported.result c.conclude.result (ReadStops c.read-outcome.result _ _)
+    (read_stops_report c.args.plan.now.part c.args.plan.now.switches c.args.mem c.args.target.format c.args.target.file.now items c.read-outcome.result _ _ _ _ _ _ c.report_read-reported.ensures.counted)
     (c.conclude.ensures ∙ sym (given_concluded items c.read-outcome.result c.report_read-reported.result))
     (lack_ended _ _ _ _ _ (given items c.read-outcome.result) _ _ (rw c.requires.part at (c.read-outcome.ensures.played c.requires.sound))) (c.read-outcome.ensures.bound c.requires.sound)
     (rw c.as_slice.ensures.value at c.report_read-reported.ensures.reports)

@@ -1,3 +1,4 @@
+use Rattle.std.proofs.Common.{false}
 use Rattle.std.proofs.lemmas.Result.{err_from_is_err_and}
 use Rattle.avr_session.specs.Session.{erasing_part}
 use Rattle.avr_session.proofs.Foretelling.{opening_foretells}
@@ -8,12 +9,12 @@ pub returns-in_err-fault-clause-performs : goal.returns-in_err-fault-clause-perf
 returns-in_err-fault-clause-performs g c =
     let p = err_from_is_err_and c.from_residual.result c.from_residual.ensures.1 in
     let more = erasing_part c.args.plan.now.part c.args.plan.now.switches c.args.plan.now.tasks in
-    rw p.1 (performs_last more _ (λ e. cc) c.in_err-fault.ensures.performs)
+    rw p.1 (performs_last false false more _ (λ e. cc) c.in_err-fault.ensures.performs)
 
 pub returns-in-Fine-clause-performs : goal.returns-in-Fine-clause-performs
-returns-in-Fine-clause-performs g c = performs_then c.erase_if_due.result (opening_foretells c.args.plan.now.part c.args.plan.now.switches) (rw c.in-Fine.is at c.in_ok-fault.ensures.performs) c.erase_if_due.ensures.performs
+returns-in-Fine-clause-performs g c = performs_then false false c.erase_if_due.result (opening_foretells c.args.plan.now.part c.args.plan.now.switches) (rw c.in-Fine.is at c.in_ok-fault.ensures.performs) c.erase_if_due.ensures.performs
 
 pub returns-in_default-clause-performs : goal.returns-in_default-clause-performs
 returns-in_default-clause-performs g c =
     let more = erasing_part c.args.plan.now.part c.args.plan.now.switches c.args.plan.now.tasks in
-    performs_last more _ (λ e. c.in_default.not-Fine cc) c.in_ok-fault.ensures.performs
+    performs_last false false more _ (λ e. c.in_default.not-Fine cc) c.in_ok-fault.ensures.performs

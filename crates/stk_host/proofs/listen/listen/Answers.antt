@@ -1,4 +1,4 @@
-use Rattle.std.proofs.Common.{arith}
+use Rattle.std.proofs.Common.{refl, arith}
 use Rattle.std.proofs.lemmas.Result.{err_from_is_err_and}
 use Rattle.stk_host.specs.Reach.{Listening}
 use Rattle.stk_host.proofs.Listens.{begins, heard_bytes, heard_silence, heard_end, reads_on, finds, babbles, hears_none}
@@ -8,9 +8,9 @@ use Rattle.stk_host.proofs.listen.listen.Goals.{then-is_empty+in_ok-hear+in-Byte
 pub loop-count-init : goal.loop-count-init
 loop-count-init g c = record {
   in_range = omega arith;
-  fits = λ h. h;
-  listening = rw c.reset.ensures (begins c.args.seq c.args.unread.now (g.L.Link.talk c.args.link.now));
-  counted = omega arith;
+  fits = c.requires.few;
+  listening = rw c.reset.ensures (begins c.args.seq c.args.unread.now (g.L.Link.talk c.args.link.now) (omega (arith, c.requires.few)));
+  counted = refl;
   comes = λ start of. of;
 }
 
@@ -25,13 +25,13 @@ returns-in-End-clause-ok g c =
 pub returns-in_err-hear-clause-err : goal.returns-in_err-hear-clause-err
 returns-in_err-hear-clause-err g c =
     let p = err_from_is_err_and c.from_residual.result c.from_residual.ensures.1 in
-    rw p.1 (hears_none _ c.loop-count.invariant.listening c.in_err-hear.ensures.err)
+    rw p.1 (hears_none _ c.loop-count.invariant.listening (c.is_empty.ensures.0 c.if-is_empty.true) (omega arith) c.in_err-hear.ensures.err)
 
 pub returns-then-is_answer-clause-ok : goal.returns-then-is_answer-clause-ok
 returns-then-is_answer-clause-ok g c =
     let l : Listening c.args.seq c.args.unread.now (g.L.Link.talk c.args.link.now) c.loop-count.reader c.loop-count.count c.if-is_empty.unread (g.L.Link.talk c.if-is_empty.link) =
     elim c.if-is_empty.branch [
-      | then-is_empty+in_ok-hear+in-Bytes w ↦ rw (w.unread-is, w.link-is) (heard_bytes _ _ _ _ c.loop-count.invariant.listening (c.is_empty.ensures.0 w.if-is_empty.true) (omega arith) w.in-Bytes.is w.in_ok-hear.ensures.ok)
+      | then-is_empty+in_ok-hear+in-Bytes w ↦ rw (w.unread-is, w.link-is) (heard_bytes _ _ _ _ c.loop-count.invariant.listening (c.is_empty.ensures.0 w.if-is_empty.true) (omega arith) (omega (arith, w.in_ok-hear.ensures.within)) w.in-Bytes.is w.in_ok-hear.ensures.ok)
       | else-is_empty w ↦ rw (w.unread-is, w.link-is) c.loop-count.invariant.listening
     ] in
     finds _ _ _ _ l c.read_on-used.ensures.fed (c.is_answer.ensures.yes c.if-is_answer.true) (omega (arith, c.read_on-used.ensures.within))
@@ -40,16 +40,16 @@ pub loop-count-preserved : goal.loop-count-preserved
 loop-count-preserved g c =
     let l : Listening c.args.seq c.args.unread.now (g.L.Link.talk c.args.link.now) c.loop-count.reader c.loop-count.count c.if-is_empty.unread (g.L.Link.talk c.if-is_empty.link) =
     elim c.if-is_empty.branch [
-      | then-is_empty+in_ok-hear+in-Bytes w ↦ rw (w.unread-is, w.link-is) (heard_bytes _ _ _ _ c.loop-count.invariant.listening (c.is_empty.ensures.0 w.if-is_empty.true) (omega arith) w.in-Bytes.is w.in_ok-hear.ensures.ok)
+      | then-is_empty+in_ok-hear+in-Bytes w ↦ rw (w.unread-is, w.link-is) (heard_bytes _ _ _ _ c.loop-count.invariant.listening (c.is_empty.ensures.0 w.if-is_empty.true) (omega arith) (omega (arith, w.in_ok-hear.ensures.within)) w.in-Bytes.is w.in_ok-hear.ensures.ok)
       | else-is_empty w ↦ rw (w.unread-is, w.link-is) c.loop-count.invariant.listening
     ] in
     record {
       in_range = omega (arith, c.read_on-used.ensures.within);
-      fits = λ _. c.read_on-used.ensures.fits;
+      fits = c.read_on-used.ensures.fits;
       listening = reads_on _ _ _ _ l c.read_on-used.ensures.fed (c.is_answer.ensures.no c.if-is_answer.false);
       counted = elim c.if-is_empty.branch [
-        | then-is_empty+in_ok-hear+in-Bytes w ↦ rw w.link-is (omega (arith, w.in_ok-hear.ensures.counted))
-        | else-is_empty w ↦ rw w.link-is (omega arith)
+        | then-is_empty+in_ok-hear+in-Bytes w ↦ rw w.link-is (omega (arith, w.in_ok-hear.ensures.sound, c.loop-count.invariant.counted))
+        | else-is_empty w ↦ rw w.link-is c.loop-count.invariant.counted
       ];
       comes = elim c.if-is_empty.branch [
         | then-is_empty+in_ok-hear+in-Bytes w ↦ rw w.link-is (λ start of. w.in_ok-hear.ensures.comes start (c.loop-count.invariant.comes start of))

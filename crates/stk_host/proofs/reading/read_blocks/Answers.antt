@@ -1,4 +1,4 @@
-use Rattle.std.proofs.Common.{ap, arith, length, []}
+use Rattle.std.proofs.Common.{refl, ap, arith, length, []}
 use Rattle.std.proofs.lemmas.Result.{err_from_is_err_and}
 use Rattle.avr_part.specs.Part.{size_of}
 use Rattle.stk_host.specs.ReadSteps.{block_count, block_steps}
@@ -11,7 +11,7 @@ loop-block-init g c = record {
   reaches = rw c.requires.empty (begins_at (block_steps c.args.part.now c.args.mem) (block_count (size_of c.args.mem c.args.part.now)) [] _ _ _);
   size = omega (arith, ap length c.requires.empty);
   room = c.requires.room;
-  counted = omega arith;
+  counted = refl;
   comes = λ start of. of;
   bound = λ bound. bound;
 }
@@ -31,7 +31,7 @@ loop-block-preserved g c =
           (next_block_is _ _ _ _ _ _ _ _ before c.load_block-load.ensures.value c.read_block-read.ensures.value c.block_size.ensures c.size_of-size.ensures.value) c.in_ok-read_step.ensures.played;
       size = omega (arith, c.in_ok-read_step.ensures.size, c.read_block-read.ensures.size, c.block_size.ensures, c.size_of-size.ensures.value, c.loop-block.invariant.size, c.loop-block-test.true);
       room = omega (arith, c.read_step.ensures.room, c.loop-block.invariant.room);
-      counted = omega (arith, c.in_ok-read_step.ensures.counted.0, c.loop-block.invariant.counted);
+      counted = omega (arith, c.in_ok-read_step.ensures.counted.1, c.loop-block.invariant.counted);
       comes = λ start of. c.read_step.ensures.comes start (c.loop-block.invariant.comes start of);
       bound = λ bound. c.read_step.ensures.bound;
     }

@@ -14,7 +14,7 @@ invariant-loop-block g l = record {
       (play (each_from (block_steps l.part l.mem) l.block (block_count (size_of l.mem l.part) - l.block)) l.out.items) l.conversation.next l.conversation.unread (g.L.Link.talk l.link);
   size : length l.out.items ≡ min (l.block * 256) (size_of l.mem l.part);
   room : size_of l.mem l.part ≤ vec_capacity l.out;
-  counted : g.L.Link.failures l.fn.link ≤ g.L.Link.failures l.link;
+  counted : g.L.Link.failures l.link ≡ g.L.Link.failures l.fn.link;
   comes : Stays g.L.Link.comes_of l.fn.link l.link;
   bound : length l.fn.conversation.unread ≤ 281 → length l.conversation.unread ≤ 281;
 }

@@ -1,4 +1,4 @@
-use Rattle.std.proofs.Common.{ap, arith, length, []}
+use Rattle.std.proofs.Common.{refl, ap, arith, length, []}
 use Rattle.std.proofs.lemmas.Result.{err_from_is_err_and}
 use Rattle.stk_host.specs.ReadSteps.{signature_step}
 use Rattle.stk_host.proofs.Reaching.{reaches_here}
@@ -11,7 +11,7 @@ loop-place-init g c = record {
   reaches = rw c.requires.empty (reaches_here _ _ _ _);
   size = ap length c.requires.empty;
   room = c.requires.room;
-  counted = omega arith;
+  counted = refl;
   comes = λ start of. of;
   bound = λ bound. bound;
 }
@@ -28,7 +28,7 @@ loop-place-preserved g c =
       reaches = reaches_next _ _ _ _ _ c.loop-place.invariant.reaches (next_signature _ _ c.loop-place-test.true c.read_signature.ensures.value) c.in_ok-read_step.ensures.played;
       size = omega (arith, one, c.loop-place.invariant.size);
       room = omega (arith, c.read_step.ensures.room, c.loop-place.invariant.room);
-      counted = omega (arith, c.in_ok-read_step.ensures.counted.0, c.loop-place.invariant.counted);
+      counted = omega (arith, c.in_ok-read_step.ensures.counted.1, c.loop-place.invariant.counted);
       comes = λ start of. c.read_step.ensures.comes start (c.loop-place.invariant.comes start of);
       bound = λ bound. c.read_step.ensures.bound;
     }

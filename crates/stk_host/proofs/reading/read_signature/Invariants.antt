@@ -13,7 +13,7 @@ invariant-loop-place g l = record {
       (play (each_from signature_step l.place (3 - l.place)) l.out.items) l.conversation.next l.conversation.unread (g.L.Link.talk l.link);
   size : length l.out.items ≡ l.place;
   room : 3 ≤ vec_capacity l.out;
-  counted : g.L.Link.failures l.fn.link ≤ g.L.Link.failures l.link;
+  counted : g.L.Link.failures l.link ≡ g.L.Link.failures l.fn.link;
   comes : Stays g.L.Link.comes_of l.fn.link l.link;
   bound : length l.fn.conversation.unread ≤ 281 → length l.conversation.unread ≤ 281;
 }

@@ -1,4 +1,4 @@
-use Rattle.std.proofs.Common.{◌∙◌, sym, arith, inl, []}
+use Rattle.std.proofs.Common.{refl, ◌∙◌, sym, arith, inl, []}
 use Rattle.std.proofs.lemmas.Result.{err_from_is_err_and}
 use Rattle.avr_image.proofs.Walking.{next_held}
 use Rattle.stk_host.specs.WriteSteps.{run_steps}
@@ -11,7 +11,7 @@ loop-start-init g c = record {
   reaches = begins_at (run_steps c.args.part.now c.args.image.now) c.args.part.now.eeprom_size [] _ _ _;
   within = omega arith;
   border = inl (zero_border c.args.part.now.eeprom_page);
-  counted = omega arith;
+  counted = refl;
   comes = λ start of. of;
   bound = λ bound. bound;
 }
@@ -44,7 +44,7 @@ loop-start-preserved g c =
       reaches = reaches_next _ _ _ _ _ c.loop-start.invariant.reaches walk.steps c.in_ok-program_run.ensures.played;
       within = walk.within;
       border = walk.border;
-      counted = omega (arith, c.in_ok-program_run.ensures.counted.0, c.loop-start.invariant.counted);
+      counted = omega (arith, c.in_ok-program_run.ensures.counted.1, c.loop-start.invariant.counted);
       comes = λ start of. c.program_run.ensures.comes start (c.loop-start.invariant.comes start of);
       bound = λ bound. c.program_run.ensures.bound;
     }

@@ -14,7 +14,7 @@ invariant-loop-start g l = record {
       (play (each_from (run_steps l.part l.image) l.next (l.part.eeprom_size - l.next)) []) l.conversation.next l.conversation.unread (g.L.Link.talk l.link);
   within : l.next ≤ l.part.eeprom_size;
   border : (l.next % l.part.eeprom_page ≡ 0) ⊎ (byte_at l.image l.next ≡ None);
-  counted : g.L.Link.failures l.fn.link ≤ g.L.Link.failures l.link;
+  counted : g.L.Link.failures l.link ≡ g.L.Link.failures l.fn.link;
   comes : Stays g.L.Link.comes_of l.fn.link l.link;
   bound : length l.fn.conversation.unread ≤ 281 → length l.conversation.unread ≤ 281;
 }

@@ -1,4 +1,4 @@
-use Rattle.std.proofs.Common.{◌/◌, ◌∙◌, sym, arith, []}
+use Rattle.std.proofs.Common.{refl, ◌/◌, ◌∙◌, sym, arith, []}
 use Rattle.std.proofs.lemmas.Result.{err_from_is_err_and}
 use Rattle.stk_host.specs.WriteSteps.{page_steps}
 use Rattle.stk_host.proofs.Going.{begins_at, reaches_next, stops_next, plays_all}
@@ -9,7 +9,7 @@ pub loop-addr-init : goal.loop-addr-init
 loop-addr-init g c = record {
   reaches = begins_at (page_steps c.args.part.now c.args.image.now) (c.args.part.now.flash_size / c.args.part.now.flash_page) [] _ _ _;
   within = omega arith;
-  counted = omega arith;
+  counted = refl;
   comes = λ start of. of;
   bound = λ bound. bound;
 }
@@ -36,7 +36,7 @@ loop-addr-preserved g c =
     record {
       reaches = reaches_next _ _ _ _ _ c.loop-addr.invariant.reaches walk.steps c.in_ok-program_page.ensures.played;
       within = omega (arith, walk.within);
-      counted = omega (arith, c.in_ok-program_page.ensures.counted.0, c.loop-addr.invariant.counted);
+      counted = omega (arith, c.in_ok-program_page.ensures.counted.1, c.loop-addr.invariant.counted);
       comes = λ start of. c.program_page.ensures.comes start (c.loop-addr.invariant.comes start of);
       bound = λ bound. c.program_page.ensures.bound;
     }

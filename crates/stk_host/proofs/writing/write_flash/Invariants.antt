@@ -1,4 +1,4 @@
-use Rattle.std.proofs.Common.{◌≤◌, ◌-◌, ◌/◌, length, []}
+use Rattle.std.proofs.Common.{◌≡◌, ◌≤◌, ◌-◌, ◌/◌, length, []}
 use Rattle.avr_part.specs.declared.mem.Mem.TheVariants.{Flash}
 use Rattle.stk_host.specs.Places.{each_from}
 use Rattle.stk_host.specs.WriteSteps.{page_steps, write_steps}
@@ -12,7 +12,7 @@ invariant-loop-addr g l = record {
   reaches : Reaches (play (write_steps l.part Flash l.image) []) l.fn.conversation.next l.fn.conversation.unread (g.L.Link.talk l.fn.link)
       (play (each_from (page_steps l.part l.image) l.next (l.part.flash_size / l.part.flash_page - l.next)) []) l.conversation.next l.conversation.unread (g.L.Link.talk l.link);
   within : l.next ≤ l.part.flash_size / l.part.flash_page;
-  counted : g.L.Link.failures l.fn.link ≤ g.L.Link.failures l.link;
+  counted : g.L.Link.failures l.link ≡ g.L.Link.failures l.fn.link;
   comes : Stays g.L.Link.comes_of l.fn.link l.link;
   bound : length l.fn.conversation.unread ≤ 281 → length l.conversation.unread ≤ 281;
 }

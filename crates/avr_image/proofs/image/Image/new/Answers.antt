@@ -1,6 +1,6 @@
 use Rattle.std.proofs.Common.{arith, ℕ, ◌+◌, ◌/◌}
 use Rattle.std.proofs.lemmas.List.{length-replicate, get_or-replicate}
-use Rattle.avr_image.proofs.Shown.{shown_from-zeros}
+use Rattle.avr_image.proofs.Shown.{shown_from-zeros, small-blank}
 use Rattle.avr_image.proofs.image.Image.new.Goals as goal
 
 pub invariant_of-result : goal.invariant_of-result
@@ -10,6 +10,7 @@ invariant_of-result c =
     rw (c.in-Ok.ensures, c.in-Ok-zero_words.ensures) (record {
       enough = omega (arith, bytes, words);
       below = omega (arith, bytes, c.ranges.size.fits);
+      small = small-blank c.args.size;
       blank = λ i l _. get_or-replicate c.args.size i 255 0 (omega (arith, l, bytes));
     })
 

@@ -1,16 +1,12 @@
 use Rattle.std.proofs.Common.{◌∙◌, sym, arith, length, ◌<◌}
 use Rattle.std.proofs.lemmas.Bool.Decides.{nat_tests}
 use Rattle.std.proofs.lemmas.List.{length-set}
-use Rattle.avr_image.proofs.Shown.{shown-marked, blank-marked, length-marked, length_shown, sized, set-past}
+use Rattle.avr_image.proofs.Shown.{shown-marked, blank-marked, length-marked, length_shown, sized, small-set}
 use Rattle.avr_image.proofs.image.Image.put.Goals as goal
 
 pub returns-then-at-len-clause-judged : goal.returns-then-at-len-clause-judged
 returns-then-at-len-clause-judged c =
     let size = sized _ _ c.self.view_is in grind (arith, nat_tests, size, c.len.ensures, c.if-at-len.true)
-
-pub returns-then-at-len-clause-laid : goal.returns-then-at-len-clause-laid
-returns-then-at-len-clause-laid c =
-    let size = sized _ _ c.self.view_is in sym (set-past _ _ _ (omega (arith, size, c.len.ensures, c.if-at-len.true)))
 
 pub invariant_of-self : goal.invariant_of-self
 invariant_of-self c =
@@ -20,6 +16,7 @@ invariant_of-self c =
     rw c.mark.ensures.words (record {
       enough = omega (arith, words, bytes, c.self.invariant.enough);
       below = omega (arith, bytes, c.self.invariant.below);
+      small = small-set c.self.inside.bytes.items c.args.addr c.args.byte (omega (arith, c.ranges.byte.fits)) c.self.invariant.small;
       blank = blank-marked c.self.inside.words.items c.self.inside.bytes.items _ _ within (omega (arith, within, c.self.invariant.enough)) c.self.invariant.blank;
     })
 

@@ -24,7 +24,8 @@ invariant_of-self c =
     let room : c.args.addr + length c.args.bytes.now ≤ length bytes =
     omega (arith, some, c.len-size.ensures, c.saturating_sub.ensures, c.if-bytes-saturating_sub.false) in
     rw c.paste.ensures
-    (kept-pasted words c.mark_span.new.words.items bytes c.args.bytes.now c.args.addr room c.mark_span.ensures.marked c.mark_span.ensures.len c.self.invariant)
+    (kept-pasted words c.mark_span.new.words.items bytes c.args.bytes.now c.args.addr room c.mark_span.ensures.marked c.mark_span.ensures.len
+    (λ i. omega (arith, c.type_inv.bytes i)) c.self.invariant)
 
 pub returns-clause-judged : goal.returns-clause-judged
 returns-clause-judged c =

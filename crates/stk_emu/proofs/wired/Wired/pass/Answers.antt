@@ -13,9 +13,9 @@ pub returns-clause-talk : goal.returns-clause-talk
 returns-clause-talk c =
     rw (← c.self.view_is) (c.keep.ensures.talk ∙ ap (λ t. t ++ talk.Sent (take c.feed-used.result.0 c.args.bytes.now) ∷ []) c.in_ok-make_room.ensures.talk)
 
-pub returns-clause-comes : goal.returns-clause-comes
-returns-clause-comes c = λ start keeps.
-    keeps_passing c.args.self.now _ (take c.feed-used.result.0 c.args.bytes.now) start.programmer start.fates (rw (← c.self.view_is) (record {
+pub returns-clause-passes : goal.returns-clause-passes
+returns-clause-passes c =
+    rw (← c.self.view_is) (record {
       found = found c.feed-used.result.1 c.feed-used.new.self;
       are_frames = found_frames c.feed-used.result.1 c.feed-used.new.self c.feed-used.ensures.tells;
       fed = c.feed-used.ensures.fed;
@@ -23,4 +23,8 @@ returns-clause-comes c = λ start keeps.
           (c.keep.ensures.waits ∙ ap (λ w. w ++ c.pass_event.new.out.items) c.in_ok-make_room.ensures.waits) c.pass_event.ensures.items;
       wire = c.pass_event.ensures.line;
       talk = returns-clause-talk c ∙ ap (λ w. w.talk ++ talk.Sent (take c.feed-used.result.0 c.args.bytes.now) ∷ []) (sym c.self.view_is);
-    })) keeps
+    })
+
+pub returns-clause-comes : goal.returns-clause-comes
+returns-clause-comes c = λ start keeps.
+    keeps_passing c.args.self.now _ (take c.feed-used.result.0 c.args.bytes.now) start.programmer start.fates (returns-clause-passes c) keeps

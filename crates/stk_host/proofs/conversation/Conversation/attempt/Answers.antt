@@ -1,4 +1,4 @@
-use Rattle.std.proofs.Common.{All, ◌≡◌, ◌<◌, ◌∙◌, ℕ, sym, subst, List, length, ap, arith, drop, [], ◌∷◌, ◌++◌, suc, drop-cons, add-one, get_or}
+use Rattle.std.proofs.Common.{refl, All, ◌≡◌, ◌<◌, ◌∙◌, ℕ, sym, subst, List, length, ap, arith, drop, [], ◌∷◌, ◌++◌, suc, drop-cons, add-one, get_or}
 use Rattle.std.proofs.lemmas.Result.{err_from_is_err_and}
 use Rattle.std.proofs.lemmas.List.{drop_all}
 use Rattle.std.proofs.lemmas.List.Elements.{All-get_or}
@@ -19,7 +19,7 @@ its_own first item i lt is all = subst IsQuiet (sym is) (All-get_or IsQuiet firs
 pub loop-command-init : goal.loop-command-init
 loop-command-init g c = record {
   reaches = reaches_here _ _ _ _;
-  counted = omega arith;
+  counted = refl;
   comes = λ start of. of;
 }
 
@@ -29,7 +29,7 @@ exchange-requires g c = (its_own c.args.first.now _ c.loop-command.command-index
 pub returns-in_err-exchange-clause-err : goal.returns-in_err-exchange-clause-err
 returns-in_err-exchange-clause-err g c =
     let p = err_from_is_err_and c.from_residual.result c.from_residual.ensures.1 in
-    rw p.1 (turn_breaks _ _ _ c.loop-command.invariant.reaches (next_command c.args.first.now c.args.last.now _ c.loop-command.command-index c.loop-command-test.true c.command-item.is) c.in_err-exchange.ensures.err)
+    rw (p.1, p.2) (turn_breaks _ _ _ c.loop-command.invariant.reaches (next_command c.args.first.now c.args.last.now _ c.loop-command.command-index c.loop-command-test.true c.command-item.is) c.in_err-exchange.ensures.err)
 
 pub returns-in-Again-clause-ok : goal.returns-in-Again-clause-ok
 returns-in-Again-clause-ok g c =
@@ -43,14 +43,14 @@ pub loop-command-preserved : goal.loop-command-preserved
 loop-command-preserved g c = record {
   reaches = rw add-one (turn_data _ _ _ _ _ c.loop-command.invariant.reaches (next_command c.args.first.now c.args.last.now _ c.loop-command.command-index c.loop-command-test.true c.command-item.is) c.in_ok-exchange.ensures.ok c.in-Data.is
       (c.in_ok-exchange.ensures.quiet (its_own c.args.first.now _ c.loop-command.command-index c.loop-command-test.true c.command-item.is c.requires.quiet) c.in-Data.is));
-  counted = omega (arith, c.exchange.ensures.counted);
+  counted = omega (arith, c.in_ok-exchange.ensures.sound, c.loop-command.invariant.counted);
   comes = λ start of. c.exchange.ensures.comes start (c.loop-command.invariant.comes start of);
 }
 
 pub returns-in_err-reply-clause-err : goal.returns-in_err-reply-clause-err
 returns-in_err-reply-clause-err g c =
     let p = err_from_is_err_and c.from_residual-in_err-reply.result c.from_residual-in_err-reply.ensures.1 in
-    rw p.1 (turn_breaks _ _ _ c.loop-command.invariant.reaches (ap (λ cs. cs ++ c.args.last.now ∷ []) (drop_all c.loop-command.command-index c.args.first.now (omega arith))) c.in_err-reply.ensures.err)
+    rw (p.1, p.2) (turn_breaks _ _ _ c.loop-command.invariant.reaches (ap (λ cs. cs ++ c.args.last.now ∷ []) (drop_all c.loop-command.command-index c.args.first.now (omega arith))) c.in_err-reply.ensures.err)
 
 pub returns-clause-ok : goal.returns-clause-ok
 returns-clause-ok g c =

@@ -1,4 +1,4 @@
-use Rattle.std.proofs.Common.{◌≤◌, drop, [], ◌∷◌, ◌++◌}
+use Rattle.std.proofs.Common.{◌≡◌, drop, [], ◌∷◌, ◌++◌}
 use Rattle.stk_host.specs.Reach.{Reaches}
 use Rattle.stk_host.specs.Steps.{attempt}
 use Rattle.stk_host.specs.Talk.{Stays}
@@ -8,6 +8,6 @@ abbrev pub invariant-loop-command : goal.invariant-loop-command
 invariant-loop-command g l = record {
   reaches : Reaches (attempt (l.first ++ l.last ∷ []) []) l.fn.self.next l.fn.self.unread (g.L.Link.talk l.fn.link)
       (attempt (drop l.command-index l.first ++ l.last ∷ []) []) l.self.next l.self.unread (g.L.Link.talk l.link);
-  counted : g.L.Link.failures l.fn.link ≤ g.L.Link.failures l.link;
+  counted : g.L.Link.failures l.link ≡ g.L.Link.failures l.fn.link;
   comes : Stays g.L.Link.comes_of l.fn.link l.link;
 }

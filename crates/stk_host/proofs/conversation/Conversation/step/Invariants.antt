@@ -1,4 +1,4 @@
-use Rattle.std.proofs.Common.{◌≤◌, ◌<◌, length, ◌-◌, ◌∷◌, ◌++◌, []}
+use Rattle.std.proofs.Common.{◌≡◌, ◌≤◌, ◌<◌, length, ◌-◌, ◌∷◌, ◌++◌, []}
 use Rattle.stk_host.specs.Reach.{Reaches}
 use Rattle.stk_host.specs.Steps.{step, tries}
 use Rattle.stk_host.specs.Talk.{Stays}
@@ -9,6 +9,6 @@ invariant-loop-tried g l = record {
   reaches : Reaches (step (l.first ++ l.last ∷ [])) l.fn.self.next l.fn.self.unread (g.L.Link.talk l.fn.link)
       (tries (4 - l.tried) (l.first ++ l.last ∷ []) l.fault) l.self.next l.self.unread (g.L.Link.talk l.link);
   bound : 0 < l.tried → length l.self.unread ≤ 281;
-  counted : g.L.Link.failures l.fn.link ≤ g.L.Link.failures l.link;
+  counted : g.L.Link.failures l.link ≡ g.L.Link.failures l.fn.link;
   comes : Stays g.L.Link.comes_of l.fn.link l.link;
 }

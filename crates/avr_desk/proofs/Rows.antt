@@ -1,0 +1,85 @@
+-- Worked calls with an outcome that the contracts refuse.
+use Rattle.std.proofs.Common.{◌≡◌, ap, ℕ, zero, suc, List, [], ◌∷◌, ◌++◌, inl, inr, take, Option, Some, Result, Ok, Err, arith}
+use Rattle.avr_desk.specs.Failing.{Failing, FailsWhenDue}
+use Rattle.avr_desk.specs.Fault.{Counts}
+use Rattle.avr_desk.specs.Files.{FaultCounts}
+use Rattle.avr_desk.specs.Record.{Bytes, Record, nothing_kept, after_out}
+use Rattle.avr_desk.specs.Shown.{AppendsFront}
+use Rattle.avr_desk.specs.Stream.{SendsTaken}
+use Rattle.avr_desk.specs.declared.fault.DeskFault.{DeskFault}
+use Rattle.avr_desk.specs.declared.fault.DeskFault.TheVariants.{NotFound, Failed}
+use Rattle.avr_desk.specs.declared.files.Contents.{Contents}
+use Rattle.avr_desk.specs.declared.files.FileFault.{FileFault}
+use Rattle.avr_desk.specs.declared.files.FileFault.TheVariants.{Memory}
+use Rattle.avr_desk.specs.declared.stream.Stream.TheVariants.{Output, Messages}
+
+abbrev done : Result (Unit {0}) DeskFault
+done = Ok tt
+
+-- a failure that is counted behind a success, behind a file that isn't there, behind a byte that was taken, or behind want of
+-- memory
+pub no_count_behind_success : Counts 0 1 done → ⊥
+no_count_behind_success counts = let e : 1 ≡ 0 = counts.1 in omega (arith, e)
+
+abbrev absent : Result (Unit {0}) DeskFault
+absent = Err NotFound
+
+pub no_count_behind_absence : Counts 0 1 absent → ⊥
+no_count_behind_absence counts = let e : 1 ≡ 0 = counts.1 in omega (arith, e)
+
+abbrev short_of_memory : Result Contents FileFault
+short_of_memory = Err Memory
+
+pub no_count_behind_memory : FaultCounts 0 1 short_of_memory → ⊥
+no_count_behind_memory counts = let e : 1 ≡ 0 = counts.1 in omega (arith, e)
+
+-- a failure that is not counted
+abbrev failed : Result (Unit {0}) DeskFault
+failed = Err Failed
+
+pub no_silent_failure : Counts 0 0 failed → ⊥
+no_silent_failure (rises, inl more) = omega (arith, more)
+no_silent_failure (rises, inr last) = omega (arith, last)
+
+-- a front of the bytes may have gone out before a fault, but not their end
+abbrev end : List ℕ
+end = 2 ∷ []
+
+abbrev whole : List ℕ
+whole = 1 ∷ 2 ∷ []
+
+front_or_end : (n : ℕ) → end ≡ take n whole → ⊥
+front_or_end zero e = absurd (cc)
+front_or_end (suc n) e = absurd (cc)
+
+abbrev output_of : Option Record → Bytes
+output_of (Some r) = r.output
+output_of _ = []
+
+pub no_end_before_a_fault : SendsTaken Output whole (Some nothing_kept) (Some (after_out end nothing_kept)) (Err Failed) → ⊥
+no_end_before_a_fault sent = front_or_end sent.0 (ap output_of sent.2)
+
+-- a message in the output
+abbrev byte : List ℕ
+byte = 1 ∷ []
+
+pub no_message_in_the_output : SendsTaken Messages byte (Some nothing_kept) (Some (after_out byte nothing_kept)) (Ok 1) → ⊥
+no_message_in_the_output sent = let e : byte ≡ [] = ap output_of sent in absurd (cc)
+
+-- a writer that took other bytes
+begins_otherwise : (front back : Bytes) → front ++ back ≡ whole → end ≡ front → ⊥
+begins_otherwise [] back is took = absurd (cc)
+begins_otherwise (x ∷ front) back is took =
+    let first : x ∷ (front ++ back) ≡ whole = is in
+    let second : end ≡ x ∷ front = took in
+    absurd (cc)
+
+pub no_other_bytes : AppendsFront (Some []) (Some end) whole → ⊥
+no_other_bytes (front, (back, is), took) = begins_otherwise front back is took
+
+-- a failure by plan at a call that isn't due
+abbrev sound : Failing ℕ
+sound = record { inner = 0; due = 0; planned = 0 }
+
+pub no_plan_behind_success : FailsWhenDue (Unit {0}) sound (record sound { planned = 1 }) done → ⊥
+no_plan_behind_success fails = let e : 1 ≡ 0 = fails.planned in omega (arith, e)

@@ -1,0 +1,37 @@
+-- What the desk of a program shows: its two writers, and what they take.
+use Rattle.std.specs.Prelude.{◌≡◌, ◌++◌, ℕ, Bool, false, codes, Option, Result, Ok, Err, take}
+use Rattle.std.specs.Io.KnownBytes.{Appends}
+use Rattle.std.specs.Str.{bytes_eq}
+use Rattle.avr_desk.specs.Record.{Bytes}
+use Rattle.avr_desk.specs.declared.fault.DeskFault.{DeskFault}
+use Rattle.avr_desk.specs.declared.fault.DeskFault.TheVariants.{Failed}
+
+-- the writers of the output and of the messages, the failures, and whether what is written to the file goes to the
+-- output
+pub record Shown (O E : Type 0) : Type 0 where
+  pub output : O
+  pub messages : E
+  pub failures : ℕ
+  pub to_output : Bool
+
+-- a writer whose bytes are known took a front of these
+abbrev pub AppendsFront : Option Bytes → Option Bytes → Bytes → Type 0
+AppendsFront old new bytes = (front : Bytes) × ((back : Bytes) × (front ++ back ≡ bytes)) × Appends old new front
+
+-- it took as many of them as were answered; after a fault perhaps a front
+abbrev pub AppendsTaken : {F : Type 0} → Option Bytes → Option Bytes → Bytes → Result ℕ F → Type 0
+AppendsTaken old new bytes (Ok n) = Appends old new (take n bytes)
+AppendsTaken old new bytes (Err fault) = AppendsFront old new bytes
+
+-- the name of the standard streams
+abbrev pub is_dash : Bytes → Bool
+is_dash name = bytes_eq name (codes "-")
+
+-- where what is written goes behind an opening, and behind a creation: a call that failed changes nothing
+abbrev pub to_output_opened : Result (Unit {0}) DeskFault → Bool → Bool
+to_output_opened (Err Failed) before = before
+to_output_opened result before = false
+
+abbrev pub to_output_created : Bytes → Result (Unit {0}) DeskFault → Bool → Bool
+to_output_created name (Ok done) before = is_dash name
+to_output_created name (Err fault) before = before

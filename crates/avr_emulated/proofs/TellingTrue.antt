@@ -1,0 +1,390 @@
+-- What a run tells is true where it tells it, part by part.
+use Rattle.std.proofs.Common.{◌≡◌, ℕ, zero, suc, ◌≤◌, List, [], ◌∷◌, ◌++◌, length, append_assoc, refl, sym, ap, ◌∙◌, subst, arith, inl, inr, ◌⊎◌, Ok, Err, Result, Bool, true, false, Option, Some, None}
+use Rattle.std.proofs.lemmas.List.Elements.{Contains-append_right}
+use Rattle.std.specs.Prelude.{All, Contains, ⊤, codes, decimal, nat_lt, if◌then◌else◌}
+use Rattle.std.specs.Str.{bytes_eq}
+use Rattle.avr_cli.specs.declared.update.Format.{Format}
+use Rattle.avr_image.specs.Image.{held}
+use Rattle.avr_message.specs.Lines.{Bytes, spaced, information, warning}
+use Rattle.avr_message.specs.Said.{Saying, Line, Creates, Writes, Outs}
+use Rattle.avr_part.specs.Mem.{is_writable, name_of}
+use Rattle.avr_part.specs.Part.{IsPart, size_of}
+use Rattle.avr_part.specs.declared.mem.Mem.{Mem}
+use Rattle.avr_plan.specs.Plan.{Plan, IsFitted}
+use Rattle.avr_plan.specs.declared.task.Task.{Task}
+use Rattle.avr_plan.specs.declared.task.Task.TheVariants as task
+use Rattle.avr_session.specs.FileText.{file_text}
+use Rattle.avr_session.specs.Lines.{informs, warns, fault_line}
+use Rattle.avr_session.specs.Session.{says, standing, reported, unless_fault, fault_or, signature_says, warns_of_signature, opening_says, saved, bytes_say, erased_says, written_says, verified_says, closed_says, read_says, opening_part, is_erase_due, left_out_erase, erasing_part, verifying_part, writing_part, read_back_part, left_out_write, write_part, reading_part, task_part, tasks_part, beginning, working, ending, playing, status_of, session}
+use Rattle.avr_session.specs.declared.standing.Standing.{Standing}
+use Rattle.avr_session.specs.declared.standing.Standing.TheVariants.{Fine, Faulty, Over}
+use Rattle.stk_frame.specs.declared.command.Command.{Command}
+use Rattle.stk_frame.specs.HostCommands.{erase, leave}
+use Rattle.stk_host.specs.Dialog.{Dialog, Done, Say, Ask, ◌>>=◌, lifted}
+use Rattle.stk_host.specs.Operations as host
+use Rattle.stk_host.specs.Operations.{Difference, done, difference_from, differs, compared, host_fault, judged_by, operation, signature_judged, ended}
+use Rattle.stk_host.specs.ReadSteps.{read_steps}
+use Rattle.stk_host.specs.Steps.{Outcome, step, play}
+use Rattle.stk_host.specs.WriteSteps.{write_steps}
+use Rattle.stk_host.specs.declared.fault.HostFault.{HostFault}
+use Rattle.stk_host.specs.declared.fault.HostFault.TheVariants.{Differs, ReadOnly}
+use Rattle.stk_host.specs.declared.fault.StepFault.{StepFault}
+use Rattle.stk_host.specs.declared.fault.StepFault.TheVariants as of_step
+use Rattle.stk_emu.specs.declared.fate.Fate.{Fate}
+use Rattle.stk_emu.specs.Along.{reading_of, along}
+use Rattle.stk_emu.specs.Device.{Device, device}
+use Rattle.stk_emu.specs.Effect.{Memories, Image, Item, Erase, Write, effect, effects, memories_of, memory_in}
+use Rattle.stk_emu.specs.Given.{all_given}
+use Rattle.stk_emu.specs.Leads.{Leads, Reached, AfterSteps, AfterBeginning}
+use Rattle.stk_emu.specs.Programmer.{Programmer}
+use Rattle.stk_emu.specs.Settled.{Idle, Settled, FitsPart}
+use Rattle.stk_emu.specs.Strokes.{struck_by, AreSteps}
+use Rattle.stk_emu.specs.Wire.{first_fate, other_fates, after_fate}
+use Rattle.stk_emu.proofs.Comparing.{no_difference}
+use Rattle.stk_emu.proofs.ItemStrokes.{struck_all, item_does, item_are_steps, read_are_steps, effect_sizes}
+use Rattle.stk_emu.proofs.LeadsOn.{leads_done, leads_lifted, leads_wider, leads_bind, leads_play, leads_beginning}
+use Rattle.stk_emu.proofs.PageStrokes.{effects_on}
+use Rattle.stk_emu.proofs.PlayGiven.{read_gives}
+use Rattle.avr_emulated.specs.Items.{erasing_items, task_items, tasks_items, items}
+use Rattle.avr_emulated.specs.Told.{TellsTrue, Compares, count_line, kept_in, IsTrue, SignatureRead, ChipErased, BytesWritten, BytesVerified, Differed, BytesSaved, BytesRead, EraseLeftOut, WriteLeftOut, StepFailed, SessionDone}
+use Rattle.avr_emulated.proofs.AnyLine.{goes_beginning}
+use Rattle.avr_emulated.proofs.AnyLineAsks.{first_of, rest_of}
+use Rattle.avr_emulated.proofs.AnyLineParts.{Comes, Goes, goes_opening, goes_writing, goes_task}
+use Rattle.avr_emulated.proofs.AnyLineSteps.{effects_sizes, quiet_stays, read_quiet}
+use Rattle.avr_emulated.proofs.FewBadCalls.{bytes_same, signature_taken}
+
+-- it holds of each of them
+abbrev AllHold : {E : Type 0} → (E → Type 0) → List E → Type 0
+AllHold T [] = ⊤
+AllHold T (e ∷ es) = T e × AllHold T es
+
+hold_on : {E : Type 0} (T : E → Type 0) (xs ys : List E) → AllHold T xs → AllHold T ys → AllHold T (xs ++ ys)
+hold_on T [] ys f g = g
+hold_on T (x ∷ xs) ys f g = (f.0, hold_on T xs ys f.1 g)
+
+hold_unless : {E : Type 0} (T : E → Type 0) (b : Bool) (x : E) → T x → AllHold T (if b then [] else x ∷ [])
+hold_unless T true x t = tt
+hold_unless T false x t = (t, tt)
+
+hold_not : {E : Type 0} (T : E → Type 0) (b : Bool) (xs : List E) → b ≡ true → AllHold T (if b then [] else xs)
+hold_not T true xs e = tt
+hold_not T false xs e = absurd (cc)
+
+-- ---- dialogs
+
+module _ {P : Type 0} (m : Device P) where
+  true_bind : {E A B : Type 0} (T : P → E → Type 0) (k : ℕ) (d : Dialog E A) (next : A → Dialog E B) (p : P) (fates : List Fate) → TellsTrue m T k d p fates
+      → ((a : A) → (along m k d p fates).dialog ≡ Done a → TellsTrue m T (along m k d p fates).left (next a) (along m k d p fates).programmer (along m k d p fates).fates)
+      → TellsTrue m T k (d >>= next) p fates
+  true_bind T k (Done a) next p fates told more = more a refl
+  true_bind T k (Say e d) next p fates told more = (told.0, true_bind T k d next p fates told.1 more)
+  true_bind T zero (Ask bytes go_on) next p fates told more = tt
+  true_bind T (suc k) (Ask bytes go_on) next p fates told more =
+      true_bind T k (go_on (reading_of (first_fate fates) (m.answer bytes p))) next (after_fate (first_fate fates) (m.after bytes p) p) (other_fates fates) told more
+
+  true_lifted : {E R : Type 0} (T : P → E → Type 0) (k : ℕ) (d : Dialog ⊥ R) (p : P) (fates : List Fate) → TellsTrue {E = E} m T k (lifted d) p fates
+  true_lifted T k (Done r) p fates = tt
+  true_lifted T k (Say e d) p fates = absurd e
+  true_lifted T zero (Ask bytes go_on) p fates = tt
+  true_lifted T (suc k) (Ask bytes go_on) p fates =
+      true_lifted T k (go_on (reading_of (first_fate fates) (m.answer bytes p))) (after_fate (first_fate fates) (m.after bytes p) p) (other_fates fates)
+
+  true_says : {R : Type 0} (T : P → Saying → Type 0) (k : ℕ) (sayings : List Saying) (r : R) (p : P) (fates : List Fate) → AllHold (T p) sayings → TellsTrue m T k (says sayings (Done r)) p fates
+  true_says T k [] r p fates all = tt
+  true_says T k (saying ∷ sayings) r p fates all = (all.0, true_says T k sayings r p fates all.1)
+
+  -- a call, and what is said of its outcome
+  true_reported : {A : Type 0} (T : P → Saying → Type 0) (call : Dialog ⊥ (Result A HostFault)) (outcome_says : Result A HostFault → List Saying) (After : Result A HostFault → P → Type 0)
+      (k : ℕ) (p : P) (fates : List Fate) → Leads m call p fates (λ q. ⊤) After → ((r : Result A HostFault) (q : P) → After r q → AllHold (T q) (outcome_says r))
+      → TellsTrue m T k (reported call outcome_says) p fates
+  true_reported T call outcome_says After k p fates l each =
+      let s = along {E = Saying} m k (lifted call) p fates in
+      true_bind T k (lifted call) (λ outcome. says (outcome_says outcome) (Done (standing outcome))) p fates (true_lifted T k call p fates)
+      (λ r e. true_says T s.left (outcome_says r) (standing r) s.programmer s.fates (each r s.programmer ((leads_lifted m call p fates (λ q. ⊤) After l).after k r e)))
+
+  leads_any : {R : Type 0} (d : Dialog ⊥ R) (p : P) (fates : List Fate) → Leads m d p fates (λ q. ⊤) (λ r q. ⊤)
+  leads_any d p fates = record { during = λ k. tt; after = λ k r e. tt }
+
+ok_is : {A : Type 0} (a : A) (fault : HostFault) → ◌≡◌ {A = Result A HostFault} (Ok a) (Err fault) → ⊥
+ok_is a fault e = cc
+
+none_differs : (mem : Mem) (d : Option Difference) (a : ⊤) → differs mem d ≡ Ok a → d ≡ None
+none_differs mem None a e = refl
+none_differs mem (Some d) a e = absurd (ok_is a (Differs mem d.addr d.want d.found) (sym e))
+
+-- ---- the parts of a session
+
+module _ (plan : Plan) (sound : IsPart plan.part) (m0 : Memories) (f0 : FitsPart plan.part m0) where
+  abbrev T : Programmer → Saying → Type 0
+  T q saying = IsTrue plan m0 (memories_of q.chip) saying
+
+  -- from such a programmer all that is told is true
+  abbrev Tells : (Programmer → Type 0) → Dialog Saying Standing → Type 0
+  Tells From d = (k : ℕ) (p : Programmer) (fates : List Fate) → From p → TellsTrue device T k d p fates
+
+  informs_hold : (quiet : ℕ) (pieces : List Bytes) (q : Programmer) → T q (Line (information pieces)) → AllHold (T q) (informs quiet pieces)
+  informs_hold quiet pieces q t = hold_unless (T q) (nat_lt 0 quiet) (Line (information pieces)) t
+
+  counts_hold : (mem : Mem) (count : ℕ) (done_text : Bytes) (q : Programmer) → T q (count_line mem count done_text) → AllHold (T q) (bytes_say plan.switches.quiet mem count done_text)
+  counts_hold mem count done_text q t = informs_hold plan.switches.quiet (name_of mem ∷ codes ": " ∷ decimal count ∷ done_text ∷ []) q t
+
+  -- after a call: its data, judged; or the fault of a step
+  abbrev AfterCall : {A : Type 0} → List (List Command) → Memories → (List ℕ → Result A HostFault) → Result A HostFault → Programmer → Type 0
+  AfterCall steps m judge r q = (Settled plan.part (struck_by plan.part (length steps) steps m) q × (r ≡ judge (all_given plan.part steps m))) ⊎ ((fault : StepFault) × (r ≡ Err (host_fault fault)))
+
+  after_call : {A : Type 0} (steps : List (List Command)) (m : Memories) (judge : List ℕ → Result A HostFault) (o : Outcome) (q : Programmer) → AfterSteps plan.part steps m [] o q → AfterCall steps m judge (judged_by judge o) q
+  after_call steps m judge (Ok got) q a = inl (a.0, ap judge a.1)
+  after_call steps m judge (Err fault) q a = inr (fault, refl)
+
+  leads_call : {A : Type 0} (steps : List (List Command)) (m : Memories) (judge : List ℕ → Result A HostFault) (p : Programmer) (fates : List Fate) → AreSteps plan.part steps → FitsPart plan.part m
+      → Settled plan.part m p → Leads device (operation steps judge) p fates (λ q. ⊤) (AfterCall steps m judge)
+  unfolding operation
+  leads_call steps m judge p fates are f s =
+      leads_bind device (λ q. ⊤) (AfterSteps plan.part steps m []) (AfterCall steps m judge) (λ outcome. Done (judged_by judge outcome))
+      (λ o q fs a. leads_done device (judged_by judge o) q fs (λ z. ⊤) (AfterCall steps m judge) tt (after_call steps m judge o q a))
+      (play steps []) p fates
+      (leads_wider device (play steps []) p fates (Reached plan.part steps m) (λ q. ⊤) (AfterSteps plan.part steps m []) (AfterSteps plan.part steps m []) (λ q r. tt) (λ o q a. a)
+      (leads_play plan.part sound steps m [] p fates are f s))
+
+  tells_call : {A : Type 0} (steps : List (List Command)) (m : Memories) (judge : List ℕ → Result A HostFault) (outcome_says : Result A HostFault → List Saying) → AreSteps plan.part steps → FitsPart plan.part m
+      → ((q : Programmer) → Settled plan.part (struck_by plan.part (length steps) steps m) q → AllHold (T q) (outcome_says (judge (all_given plan.part steps m))))
+      → ((fault : StepFault) (q : Programmer) → AllHold (T q) (outcome_says (Err (host_fault fault))))
+      → Tells (Settled plan.part m) (reported (operation steps judge) outcome_says)
+  tells_call {A = A} steps m judge outcome_says are f good bad k p fates s =
+      true_reported device T (operation steps judge) outcome_says (AfterCall steps m judge) k p fates (leads_call steps m judge p fates are f s) each
+    where
+      each : (r : Result A HostFault) (q : Programmer) → AfterCall steps m judge r q → AllHold (T q) (outcome_says r)
+      each r q (inl made) = subst (λ x. AllHold (T q) (outcome_says x)) (sym made.1) (good q made.0)
+      each r q (inr broke) = subst (λ x. AllHold (T q) (outcome_says x)) (sym broke.1) (bad broke.0 q)
+
+  failed : (fault : StepFault) (q : Programmer) → AllHold (T q) (Line (fault_line plan.part (host_fault fault)) ∷ [])
+  failed fault q = (StepFailed fault refl, tt)
+
+  -- one part, and the next one unless there was a fault
+  tells_then : (From : Programmer → Type 0) (m : Memories) (xs : List Item) (Check : Type 0) (d next : Dialog Saying Standing) → Goes plan.part From m xs Check d
+      → Tells From d → Tells (Settled plan.part (effects plan.part xs m)) next → Tells From (d >>= unless_fault next)
+  tells_then From m xs Check d next goes first more k p fates from =
+      let s = along device k d p fates in
+      true_bind device T k d (unless_fault next) p fates (first k p fates from) (λ standing e. on standing s.left s.programmer s.fates ((goes p fates from).after k standing e))
+    where
+      on : (standing : Standing) (left : ℕ) (q : Programmer) (fs : List Fate) → Comes plan.part m xs Check standing q → TellsTrue device T left (unless_fault next standing) q fs
+      on Fine left q fs came = more left q fs came.0
+      on Faulty left q fs came = tt
+      on Over left q fs came = tt
+
+  -- ---- the beginning
+
+  abbrev AfterSignature : Result (List ℕ) HostFault → Programmer → Type 0
+  AfterSignature r q = (r ≡ Ok plan.part.signature) ⊎ ((fault : StepFault) × (r ≡ Err (host_fault fault)))
+
+  found_signature : (force : Bool) (o : Outcome) (q : Programmer) → AfterBeginning plan.part m0 o q → AfterSignature (signature_judged plan.part.signature force o) q
+  found_signature force (Ok found) q a =
+      inl (subst (λ x. signature_judged plan.part.signature force (Ok x) ≡ Ok plan.part.signature) (sym a.1) (signature_taken plan.part.signature force))
+  found_signature force (Err fault) q a = inr (fault, refl)
+
+  leads_signature : (force : Bool) (p : Programmer) (fates : List Fate) → Idle plan.part m0 p → Leads device (host.opening plan.part.signature force) p fates (λ q. ⊤) AfterSignature
+  unfolding host.opening
+  leads_signature force p fates idle =
+      leads_bind device (λ q. ⊤) (AfterBeginning plan.part m0) AfterSignature (λ outcome. Done (signature_judged plan.part.signature force outcome))
+      (λ o q fs a. leads_done device (signature_judged plan.part.signature force o) q fs (λ z. ⊤) AfterSignature tt (found_signature force o q a))
+      host.beginning p fates
+      (leads_wider device host.beginning p fates (Idle plan.part m0) (λ q. ⊤) (AfterBeginning plan.part m0) (AfterBeginning plan.part m0) (λ q i. tt) (λ o q a. a)
+      (leads_beginning plan.part sound m0 p fates f0 idle))
+
+  no_signature : (quiet : ℕ) (fault : StepFault) (q : Programmer) → AllHold (T q) (opening_says quiet plan.part (Err (host_fault fault)))
+  no_signature quiet of_step.NoAnswer q = failed of_step.NoAnswer q
+  no_signature quiet of_step.LinkEnded q = failed of_step.LinkEnded q
+  no_signature quiet of_step.Babble q = failed of_step.Babble q
+  no_signature quiet (of_step.Refused command status) q = failed (of_step.Refused command status) q
+  no_signature quiet (of_step.BadAnswer command) q = failed (of_step.BadAnswer command) q
+
+  own_signature : (quiet : ℕ) (q : Programmer) → AllHold (T q) (opening_says quiet plan.part (Ok plan.part.signature))
+  own_signature quiet q =
+      hold_on (T q) (signature_says quiet plan.part.signature) (warns_of_signature quiet plan.part plan.part.signature)
+      (informs_hold quiet (codes "device signature = " ∷ spaced plan.part.signature ∷ []) q (SignatureRead refl))
+      (hold_not (T q) (bytes_eq plan.part.signature plan.part.signature) _ (bytes_same plan.part.signature))
+
+  tells_opening : Tells (Idle plan.part m0) (opening_part plan.part plan.switches)
+  tells_opening k p fates idle =
+      true_reported device T (host.opening plan.part.signature plan.switches.force) (opening_says plan.switches.quiet plan.part) AfterSignature k p fates
+      (leads_signature plan.switches.force p fates idle) each
+    where
+      each : (r : Result (List ℕ) HostFault) (q : Programmer) → AfterSignature r q → AllHold (T q) (opening_says plan.switches.quiet plan.part r)
+      each r q (inl found) = subst (λ x. AllHold (T q) (opening_says plan.switches.quiet plan.part x)) (sym found) (own_signature plan.switches.quiet q)
+      each r q (inr broke) = subst (λ x. AllHold (T q) (opening_says plan.switches.quiet plan.part x)) (sym broke.1) (no_signature plan.switches.quiet broke.0 q)
+
+  tells_chip_erasing : Tells (Settled plan.part m0) (reported host.erasing (erased_says plan.switches.quiet plan.part))
+  tells_chip_erasing =
+      tells_call ((erase ∷ []) ∷ []) m0 done (erased_says plan.switches.quiet plan.part) (item_are_steps plan.part sound Erase tt) f0
+      (λ q s. informs_hold plan.switches.quiet (codes "chip erased" ∷ []) q (ChipErased refl s.memories)) failed
+
+  not_erased : (asked : Bool) (quiet : ℕ) (q : Programmer) → plan.switches.dry ≡ true → AllHold (T q) (if asked then warns quiet (codes "chip not erased because of -n" ∷ []) else [])
+  not_erased true quiet q dry = hold_unless (T q) (nat_lt 1 quiet) (Line (warning (codes "chip not erased because of -n" ∷ []))) (EraseLeftOut dry refl)
+  not_erased false quiet q dry = tt
+
+  tells_erasing : Tells (Settled plan.part m0) (erasing_part plan.part plan.switches plan.tasks)
+  tells_erasing = by_switch plan.switches.dry (is_erase_due plan.switches plan.tasks) refl
+    where
+      by_switch : (dry due : Bool) → plan.switches.dry ≡ dry
+          → Tells (Settled plan.part m0) (if dry then says (left_out_erase plan.switches) (Done Fine) else if due then reported host.erasing (erased_says plan.switches.quiet plan.part) else Done Fine)
+      by_switch true due e = λ k p fates s. true_says device T k (left_out_erase plan.switches) Fine p fates (not_erased plan.switches.erase plan.switches.quiet p e)
+      by_switch false true e = tells_chip_erasing
+      by_switch false false e = λ k p fates s. tt
+
+  -- ---- tasks
+
+  -- a memory that was read is the chip's
+  read_now : (mem : Mem) (m : Memories) (q : Programmer) → FitsPart plan.part m → Settled plan.part (struck_by plan.part (length (read_steps plan.part mem)) (read_steps plan.part mem) m) q
+      → all_given plan.part (read_steps plan.part mem) m ≡ memory_in plan.part mem (memories_of q.chip)
+  read_now mem m q f s =
+      let same : memories_of q.chip ≡ m = s.memories ∙ quiet_stays plan.part (length (read_steps plan.part mem)) (read_steps plan.part mem) m (read_quiet plan.part mem) in
+      read_gives plan.part sound m f mem ∙ ap (memory_in plan.part mem) (sym same)
+
+  compared_now : (mem : Mem) (image : Image) (q : Programmer) → Compares plan mem image → (r : Result ⊤ HostFault) → compared mem image (memory_in plan.part mem (memories_of q.chip)) ≡ r
+      → AllHold (T q) (verified_says plan.switches.quiet plan.part mem image r)
+  compared_now mem image q compares (Ok a) e =
+      counts_hold mem (held image) (codes " bytes verified") q
+      (BytesVerified mem image refl compares
+      (no_difference 0 image (memory_in plan.part mem (memories_of q.chip)) (none_differs mem (difference_from 0 image (memory_in plan.part mem (memories_of q.chip))) a e)))
+  compared_now mem image q compares (Err fault) e = (Differed mem image fault refl compares e, tt)
+
+  tells_verifying : (mem : Mem) (image : Image) (m : Memories) → FitsPart plan.part m → Compares plan mem image → Tells (Settled plan.part m) (verifying_part plan.part plan.switches mem image)
+  tells_verifying mem image m f compares =
+      tells_call (read_steps plan.part mem) m (compared mem image) (verified_says plan.switches.quiet plan.part mem image) (read_are_steps plan.part sound mem) f
+      (λ q s.
+      subst (λ bytes. AllHold (T q) (verified_says plan.switches.quiet plan.part mem image (compared mem image bytes))) (sym (read_now mem m q f s))
+      (compared_now mem image q compares (compared mem image (memory_in plan.part mem (memories_of q.chip))) refl))
+      failed
+
+  saved_now : (b : Bool) (mem : Mem) (format : Format) (file : Bytes) (q : Programmer) → Contains plan.tasks (task.Read mem format file) → (text : Bytes) → text ≡ file_text format (kept_in plan mem (memories_of q.chip))
+      → AllHold (T q) (if b then Outs text ∷ [] else Creates file ∷ Writes text ∷ [])
+  saved_now true mem format file q is_task text e = (BytesSaved mem format file is_task (inr (inr (ap Outs e))), tt)
+  saved_now false mem format file q is_task text e = (BytesSaved mem format file is_task (inl refl), (BytesSaved mem format file is_task (inr (inl (ap Writes e))), tt))
+
+  tells_reading : (mem : Mem) (format : Format) (file : Bytes) (m : Memories) → FitsPart plan.part m → Contains plan.tasks (task.Read mem format file) → Tells (Settled plan.part m) (reading_part plan.part plan.switches mem format file)
+  tells_reading mem format file m f is_task =
+      tells_call (read_steps plan.part mem) m Ok (fault_or plan.part (read_says plan.switches mem format file)) (read_are_steps plan.part sound mem) f
+      (λ q s.
+      subst (λ bytes. AllHold (T q) (read_says plan.switches mem format file bytes)) (sym (read_now mem m q f s))
+      (hold_on (T q) (saved file (file_text format (kept_in plan mem (memories_of q.chip)))) (bytes_say plan.switches.quiet mem (length (kept_in plan mem (memories_of q.chip))) (codes " bytes read"))
+      (saved_now (bytes_eq file (codes "-")) mem format file q is_task (file_text format (kept_in plan mem (memories_of q.chip))) refl)
+      (counts_hold mem (length (kept_in plan mem (memories_of q.chip))) (codes " bytes read") q (BytesRead mem format file is_task refl))))
+      failed
+
+  tells_writing : (mem : Mem) (image : Image) (first later : List Item) → items plan ≡ first ++ Write mem image ∷ later → length image ≤ size_of mem plan.part → is_writable mem ≡ true
+      → Tells (Settled plan.part (effects plan.part first m0)) (writing_part plan.part plan.switches mem image)
+  tells_writing mem image first later order fits can = by_kind (is_writable mem) can
+    where
+      m : Memories
+      m = effects plan.part first m0
+
+      f : FitsPart plan.part m
+      f = effects_sizes plan.part sound first m0 f0
+
+      now : (q : Programmer) → Settled plan.part (struck_by plan.part (length (write_steps plan.part mem image)) (write_steps plan.part mem image) m) q
+          → memories_of q.chip ≡ effects plan.part (first ++ Write mem image ∷ []) m0
+      now q s =
+          s.memories
+          ∙ (struck_all plan.part (write_steps plan.part mem image) m ∙ (item_does plan.part sound (Write mem image) m fits f ∙ sym (effects_on plan.part first (Write mem image ∷ []) m0)))
+
+      by_kind : (b : Bool) → b ≡ true
+          → Tells (Settled plan.part m) (reported (if b then operation (write_steps plan.part mem image) done else Done (Err (ReadOnly mem))) (written_says plan.switches.quiet plan.part mem image))
+      by_kind true e =
+          tells_call (write_steps plan.part mem image) m done (written_says plan.switches.quiet plan.part mem image) (item_are_steps plan.part sound (Write mem image) fits) f
+          (λ q s. counts_hold mem (held image) (codes " bytes written") q (BytesWritten mem image first later refl order (now q s))) failed
+      by_kind false e = absurd (cc)
+
+  tells_read_back : (mem : Mem) (image : Image) (m : Memories) → FitsPart plan.part m → Compares plan mem image → Tells (Settled plan.part m) (read_back_part plan.part plan.switches mem image)
+  tells_read_back mem image m f compares = by_switch plan.switches.no_verify
+    where
+      by_switch : (b : Bool) → Tells (Settled plan.part m) (if b then Done Fine else verifying_part plan.part plan.switches mem image)
+      by_switch true = λ k p fates s. tt
+      by_switch false = tells_verifying mem image m f compares
+
+  tells_write : (mem : Mem) (image : Image) (first later : List Item) → items plan ≡ first ++ (task_items plan.switches (task.Write mem image) ++ later) → length image ≤ size_of mem plan.part
+      → is_writable mem ≡ true → Compares plan mem image → Tells (Settled plan.part (effects plan.part first m0)) (write_part plan.part plan.switches mem image)
+  tells_write mem image first later order fits can compares = by_switch plan.switches.dry refl order
+    where
+      m : Memories
+      m = effects plan.part first m0
+
+      f : FitsPart plan.part m
+      f = effects_sizes plan.part sound first m0 f0
+
+      by_switch : (dry : Bool) → plan.switches.dry ≡ dry → items plan ≡ first ++ ((if dry then [] else Write mem image ∷ []) ++ later)
+          → Tells (Settled plan.part m) (if dry then says (left_out_write plan.switches mem image) (Done Fine) else writing_part plan.part plan.switches mem image >>= unless_fault (read_back_part plan.part plan.switches mem image))
+      by_switch true e o = λ k p fates s. true_says device T k (left_out_write plan.switches mem image) Fine p fates (counts_hold mem (held image) (codes " bytes not written") p (WriteLeftOut mem image e refl))
+      by_switch false e o =
+          tells_then (Settled plan.part m) m (Write mem image ∷ []) ⊤ (writing_part plan.part plan.switches mem image) (read_back_part plan.part plan.switches mem image)
+          (goes_writing plan.part sound plan.switches mem image m fits can f) (tells_writing mem image first later o fits can)
+          (tells_read_back mem image (effect plan.part (Write mem image) m) (effect_sizes plan.part sound (Write mem image) m f) compares)
+
+  tells_task : (t : Task) (first later : List Item) → items plan ≡ first ++ (task_items plan.switches t ++ later) → IsFitted plan.part t → Contains plan.tasks t
+      → Tells (Settled plan.part (effects plan.part first m0)) (task_part plan.part plan.switches t)
+  tells_task (task.Write mem image) first later order fitted is_task = tells_write mem image first later order (let size = fitted.0 in omega (arith, size)) fitted.1 (inr is_task)
+  tells_task (task.Verify mem image) first later order fitted is_task =
+      tells_verifying mem image (effects plan.part first m0) (effects_sizes plan.part sound first m0 f0) (inl is_task)
+  tells_task (task.Read mem format file) first later order fitted is_task =
+      tells_reading mem format file (effects plan.part first m0) (effects_sizes plan.part sound first m0 f0) is_task
+
+  here : (t : Task) (before tasks : List Task) → plan.tasks ≡ before ++ t ∷ tasks → Contains plan.tasks t
+  here t before tasks e = subst (λ all. Contains all t) (sym e) (Contains-append_right before (t ∷ tasks) t (0, omega arith, refl))
+
+  tells_tasks : (tasks before : List Task) (first : List Item) → plan.tasks ≡ before ++ tasks → items plan ≡ first ++ tasks_items plan.switches tasks → All (IsFitted plan.part) tasks
+      → Tells (Settled plan.part (effects plan.part first m0)) (tasks_part plan.part plan.switches tasks)
+  tells_tasks [] before first all order fitted = λ k p fates s. tt
+  tells_tasks (t ∷ tasks) before first all order fitted =
+      let its = task_items plan.switches t in
+      let m = effects plan.part first m0 in
+      let fits = first_of (IsFitted plan.part) t tasks fitted in
+      tells_then (Settled plan.part m) m its _ (task_part plan.part plan.switches t) (tasks_part plan.part plan.switches tasks)
+      (goes_task plan.part sound plan.switches t m fits (effects_sizes plan.part sound first m0 f0))
+      (tells_task t first (tasks_items plan.switches tasks) order fits (here t before tasks all))
+      (subst (λ z. Tells (Settled plan.part z) (tasks_part plan.part plan.switches tasks)) (effects_on plan.part first its m0)
+      (tells_tasks tasks (before ++ t ∷ []) (first ++ its) (all ∙ sym (append_assoc before (t ∷ []) tasks)) (order ∙ sym (append_assoc first its (tasks_items plan.switches tasks)))
+      (rest_of (IsFitted plan.part) t tasks fitted)))
+
+  -- ---- the end
+
+  after_ended : (o : Outcome) (q : Programmer) → (ended o ≡ Ok tt) ⊎ ((fault : StepFault) × (ended o ≡ Err (host_fault fault)))
+  after_ended (Ok bytes) q = inl refl
+  after_ended (Err fault) q = inr (fault, refl)
+
+  abbrev AfterClosing : Result ⊤ HostFault → Programmer → Type 0
+  AfterClosing r q = (r ≡ Ok tt) ⊎ ((fault : StepFault) × (r ≡ Err (host_fault fault)))
+
+  leads_closed : (p : Programmer) (fates : List Fate) → Leads device host.closing p fates (λ q. ⊤) AfterClosing
+  unfolding host.closing
+  leads_closed p fates =
+      leads_bind device (λ q. ⊤) (λ o q. ⊤) AfterClosing (λ outcome. Done (ended outcome))
+      (λ o q fs a. leads_done device (ended o) q fs (λ z. ⊤) AfterClosing tt (after_ended o q)) (step (leave ∷ [])) p fates (leads_any device (step (leave ∷ [])) p fates)
+
+  tells_ending : (standing : Standing) → Tells (λ q. ⊤) (ending plan.part plan.switches standing)
+  tells_ending Fine k p fates any =
+      true_reported device T host.closing (closed_says plan.switches.quiet plan.part) AfterClosing k p fates (leads_closed p fates) each
+    where
+      each : (r : Result ⊤ HostFault) (q : Programmer) → AfterClosing r q → AllHold (T q) (closed_says plan.switches.quiet plan.part r)
+      each r q (inl e) = subst (λ x. AllHold (T q) (closed_says plan.switches.quiet plan.part x)) (sym e) (informs_hold plan.switches.quiet (codes "done" ∷ []) q (SessionDone refl))
+      each r q (inr broke) = subst (λ x. AllHold (T q) (closed_says plan.switches.quiet plan.part x)) (sym broke.1) (failed broke.0 q)
+  tells_ending Faulty k p fates any =
+      true_bind device T k (reported host.closing (λ _. [])) (λ closed. Done Over) p fates
+      (true_reported device T host.closing (λ _. []) (λ r q. ⊤) k p fates (leads_any device host.closing p fates) (λ r q a. tt)) (λ closed e. tt)
+  tells_ending Over k p fates any = tt
+
+  module _ (fitted : All (IsFitted plan.part) plan.tasks) where
+    tells_working : Tells (Idle plan.part m0) (working plan)
+    tells_working =
+        tells_then (Idle plan.part m0) m0 (erasing_items plan.switches plan.tasks) _ (beginning plan) (tasks_part plan.part plan.switches plan.tasks)
+        (goes_beginning plan sound fitted m0 f0)
+        (tells_then (Idle plan.part m0) m0 [] _ (opening_part plan.part plan.switches) (erasing_part plan.part plan.switches plan.tasks)
+        (goes_opening plan.part sound plan.switches m0 f0) tells_opening tells_erasing)
+        (tells_tasks plan.tasks [] (erasing_items plan.switches plan.tasks) refl refl fitted)
+
+    -- a session
+    pub session_tells : (k : ℕ) (p : Programmer) (fates : List Fate) → Idle plan.part m0 p → TellsTrue device T k (session plan) p fates
+    unfolding session
+    session_tells k p fates idle =
+        true_bind device T k (playing plan) (λ standing. Done (status_of standing)) p fates
+        (true_bind device T k (working plan) (ending plan.part plan.switches) p fates (tells_working k p fates idle)
+        (λ standing e. tells_ending standing (along device k (working plan) p fates).left (along device k (working plan) p fates).programmer (along device k (working plan) p fates).fates tt))
+        (λ standing e. tt)

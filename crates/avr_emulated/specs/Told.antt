@@ -1,0 +1,98 @@
+-- That what a run tells is true of the chip where it tells it.
+use Rattle.std.specs.Prelude.{ℕ, zero, suc, true, ◌≡◌, ◌⊎◌, List, [], ◌∷◌, ◌++◌, length, Contains, Option, Err, ⊤, codes, decimal}
+use Rattle.avr_cli.specs.declared.update.Format.{Format}
+use Rattle.avr_desk.specs.Record.{Record}
+use Rattle.avr_image.specs.Image.{held}
+use Rattle.avr_message.specs.Lines.{Bytes, spaced, information, warning}
+use Rattle.avr_message.specs.Said.{Saying, Line, Creates, Writes, Outs}
+use Rattle.avr_part.specs.Mem.{name_of}
+use Rattle.avr_part.specs.declared.mem.Mem.{Mem}
+use Rattle.avr_plan.specs.Plan.{Plan}
+use Rattle.avr_plan.specs.declared.task.Task.TheVariants as task
+use Rattle.avr_session.specs.FileText.{file_text}
+use Rattle.avr_session.specs.Lines.{fault_line}
+use Rattle.avr_session.specs.Runs.{Cause, Ran, BrokeOff}
+use Rattle.avr_session.specs.Session.{kept_of, session}
+use Rattle.stk_host.specs.Dialog.{Dialog, Done, Say, Ask, Event, Frame, Said}
+use Rattle.stk_host.specs.Operations.{compared, host_fault}
+use Rattle.stk_host.specs.Talk.{Talk}
+use Rattle.stk_host.specs.declared.fault.HostFault.{HostFault}
+use Rattle.stk_host.specs.declared.fault.StepFault.{StepFault}
+use Rattle.stk_emu.specs.Along.{reading_of}
+use Rattle.stk_emu.specs.Device.{Device, device}
+use Rattle.stk_emu.specs.Effect.{Image, Item, Erase, Write, Memories, effect, effects, memories_of, memory_in}
+use Rattle.stk_emu.specs.Programmer.{Programmer}
+use Rattle.stk_emu.specs.Wire.{first_fate, other_fates, after_fate, Wire, passed}
+use Rattle.stk_emu.specs.declared.fate.Fate.{Fate}
+use Rattle.avr_emulated.specs.Agrees.{Shows}
+use Rattle.avr_emulated.specs.Items.{items}
+
+-- Whatever a dialog says along a line holds of the programmer that obeyed what was asked before.
+abbrev pub TellsTrue : {E R P : Type 0} → Device P → (P → E → Type 0) → ℕ → Dialog E R → P → List Fate → Type 0
+TellsTrue m IsTrue k (Done r) p fates = ⊤
+TellsTrue m IsTrue k (Say e dialog) p fates = IsTrue p e × TellsTrue m IsTrue k dialog p fates
+TellsTrue m IsTrue zero (Ask bytes go_on) p fates = ⊤
+TellsTrue m IsTrue (suc k) (Ask bytes go_on) p fates =
+    TellsTrue m IsTrue k (go_on (reading_of (first_fate fates) (m.answer bytes p)))
+    (after_fate (first_fate fates) (m.after bytes p) p) (other_fates fates)
+
+-- the line of a memory: so many bytes were written, verified or read
+abbrev pub count_line : Mem → ℕ → Bytes → Saying
+count_line mem count done = Line (information (name_of mem ∷ codes ": " ∷ decimal count ∷ done ∷ []))
+
+-- a plan compares the memory with this image, or reads it back behind the write
+abbrev pub Compares : Plan → Mem → Image → Type 0
+Compares plan mem image = Contains plan.tasks (task.Verify mem image) ⊎ Contains plan.tasks (task.Write mem image)
+
+-- what a plan keeps of a memory that it reads: the chip's bytes
+abbrev pub kept_in : Plan → Mem → Memories → List ℕ
+kept_in plan mem now = kept_of mem plan.switches.all (memory_in plan.part mem now)
+
+-- What is told in a run of a plan, and what of it holds of the memories now, by those before the run. That the chip is
+-- erased: an erase has been done, and nothing else. That bytes are written: the plan's items up to this write have been
+-- done. That they are verified: the memory holds the image. What is saved, and counted as read, is what the memory has;
+-- and a difference told is one that is there. Else: the chip's signature, what is left out as nothing is to be written,
+-- why a step has failed, and the end.
+pub data IsTrue (plan : Plan) (before now : Memories) (saying : Saying) : Type 0 where
+  SignatureRead : saying ≡ Line (information (codes "device signature = " ∷ spaced plan.part.signature ∷ []))
+      → IsTrue plan before now saying
+  ChipErased : saying ≡ Line (information (codes "chip erased" ∷ [])) → now ≡ effect plan.part Erase before
+      → IsTrue plan before now saying
+  BytesWritten : (mem : Mem) (image : Image) (first later : List Item)
+      → saying ≡ count_line mem (held image) (codes " bytes written")
+      → items plan ≡ first ++ Write mem image ∷ later → now ≡ effects plan.part (first ++ Write mem image ∷ []) before
+      → IsTrue plan before now saying
+  BytesVerified : (mem : Mem) (image : Image) → saying ≡ count_line mem (held image) (codes " bytes verified")
+      → Compares plan mem image → Shows plan.part mem image now → IsTrue plan before now saying
+  Differed : (mem : Mem) (image : Image) (fault : HostFault) → saying ≡ Line (fault_line plan.part fault)
+      → Compares plan mem image → compared mem image (memory_in plan.part mem now) ≡ Err fault
+      → IsTrue plan before now saying
+  BytesSaved : (mem : Mem) (format : Format) (file : Bytes) → Contains plan.tasks (task.Read mem format file)
+      → (saying ≡ Creates file) ⊎ ((saying ≡ Writes (file_text format (kept_in plan mem now)))
+      ⊎ (saying ≡ Outs (file_text format (kept_in plan mem now)))) → IsTrue plan before now saying
+  BytesRead : (mem : Mem) (format : Format) (file : Bytes) → Contains plan.tasks (task.Read mem format file)
+      → saying ≡ count_line mem (length (kept_in plan mem now)) (codes " bytes read") → IsTrue plan before now saying
+  EraseLeftOut : plan.switches.dry ≡ true → saying ≡ Line (warning (codes "chip not erased because of -n" ∷ []))
+      → IsTrue plan before now saying
+  WriteLeftOut : (mem : Mem) (image : Image) → plan.switches.dry ≡ true
+      → saying ≡ count_line mem (held image) (codes " bytes not written") → IsTrue plan before now saying
+  StepFailed : (fault : StepFault) → saying ≡ Line (fault_line plan.part (host_fault fault))
+      → IsTrue plan before now saying
+  SessionDone : saying ≡ Line (information (codes "done" ∷ [])) → IsTrue plan before now saying
+
+-- Whatever is said among events holds of the programmer as the frames sent before it left it, over a wire.
+abbrev pub SaidTrue : {E P : Type 0} → Device P → (P → E → Type 0) → List (Event E) → Wire P → Type 0
+SaidTrue m IsTrue [] w = ⊤
+SaidTrue m IsTrue (Frame bytes ∷ events) w = SaidTrue m IsTrue events (passed m bytes w)
+SaidTrue m IsTrue (Said e ∷ events) w = IsTrue w.programmer e × SaidTrue m IsTrue events w
+
+-- What a run comes to, and that whatever it told whole was true of the chip when it was told: all of a run that was
+-- played to its end, and of one that broke off all but what was cut.
+abbrev pub RunsTruly : (plan : Plan) → Memories → Wire Programmer → (old new : Option Talk)
+    → (old_desk new_desk : Option Record) → (StopsBy : List Saying → Cause → Bytes → Type 0) → (status : ℕ) → Type 0
+RunsTruly plan before w old new old_desk new_desk StopsBy status =
+    ((next : ℕ) × (left : List ℕ) × (ran : Ran (session plan) 1 [] old new old_desk new_desk status next left)
+    × SaidTrue device (λ q saying. IsTrue plan before (memories_of q.chip) saying) ran.events w)
+    ⊎ ((broke : BrokeOff (session plan) 1 [] old new old_desk new_desk StopsBy)
+    × (status ≡ 1) × SaidTrue device (λ q saying. IsTrue plan before (memories_of q.chip) saying)
+    broke.breaks.front.whole w)

@@ -1,0 +1,40 @@
+use Rattle.std.proofs.Common.{◌∙◌, sym, ap, arith, ℕ, ◌∷◌, List, length, drop}
+use Rattle.std.specs.List.{slice_range}
+use Rattle.avr_image.specs.Image.{run_end}
+use Rattle.avr_image.specs.Runs.{runs}
+use Rattle.avr_image.proofs.RunWalk.{walk-none, next_run, Stepped, length-filled}
+use Rattle.avr_image.proofs.Walking.{next_held}
+use Rattle.avr_image.proofs.runs.RunsIterator.next.Goals as goal
+
+pub returns-in_default-clause-steps : goal.returns-in_default-clause-steps
+returns-in_default-clause-steps c =
+    let none = sym c.self.view_is ∙ walk-none c.self.inside.addr (drop c.self.inside.addr c.self.inside.image.now) (sym c.first_from.ensures ∙ c.in_default.is) in
+    (none, none)
+
+pub run_from-end-requires : goal.run_from-end-requires
+run_from-end-requires c =
+    let next = next_held c.self.inside.image.now c.self.inside.addr c.in-Some.addr (sym c.first_from.ensures ∙ c.in-Some.is) in
+    omega (arith, next.within, c.size.ensures)
+
+pub slice_bounds-result-end : goal.slice_bounds-result-end
+slice_bounds-result-end c =
+    let image = c.self.inside.image.now in
+    let found : Stepped c.self.inside.addr c.in-Some.addr c.run_from-end.result image =
+    next_run c.self.inside.addr c.in-Some.addr c.run_from-end.result image (sym c.first_from.ensures ∙ c.in-Some.is)
+    (c.run_from-end.ensures ∙ ap (run_end image c.in-Some.addr) c.size.ensures) in
+    omega (arith, found.within, ap length c.as_slice.ensures.filled, length-filled image 0 (length image))
+
+pub returns-clause-steps : goal.returns-clause-steps
+returns-clause-steps c =
+    let image = c.self.inside.image.now in
+    let addr : ℕ = c.in-Some.addr in
+    let end : ℕ = c.run_from-end.result in
+    let found : Stepped c.self.inside.addr addr end image =
+    next_run c.self.inside.addr addr end image (sym c.first_from.ensures ∙ c.in-Some.is) (c.run_from-end.ensures ∙ ap (run_end image addr) c.size.ensures) in
+    sym c.self.view_is ∙ found.is
+    ∙ ap (λ (bytes : List ℕ). (addr, slice_range bytes addr end) ∷ runs end (drop end image)) (sym c.as_slice.ensures.filled)
+
+pub returns-clause-goes : goal.returns-clause-goes
+returns-clause-goes c =
+    let fewer = ap length (returns-clause-steps c) in
+    record { on = λ h. (tt, tt, omega (arith, fewer)); keeps = tt; rests = λ h. tt }

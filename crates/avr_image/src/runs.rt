@@ -1,0 +1,64 @@
+//! The runs of an image.
+
+ghost use Rattle.std.specs.Prelude.{◌≡◌};
+ghost use Rattle.std.specs.Iterator.{YieldsFirstBy, item_count};
+ghost use Rattle.avr_image.specs.Runs.{runs};
+
+use crate::image::Image;
+use std::marker::Model;
+
+/// The longest runs of bytes that follow each other without a gap, by rising address: the byte address of each with its
+/// bytes, which are lent. Contracts see it as the list of those that are left.
+///
+/// ```text
+/// let mut image = Image::new(alloc, 64)?;
+/// image.put_slice(8, &[0x12, 0x34])?;
+/// image.put(20, 0x56)?;
+/// let mut runs = image.runs();
+/// assert_eq!(rt; runs.next(), Some((8, [0x12, 0x34].as_slice())));
+/// assert_eq!(rt; runs.next(), Some((20, [0x56].as_slice())));
+/// assert_eq!(rt; runs.next(), None);
+/// ```
+#[derive(Drop)]
+pub struct Runs<'a> {
+    image: &'a Image,
+    /// The runs below this address were given.
+    addr: u32,
+}
+
+impl<'a> Model for Runs<'a> {
+    ghost use Rattle.std.specs.Prelude.{ℕ, List, drop};
+
+    ghost Value = { List (ℕ × List ℕ) };
+
+    ghost use Rattle.avr_image.specs.Runs.{runs};
+
+    ghost view = { λ r. runs r.addr (drop r.addr r.image.now) };
+}
+
+impl<'a> Runs<'a> {
+    /// All runs of an image.
+    pub(crate) fn new(image: &'a Image) -> Runs<'a>
+        ensures { result ≡ runs 0 image.now }
+    {
+        Runs { image, addr: 0 }
+    }
+}
+
+impl<'a> Iterator for Runs<'a> {
+    type Item = (u32, &'a [u8]);
+
+    ghost next_gives = { YieldsFirstBy (λ run. (run.0, run.1.now)) (λ left. left) };
+
+    ghost remaining = { item_count (λ left. left) };
+
+    fn next(&mut self) -> Option<(u32, &'a [u8])> {
+        let image = self.image;
+        let Some(addr) = image.first_from(self.addr) else {
+            return None;
+        };
+        let end = image.run_from(addr, image.size());
+        self.addr = end;
+        Some((addr, &image.as_slice()[addr as usize..end as usize]))
+    }
+}

@@ -1,0 +1,32 @@
+-- A memory and its name.
+use Rattle.std.proofs.Common.{◌≡◌, refl, arith, ℕ, List, [], ◌∷◌, Bool, true, find, Some, inl, inr}
+use Rattle.std.proofs.lemmas.Bool.{cases_Bool}
+use Rattle.std.proofs.lemmas.Slice.Eq.{bytes_eq-Decides}
+use Rattle.std.specs.Str.{bytes_eq}
+use Rattle.avr_part.specs.Mem.{name_of, named, memories}
+use Rattle.avr_part.specs.declared.mem.Mem.{Mem}
+use Rattle.avr_part.specs.declared.mem.Mem.TheVariants.{Flash, Eeprom, Lfuse, Hfuse, Efuse, Lock, Signature, Calibration}
+
+pub found_by_name : (m : Mem) → named (name_of m) ≡ Some m
+found_by_name Flash = refl
+found_by_name Eeprom = refl
+found_by_name Lfuse = refl
+found_by_name Hfuse = refl
+found_by_name Efuse = refl
+found_by_name Lock = refl
+found_by_name Signature = refl
+found_by_name Calibration = refl
+
+-- what is found passes the test
+find_passes : {A : Type 0} (test : A → Bool) (xs : List A) (x : A) → find test xs ≡ Some x → test x ≡ true
+find_passes test [] x e = absurd (cc)
+find_passes test (y ∷ ys) x e =
+    elim (cases_Bool (test y)) [
+      | inl passes ↦ grind (arith)
+      | inr fails ↦ find_passes test ys x (rw fails at e)
+    ]
+
+pub name_of_found : (text : List ℕ) (m : Mem) → named text ≡ Some m → text ≡ name_of m
+name_of_found text m e =
+    let passes = find_passes (λ (memory : Mem). bytes_eq (name_of memory) text) memories m e in
+    grind (arith, bytes_eq-Decides (name_of m) text)

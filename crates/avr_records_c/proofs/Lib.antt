@@ -1,0 +1,5 @@
+pub mod Bits
+pub mod Maps
+pub mod RoundTrip
+pub mod Rows
+pub mod Texts

@@ -1,0 +1,72 @@
+-- The definitions, tried on examples.
+use Rattle.std.proofs.Common.{◌≡◌, ap, refl, arith, false, ℕ, List, [], ◌∷◌, codes, Option, Some, None, Err, inl, inr}
+use Rattle.avr_records.specs.declared.fault.RecordFault.TheVariants.{BadSum, OutOfRange}
+use Rattle.avr_records.specs.declared.kind.Kind.TheVariants.{Ihex, Srec}
+use Rattle.avr_records_c.specs.Numbers.{refused}
+use Rattle.avr_records_c.specs.Bitmap.{octets_of, bitmap, image_of}
+use Rattle.avr_records_c.specs.Reading.{Left, asked_read, left_by, Reads}
+use Rattle.avr_records_c.specs.Writing.{Put, asked_write, put_from, put_none, Writes}
+
+abbrev gap_first : List (Option ℕ)
+gap_first = None ∷ Some 10 ∷ Some 11 ∷ []
+
+-- the lowest address has the lowest bit; a bit behind the memory is 0
+in_the_lowest_bits : bitmap gap_first 1 ≡ 6 ∷ []
+in_the_lowest_bits = refl
+
+taken_by_its_bits : image_of (6 ∷ []) (255 ∷ 10 ∷ 11 ∷ []) ≡ gap_first
+taken_by_its_bits = refl
+
+no_octet_of_nothing : octets_of 0 ≡ 0
+no_octet_of_nothing = refl
+
+one_octet_for_eight : octets_of 8 ≡ 1
+one_octet_for_eight = refl
+
+another_for_the_ninth : octets_of 9 ≡ 2
+another_for_the_ninth = refl
+
+-- arguments that fit one another, and such that don't
+ihex_of_nine : asked_read 1 4294967295 9 2 ≡ Some Ihex
+ihex_of_nine = refl
+
+no_third_kind : asked_read 3 0 9 2 ≡ None
+no_third_kind = refl
+
+no_longer_file : asked_read 1 4294967296 9 2 ≡ None
+no_longer_file = refl
+
+no_longer_bitmap : asked_write 2 8 2 ≡ None
+no_longer_bitmap = refl
+
+srec_of_eight : asked_write 2 8 1 ≡ Some Srec
+srec_of_eight = refl
+
+-- a fault changes no memory
+told_with_its_address : left_by (7 ∷ []) (8 ∷ []) (Err (OutOfRange 3 9))
+    ≡ record { outcome = record { line = 3; address = 9; fault = 6; ended = false }; bytes = 7 ∷ []; present = 8 ∷ [] }
+told_with_its_address = refl
+
+-- a piece is as long as its room, but at the end
+from_the_middle : put_from (codes "abcdef") 2 (0 ∷ 0 ∷ 0 ∷ []) ≡ record { piece = record { length = 3; fault = 0 }; room = codes "cde" }
+from_the_middle = refl
+
+at_the_end : put_from (codes "abcdef") 5 (0 ∷ 0 ∷ []) ≡ record { piece = record { length = 1; fault = 0 }; room = 102 ∷ 0 ∷ [] }
+at_the_end = refl
+
+behind_the_end : put_from (codes "abcdef") 7 (1 ∷ []) ≡ record { piece = record { length = 0; fault = 0 }; room = 1 ∷ [] }
+behind_the_end = refl
+
+-- nothing is a good file: no call may tell a fault of it but want of memory, nor that it has an end record
+no_fault_of_nothing : Reads 1 [] [] [] (record { outcome = refused (BadSum 1); bytes = []; present = [] }) → ⊥
+no_fault_of_nothing (inl e) = let same : 4 ≡ 0 = ap (λ (l : Left). l.outcome.fault) e in absurd (omega (arith, same))
+no_fault_of_nothing (inr e) = let same : 4 ≡ 10 = ap (λ (l : Left). l.outcome.fault) e in absurd (omega (arith, same))
+
+-- a misfit is told as one
+no_reading_of_a_third_kind : Reads 3 [] [] [] (record { outcome = refused (BadSum 1); bytes = []; present = [] }) → ⊥
+no_reading_of_a_third_kind e = let same : 4 ≡ 11 = ap (λ (l : Left). l.outcome.fault) e in absurd (omega (arith, same))
+
+-- a file of nothing is its end record: no call may put nothing of it without a fault
+not_empty : Writes 1 [] [] 0 (0 ∷ []) (put_none 0 (0 ∷ [])) → ⊥
+not_empty (inl e) = let same : 0 ≡ 1 = ap (λ (p : Put). p.piece.length) e in absurd (omega (arith, same))
+not_empty (inr e) = let same : 0 ≡ 10 = ap (λ (p : Put). p.piece.fault) e in absurd (omega (arith, same))

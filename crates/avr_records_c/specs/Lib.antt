@@ -1,0 +1,5 @@
+pub mod Numbers
+pub mod Bitmap
+pub mod Reading
+pub mod Writing
+pub mod RoundTrip

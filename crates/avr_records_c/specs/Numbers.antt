@@ -1,0 +1,47 @@
+-- The numbers by which C knows formats and faults.
+use Rattle.std.specs.Prelude.{ℕ, true, false, ◌==◌, Option, Some, None, unwrap_or, if◌then◌else◌}
+use Rattle.avr_records.specs.Fault.{fault_number, fault_line}
+use Rattle.avr_records.specs.declared.fault.RecordFault.{RecordFault}
+use Rattle.avr_records.specs.declared.fault.RecordFault.TheVariants.{OutOfRange}
+use Rattle.avr_records.specs.declared.kind.Kind.{Kind}
+use Rattle.avr_records.specs.declared.kind.Kind.TheVariants as kind
+use Rattle.avr_records.specs.declared.kind.Ending.{Ending}
+use Rattle.avr_records.specs.declared.kind.Ending.TheVariants.{Ended, NoEnd}
+use Rattle.avr_records.specs.declared.kind.Found.{Found}
+use Rattle.avr_records.specs.declared.kind.Found.TheVariants as found
+use Rattle.avr_records_c.specs.declared.outcome.Outcome.{Outcome}
+
+-- what the front of a file shows
+abbrev pub found_number : Found → ℕ
+found_number found.Raw = 0
+found_number found.Ihex = 1
+found_number found.Srec = 2
+found_number found.Elf = 3
+
+-- a kind of record file, by the number of what the front of one shows
+abbrev pub kind_numbered : ℕ → Option Kind
+kind_numbered number = if number == 1 then Some kind.Ihex else if number == 2 then Some kind.Srec else None
+
+-- the address outside the memory, or 0
+abbrev pub fault_address : RecordFault → ℕ
+fault_address (OutOfRange line addr) = addr
+fault_address fault = 0
+
+-- a file was read to its end
+abbrev pub done : Ending → Outcome
+done Ended = record { line = 0; address = 0; fault = 0; ended = true }
+done NoEnd = record { line = 0; address = 0; fault = 0; ended = false }
+
+-- no file was read, by this fault
+abbrev pub refused : RecordFault → Outcome
+refused fault =
+    record {
+      line = unwrap_or (fault_line fault) 0;
+      address = fault_address fault;
+      fault = fault_number fault;
+      ended = false;
+    }
+
+-- the arguments do not fit one another
+abbrev pub misfit : Outcome
+misfit = record { line = 0; address = 0; fault = 11; ended = false }

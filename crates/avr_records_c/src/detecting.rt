@@ -1,0 +1,16 @@
+//! What the front of a file shows.
+ghost use Rattle.std.specs.Prelude.{◌≡◌};
+ghost use Rattle.avr_records.specs.Detect.{detected};
+ghost use Rattle.avr_records_c.specs.Numbers.{found_number};
+
+use crate::numbers::found_number;
+use avr_records::detect;
+
+/// Tells the format of a file from its front, of which the first 1,024 bytes are looked at: 0 for raw bytes, 1 for
+/// Intel HEX, 2 for S-records, 3 for ELF.
+#[unsafe(no_mangle)]
+pub extern "C" fn avr_records_detect(front: &[u8]) -> u8
+    ensures { result ≡ found_number (detected front.now) }
+{
+    found_number(detect(front))
+}

@@ -1,0 +1,28 @@
+//! The numbers by which C knows formats.
+ghost use Rattle.std.specs.Prelude.{◌≡◌};
+ghost use Rattle.avr_records_c.specs.Numbers.{found_number as spec_found_number, kind_numbered as spec_kind_numbered};
+
+use avr_records::{Found, Kind};
+
+/// The number of a format.
+pub fn found_number(found: Found) -> u8
+    ensures { result ≡ spec_found_number found }
+{
+    match found {
+        Found::Raw => 0,
+        Found::Ihex => 1,
+        Found::Srec => 2,
+        Found::Elf => 3,
+    }
+}
+
+/// The kind of record file that a number names.
+pub fn kind_numbered(number: u8) -> Option<Kind>
+    ensures { result ≡ spec_kind_numbered number }
+{
+    match number {
+        1 => Some(Kind::Ihex),
+        2 => Some(Kind::Srec),
+        _ => None,
+    }
+}

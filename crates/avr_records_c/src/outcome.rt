@@ -1,0 +1,70 @@
+//! How a read ended.
+ghost use Rattle.std.specs.Prelude.{◌≡◌};
+ghost use Rattle.avr_records_c.specs.Numbers.{done, fault_address as spec_fault_address, misfit, refused};
+
+use avr_records::{Ending, RecordFault};
+
+/// The fault of arguments that do not fit one another.
+pub const MISFIT: u8 = 11;
+
+/// How a read ended: well, where the fault is 0.
+#[repr(C)]
+#[derive(Clone, Copy, Debug, PartialEq, Eq)]
+pub struct Outcome {
+    /// The line at fault, the first being 1; 0 where none is.
+    pub line: u32,
+    /// The first byte address outside the memory, where that is the fault; else 0.
+    pub address: u32,
+    /// 0, or the number of the fault.
+    pub fault: u8,
+    /// Whether the end record came.
+    pub ended: bool,
+}
+
+/// The address outside the memory, or 0.
+fn fault_address(fault: &RecordFault) -> u32
+    ensures { result ≡ spec_fault_address fault.now }
+{
+    match fault {
+        RecordFault::OutOfRange(_, addr) => *addr,
+        _ => 0,
+    }
+}
+
+impl Outcome {
+    /// A file was read to its end.
+    pub(crate) fn done(ending: Ending) -> Outcome
+        ensures { result ≡ done ending }
+    {
+        Outcome {
+            line: 0,
+            address: 0,
+            fault: 0,
+            ended: ending == Ending::Ended,
+        }
+    }
+
+    /// No file was read, by this fault.
+    pub(crate) fn refused(fault: RecordFault) -> Outcome
+        ensures { result ≡ refused fault }
+    {
+        Outcome {
+            line: fault.line().unwrap_or(0),
+            address: fault_address(&fault),
+            fault: fault.number(),
+            ended: false,
+        }
+    }
+
+    /// The arguments do not fit one another.
+    pub(crate) fn misfit() -> Outcome
+        ensures { result ≡ misfit }
+    {
+        Outcome {
+            line: 0,
+            address: 0,
+            fault: MISFIT,
+            ended: false,
+        }
+    }
+}

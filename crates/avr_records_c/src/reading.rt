@@ -1,0 +1,50 @@
+//! A record file read into the caller's memory.
+ghost use Rattle.std.specs.Prelude.{◌≡◌};
+ghost use Rattle.avr_records_c.specs.Reading.{asked_read as spec_asked_read, Reads};
+
+use crate::bitmap::{is_bitmap_of, put_bitmap};
+use crate::numbers::kind_numbered;
+use crate::outcome::Outcome;
+use avr_records::{Kind, read_records};
+use std::alloc::Global;
+
+/// The kind of file, where the arguments fit one another.
+fn asked_read(kind: u8, text: usize, size: usize, present: usize) -> Option<Kind>
+    ensures { result ≡ spec_asked_read kind text size present }
+{
+    if text <= u32::MAX as usize && is_bitmap_of(present, size) {
+        kind_numbered(kind)
+    } else {
+        None
+    }
+}
+
+/// Reads a whole record file of this kind (1 for Intel HEX, 2 for S-records) into the bytes of a memory, FF in gaps,
+/// and a bitmap of the bytes that are there, which has an octet for each eight bytes, the last perhaps in part.
+///
+/// After a fault bytes and bitmap are as they were. The faults have the numbers of `RecordFault`; 11 is that of
+/// arguments that do not fit one another: another kind, a bitmap of another length, a file or a memory of 2 to the
+/// power 32 bytes or more.
+#[unsafe(no_mangle)]
+pub extern "C" fn avr_records_read(
+    alloc: Global,
+    kind: u8,
+    text: &[u8],
+    bytes: &mut [u8],
+    present: &mut [u8],
+) -> Outcome
+    ensures { Reads kind text.now bytes.old present.old (record
+        { outcome = result; bytes = bytes.new; present = present.new }) }
+{
+    let Some(kind) = asked_read(kind, text.len(), bytes.len(), present.len()) else {
+        return Outcome::misfit();
+    };
+    match read_records(alloc, kind, bytes.len() as u32, text) {
+        Ok((image, ending)) => {
+            image.fill(0, bytes);
+            put_bitmap(&image, present);
+            Outcome::done(ending)
+        }
+        Err(fault) => Outcome::refused(fault),
+    }
+}

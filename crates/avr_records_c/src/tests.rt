@@ -1,0 +1,102 @@
+//! Each call as a caller in C has it.
+#![tactic(auto)]
+
+use crate::{Outcome, Piece, avr_records_detect, avr_records_read, avr_records_write};
+use std::alloc::Global;
+use std::process::Abort;
+use std::test::Fail;
+
+const GOOD: Outcome = Outcome {
+    line: 0,
+    address: 0,
+    fault: 0,
+    ended: true,
+};
+
+fn read(alloc: Global, kind: u8, text: &[u8], bytes: &mut [u8], present: &mut [u8]) -> Outcome {
+    avr_records_read(alloc, kind, text, bytes, present)
+}
+
+/// The S-records of three bytes, the first of which is not there.
+fn write(alloc: Global, from: usize, room: &mut [u8]) -> Piece {
+    avr_records_write(alloc, 2, &[0xFF, 0x0A, 0x0B], &[0b110], from, room)
+}
+
+/// The fault of a read of one data record, for a memory of so many bytes.
+fn fault_of(alloc: Global, kind: u8, bytes: &mut [u8], present: &mut [u8]) -> Outcome {
+    read(alloc, kind, b":020001000A0BE8\n", bytes, present)
+}
+
+#[test]
+fn formats_are_told(rt: HostRuntime) -> Result<(), Fail> {
+    assert_eq!(rt; avr_records_detect(b":00000001FF\n"), 1);
+    assert_eq!(rt; avr_records_detect(b"S9030000FC\n"), 2);
+    Ok(())
+}
+
+#[test]
+fn a_file_is_read(rt: HostRuntime) -> Result<(), Fail> {
+    let mut bytes = [0; 12];
+    let mut present = [0; 2];
+    let text: &[u8] = b":020001000A0BE8\n:00000001FF\n";
+    let outcome = read(rt.alloc(), 1, text, &mut bytes, &mut present);
+    assert_eq!(rt; outcome, GOOD);
+    assert_eq!(rt; &bytes[..4], [0xFF, 0x0A, 0x0B, 0xFF].as_slice());
+    assert_eq!(rt; present, [0b110, 0]);
+    Ok(())
+}
+
+fn is_fault(rt: &impl Abort, outcome: Outcome, fault: u8, line: u32, address: u32) {
+    assert_eq!(rt; outcome.fault, fault);
+    assert_eq!(rt; outcome.line, line);
+    assert_eq!(rt; outcome.address, address);
+    assert!(rt; !outcome.ended);
+}
+
+#[test]
+fn a_fault_leaves_the_memory(rt: HostRuntime) -> Result<(), Fail> {
+    let mut bytes = [7; 2];
+    let mut present = [7; 1];
+    let outcome = fault_of(rt.alloc(), 1, &mut bytes, &mut present);
+    is_fault(&rt, outcome, 6, 1, 2);
+    let outcome = fault_of(rt.alloc(), 2, &mut bytes, &mut present);
+    is_fault(&rt, outcome, 1, 1, 0);
+    let outcome = fault_of(rt.alloc(), 3, &mut bytes, &mut present);
+    is_fault(&rt, outcome, 11, 0, 0);
+    assert_eq!(rt; bytes, [7; 2]);
+    assert_eq!(rt; present, [7; 1]);
+    Ok(())
+}
+
+#[test]
+fn a_file_is_written(rt: HostRuntime) -> Result<(), Fail> {
+    let mut room = [0; 64];
+    let piece = write(rt.alloc(), 0, &mut room);
+    assert_eq!(rt;
+        piece,
+        Piece {
+            length: 26,
+            fault: 0
+        }
+    );
+    assert!(rt; room.starts_with(b"S10500010A0BE4\nS9030000FC\n\0"));
+    let piece = write(rt.alloc(), 26, &mut room);
+    assert_eq!(rt;
+        piece,
+        Piece {
+            length: 0,
+            fault: 0
+        }
+    );
+    let mut room = [0; 2];
+    let piece = write(rt.alloc(), 15, &mut room);
+    assert_eq!(rt;
+        piece,
+        Piece {
+            length: 2,
+            fault: 0
+        }
+    );
+    assert_eq!(rt; room, *b"S9");
+    Ok(())
+}

@@ -1,0 +1,57 @@
+//! Converts a record file: reads Intel HEX or S-records on standard input, and writes the same bytes at the same
+//! addresses on standard output, only those that are there. It shows avr_image and avr_records used alone.
+//!
+//! ```text
+//! record_convert ihex 65536 < blink.srec > blink.hex
+//! ```
+#![tactic(auto)]
+
+use anyhow::{Result, bail};
+use arrayvec::ArrayVec;
+use avr_image::{Image, Pieces};
+use avr_records::{Found, IhexImageWriter, Kind, SrecImageWriter, detect, read_records};
+use std::alloc::Global;
+use std::env;
+use std::io::{self, BufWriter, Read, Write};
+
+fn main(rt: HostRuntime) -> Result<()> {
+    let words: Vec<String> = env::args(&rt)?.collect(rt.alloc())?;
+    let [_, format, size] = words.as_slice() else {
+        bail!("usage: record_convert ihex|srec SIZE");
+    };
+    let size: u32 = size.as_str().parse()?;
+    let mut text = Vec::new(rt.alloc());
+    rt.reader().read_to_end(&mut text)?;
+    let image = read_image(rt.alloc(), size, text.as_slice())?;
+    let mut out = BufWriter::new(rt.alloc(), io::writer(&rt))?;
+    match format.as_str() {
+        "ihex" => write_pieces(&mut out, &mut IhexImageWriter::new(&image))?,
+        "srec" => write_pieces(&mut out, &mut SrecImageWriter::new(&image))?,
+        _ => bail!("the format is ihex or srec"),
+    }
+    out.flush()?;
+    Ok(())
+}
+
+/// The image of a record file of either kind, for a memory of so many bytes.
+fn read_image(alloc: Global, size: u32, text: &[u8]) -> Result<Image> {
+    let kind = match detect(text) {
+        Found::Ihex => Kind::Ihex,
+        Found::Srec => Kind::Srec,
+        Found::Elf | Found::Raw => bail!("this is no record file"),
+    };
+    if text.len() > u32::MAX as usize {
+        bail!("the file is too long");
+    }
+    let (image, _) = read_records(alloc, kind, size, text)?;
+    Ok(image)
+}
+
+/// Writes all pieces of a text.
+fn write_pieces<W: Write, P: Pieces>(out: &mut W, pieces: &mut P) -> io::Result<()> {
+    let mut piece = ArrayVec::new();
+    while pieces.next_piece(&mut piece) {
+        out.write_all(piece.as_slice())?;
+    }
+    Ok(())
+}

@@ -1,0 +1,111 @@
+#!/usr/bin/env python3
+"""Flashes one firmware over a line that loses one frame, with AVRDUDE, where it is installed, and with avrstk, and
+looks at the chip afterwards.
+
+    compare.py          AVRSTK names another program than the one of this repository
+
+The programmer and the ATmega328P are the emulated ones of `avrstk --serve`. The chip has an older firmware above the
+new one, so that an erase that never came is seen. Prints a row for each run; the status is 1 where a run of avrstk
+ended with status 0 and another chip than was asked for.
+"""
+
+import os
+import shutil
+import socket
+import subprocess
+import sys
+import tempfile
+import time
+from pathlib import Path
+
+HERE = Path(__file__).resolve().parent
+AVRSTK = os.environ.get("AVRSTK", str(HERE.parent.parent / "avrstk"))
+FIRMWARE = HERE.parent / "blink.hex"
+FLASH, CHIP = 32_768, 33_796
+OLD = slice(8192, 8448)
+
+# what is lost, with its command and which of them
+LOST = [("nothing", "00", 1), ("a PROGRAM_FLASH", "13", 2), ("the CHIP_ERASE", "12", 1)]
+
+
+def tools():
+    """The name of each tool with its options, and its command up to the port."""
+    update = ["-U", f"flash:w:{FIRMWARE}:i"]
+    for options in [[], ["-V"]]:
+        if shutil.which("avrdude"):
+            yield " ".join(["avrdude", *options]), ["avrdude", "-c", "stk500v2", "-p", "m328p", *options, *update, "-P"]
+        yield " ".join(["avrstk", *options]), [AVRSTK, "-p", "m328p", *options, *update, "-P"]
+
+
+def free_ports(count):
+    held = [socket.create_server(("127.0.0.1", 0)) for _ in range(count)]
+    ports = [it.getsockname()[1] for it in held]
+    for it in held:
+        it.close()
+    return ports
+
+
+def listens(port):
+    """Waits until somebody listens at the port, without a call."""
+    mark = f" 0100007F:{port:04X} 00000000:0000 0A "
+    for _ in range(500):
+        if mark in Path("/proc/net/tcp").read_text():
+            return
+        time.sleep(0.02)
+    sys.exit(f"nobody listens at port {port}")
+
+
+def flashed(command, lost, nth, folder):
+    """The status, the messages and the chip's flash of a run over a line that loses this frame."""
+    chip = folder / "chip.bin"
+    blank = bytearray(b"\xff" * CHIP)
+    blank[OLD] = bytes(256)
+    chip.write_bytes(blank)
+    near, far = free_ports(2)
+    server = subprocess.Popen([AVRSTK, "-p", "m328p", "--serve", str(far), "--chip", str(chip)])
+    listens(far)
+    line = subprocess.Popen([sys.executable, HERE / "line.py", str(near), str(far), lost, str(nth)])
+    listens(near)
+    ran = subprocess.run([*command, f"net:127.0.0.1:{near}"], stdin=subprocess.DEVNULL, capture_output=True, text=True)
+    line.wait()
+    server.wait()
+    return ran.returncode, ran.stderr, chip.read_bytes()[:FLASH]
+
+
+def wanted(folder):
+    """The flash that was asked for: the firmware, and FF elsewhere."""
+    file = folder / "wanted.bin"
+    file.unlink(missing_ok=True)
+    words = ["-qq", "-p", "m328p", "-P", f"emu:{file}", "-U", f"flash:w:{FIRMWARE}:i"]
+    subprocess.run([AVRSTK, *words], check=True, stdin=subprocess.DEVNULL)
+    return file.read_bytes()[:FLASH]
+
+
+def told(flash, right):
+    """What is in the chip."""
+    if flash == right:
+        return "right"
+    page = next((at for at in range(0, 256, 128) if flash[at : at + 128] != right[at : at + 128]), None)
+    faults = [f"page {page // 128} is missing"] if page is not None else []
+    faults += ["the old firmware is still there"] if flash[OLD] != right[OLD] else []
+    return f"WRONG: {', '.join(faults) or 'other bytes'}"
+
+
+def main():
+    is_kept = True
+    print("| The line loses | Run | Verified | Status | The chip |")
+    print("| --- | --- | --- | --- | --- |")
+    with tempfile.TemporaryDirectory() as name:
+        folder = Path(name)
+        right = wanted(folder)
+        for what, lost, nth in LOST:
+            for tool, command in tools():
+                status, messages, flash = flashed(command, lost, nth, folder)
+                said = "yes" if "bytes verified" in messages or "bytes of flash verified" in messages else "no"
+                print(f"| {what} | `{tool}` | {said} | {status} | {told(flash, right)} |", flush=True)
+                is_kept = is_kept and not (tool.startswith("avrstk") and status == 0 and flash != right)
+    sys.exit(not is_kept)
+
+
+if __name__ == "__main__":
+    main()

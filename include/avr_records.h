@@ -1,0 +1,103 @@
+/*
+ * Record files of microcontrollers' memories, Intel HEX and Motorola S-records, read into a memory that the caller
+ * lends and written from one.
+ *
+ * The functions are those of the archive libavr_records.a, which examples/c/build.sh makes. That they do what is said
+ * here is proved (crates/avr_records_c), for every caller that keeps to this:
+ *
+ * - No pointer is NULL, also where its length is 0. Each points to as many bytes as its length says, which nothing else
+ *   writes while the call runs. What a function changes overlaps nothing else that it is given.
+ * - malloc, realloc and free come from one allocator. A call allocates with them, and has freed all when it returns.
+ *   So none is made from a signal handler, or in the forked child of a process with threads.
+ *
+ * Nothing is global, and nothing stays behind a call: calls from several threads need no lock.
+ *
+ * A memory of `size` bytes is given by its bytes, that of address 0 first, and a bitmap of those that are there: bit
+ * n % 8 (the lowest is 0) of octet n / 8 is 1 where address n holds a byte.
+ */
+#ifndef AVR_RECORDS_H
+#define AVR_RECORDS_H
+
+#include <stdbool.h>
+#include <stddef.h>
+#include <stdint.h>
+
+#ifdef __cplusplus
+extern "C" {
+#endif
+
+/* Formats of files. */
+enum {
+    AVR_RECORDS_RAW = 0,  /* bytes as they are */
+    AVR_RECORDS_IHEX = 1, /* Intel HEX */
+    AVR_RECORDS_SREC = 2, /* Motorola S-records */
+    AVR_RECORDS_ELF = 3   /* an executable in the ELF format */
+};
+
+/* Faults. Those of a line come with its number. */
+enum {
+    AVR_RECORDS_BAD_MARK = 1,      /* the line begins neither with ':', nor with 'S' and a decimal digit */
+    AVR_RECORDS_BAD_DIGIT = 2,     /* behind the mark stands something else than hexadecimal digits */
+    AVR_RECORDS_BAD_LENGTH = 3,    /* another number of digits than the record says, or than its type wants */
+    AVR_RECORDS_BAD_SUM = 4,       /* the checksum isn't that of the record's other bytes */
+    AVR_RECORDS_BAD_TYPE = 5,      /* there is no record of this type */
+    AVR_RECORDS_OUT_OF_RANGE = 6,  /* an address lies outside the memory; it comes with the fault */
+    AVR_RECORDS_LINE_TOO_LONG = 7, /* more than 600 bytes stand before the line's end */
+    AVR_RECORDS_BAD_COUNT = 8,     /* the record counts another number of data records than stand before it */
+    AVR_RECORDS_NO_MEMORY = 10,    /* malloc refused */
+    AVR_RECORDS_MISFIT = 11        /* the arguments don't fit one another: see the functions */
+};
+
+/* How many octets the bitmap of a memory of so many bytes has. */
+#define AVR_RECORDS_BITMAP(size) (((size_t)(size) + 7) / 8)
+
+/* Whether a bitmap says that an address holds a byte. */
+#define AVR_RECORDS_IS_THERE(present, address) ((((present)[(address) / 8]) >> ((address) % 8)) & 1)
+
+/* How a read ended: well, where `fault` is 0. */
+struct avr_records_outcome {
+    uint32_t line;    /* the line at fault, the first being 1; 0 where none is */
+    uint32_t address; /* of AVR_RECORDS_OUT_OF_RANGE: the line's first byte address outside the memory; else 0 */
+    uint8_t fault;    /* 0, or the number of the fault */
+    bool ended;       /* whether the end record came; a file cut short at a line's end reads well but for this */
+};
+
+/* How much of a file was put: all that the room takes, where `fault` is 0. */
+struct avr_records_piece {
+    size_t length; /* in bytes; 0 behind the file's end */
+    uint8_t fault; /* 0, or the number of the fault */
+};
+
+/*
+ * Tells the format of a file (AVR_RECORDS_RAW, _IHEX, _SREC or _ELF) from its front, of which the first 1,024 bytes are
+ * looked at.
+ */
+uint8_t avr_records_detect(const uint8_t *front, size_t length);
+
+/*
+ * Reads a whole file of a format (AVR_RECORDS_IHEX or _SREC) into the bytes of a memory, FF where the file has none,
+ * and into its bitmap. After a fault bytes and bitmap are as they were.
+ *
+ * AVR_RECORDS_MISFIT: another format; a file or a memory of 2 to the power 32 bytes or more; a bitmap that doesn't have
+ * AVR_RECORDS_BITMAP(size) octets.
+ */
+struct avr_records_outcome avr_records_read(uint8_t format, const uint8_t *file, size_t length,
+                                            uint8_t *bytes, size_t size, uint8_t *present, size_t octets);
+
+/*
+ * Puts a piece of the file of a memory, in a format (AVR_RECORDS_IHEX or _SREC), into a room: the file's bytes from the
+ * one numbered `from` on (the first is 0), as many as the room takes. The file has the bytes that the bitmap says, in
+ * records of at most 32 bytes, and the end record. After a fault the room is as it was.
+ *
+ * Each call makes the whole file anew in memory of its own, so large rooms are the fastest. AVR_RECORDS_MISFIT: another
+ * format; a memory of 2 to the power 32 bytes or more; a bitmap that doesn't have AVR_RECORDS_BITMAP(size) octets.
+ */
+struct avr_records_piece avr_records_write(uint8_t format, const uint8_t *bytes, size_t size,
+                                           const uint8_t *present, size_t octets, size_t from,
+                                           uint8_t *room, size_t length);
+
+#ifdef __cplusplus
+}
+#endif
+
+#endif

@@ -1,0 +1,89 @@
+"""How often a run succeeds on a line that loses frames by lot: the built program, a lossy line, and an emulated programmer.
+
+    tests/bad_lines.py [SECONDS]
+
+For a loss of 1, 5 and 20 % it prints how many runs ended with status 0, of at most 1,000 in so many seconds (20, where no
+number is given), and beside it the figure that the steps of the run have. A frame goes wrong by lot: its command is lost, its
+answer is, or it comes late. An attempt at n commands succeeds where none of them goes wrong, (1 - p)^n, and a step where one
+of four attempts does: 1 - (1 - (1 - p)^2)^4 for two commands. That is chance; what is proved is that no run fails while of
+any seven frames in a row at most three go wrong, and that status 0 is true on every line. So each run of status 0 is looked
+at: its chip has the bytes. The lots have fixed seeds.
+"""
+
+import random
+import sys
+import time
+from concurrent.futures import ThreadPoolExecutor
+
+from line import BadLine
+from program import Room
+
+LOSSES = [1, 5, 20]
+RUNS = 1000
+AT_ONCE = 48
+# of the emulated programmers: each run has a port of its own, below those that the system gives out
+FIRST_PORT = 20_000
+
+# an EEPROM image of 16 bytes, written and read back: the program's words, and how many commands each of its steps has
+IMAGE = bytes(range(0x10, 0x20))
+WORDS = ["-U", "eeprom:w:some.bin:r"]
+# SIGN_ON, ENTER, three bytes of the signature, and LEAVE; pages of four bytes, and blocks of 256
+STEPS = [1] * 6 + [2] * 4 + [2] * 4
+# where the chip file has the EEPROM
+EEPROM = 32_768
+
+
+class Lots:
+    """The fate of each frame, drawn by lot."""
+
+    def __init__(self, loss, seed):
+        self.loss = loss
+        self.lots = random.Random(seed)
+
+    def get(self, _number, good):
+        if self.lots.random() >= self.loss / 100:
+            return good
+        return self.lots.choice(["lost command", "lost answer", "late answer"])
+
+
+def run(loss, seed):
+    """Whether a run over such a line succeeded, and with which right to say so."""
+    room = Room()
+    room.put("some.bin", IMAGE)
+    peer = BadLine(room, Lots(loss, f"{loss} {seed}"), FIRST_PORT + RUNS * LOSSES.index(loss) + seed)
+    status, _, messages = room.run(["-p", "m328p", "-P", f"net:127.0.0.1:{peer.port}", *WORDS])
+    peer.end()
+    chip = room.read("served.bin")
+    if status == 0 and chip[EEPROM : EEPROM + len(IMAGE)] != IMAGE:
+        sys.exit(f"FAILED: status 0, and the bytes are not in the chip: loss {loss} %, seed {seed}")
+    if status not in [0, 1] or (status == 1) != (b"error: " in messages):
+        sys.exit(f"FAILED: status {status}, {messages}: loss {loss} %, seed {seed}")
+    return status == 0
+
+
+def figure(loss):
+    """The chance that each step comes to its data in one of four attempts."""
+    chance = 1.0
+    for commands in STEPS:
+        chance *= 1 - (1 - (1 - loss / 100) ** commands) ** 4
+    return chance
+
+
+def main():
+    seconds = float(sys.argv[1]) if len(sys.argv) > 1 else 20.0
+    for loss in LOSSES:
+        ends = time.monotonic() + seconds
+        with ThreadPoolExecutor(AT_ONCE) as pool:
+            begun = [pool.submit(lambda seed=seed: run(loss, seed) if time.monotonic() < ends else None) for seed in range(RUNS)]
+            results = [it.result() for it in begun]
+        told = [it for it in results if it is not None]
+        step = 1 - (1 - (1 - loss / 100) ** 2) ** 4
+        print(
+            f"{loss:3} % lost: {sum(told)} of {len(told)} runs succeeded, {sum(told) / len(told):.1%}"
+            f" (by the figure {figure(loss):.1%}; a step of two commands {step:.4%})",
+            flush=True,
+        )
+
+
+if __name__ == "__main__":
+    main()

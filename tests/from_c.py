@@ -1,0 +1,154 @@
+#!/usr/bin/env python3
+"""The library for C: examples/c and examples/python, run on the examples' files, on seeded images with gaps, and on
+damaged files. Where there is no C compiler, nothing is run. `tests/from_c.py`."""
+
+import os
+import random
+import shutil
+import subprocess
+import sys
+import tempfile
+from pathlib import Path
+
+ROOT = Path(__file__).resolve().parent.parent
+IMAGES = 60
+
+
+def checksum(fields):
+    return -sum(fields) % 256
+
+
+def ihex_of(image):
+    """A plain writer: a record for each byte, behind one for the upper half of its address."""
+    lines = []
+    for address in sorted(image):
+        offset, upper = (address % 65536).to_bytes(2, "big"), (address >> 16).to_bytes(2, "big")
+        for fields in (b"\x02\x00\x00\x04" + upper, b"\x01" + offset + b"\x00" + bytes([image[address]])):
+            lines.append(":" + (fields + bytes([checksum(fields)])).hex())
+    return "\r\n".join(lines + [":00000001ff"]).encode()
+
+
+def parse(text):
+    """A plain reader of both formats: the byte at each address."""
+    image, upper = {}, 0
+    for line in text.decode().split():
+        if line[0] == ":":
+            fields = bytes.fromhex(line[1:])
+            assert sum(fields) % 256 == 0 and fields[0] == len(fields) - 5, line
+            if fields[3] == 4:
+                upper = int.from_bytes(fields[4:6], "big") << 16
+            elif fields[3] == 0:
+                start = upper + int.from_bytes(fields[1:3], "big")
+                image.update(zip(range(start, start + fields[0]), fields[4:-1]))
+        else:
+            fields = bytes.fromhex(line[2:])
+            assert sum(fields) % 256 == 255 and fields[0] == len(fields) - 1, line
+            if line[1] in "123":
+                body = 2 + int(line[1])
+                start = int.from_bytes(fields[1:body], "big")
+                image.update(zip(range(start, start + len(fields)), fields[body:-1]))
+    return image
+
+
+def drawn(seed):
+    """An image with gaps, and the size of a memory that holds it."""
+    draw = random.Random(seed)
+    size = draw.choice((1, 7, 8, 9, 64, 4096, 65_537, 262_144, 16_777_217))
+    image = {}
+    for _ in range(draw.randrange(6)):
+        start = draw.randrange(size)
+        for address in range(start, min(size, start + draw.choice((1, 31, 32, 33, 700)))):
+            image[address] = draw.randrange(256)
+    return image, size
+
+
+def shown(image):
+    """What examples/python prints of an image."""
+    lines, last = [], None
+    for address in sorted(image):
+        if last is None or address != last + 1:
+            lines.append(f"{address:08X}: ")
+        lines[-1] += f"{image[address]:02x}"
+        last = address
+    return lines
+
+
+class Library:
+    def __init__(self, folder):
+        self.folder = folder
+        self.program = folder / "records"
+        subprocess.run([ROOT / "examples/c/build.sh", folder], check=True, stdout=subprocess.DEVNULL)
+        words = [os.environ.get("CC", "cc"), "-std=c99", "-Wall", "-Wextra", "-Werror", "-O2", f"-I{ROOT / 'include'}"]
+        words += [ROOT / "examples/c/records.c", folder / "libavr_records.a", "-o", self.program]
+        subprocess.run(words, check=True)
+
+    def written(self, file, size, kind):
+        return subprocess.run([self.program, file, str(size), kind], capture_output=True, check=True).stdout
+
+    def fault(self, file, size):
+        done = subprocess.run([self.program, file, str(size), "ihex"], capture_output=True)
+        assert done.returncode == 1 and done.stdout == b"", done
+        return done.stderr.decode().strip()
+
+    def printed(self, file, size):
+        program, library = ROOT / "examples/python/records.py", self.folder / "libavr_records.so"
+        words = [sys.executable, program, library, file, str(size)]
+        return subprocess.run(words, capture_output=True, check=True, text=True).stdout.splitlines()
+
+
+def comes_back(library, file, image, size):
+    for kind in ("ihex", "srec"):
+        text = library.written(file, size, kind)
+        assert parse(text) == image, (file, kind)
+        again = library.folder / "again"
+        again.write_bytes(text)
+        assert library.written(again, size, kind) == text, (file, kind)
+
+
+def files_come_back(library):
+    for name in ("blink.hex", "blink.srec", "eeprom.hex"):
+        file = ROOT / "examples" / name
+        image = parse(file.read_bytes())
+        comes_back(library, file, image, 32_768)
+        assert library.printed(file, 32_768) == shown(image), name
+
+
+def images_come_back(library):
+    file = library.folder / "drawn"
+    for seed in range(IMAGES):
+        image, size = drawn(seed)
+        file.write_bytes(ihex_of(image))
+        comes_back(library, file, image, size)
+        if size <= 4096:
+            assert library.printed(file, size) == shown(image), seed
+
+
+def faults_are_told(library):
+    file = library.folder / "damaged"
+    for text, size, told in (
+        (b":0400000001020304F3\n", 4, "line 1: fault 4, address 00000000"),
+        (b"\n:0400000001020304F2\n:01000000zzFF\n", 4, "line 3: fault 2, address 00000000"),
+        (b":020000040001F9\n:0100000055AA\n", 4, "line 2: fault 6, address 00010000"),
+        (b":0400000001020304F2\n", 3, "line 1: fault 6, address 00000003"),
+        (b":0400000001020304F2\n:02000009AABB90\n", 4, "line 2: fault 5, address 00000000"),
+        (b"S107000001020304EE\nS5030009F3\n", 4, "line 2: fault 8, address 00000000"),
+        (b"no record", 4, "line 0: fault 11, address 00000000"),
+    ):
+        file.write_bytes(text)
+        assert library.fault(file, size) == told, (text, library.fault(file, size))
+
+
+def main():
+    if shutil.which(os.environ.get("CC", "cc")) is None:
+        print("from_c: not run, there is no C compiler")
+        return
+    with tempfile.TemporaryDirectory() as folder:
+        library = Library(Path(folder))
+        files_come_back(library)
+        images_come_back(library)
+        faults_are_told(library)
+    print(f"from_c: 3 files, {IMAGES} drawn images and 7 faults, through C and Python")
+
+
+if __name__ == "__main__":
+    main()

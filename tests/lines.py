@@ -1,0 +1,369 @@
+#!/usr/bin/env python3
+"""Brings about each line that a user can meet, by the built program, and holds it to the text that docs/USAGE gives; and sees
+that none of USAGE's lines is left out.
+
+    tests/lines.py       needs crates/avrstk/out/avrstk, as rt ci leaves it
+"""
+
+import os
+import re
+import socket
+import subprocess
+import sys
+import time
+
+from line import Peer, frames_of
+from program import ANSWERS, CHIP_FILE, PROGRAM, TOP, Room, frame, free_port, lines
+
+PART = ["-p", "m328p"]
+EMULATED = [*PART, "-P", "emu:chip.bin"]
+SESSION = [*PART, "-P", "stdio:"]
+SIGNATURE = "device signature = 1E 95 0F"
+DONE = "done"
+ERASED = [SIGNATURE, "chip erased"]
+
+IMAGE_LIMIT = 4_194_304
+PART_FILE_LIMIT = 65_536
+
+# lines of USAGE that no row here brings about, and where they are met
+ELSEWHERE = {
+    "error: out of memory": "tests/faults.py refuses each request for memory",
+    "error: too many reads": "told behind 16,777,216 reads, by the contract of the call that serves",
+    "error: link cannot be read": "tests/hostile.py gives a folder for a line",
+    "error: link cannot be written": "tests/hostile.py gives a full output",
+    "error: FILE: cannot be created": "tests/hostile.py names missing folders",
+    "error: FILE: cannot be written": "tests/hostile.py names a full device",
+    "error: FILE: cannot be read": "tests/hostile.py names folders",
+}
+
+room = Room()
+passed = 0
+met = set()
+
+
+def see(what, found, wanted):
+    """Counts a run, which has to have come to this."""
+    global passed
+    if found != wanted:
+        sys.exit(f"{what}: {str(found)[:600]}\nwanted: {str(wanted)[:600]}")
+    passed += 1
+
+
+def run(what, words, told, status=1, output=b"", given=b"", chip=None):
+    """A run from a folder without a chip file, or with this one, which says these lines."""
+    room.clear()
+    if chip is not None:
+        room.put("chip.bin", chip)
+    see(what, room.run(words, given), (status, output, lines(*told)))
+    met.update(told)
+
+
+def refused(what, words, told, **more):
+    """A run that is refused before anything is sent: its one line, and no chip file."""
+    run(what, words, [f"error: {told}"], **more)
+    see(f"{what}: no chip file", room.read("chip.bin"), more.get("chip"))
+
+
+def with_file(name, content):
+    """The name of a file that now has this content."""
+    room.put(name, content if isinstance(content, bytes) else content.encode())
+    room.given.add(name)
+    return name
+
+
+# ---- the command line
+
+
+def settings_are_refused():
+    taken = "standard streams are taken"
+    for words, told in [
+        ([], "no part given (-p)"),
+        (["-P", "stdio:"], "no part given (-p)"),
+        (PART, "no port given (-P)"),
+        ([*EMULATED, "-c", "arduino"], "programmer arduino is not known"),
+        ([*PART, "-P", "usb"], "port usb is not known"),
+        ([*PART, "-P", "emu:"], "port emu: is not known"),
+        ([*PART, "-P", "net:host"], "port net:host is not known"),
+        ([*PART, "-P", "net::5000"], "port net::5000 is not known"),
+        ([*PART, "-P", "net:host:0"], "port net:host:0 is not known"),
+        ([*PART, "-P", "net:host:65536"], "port net:host:65536 is not known"),
+        ([*PART, "-P", "net:host:+80"], "port net:host:+80 is not known"),
+        ([*PART, "--serve", "0", "--chip", "chip.bin"], "port 0 is not known"),
+        ([*PART, "--serve", "5000x", "--chip", "chip.bin"], "port 5000x is not known"),
+        ([*PART, "--serve", "5000"], "no chip file given (--chip)"),
+        ([*EMULATED, *["-U", "lfuse:r:-"] * 17], "more than 16 updates"),
+        ([*EMULATED, "-U", "boot:w:a"], "update 1: no such memory"),
+        ([*EMULATED, "-U", "flash:x:a"], "update 1: no such operation"),
+        ([*EMULATED, "-U", "flash:w:"], "update 1: no file named"),
+        ([*EMULATED, "-U", "flash:w:a.hex:h"], "update 1: no such format here"),
+        ([*EMULATED, "-U", "lfuse:r:-", "-U", "flash:r:a:m"], "update 2: no such format here"),
+        ([*SESSION, "-U", "flash:r:-"], taken),
+        ([*EMULATED, "-U", "flash:w:-", "-U", "eeprom:w:-"], taken),
+        ([*EMULATED, "--parts", "-"], taken),
+        ([*PART, "-P", "emu:-"], taken),
+        ([*EMULATED, "--chip", "-"], taken),
+    ]:
+        refused(f"{words}", words, told)
+
+
+def help_is_printed():
+    """Help goes to standard output, with status 0; it names every option."""
+    texts = set()
+    for word in ["-h", "--help"]:
+        status, output, messages = room.run([word])
+        see(f"{word}: status and messages", (status, messages), (0, b""))
+        text = output.decode()
+        for option in [*"pcPUeDVnFAqbvh"]:
+            see(f"{word}: -{option}", bool(re.search(rf"^\s+-{option}\b", text, re.M)), True)
+        for option in ["parts", "serve", "chip"]:
+            see(f"{word}: --{option}", f"--{option}" in text, True)
+        texts.add(text.splitlines()[0])
+    see("both begin alike", len(texts), 1)
+
+
+def words_are_refused():
+    """What `clap` refuses goes to standard error in its words, with status 1."""
+    for words, told in [
+        (["-C", "x.conf"], "error: unexpected argument '-C' found"),
+        (["-t"], "error: unexpected argument '-t' found"),
+        (["--version"], "error: unexpected argument '--version' found"),
+        (["--nowhere"], "error: unexpected argument '--nowhere' found"),
+        (["flash.hex"], "error: unexpected argument 'flash.hex' found"),
+        (["-p"], "error: a value is required for '-p"),
+        (["-b", "x"], "error: invalid value 'x' for '-b"),
+        (["-b", "4294967296"], "error: invalid value '4294967296' for '-b"),
+        (["-e=1"], "error: unexpected "),
+    ]:
+        status, output, messages = room.run(words)
+        see(f"{words}", (status, output), (1, b""))
+        see(f"{words}: {messages[:80]}", messages.decode().startswith(told), True)
+    room.clear()
+    started = subprocess.run([os.fsencode(PROGRAM), b"-p", b"\xff"], cwd=room.folder, capture_output=True, timeout=60)
+    see("a word that is not UTF-8", (started.returncode, started.stdout, started.stderr), (1, b"", lines("error: invalid data")))
+    met.add("error: invalid data")
+
+
+# ---- files
+
+
+def images_are_refused():
+    def image(text, told, memory="flash", form="", name="a.hex"):
+        with_file(name, text)
+        words = [*EMULATED, "-U", f"{memory}:w:{name}{form}"]
+        refused(f"{name} with {text[:40]!r} as {memory}{form}", words, told)
+
+    image(":0400000001020304F3\n:00000001FF\n", "a.hex: line 1: bad checksum")
+    image(":00000001FF\n", "a.srec: line 1: no record mark", form=":s", name="a.srec")
+    image(":0400000001G20304F2\n", "a.hex: line 1: bad digit", form=":i")
+    image(":04000000010203F2\n", "a.hex: line 1: bad length", form=":i")
+    image(":00000006FA\n", "a.hex: line 1: bad record type", form=":i")
+    image(":020000040001F9\n:0100000055AA\n", "a.hex: line 2: address 00010000 out of range")
+    image("S107000001020304EE\nS5030002FA\n", "a.hex: line 2: bad record count")
+    image(":00000001FF\n".rjust(612), "a.hex: line 1: line too long", form=":i")
+    image(bytes(CHIP_FILE), "a.bin: address 00008000 out of range", form=":r", name="a.bin")
+    image(bytes(1025), "a.bin: address 00000400 out of range", memory="eeprom", form=":r", name="a.bin")
+    image(b"\x7fELF" + bytes(60), "a.elf: ELF is not read", name="a.elf")
+    image(b"\x7fELF" + bytes(60), "a.elf: line 1: no record mark", form=":i", name="a.elf")
+    image(bytes(IMAGE_LIMIT + 1), f"a.bin: longer than {IMAGE_LIMIT} bytes", form=":r", name="a.bin")
+    end = b":00000001FF\n"
+    image(end.ljust(IMAGE_LIMIT + 1), f"a.hex: longer than {IMAGE_LIMIT} bytes")
+    image(end.ljust(IMAGE_LIMIT, b"\n") + b"x", f"a.hex: longer than {IMAGE_LIMIT} bytes")
+    refused("a missing file", [*EMULATED, "-U", "flash:w:missing.hex"], "missing.hex: cannot be opened")
+    refused("no name", [*EMULATED, "--parts", ""], ": cannot be opened")
+    for values, told in [
+        ("1,x", "lfuse: value 2: not a number"),
+        ("256", "lfuse: value 1: above 255"),
+        ("1 2", "lfuse: address 00000001 out of range"),
+        ("-", "lfuse: value 1: not a number"),
+    ]:
+        refused(f"values {values}", [*EMULATED, "-U", f"lfuse:w:{values}:m"], told)
+    for memory in ["signature", "calibration"]:
+        refused(f"a write to {memory}", [*EMULATED, "-U", f"{memory}:w:0:m"], f"{memory} is read-only")
+
+
+def images_are_taken():
+    """Images at the edges of what is read."""
+    blink = (TOP / "examples/blink.hex").read_bytes()
+    flash = [*ERASED, "flash: 228 bytes written", "flash: 228 bytes verified", DONE]
+    run("detected on standard input", [*EMULATED, "-U", "flash:w:-"], flash, 0, given=blink)
+    run("a format that is named on standard input", [*EMULATED, "-U", "flash:w:-:i"], flash, 0, given=blink)
+    nothing = [*ERASED, "flash: 0 bytes written", "flash: 0 bytes verified", DONE]
+    whole = with_file("whole.hex", b":00000001FF\n".ljust(IMAGE_LIMIT, b"\n"))
+    run("an end record before four million bytes", [*EMULATED, "-U", f"flash:w:{whole}"], nothing, 0)
+    rubbish = with_file("rubbish.hex", ":00000001FF\nrubbish\n")
+    run("rubbish behind an end record", [*EMULATED, "-U", f"flash:w:{rubbish}"], nothing, 0)
+    open_ended = with_file("open.hex", ":0400000001020304F2\n")
+    warned = [f"warning: {open_ended}: no end record", *ERASED, "flash: 4 bytes written", "flash: 4 bytes verified", DONE]
+    run("no end record", [*EMULATED, "-U", f"flash:w:{open_ended}"], warned, 0)
+    elf = with_file("b.elf", b"\x7fELF")
+    run("ELF as raw bytes", [*EMULATED, "-U", f"flash:w:{elf}:r"], [*ERASED, "flash: 4 bytes written", "flash: 4 bytes verified", DONE], 0)
+    see("ELF in the chip", (room.read("chip.bin") or b"")[:5], b"\x7fELF\xff")
+    fuse = [SIGNATURE, "lfuse: 0 bytes written", "lfuse: 0 bytes verified", DONE]
+    run("a fuse from an empty file", [*EMULATED, "-U", "lfuse:w:empty.bin"], fuse, 0)
+    # what makes a line raw is looked for in the first 1,024 bytes alone
+    record = ":0400000001020304F2\n:00000001FF\n"
+    early = with_file("early.hex", "\n" * 1013 + record)
+    run("a mark that is just seen", [*EMULATED, "-U", f"flash:w:{early}"], [*ERASED, "flash: 4 bytes written", "flash: 4 bytes verified", DONE], 0)
+    late = with_file("late.hex", "\n" * 1014 + record)
+    size = 1014 + len(record)
+    run("a mark that is cut", [*EMULATED, "-U", f"flash:w:{late}"], [*ERASED, f"flash: {size} bytes written", f"flash: {size} bytes verified", DONE], 0)
+
+
+def part_files():
+    good = (TOP / "examples/parts.toml").read_text()
+    name = re.search(r"\[parts\.(\S+)\]", good).group(1)
+
+    def parts(text, told):
+        refused(f"a part file with {text[:50]!r}", [*EMULATED, "--parts", with_file("p.toml", text)], told)
+
+    parts("a = = 1", "p.toml: not TOML")
+    parts("a = 1", "p.toml: parts is missing")
+    parts("parts = 1", "p.toml: parts has a bad value")
+    parts(re.sub("flash_page.*\n", "", good), "p.toml: flash_page is missing")
+    parts(re.sub("flash_page.*\n", "flash_page = 3\n", good), "p.toml: flash_page has a bad value")
+    parts(re.sub(r"eeprom_size.*\n", "eeprom_size = 1023\n", good), "p.toml: sizes do not fit")
+    parts("#" * (PART_FILE_LIMIT + 1), f"p.toml: longer than {PART_FILE_LIMIT} bytes")
+    longest = with_file("q.toml", (good + "#").ljust(PART_FILE_LIMIT, "x"))
+    words = ["-p", "nobody", "-P", "emu:chip.bin", "--parts", longest]
+    refused("the longest part file, and no such part", words, "no part nobody")
+    words = ["-p", name, "-P", "emu:chip.bin", "--parts", longest]
+    room.clear()
+    see("the longest part file", room.run(words)[0], 0)
+    refused("no such part", ["-p", "m328", "-P", "emu:chip.bin"], "no part m328")
+
+
+def chip_files():
+    for size in [0, 100, CHIP_FILE - 1, CHIP_FILE + 1]:
+        refused(f"a chip file of {size} bytes", EMULATED, f"chip.bin: {size} bytes, 33796 expected", chip=bytes(size))
+    refused("a long chip file", EMULATED, f"chip.bin: longer than {IMAGE_LIMIT} bytes", chip=bytes(IMAGE_LIMIT + 1))
+
+
+# ---- sessions
+
+
+def nothing_is_written():
+    """Under -n reads and comparisons are made; writes and erases are not."""
+    words = [*EMULATED, "-n", "-e", "-U", "lfuse:w:0xE2:m", "-U", "lfuse:v:0xFF:m", "-U", "lfuse:r:-:h", "-U", "flash:w:empty.bin"]
+    told = ["lfuse: 1 bytes not written", "lfuse: 1 bytes verified", "lfuse: 1 bytes read", "flash: 0 bytes not written"]
+    run("-n", words, [SIGNATURE, "warning: chip not erased because of -n", *told, DONE], 0, b"0xff\n")
+    see("-n: the chip is as it was", room.read("chip.bin"), b"\xff" * CHIP_FILE)
+    run("-n and a comparison that differs", [*EMULATED, "-n", "-U", "lfuse:v:0xE2:m"], [SIGNATURE, "error: lfuse: address 00000000: E2 expected, FF found"])
+    chip = bytes([0x0F]) + b"\xff" * (CHIP_FILE - 1)
+    told = [SIGNATURE, "flash: 1 bytes written", "error: flash: address 00000000: F0 expected, 00 found"]
+    run("flash that was not erased", [*EMULATED, "-D", "-U", "flash:w:0xF0:m"], told, chip=chip)
+
+
+def answers_are_bad():
+    sign_on, enter = ANSWERS[:17], ANSWERS[17:25]
+    other = [frame(3, 0x1B, 0, 0x1E, 0), frame(4, 0x1B, 0, 0x95, 0), frame(5, 0x1B, 0, 0x14, 0), frame(6, 0x11, 0)]
+    found = "device signature = 1E 95 14"
+    differs = "signature is 1E 95 14, m328p has 1E 95 0F"
+    for what, words, answers, status, told, frames in [
+        ("ENTER is refused", [], [sign_on, frame(2, 0x10, 0xC0), frame(3, 0x11, 0)], 1, ["error: command 10 refused with status C0"], 3),
+        ("a checksum four times", [], [sign_on, *(frame(n, 0xB0, 0xC1) for n in [2, 3, 4, 5]), frame(6, 0x11, 0)], 1, ["error: command 10 refused with status C1"], 6),
+        ("another command's answer", [], [sign_on, frame(2, 0x11, 0), frame(3, 0x11, 0)], 1, ["error: command 10: bad answer"], 3),
+        ("an answer too long", [], [sign_on, frame(2, 0x10, 0, 0), frame(3, 0x11, 0)], 1, ["error: command 10: bad answer"], 3),
+        ("another signature", [], [sign_on, enter, *other], 1, [found, f"error: {differs}"], 6),
+        ("another signature, and -F", ["-F"], [sign_on, enter, *other], 0, [found, f"warning: {differs}", DONE], 6),
+        ("4,096 bytes four times", [], [bytes(4 * 4096)], 1, ["error: no answer in 4096 bytes"], 5),
+        ("the end", [], [sign_on], 1, ["error: link ended"], 2),
+        ("-q", ["-q", "-F"], [sign_on, enter, *other], 0, [f"warning: {differs}"], 6),
+        ("-q -q", ["-qq", "-F"], [sign_on, enter, *other], 0, [], 6),
+    ]:
+        room.clear()
+        found_status, output, messages = room.run([*SESSION, *words], b"".join(answers))
+        see(what, (found_status, messages, count_of_frames(output)), (status, lines(*told), frames))
+        met.update(told)
+
+
+def count_of_frames(sent):
+    """How many frames were sent; each has the length of its body in its third and fourth byte."""
+    count = 0
+    while sent:
+        sent = sent[6 + int.from_bytes(sent[2:4], "big") :]
+        count += 1
+    return count
+
+
+class Deaf(Peer):
+    """Never answers, and keeps the times at which frames came."""
+
+    def serve(self, caller):
+        for _ in frames_of(caller):
+            self.heard.append(time.monotonic())
+
+
+def a_silence_is_a_second():
+    peer = Deaf()
+    run("a programmer that never answers", [*PART, "-P", f"net:127.0.0.1:{peer.port}"], ["error: no answer"])
+    times = peer.end()
+    see("four attempts to sign on, four to leave", len(times), 8)
+    gaps = [later - time for time, later in zip(times, times[1:])]
+    see(f"each silence takes a second: {gaps}", all(0.9 <= gap <= 1.5 for gap in gaps), True)
+
+
+def ports_are_refused():
+    with socket.create_server(("127.0.0.1", 0)) as other:
+        taken = other.getsockname()[1]
+        chip = ["--serve", str(taken), "--chip", "chip.bin"]
+        refused("a port that is taken", [*PART, *chip], f"port {taken} cannot be opened")
+    nobody = f"net:127.0.0.1:{free_port()}"
+    refused("a port where nobody listens", [*PART, "-P", nobody], f"port {nobody} cannot be opened")
+
+
+# ---- nothing is left out
+
+
+def usage_is_met():
+    """Each line of USAGE's table of messages was brought about above, or is met elsewhere."""
+    usage = (TOP / "docs/USAGE.md").read_text()
+    table = usage[usage.index("| Line | When |") : usage.index("What `clap` refuses")]
+    for row in table.splitlines()[2:]:
+        if row.startswith("|"):
+            for line in alternatives(re.findall(r"`([^`]+)`", row.split("|")[1])):
+                if line not in ELSEWHERE:
+                    see(f"USAGE's line `{line}` was met", any(re.fullmatch(pattern(line), it) for it in met), True)
+
+
+def alternatives(texts):
+    """The lines of a row. A text without a colon or mark of its own stands for the end of the line before it."""
+    first = texts[0]
+    whole = [first]
+    for text in texts[1:]:
+        if text.startswith(("error: ", "warning: ")):
+            whole.append(text)
+        elif first.endswith("written") and "N bytes" in first:
+            whole.append(first.replace("written", text))
+        else:
+            whole.append(first[: first.rindex(": ") + 2] + text)
+    return whole
+
+
+def pattern(line):
+    """What a line of USAGE stands for."""
+    words = {"XX": "[0-9A-F]{2}", "ADDR": "[0-9A-F]{8}", "N": "[0-9]+", "MEM": "[a-z]+", "FIELD": "[a-z_]+"}
+    words |= {name: ".*" for name in ["FILE", "ID", "TEXT", "NAME"]}
+    return re.sub(r"\b[A-Z]+\b", lambda it: words.get(it[0], it[0]), re.escape(line))
+
+
+def main():
+    for look in [
+        settings_are_refused,
+        help_is_printed,
+        words_are_refused,
+        images_are_refused,
+        images_are_taken,
+        part_files,
+        chip_files,
+        nothing_is_written,
+        answers_are_bad,
+        a_silence_is_a_second,
+        ports_are_refused,
+        usage_is_met,
+    ]:
+        look()
+    print(f"{passed} passed, 0 failed")
+
+
+if __name__ == "__main__":
+    main()

@@ -1,0 +1,168 @@
+#!/usr/bin/env python3
+"""Holds the record files of this project beside those of other programs: srec_cat, avr-objcopy and python3-intelhex, as far as
+they are installed.
+
+    tests/others.py        needs crates/record_convert/out/record_convert, as rt ci leaves it (or its path as an argument)
+
+Images with gaps, drawn from fixed seeds, are written here as Intel HEX and S-records, and each of the others reads them; each of
+the others writes them, and they are read here. Every byte has to stand at its address, and no other. A plain reader and writer
+in this file stand between. What isn't installed is told.
+"""
+
+import random
+import shutil
+import subprocess
+import sys
+import tempfile
+from pathlib import Path
+
+TOP = Path(__file__).resolve().parent.parent
+PROGRAM = Path(sys.argv[1]) if len(sys.argv) > 1 else TOP / "crates/record_convert/out/record_convert"
+IMAGES = 120
+
+# where a distribution keeps its modules, if this python looks elsewhere
+sys.path.append("/usr/lib/python3/dist-packages")
+try:
+    from intelhex import IntelHex
+except ImportError:
+    IntelHex = None
+
+room = Path(tempfile.mkdtemp())
+seen = {}
+
+
+def plain_read(text):
+    """The bytes of a record file by address; of either format. (srec_cat writes no end record where no start is known.)"""
+    image, base, wraps = {}, 0, False
+    for line in text.decode().split("\n"):
+        line = line.rstrip(" \t\r")
+        if not line:
+            continue
+        if line[0] == ":":
+            record = bytes.fromhex(line[1:])
+            assert sum(record) % 256 == 0 and record[0] + 5 == len(record), line
+            offset, kind, body = record[1] * 256 + record[2], record[3], record[4:-1]
+            if kind == 1:
+                return image
+            if kind in (2, 4):
+                wraps = kind == 2
+                base = int.from_bytes(body, "big") * (16 if wraps else 65_536)
+            for place, byte in enumerate(body if kind == 0 else b""):
+                at = offset + place
+                image[base + (at % 65_536 if wraps else at)] = byte
+        else:
+            kind, record = int(line[1]), bytes.fromhex(line[2:])
+            assert sum(record) % 256 == 255 and record[0] + 1 == len(record), line
+            if kind in (7, 8, 9):
+                return image
+            if kind in (1, 2, 3):
+                start = int.from_bytes(record[1 : kind + 2], "big")
+                for place, byte in enumerate(record[kind + 2 : -1]):
+                    image[start + place] = byte
+    return image
+
+
+def plain_ihex(image, draw):
+    """Intel HEX of an image, in rows of any length."""
+    lines, base, rows = [], 0, []
+    for at in sorted(image):
+        if rows and rows[-1][0] + len(rows[-1][1]) == at and at % 65_536 and draw.random() > 0.05 and len(rows[-1][1]) < 255:
+            rows[-1][1].append(image[at])
+        else:
+            rows.append((at, [image[at]]))
+
+    def record(offset, kind, body):
+        front = bytes([len(body), offset // 256, offset % 256, kind, *body])
+        lines.append(":" + (front + bytes([-sum(front) % 256])).hex() + "\n")
+
+    for at, row in rows:
+        if at // 65_536 != base:
+            base = at // 65_536
+            record(0, 4, base.to_bytes(2, "big"))
+        record(at % 65_536, 0, row)
+    record(0, 1, b"")
+    return "".join(lines).encode()
+
+
+def drawn(seed):
+    """An image with gaps, and the size of its memory."""
+    draw = random.Random(seed)
+    size = draw.choice([512, 4_096, 32_768, 65_536, 131_072, 262_144, 1 << 20, (1 << 24) + 4_096])
+    image = {}
+    for _ in range(draw.randint(1, 12)):
+        at = draw.choice([draw.randrange(size), 0, size - 1, min(size, 65_536) - draw.randint(1, 40), max(size - 100, 0)])
+        for place in range(draw.choice([1, 2, 31, 32, 33, 64, 200, 700])):
+            if at + place < size:
+                image[at + place] = draw.randrange(256)
+    return image, size, draw
+
+
+def run(words, given=None):
+    done = subprocess.run(words, input=given, capture_output=True)
+    if done.returncode != 0:
+        raise SystemExit(f"{words}: {done.stderr.decode()[:300]}")
+    return done.stdout
+
+
+def here(text, format, size):
+    """A record file, read and written again by this project."""
+    return run([PROGRAM, format, str(size)], text)
+
+
+def put(name, text):
+    (room / name).write_bytes(text)
+    return str(room / name)
+
+
+def by_srec_cat(text, format, to):
+    names = {"ihex": "-intel", "srec": "-motorola"}
+    return run(["srec_cat", put("in", text), names[format], "-o", "-", names[to]])
+
+
+def by_objcopy(text, format, to):
+    run(["avr-objcopy", "-I", format, "-O", to, put("in", text), str(room / "out")])
+    return (room / "out").read_bytes()
+
+
+def by_intelhex(text, format, to):
+    held = IntelHex()
+    held.fromfile(put("in", text), format="hex")
+    held.write_hex_file(str(room / "out"), write_start_addr=False)
+    return (room / "out").read_bytes()
+
+
+OTHERS = {
+    "srec_cat": (shutil.which("srec_cat"), by_srec_cat, ["ihex", "srec"]),
+    "avr-objcopy": (shutil.which("avr-objcopy"), by_objcopy, ["ihex", "srec"]),
+    "python3-intelhex": (IntelHex, by_intelhex, ["ihex"]),
+}
+
+
+def see(what, found, wanted):
+    seen[what] = seen.get(what, 0) + 1
+    if found != wanted:
+        differ = sorted(at for at in found.keys() | wanted.keys() if found.get(at) != wanted.get(at))
+        raise SystemExit(f"{what}: {len(differ)} bytes differ, the first at {differ[0]:#x}")
+
+
+if not PROGRAM.exists():
+    sys.exit("crates/record_convert/out/record_convert is not built: rt ci leaves it there")
+for name, (installed, _, _) in OTHERS.items():
+    if not installed:
+        print(f"{name} is not installed")
+for seed in range(IMAGES):
+    image, size, draw = drawn(seed)
+    plain = plain_ihex(image, draw)
+    for format in ["ihex", "srec"]:
+        ours = here(plain, format, size)
+        see(f"written here as {format}", plain_read(ours), image)
+        see(f"read here as {format}", plain_read(here(ours, "srec", size)), image)
+        for name, (installed, convert, formats) in OTHERS.items():
+            if installed and format in formats:
+                for to in formats:
+                    theirs = convert(ours, format, to)
+                    see(f"{format} read by {name}", plain_read(theirs), image)
+                    see(f"{to} of {name} read here", plain_read(here(theirs, "ihex", size)), image)
+shutil.rmtree(room)
+for what, count in seen.items():
+    print(f"{count:5} {what}")

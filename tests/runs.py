@@ -1,0 +1,414 @@
+#!/usr/bin/env python3
+"""Worked runs of the built program over an emulated part: what is printed, written and answered, the frames that are sent,
+and the chip that is left. Each run is made over the port `emu:`, and again over a TCP line to the emulator that the program
+serves, where its frames are seen.
+
+    tests/runs.py        needs crates/avrstk/out/avrstk, as rt ci leaves it
+"""
+
+import sys
+from dataclasses import dataclass, field
+
+from line import BadLine
+from program import CHIP_FILE, FRAMES, Room, frame, lines
+
+# where the memories of an ATmega328P begin in its chip file
+EEPROM, LFUSE, HFUSE, LOCK = 32_768, 33_792, 33_793, 33_795
+
+# the length of the chip file of an ATmega2560
+LARGE_CHIP_FILE = 266_244
+
+SIGNATURE = "device signature = 1E 95 0F"
+OPENING = FRAMES[:5]
+
+room = Room()
+passed = 0
+
+
+@dataclass
+class Run:
+    """A run, and what it has to come to. The chip is one of FF in which these bytes stand, or None where there is no file."""
+
+    words: list
+    said: list
+    status: int = 0
+    output: bytes = b""
+    part: str = "m328p"
+    files: dict = field(default_factory=dict)
+    before: dict | None = None
+    after: dict | None = field(default_factory=dict)
+    written: dict = field(default_factory=dict)
+    fates: dict = field(default_factory=dict)
+    sent: list | None = None
+
+
+def load_address(number, address):
+    return frame(number, 0x06, address.to_bytes(4, "big"))
+
+
+def program_flash(number, page):
+    return frame(number, 0x13, len(page).to_bytes(2, "big"), bytes.fromhex("C10A404C20FFFF"), page)
+
+
+def program_eeprom(number, run):
+    return frame(number, 0x15, len(run).to_bytes(2, "big"), bytes.fromhex("C10AC1C2A0FFFF"), run)
+
+
+def read_flash(number):
+    """The frames that read 32 kB of flash in blocks of 256 bytes; flash addresses count words."""
+    for block in range(128):
+        yield load_address(number + 2 * block, 128 * block)
+        yield frame(number + 2 * block + 1, bytes.fromhex("14010020"))
+
+
+def write_eeprom(number, content, blocks):
+    """The frames that write these blocks of four bytes; block 0 would have this number."""
+    for block in blocks:
+        yield load_address(number + 2 * block, 4 * block)
+        yield program_eeprom(number + 2 * block + 1, content[4 * block : 4 * block + 4])
+
+
+def erase(number):
+    return frame(number, bytes.fromhex("120900AC800000"))
+
+
+def leave(number):
+    return frame(number, bytes.fromhex("110101"))
+
+
+def page_of(places):
+    """A page of an ATmega328P's flash: FF but for these bytes."""
+    return bytes(places.get(place, 0xFF) for place in range(128))
+
+
+def chip_with(places, size=CHIP_FILE):
+    """A chip file of FF in which these bytes stand."""
+    chip = bytearray(b"\xff" * size)
+    for place, content in places.items():
+        content = bytes([content]) if isinstance(content, int) else content
+        chip[place : place + len(content)] = content
+    return bytes(chip)
+
+
+def see(what, found, wanted):
+    global passed
+    if found != wanted:
+        sys.exit(f"{what}: {str(found)[:600]}\nwanted: {str(wanted)[:600]}")
+    passed += 1
+
+
+def size_of(part):
+    return {"m328p": CHIP_FILE, "m2560": LARGE_CHIP_FILE}.get(part, CHIP_FILE)
+
+
+def prepare(run, chip_file):
+    room.clear()
+    for name, content in run.files.items():
+        room.put(name, content)
+    if run.before is not None:
+        room.put(chip_file, chip_with(run.before, size_of(run.part)))
+
+
+def look(label, run, found, chip_file):
+    see(label, found, (run.status, run.output, lines(*run.said)))
+    wanted = None if run.after is None else chip_with(run.after, size_of(run.part))
+    see(f"{label}: the chip", room.read(chip_file) == wanted, True)
+    for name, content in run.written.items():
+        see(f"{label}: {name}", room.read(name), content)
+
+
+def over_emulator(label, run):
+    prepare(run, "chip.bin")
+    look(label, run, room.run(["-P", "emu:chip.bin", "-p", run.part, *run.words]), "chip.bin")
+
+
+def over_line(label, run):
+    """The same over a line; without a frame the served emulator has saved its chip as it was."""
+    prepare(run, "served.bin")
+    peer = BadLine(room, run.fates)
+    found = room.run(["-P", f"net:127.0.0.1:{peer.port}", "-p", run.part, *run.words])
+    sent = peer.end()
+    if run.after is None:
+        see(f"{label}: nothing is sent", sent, [])
+        return
+    look(f"{label}, over a line", run, found, "served.bin")
+    if run.sent is not None:
+        see(f"{label}: the number of frames", len(sent), len(run.sent))
+        see(f"{label}: frames", sent, run.sent)
+
+
+def session(*said):
+    return [SIGNATURE, *said, "done"]
+
+
+def erased(*said):
+    return session("chip erased", *said)
+
+
+# ---- fuses and the lock
+
+FUSES = {
+    "a fuse is written to a new chip, and printed": Run(
+        ["-U", "lfuse:w:0xE2:m", "-U", "lfuse:r:-:h"],
+        session("lfuse: 1 bytes written", "lfuse: 1 bytes verified", "lfuse: 1 bytes read"),
+        output=b"0xe2\n",
+        after={LFUSE: 0xE2},
+        sent=[
+            *OPENING,
+            bytes.fromhex("1B0600050E17ACA000E2EF"),
+            frame(7, bytes.fromhex("180450000000")),
+            frame(8, bytes.fromhex("180450000000")),
+            leave(9),
+        ],
+    ),
+    "a locked chip is erased and written": Run(
+        ["-e", "-U", "lfuse:w:0x62:m"],
+        erased("lfuse: 1 bytes written", "lfuse: 1 bytes verified"),
+        before={0: 0x0F, LOCK: 0xFE},
+        after={LFUSE: 0x62},
+        sent=[*OPENING, erase(6), frame(7, bytes.fromhex("17ACA00062")), frame(8, bytes.fromhex("180450000000")), leave(9)],
+    ),
+    "an erase keeps the EEPROM where the high fuse says so": Run(
+        ["-e"], erased(), before={0: 0x0F, EEPROM: 0x55, HFUSE: 0xD1}, after={EEPROM: 0x55, HFUSE: 0xD1}
+    ),
+    "an erase takes the EEPROM where the high fuse lets it": Run(
+        ["-e"], erased(), before={0: 0x0F, EEPROM: 0x55, HFUSE: 0xD9}, after={HFUSE: 0xD9}
+    ),
+    "a lock keeps the fuses, and without a read back nobody sees it": Run(
+        ["-V", "-U", "lock:w:0xFE:m", "-U", "lfuse:w:0x62:m"],
+        session("lock: 1 bytes written", "lfuse: 1 bytes written"),
+        after={LOCK: 0xFE},
+    ),
+    "a lock keeps the fuses, and the read back tells": Run(
+        ["-U", "lock:w:0xFE:m", "-U", "lfuse:w:0x62:m"],
+        [
+            SIGNATURE,
+            "lock: 1 bytes written",
+            "lock: 1 bytes verified",
+            "lfuse: 1 bytes written",
+            "error: lfuse: address 00000000: 62 expected, FF found",
+        ],
+        status=1,
+        after={LOCK: 0xFE},
+    ),
+    "nothing is written or erased": Run(
+        ["-n", "-e", "-U", "lfuse:w:0xE2:m"],
+        session("warning: chip not erased because of -n", "lfuse: 1 bytes not written"),
+        before={0: 0x0F},
+        after={0: 0x0F},
+        sent=[*OPENING, leave(6)],
+    ),
+    "a session and nothing else": Run([], session(), sent=FRAMES),
+    "quiet": Run(["-q", "-e"], [], sent=[*OPENING, erase(6), leave(7)]),
+}
+
+# ---- flash and EEPROM
+
+RECORDS = {
+    "a.hex": b":03000000010203F7\n:00000001FF\n",
+    "unended.hex": b":03000000010203F7\n",
+    "two_pages.hex": b":0100000011EE\n:01008200225B\n:00000001FF\n",
+    "gaps.hex": b":0100000011EE\n:0100020033CA\n:00000001FF\n",
+}
+
+MEMORIES = {
+    "an empty file as flash: the chip is erased and read back": Run(
+        ["-U", "flash:w:empty.bin"],
+        erased("flash: 0 bytes written", "flash: 0 bytes verified"),
+        before={5: 0, EEPROM: 0},
+        sent=[*OPENING, bytes.fromhex("1B0600070E120900AC80000023"), *read_flash(7), leave(0x107)],
+    ),
+    "flash that was not erased keeps its zeros, and the run says where": Run(
+        ["-D", "-U", "flash:w:0xF0:m"],
+        [SIGNATURE, "flash: 1 bytes written", "error: flash: address 00000000: F0 expected, 00 found"],
+        status=1,
+        before={0: 0x0F},
+        after={0: 0},
+        sent=[*OPENING, load_address(6, 0), program_flash(7, page_of({0: 0xF0})), *read_flash(8), leave(0x108)],
+    ),
+    "two pages with a byte each": Run(
+        ["-V", "-U", "flash:w:two_pages.hex"],
+        erased("flash: 2 bytes written"),
+        files=RECORDS,
+        after={0: 0x11, 0x82: 0x22},
+        sent=[
+            *OPENING,
+            erase(6),
+            load_address(7, 0),
+            program_flash(8, page_of({0: 0x11})),
+            bytes.fromhex("1B0900050E06000000405F"),
+            program_flash(10, page_of({2: 0x22})),
+            leave(11),
+        ],
+    ),
+    "flash is written, and read as records": Run(
+        ["-U", "flash:w:a.hex", "-U", "flash:r:-:i"],
+        erased("flash: 3 bytes written", "flash: 3 bytes verified", "flash: 4 bytes read"),
+        output=b":04000000010203FFF7\n:00000001FF\n",
+        files=RECORDS,
+        after={0: b"\x01\x02\x03"},
+    ),
+    "no end record, and S-records": Run(
+        ["-V", "-U", "flash:w:unended.hex", "-U", "flash:r:-:s"],
+        ["warning: unended.hex: no end record", *erased("flash: 3 bytes written", "flash: 4 bytes read")],
+        output=b"S1070000010203FFF3\nS9030000FC\n",
+        files=RECORDS,
+        after={0: b"\x01\x02\x03"},
+    ),
+    "gaps of an EEPROM image keep what they hold": Run(
+        ["-V", "-U", "eeprom:w:gaps.hex:i"],
+        session("eeprom: 2 bytes written"),
+        files=RECORDS,
+        before={EEPROM: b"\x01\x02\x03\x04"},
+        after={EEPROM: b"\x11\x02\x33\x04"},
+        sent=[
+            *OPENING,
+            bytes.fromhex("1B0600050E060000000010"),
+            bytes.fromhex("1B07000B0E150001C10AC1C2A0FFFF1174"),
+            bytes.fromhex("1B0800050E06000000021C"),
+            bytes.fromhex("1B09000B0E150001C10AC1C2A0FFFF3358"),
+            bytes.fromhex("1B0A00030E1101010D"),
+        ],
+    ),
+    "flash is read without its end": Run(
+        ["-U", "flash:r:-:i"],
+        session("flash: 4 bytes read"),
+        output=b":04000000010203FFF7\n:00000001FF\n",
+        before={0: b"\x01\x02\x03"},
+        after={0: b"\x01\x02\x03"},
+    ),
+    "all of an erased flash": Run(
+        ["-A", "-U", "flash:r:f.bin"], session("flash: 32768 bytes read"), written={"f.bin": b"\xff" * 32_768}
+    ),
+    "an erased flash is an empty file": Run(["-U", "flash:r:f.bin"], session("flash: 0 bytes read"), written={"f.bin": b""}),
+    "an erased flash as records and lists": Run(
+        ["-U", "flash:r:f.hex:i", "-U", "flash:r:f.srec:s", "-U", "flash:r:f.txt:d"],
+        session(*["flash: 0 bytes read"] * 3),
+        written={"f.hex": b":00000001FF\n", "f.srec": b"S9030000FC\n", "f.txt": b"\n"},
+    ),
+    "the end of an EEPROM is kept": Run(
+        ["-U", "eeprom:r:f.bin"],
+        session("eeprom: 1024 bytes read"),
+        before={EEPROM: b"\x00\x07\x08"},
+        after={EEPROM: b"\x00\x07\x08"},
+        written={"f.bin": b"\x00\x07\x08" + b"\xff" * 1021},
+    ),
+    "lists of numbers": Run(
+        ["-U", "eeprom:w:0,7,8,0xFF:m", *[word for base in "dhob" for word in ["-U", f"eeprom:r:{base}.txt:{base}"]]],
+        session("eeprom: 4 bytes written", "eeprom: 4 bytes verified", *["eeprom: 1024 bytes read"] * 4),
+        after={EEPROM: b"\x00\x07\x08"},
+        written={
+            "d.txt": b"0,7,8,255" + b",255" * 1020 + b"\n",
+            "h.txt": b"0x0,0x7,0x8,0xff" + b",0xff" * 1020 + b"\n",
+            "o.txt": b"0,7,010,0377" + b",0377" * 1020 + b"\n",
+            "b.txt": b"0b0,0b111,0b1000,0b11111111" + b",0b11111111" * 1020 + b"\n",
+        },
+    ),
+    "large flash is read as records": Run(
+        ["-U", "flash:r:f.hex:i", "-U", "flash:r:f.srec:s"],
+        ["device signature = 1E 98 01", *["flash: 131074 bytes read"] * 2, "done"],
+        part="m2560",
+        before={0x20000: 0x55},
+        after={0x20000: 0x55},
+    ),
+}
+
+# ---- part files
+
+OWN_PART = """[parts.x1]
+signature = "1E950F"
+flash_size = 32768
+flash_page = 128
+eeprom_size = 1024
+eeprom_page = 4
+eesave_bit = 3
+"""
+
+PARTS = {
+    "a part of one's own, and options without effect": Run(
+        ["-b", "115200", "-v", "--parts", "p.toml"], session(), part="x1", files={"p.toml": OWN_PART.encode()}
+    ),
+}
+
+# ---- what is refused sends nothing, and makes no file
+
+
+def refusal(words, told, part="m328p", **files):
+    """A run that would read a fuse first."""
+    files = {name.replace("_", "."): text.encode() for name, text in files.items()}
+    words = ["-U", "lfuse:r:out.h:h", *words]
+    return Run(words, [f"error: {told}"], 1, part=part, files=files, after=None, written={"out.h": None})
+
+
+REFUSALS = {
+    "a missing file": refusal(["-U", "flash:w:missing.hex"], "missing.hex: cannot be opened"),
+    "a bad record": refusal(["-U", "flash:w:a.hex"], "a.hex: line 1: bad checksum", a_hex=":0400000001020304F3\n:00000001FF\n"),
+    "a record past the end": refusal(
+        ["-U", "flash:w:a.hex"], "a.hex: line 2: address 00020000 out of range", a_hex=":020000040002F8\n:0100000055AA\n:00000001FF\n"
+    ),
+    "a signature": refusal(["-U", "lfuse:w:0xE2:m", "-U", "signature:w:1:m"], "signature is read-only"),
+    "a part that lacks a field": refusal(
+        ["--parts", "p.toml"], "p.toml: eeprom_page is missing", "x1", p_toml=OWN_PART.replace("eeprom_page = 4\n", "")
+    ),
+    "no such part": refusal([], "no part x1", "x1"),
+}
+
+# ---- lines that lose and delay
+
+PATTERN = bytes(place % 256 for place in range(1024))
+
+
+BAD_LINES = {
+    "the answer to a page is lost: its step is made again": Run(
+        ["-V", "-U", "flash:w:0x12:m"],
+        erased("flash: 1 bytes written"),
+        after={0: 0x12},
+        fates={8: "lost answer"},
+        sent=[
+            *OPENING,
+            erase(6),
+            load_address(7, 0),
+            program_flash(8, page_of({0: 0x12})),
+            load_address(9, 0),
+            program_flash(10, page_of({0: 0x12})),
+            leave(11),
+        ],
+    ),
+    "the answer to frame 255, which writes block 124, is late, and skipped": Run(
+        ["-V", "-U", "eeprom:w:whole.bin:r"],
+        session("eeprom: 1024 bytes written"),
+        after={EEPROM: PATTERN},
+        fates={255: "late answer"},
+        sent=[
+            *OPENING,
+            *write_eeprom(6, PATTERN, range(125)),
+            # block 124 again, under the numbers 00 and 01
+            *write_eeprom(8, PATTERN, range(124, 256)),
+            leave(0x208),
+        ],
+    ),
+}
+
+
+def record_ends():
+    """The files of a large flash end as they should."""
+    over_emulator("large flash is read as records", MEMORIES["large flash is read as records"])
+    see("upper half", room.read("f.hex").endswith(b":020000040002F8\n:0200000055FFAA\n:00000001FF\n"), True)
+    srec = room.read("f.srec")
+    see("S2 and S8", srec.startswith(b"S2") and srec.endswith(b"\nS804000000FB\n"), True)
+
+
+def main():
+    for runs in [FUSES, MEMORIES, REFUSALS, PARTS]:
+        for label, run in runs.items():
+            over_emulator(label, run)
+            if run.part == "m328p":
+                over_line(label, run)
+    for label, run in BAD_LINES.items():
+        over_line(label, run)
+    record_ends()
+    print(f"{passed} passed, 0 failed")
+
+
+if __name__ == "__main__":
+    main()
