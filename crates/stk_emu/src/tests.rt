@@ -83,11 +83,18 @@ const ENTER: [u8; 12] = [
     0x10, 0xC8, 0x64, 0x19, 0x20, 0x00, 0x53, 0x03, 0xAC, 0x53, 0x00, 0x00,
 ];
 
+/// What a new ATmega328P's programmer answers to the frames of a session that come in pieces of so many bytes.
+fn session_in_pieces(alloc: Global, size: usize) -> Result<Vec<u8>, Fail>
+    requires { 0 < size }
+{
+    let mut emulator = emulator(alloc, "m328p")?;
+    Ok(answers(alloc, &mut emulator, &FRAMES, size)?)
+}
+
 #[test]
 fn a_session_is_answered_alike_in_pieces_of_any_size(rt: HostRuntime) -> Result<(), Fail> {
     for size in [1, 2, 3, 5, 280, 281] {
-        let mut emulator = emulator(rt.alloc(), "m328p")?;
-        let all = answers(rt.alloc(), &mut emulator, &FRAMES, size)?;
+        let all = session_in_pieces(rt.alloc(), size)?;
         assert_eq!(rt; all.as_slice(), ANSWERS.as_slice(), "in pieces of {size}");
     }
     Ok(())
