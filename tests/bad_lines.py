@@ -1,3 +1,4 @@
+#!/usr/bin/env python3
 """How often a run succeeds on a line that loses frames by lot: the built program, a lossy line, and an emulated programmer.
 
     tests/bad_lines.py [SECONDS]
