@@ -13,13 +13,14 @@ use crate::programmer::{Body, Programmer};
 use arrayvec::ArrayVec;
 use avr_part::Chip;
 use std::marker::Model;
-use stk_frame::{Event, FrameReader, put_frame};
+use stk_frame::protocol::{ANSWER_CKSUM_ERROR, STATUS_CKSUM_ERROR};
+use stk_frame::{Event, FrameReader, LARGEST_FRAME, put_frame};
 
 /// The body that tells of a wrong XOR.
-const REFUSAL: [u8; 2] = [0xB0, 0xC1];
+const REFUSAL: [u8; 2] = [ANSWER_CKSUM_ERROR, STATUS_CKSUM_ERROR];
 
 /// A frame.
-pub(crate) type Frame = ArrayVec<u8, 281>;
+pub(crate) type Frame = ArrayVec<u8, LARGEST_FRAME>;
 
 /// The refusal of the frame that the reader holds.
 pub(crate) fn refuse(reader: &FrameReader, out: &mut Frame)
@@ -107,7 +108,7 @@ impl Emulator {
 
     /// Uses bytes up to the end of the first frame that is answered, whose answer `out` becomes, and says how many.
     /// Where no frame ends all bytes are used, and `out` is empty.
-    pub fn feed(&mut self, piece: &[u8], out: &mut ArrayVec<u8, 281>) -> usize
+    pub fn feed(&mut self, piece: &[u8], out: &mut ArrayVec<u8, LARGEST_FRAME>) -> usize
         ensures within { result ≤ length piece.now }
         ensures all { out.new.items ≡ [] → result ≡ length piece.now }
         ensures progress { 0 < length piece.now → 0 < result }

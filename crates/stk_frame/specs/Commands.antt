@@ -11,27 +11,28 @@ use Rattle.stk_frame.specs.declared.answer.Shape.{Shape}
 use Rattle.stk_frame.specs.declared.answer.Shape.TheVariants.{Name, Bytes, Closed}
 use Rattle.stk_frame.specs.declared.answer.FrameFault.{FrameFault}
 use Rattle.stk_frame.specs.declared.answer.FrameFault.TheVariants.{WrongLength, WrongCommand, CheckSum, Status}
+use Rattle.stk_frame.specs.declared.protocol.TheConstants.{ANSWER_CKSUM_ERROR, CMD_CHIP_ERASE_ISP, CMD_ENTER_PROGMODE_ISP, CMD_GET_PARAMETER, CMD_LEAVE_PROGMODE_ISP, CMD_LOAD_ADDRESS, CMD_PROGRAM_EEPROM_ISP, CMD_PROGRAM_FLASH_ISP, CMD_PROGRAM_FUSE_ISP, CMD_PROGRAM_LOCK_ISP, CMD_READ_EEPROM_ISP, CMD_READ_FLASH_ISP, CMD_READ_FUSE_ISP, CMD_READ_LOCK_ISP, CMD_READ_OSCCAL_ISP, CMD_READ_SIGNATURE_ISP, CMD_SET_PARAMETER, CMD_SIGN_ON, CMD_SPI_MULTI, STATUS_CKSUM_ERROR, STATUS_CMD_OK}
 
 -- the command's byte
 abbrev pub code : Command → ℕ
-code SignOn = 0x01
-code (SetParameter number value) = 0x02
-code (GetParameter number) = 0x03
-code (LoadAddress address) = 0x06
-code (EnterProgmode f) = 0x10
-code (LeaveProgmode pre_delay post_delay) = 0x11
-code (ChipErase erase_delay poll_method instruction) = 0x12
-code (ProgramFlash f) = 0x13
-code (ReadFlash f) = 0x14
-code (ProgramEeprom f) = 0x15
-code (ReadEeprom f) = 0x16
-code (ProgramFuse instruction) = 0x17
-code (ReadFuse f) = 0x18
-code (ProgramLock instruction) = 0x19
-code (ReadLock f) = 0x1A
-code (ReadSignature f) = 0x1B
-code (ReadOsccal f) = 0x1C
-code (SpiMulti send_count receive_count receive_start bytes) = 0x1D
+code SignOn = CMD_SIGN_ON
+code (SetParameter number value) = CMD_SET_PARAMETER
+code (GetParameter number) = CMD_GET_PARAMETER
+code (LoadAddress address) = CMD_LOAD_ADDRESS
+code (EnterProgmode f) = CMD_ENTER_PROGMODE_ISP
+code (LeaveProgmode pre_delay post_delay) = CMD_LEAVE_PROGMODE_ISP
+code (ChipErase erase_delay poll_method instruction) = CMD_CHIP_ERASE_ISP
+code (ProgramFlash f) = CMD_PROGRAM_FLASH_ISP
+code (ReadFlash f) = CMD_READ_FLASH_ISP
+code (ProgramEeprom f) = CMD_PROGRAM_EEPROM_ISP
+code (ReadEeprom f) = CMD_READ_EEPROM_ISP
+code (ProgramFuse instruction) = CMD_PROGRAM_FUSE_ISP
+code (ReadFuse f) = CMD_READ_FUSE_ISP
+code (ProgramLock instruction) = CMD_PROGRAM_LOCK_ISP
+code (ReadLock f) = CMD_READ_LOCK_ISP
+code (ReadSignature f) = CMD_READ_SIGNATURE_ISP
+code (ReadOsccal f) = CMD_READ_OSCCAL_ISP
+code (SpiMulti send_count receive_count receive_start bytes) = CMD_SPI_MULTI
 
 -- the bytes of its fields, in their order; a number of several bytes has its highest byte first
 abbrev pub enter_progmode_fields : EnterFields → List ℕ
@@ -101,7 +102,7 @@ data_of Name (size ∷ name) = if length name == size then Ok name else Err Wron
 data_of (Bytes n) more = if length more == n then Ok more else Err WrongLength
 data_of (Closed n) more =
     if length more == n + 1
-    then (if slice_index more n == 0 then Ok (take n more) else Err (Status (slice_index more n)))
+    then (if slice_index more n == STATUS_CMD_OK then Ok (take n more) else Err (Status (slice_index more n)))
     else Err WrongLength
 
 -- an answer's body, judged
@@ -109,9 +110,9 @@ abbrev pub judge : Command → List ℕ → Result (List ℕ) FrameFault
 judge command [] = Err WrongCommand
 judge command (first ∷ []) = if first == code command then Err WrongLength else Err WrongCommand
 judge command (first ∷ status ∷ more) =
-    if first == 176 && status == 193 && length more == 0 then Err CheckSum
+    if first == ANSWER_CKSUM_ERROR && status == STATUS_CKSUM_ERROR && length more == 0 then Err CheckSum
     else if not (first == code command) then Err WrongCommand
-    else if not (status == 0) then Err (Status status)
+    else if not (status == STATUS_CMD_OK) then Err (Status status)
     else data_of (shape command) more
 
 -- data of this shape have its size

@@ -7,6 +7,7 @@ use Rattle.stk_frame.specs.declared.command.EnterProgmode.{EnterProgmode as Ente
 use Rattle.stk_frame.specs.declared.command.ProgramBlock.{ProgramBlock}
 use Rattle.stk_frame.specs.declared.command.ReadBlock.{ReadBlock}
 use Rattle.stk_frame.specs.declared.command.ReadByte.{ReadByte}
+use Rattle.stk_frame.specs.declared.protocol.TheConstants.{CMD_CHIP_ERASE_ISP, CMD_ENTER_PROGMODE_ISP, CMD_GET_PARAMETER, CMD_LEAVE_PROGMODE_ISP, CMD_LOAD_ADDRESS, CMD_PROGRAM_EEPROM_ISP, CMD_PROGRAM_FLASH_ISP, CMD_PROGRAM_FUSE_ISP, CMD_PROGRAM_LOCK_ISP, CMD_READ_EEPROM_ISP, CMD_READ_FLASH_ISP, CMD_READ_FUSE_ISP, CMD_READ_LOCK_ISP, CMD_READ_OSCCAL_ISP, CMD_READ_SIGNATURE_ISP, CMD_SET_PARAMETER, CMD_SIGN_ON, CMD_SPI_MULTI}
 
 -- The fields of each command, from their bytes; None where these are too few or too many.
 abbrev pub sign_on : List ℕ → Option Command
@@ -85,24 +86,24 @@ spi_multi _ = None
 -- the command of this byte that has these fields
 abbrev pub with_fields : ℕ → List ℕ → Option Command
 with_fields code bytes =
-    if code == 0x01 then sign_on bytes
-    else if code == 0x02 then set_parameter bytes
-    else if code == 0x03 then get_parameter bytes
-    else if code == 0x06 then load_address bytes
-    else if code == 0x10 then option_map EnterProgmode (enter_progmode bytes)
-    else if code == 0x11 then leave_progmode bytes
-    else if code == 0x12 then chip_erase bytes
-    else if code == 0x13 then option_map ProgramFlash (program_block bytes)
-    else if code == 0x14 then option_map ReadFlash (read_block bytes)
-    else if code == 0x15 then option_map ProgramEeprom (program_block bytes)
-    else if code == 0x16 then option_map ReadEeprom (read_block bytes)
-    else if code == 0x17 then option_map ProgramFuse (instruction bytes)
-    else if code == 0x18 then option_map ReadFuse (read_byte bytes)
-    else if code == 0x19 then option_map ProgramLock (instruction bytes)
-    else if code == 0x1A then option_map ReadLock (read_byte bytes)
-    else if code == 0x1B then option_map ReadSignature (read_byte bytes)
-    else if code == 0x1C then option_map ReadOsccal (read_byte bytes)
-    else if code == 0x1D then spi_multi bytes
+    if code == CMD_SIGN_ON then sign_on bytes
+    else if code == CMD_SET_PARAMETER then set_parameter bytes
+    else if code == CMD_GET_PARAMETER then get_parameter bytes
+    else if code == CMD_LOAD_ADDRESS then load_address bytes
+    else if code == CMD_ENTER_PROGMODE_ISP then option_map EnterProgmode (enter_progmode bytes)
+    else if code == CMD_LEAVE_PROGMODE_ISP then leave_progmode bytes
+    else if code == CMD_CHIP_ERASE_ISP then chip_erase bytes
+    else if code == CMD_PROGRAM_FLASH_ISP then option_map ProgramFlash (program_block bytes)
+    else if code == CMD_READ_FLASH_ISP then option_map ReadFlash (read_block bytes)
+    else if code == CMD_PROGRAM_EEPROM_ISP then option_map ProgramEeprom (program_block bytes)
+    else if code == CMD_READ_EEPROM_ISP then option_map ReadEeprom (read_block bytes)
+    else if code == CMD_PROGRAM_FUSE_ISP then option_map ProgramFuse (instruction bytes)
+    else if code == CMD_READ_FUSE_ISP then option_map ReadFuse (read_byte bytes)
+    else if code == CMD_PROGRAM_LOCK_ISP then option_map ProgramLock (instruction bytes)
+    else if code == CMD_READ_LOCK_ISP then option_map ReadLock (read_byte bytes)
+    else if code == CMD_READ_SIGNATURE_ISP then option_map ReadSignature (read_byte bytes)
+    else if code == CMD_READ_OSCCAL_ISP then option_map ReadOsccal (read_byte bytes)
+    else if code == CMD_SPI_MULTI then spi_multi bytes
     else None
 
 -- the command whose body these bytes are

@@ -6,6 +6,7 @@ ghost use Rattle.stk_frame.specs.Commands.{judge, shape, data_of, SizedBy};
 ghost use Rattle.stk_frame.specs.Faults.{number_of};
 
 use crate::command::Command;
+use crate::protocol::{ANSWER_CKSUM_ERROR, STATUS_CKSUM_ERROR, STATUS_CMD_OK};
 use thiserror::Error;
 
 /// Why an answer is none that the command can have, or not the one that was hoped for.
@@ -112,7 +113,7 @@ fn closed_data(size: usize, more: &[u8]) -> Result<&[u8], FrameFault>
     if more.len() != size + 1 {
         return Err(FrameFault::WrongLength);
     }
-    if more[size] != 0 {
+    if more[size] != STATUS_CMD_OK {
         return Err(FrameFault::Status(more[size]));
     }
     Ok(&more[..size])
@@ -137,13 +138,16 @@ impl<'a> Answer<'a> {
                 Err(FrameFault::WrongCommand)
             },
             [first, status, more @ ..] => {
-                if *first == 0xB0 && *status == 0xC1 && more.is_empty() {
+                if *first == ANSWER_CKSUM_ERROR
+                    && *status == STATUS_CKSUM_ERROR
+                    && more.is_empty()
+                {
                     return Err(FrameFault::CheckSum);
                 }
                 if *first != command.code() {
                     return Err(FrameFault::WrongCommand);
                 }
-                if *status != 0 {
+                if *status != STATUS_CMD_OK {
                     return Err(FrameFault::Status(*status));
                 }
                 let data = command.shape().data_in(more)?;

@@ -5,6 +5,13 @@ ghost use Rattle.std.specs.Prelude.{◌≡◌};
 ghost use Rattle.stk_frame.specs.Commands.{code};
 
 use crate::data::Data;
+use crate::protocol::{
+    CMD_CHIP_ERASE_ISP, CMD_ENTER_PROGMODE_ISP, CMD_GET_PARAMETER, CMD_LEAVE_PROGMODE_ISP,
+    CMD_LOAD_ADDRESS, CMD_PROGRAM_EEPROM_ISP, CMD_PROGRAM_FLASH_ISP, CMD_PROGRAM_FUSE_ISP,
+    CMD_PROGRAM_LOCK_ISP, CMD_READ_EEPROM_ISP, CMD_READ_FLASH_ISP, CMD_READ_FUSE_ISP,
+    CMD_READ_LOCK_ISP, CMD_READ_OSCCAL_ISP, CMD_READ_SIGNATURE_ISP, CMD_SET_PARAMETER, CMD_SIGN_ON,
+    CMD_SPI_MULTI,
+};
 
 /// The fields of ENTER_PROGMODE_ISP. Times are in milliseconds.
 #[derive(Clone, Copy, Debug, PartialEq, Eq)]
@@ -123,24 +130,24 @@ impl Command<'_> {
         ensures { result ≡ code self.now }
     {
         match self {
-            Command::SignOn => 0x01,
-            Command::SetParameter { .. } => 0x02,
-            Command::GetParameter { .. } => 0x03,
-            Command::LoadAddress { .. } => 0x06,
-            Command::EnterProgmode(_) => 0x10,
-            Command::LeaveProgmode { .. } => 0x11,
-            Command::ChipErase { .. } => 0x12,
-            Command::ProgramFlash(_) => 0x13,
-            Command::ReadFlash(_) => 0x14,
-            Command::ProgramEeprom(_) => 0x15,
-            Command::ReadEeprom(_) => 0x16,
-            Command::ProgramFuse { .. } => 0x17,
-            Command::ReadFuse(_) => 0x18,
-            Command::ProgramLock { .. } => 0x19,
-            Command::ReadLock(_) => 0x1A,
-            Command::ReadSignature(_) => 0x1B,
-            Command::ReadOsccal(_) => 0x1C,
-            Command::SpiMulti { .. } => 0x1D,
+            Command::SignOn => CMD_SIGN_ON,
+            Command::SetParameter { .. } => CMD_SET_PARAMETER,
+            Command::GetParameter { .. } => CMD_GET_PARAMETER,
+            Command::LoadAddress { .. } => CMD_LOAD_ADDRESS,
+            Command::EnterProgmode(_) => CMD_ENTER_PROGMODE_ISP,
+            Command::LeaveProgmode { .. } => CMD_LEAVE_PROGMODE_ISP,
+            Command::ChipErase { .. } => CMD_CHIP_ERASE_ISP,
+            Command::ProgramFlash(_) => CMD_PROGRAM_FLASH_ISP,
+            Command::ReadFlash(_) => CMD_READ_FLASH_ISP,
+            Command::ProgramEeprom(_) => CMD_PROGRAM_EEPROM_ISP,
+            Command::ReadEeprom(_) => CMD_READ_EEPROM_ISP,
+            Command::ProgramFuse { .. } => CMD_PROGRAM_FUSE_ISP,
+            Command::ReadFuse(_) => CMD_READ_FUSE_ISP,
+            Command::ProgramLock { .. } => CMD_PROGRAM_LOCK_ISP,
+            Command::ReadLock(_) => CMD_READ_LOCK_ISP,
+            Command::ReadSignature(_) => CMD_READ_SIGNATURE_ISP,
+            Command::ReadOsccal(_) => CMD_READ_OSCCAL_ISP,
+            Command::SpiMulti { .. } => CMD_SPI_MULTI,
         }
     }
 }

@@ -7,6 +7,13 @@ ghost use Rattle.stk_frame.specs.Decoding.{Fits, command_of, with_fields, sign_o
 
 use crate::command::{Command, EnterProgmode, ProgramBlock, ReadBlock, ReadByte};
 use crate::data::Data;
+use crate::protocol::{
+    CMD_CHIP_ERASE_ISP, CMD_ENTER_PROGMODE_ISP, CMD_GET_PARAMETER, CMD_LEAVE_PROGMODE_ISP,
+    CMD_LOAD_ADDRESS, CMD_PROGRAM_EEPROM_ISP, CMD_PROGRAM_FLASH_ISP, CMD_PROGRAM_FUSE_ISP,
+    CMD_PROGRAM_LOCK_ISP, CMD_READ_EEPROM_ISP, CMD_READ_FLASH_ISP, CMD_READ_FUSE_ISP,
+    CMD_READ_LOCK_ISP, CMD_READ_OSCCAL_ISP, CMD_READ_SIGNATURE_ISP, CMD_SET_PARAMETER, CMD_SIGN_ON,
+    CMD_SPI_MULTI,
+};
 use byteorder::{BigEndian, ByteOrder};
 
 /// SIGN_ON, from its fields.
@@ -199,28 +206,28 @@ fn with_fields(code: u8, fields: &[u8]) -> Option<Command<'_>>
     ensures { result ≡ with_fields code fields.now }
 {
     match code {
-        0x01 => sign_on(fields),
-        0x02 => set_parameter(fields),
-        0x03 => get_parameter(fields),
-        0x06 => load_address(fields),
-        0x10 => Some(Command::EnterProgmode(enter_progmode(fields)?)),
-        0x11 => leave_progmode(fields),
-        0x12 => chip_erase(fields),
-        0x13 => Some(Command::ProgramFlash(program_block(fields)?)),
-        0x14 => Some(Command::ReadFlash(read_block(fields)?)),
-        0x15 => Some(Command::ProgramEeprom(program_block(fields)?)),
-        0x16 => Some(Command::ReadEeprom(read_block(fields)?)),
-        0x17 => Some(Command::ProgramFuse {
+        CMD_SIGN_ON => sign_on(fields),
+        CMD_SET_PARAMETER => set_parameter(fields),
+        CMD_GET_PARAMETER => get_parameter(fields),
+        CMD_LOAD_ADDRESS => load_address(fields),
+        CMD_ENTER_PROGMODE_ISP => Some(Command::EnterProgmode(enter_progmode(fields)?)),
+        CMD_LEAVE_PROGMODE_ISP => leave_progmode(fields),
+        CMD_CHIP_ERASE_ISP => chip_erase(fields),
+        CMD_PROGRAM_FLASH_ISP => Some(Command::ProgramFlash(program_block(fields)?)),
+        CMD_READ_FLASH_ISP => Some(Command::ReadFlash(read_block(fields)?)),
+        CMD_PROGRAM_EEPROM_ISP => Some(Command::ProgramEeprom(program_block(fields)?)),
+        CMD_READ_EEPROM_ISP => Some(Command::ReadEeprom(read_block(fields)?)),
+        CMD_PROGRAM_FUSE_ISP => Some(Command::ProgramFuse {
             instruction: instruction(fields)?,
         }),
-        0x18 => Some(Command::ReadFuse(read_byte(fields)?)),
-        0x19 => Some(Command::ProgramLock {
+        CMD_READ_FUSE_ISP => Some(Command::ReadFuse(read_byte(fields)?)),
+        CMD_PROGRAM_LOCK_ISP => Some(Command::ProgramLock {
             instruction: instruction(fields)?,
         }),
-        0x1A => Some(Command::ReadLock(read_byte(fields)?)),
-        0x1B => Some(Command::ReadSignature(read_byte(fields)?)),
-        0x1C => Some(Command::ReadOsccal(read_byte(fields)?)),
-        0x1D => spi_multi(fields),
+        CMD_READ_LOCK_ISP => Some(Command::ReadLock(read_byte(fields)?)),
+        CMD_READ_SIGNATURE_ISP => Some(Command::ReadSignature(read_byte(fields)?)),
+        CMD_READ_OSCCAL_ISP => Some(Command::ReadOsccal(read_byte(fields)?)),
+        CMD_SPI_MULTI => spi_multi(fields),
         _ => None,
     }
 }

@@ -8,6 +8,7 @@ ghost use Rattle.stk_frame.specs.Commands.{body, enter_progmode_fields, program_
 
 use crate::command::{Command, EnterProgmode, ProgramBlock, ReadBlock, ReadByte};
 use crate::frame::{begin, seal};
+use crate::protocol::{LARGEST_BODY, LARGEST_FRAME};
 use arrayvec::ArrayVec;
 use byteorder::{BigEndian, ByteOrder};
 
@@ -100,7 +101,7 @@ fn put_read_byte<const CAP: usize>(out: &mut ArrayVec<u8, CAP>, read: &ReadByte)
 impl Command<'_> {
     /// How many bytes the command's body has.
     fn body_len(&self) -> usize
-        requires { length (body self.now) ≤ 275 }
+        requires { length (body self.now) ≤ LARGEST_BODY }
         ensures { result ≡ length (body self.now) }
     {
         match self {
@@ -127,8 +128,8 @@ impl Command<'_> {
 
     /// Makes `out` the frame that carries the command under the sequence number `seq`. The bytes that the command lends
     /// are copied into the frame and nowhere else.
-    pub fn put_frame(&self, seq: u8, out: &mut ArrayVec<u8, 281>)
-        requires { length (body self.now) ≤ 275 }
+    pub fn put_frame(&self, seq: u8, out: &mut ArrayVec<u8, LARGEST_FRAME>)
+        requires { length (body self.now) ≤ LARGEST_BODY }
         ensures { out.new.items ≡ frame seq (body self.now) }
     {
         begin(seq, self.body_len() as u16, out);
@@ -138,8 +139,8 @@ impl Command<'_> {
 
     /// Makes `out` the command's body: its byte, and its fields in their order. Counts and addresses
     /// have their highest byte first.
-    pub fn body(&self, out: &mut ArrayVec<u8, 275>)
-        requires { length (body self.now) ≤ 275 }
+    pub fn body(&self, out: &mut ArrayVec<u8, LARGEST_BODY>)
+        requires { length (body self.now) ≤ LARGEST_BODY }
         ensures body { out.new.items ≡ body self.now }
         ensures some { 0 < length out.new.items }
     {

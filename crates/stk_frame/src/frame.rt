@@ -4,6 +4,7 @@
 ghost use Rattle.std.specs.Prelude.{◌≡◌, ◌<◌, ◌≤◌, length};
 ghost use Rattle.stk_frame.specs.Frame.{frame, xor_all, header, sealed};
 
+use crate::protocol::{LARGEST_BODY, LARGEST_FRAME, MESSAGE_START, TOKEN};
 use arrayvec::ArrayVec;
 use byteorder::{BigEndian, ByteOrder};
 
@@ -18,13 +19,13 @@ pub(crate) fn xor_of(bytes: &[u8]) -> u8
 fn header_of(seq: u8, size: u16) -> [u8; 5]
     ensures { result ≡ header seq size }
 {
-    let mut header = [0x1B, seq, 0, 0, 0x0E];
+    let mut header = [MESSAGE_START, seq, 0, 0, TOKEN];
     BigEndian::write_u16(&mut header[2..4], size);
     header
 }
 
 /// Makes `out` what stands in front of a body of this size.
-pub(crate) fn begin(seq: u8, size: u16, out: &mut ArrayVec<u8, 281>)
+pub(crate) fn begin(seq: u8, size: u16, out: &mut ArrayVec<u8, LARGEST_FRAME>)
     ensures { out.new.items ≡ header seq size }
 {
     out.clear();
@@ -33,8 +34,8 @@ pub(crate) fn begin(seq: u8, size: u16, out: &mut ArrayVec<u8, 281>)
 }
 
 /// Puts the byte behind those of `out` that makes the XOR of all 0.
-pub(crate) fn seal(out: &mut ArrayVec<u8, 281>)
-    requires { length out.old.items < 281 }
+pub(crate) fn seal(out: &mut ArrayVec<u8, LARGEST_FRAME>)
+    requires { length out.old.items < LARGEST_FRAME }
     ensures { out.new.items ≡ sealed out.old.items }
 {
     let xor = xor_of(out.as_slice());
@@ -45,9 +46,9 @@ pub(crate) fn seal(out: &mut ArrayVec<u8, 281>)
 ///
 /// A frame is the start byte `1B`, the number, the body's size in two bytes (the high one first),
 /// the token `0E`, the body, and a byte that makes the XOR of all bytes 0.
-pub fn put_frame(seq: u8, body: &[u8], out: &mut ArrayVec<u8, 281>)
+pub fn put_frame(seq: u8, body: &[u8], out: &mut ArrayVec<u8, LARGEST_FRAME>)
     requires some { 0 < length body.now }
-    requires fits { length body.now ≤ 275 }
+    requires fits { length body.now ≤ LARGEST_BODY }
     ensures { out.new.items ≡ frame seq body.now }
 {
     begin(seq, body.len() as u16, out);

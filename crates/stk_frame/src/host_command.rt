@@ -8,6 +8,12 @@ ghost use Rattle.stk_frame.specs.HostCommands.{enter, leave, erase, programming,
 
 use crate::command::{Command, EnterProgmode, ProgramBlock, ReadBlock, ReadByte};
 use crate::data::Data;
+use crate::protocol::{
+    CMD_CHIP_ERASE_ISP, CMD_ENTER_PROGMODE_ISP, CMD_LEAVE_PROGMODE_ISP, CMD_PROGRAM_EEPROM_ISP,
+    CMD_PROGRAM_FLASH_ISP, CMD_PROGRAM_FUSE_ISP, CMD_PROGRAM_LOCK_ISP, CMD_READ_EEPROM_ISP,
+    CMD_READ_FLASH_ISP, CMD_READ_FUSE_ISP, CMD_READ_LOCK_ISP, CMD_READ_OSCCAL_ISP,
+    CMD_READ_SIGNATURE_ISP,
+};
 
 /// Which fuse byte is meant.
 #[derive(Clone, Copy, Debug, PartialEq, Eq)]
@@ -61,7 +67,7 @@ impl<'a> Command<'a> {
     /// Turns programming mode on, and tests that the part is in step.
     pub fn enter() -> Command<'a>
         ensures value { result ≡ enter }
-        ensures bytes { body result ≡ 0x10 ∷ 0xC8 ∷ 0x64 ∷ 0x19 ∷ 0x20 ∷ 0x00 ∷ 0x53 ∷ 0x03 ∷ 0xAC ∷ 0x53 ∷ 0x00 ∷ 0x00
+        ensures bytes { body result ≡ CMD_ENTER_PROGMODE_ISP ∷ 0xC8 ∷ 0x64 ∷ 0x19 ∷ 0x20 ∷ 0x00 ∷ 0x53 ∷ 0x03 ∷ 0xAC ∷ 0x53 ∷ 0x00 ∷ 0x00
             ∷ [] }
     {
         Command::EnterProgmode(EnterProgmode {
@@ -79,7 +85,7 @@ impl<'a> Command<'a> {
     /// Turns programming mode off.
     pub fn leave() -> Command<'a>
         ensures value { result ≡ leave }
-        ensures bytes { body result ≡ 0x11 ∷ 0x01 ∷ 0x01 ∷ [] }
+        ensures bytes { body result ≡ CMD_LEAVE_PROGMODE_ISP ∷ 0x01 ∷ 0x01 ∷ [] }
     {
         Command::LeaveProgmode {
             pre_delay: 0x01,
@@ -90,7 +96,7 @@ impl<'a> Command<'a> {
     /// Erases the chip.
     pub fn erase() -> Command<'a>
         ensures value { result ≡ erase }
-        ensures bytes { body result ≡ 0x12 ∷ 0x09 ∷ 0x00 ∷ 0xAC ∷ 0x80 ∷ 0x00 ∷ 0x00 ∷ [] }
+        ensures bytes { body result ≡ CMD_CHIP_ERASE_ISP ∷ 0x09 ∷ 0x00 ∷ 0xAC ∷ 0x80 ∷ 0x00 ∷ 0x00 ∷ [] }
     {
         Command::ChipErase {
             erase_delay: 0x09,
@@ -103,7 +109,7 @@ impl<'a> Command<'a> {
     pub fn program_page(bytes: &'a [u8]) -> Command<'a>
         requires { length bytes.now ≤ 265 }
         ensures value { result ≡ program_page bytes.now }
-        ensures bytes { body result ≡ 0x13 ∷ (big_bytes 2 (length bytes.now) ++ 0xC1 ∷ 0x0A ∷ 0x40 ∷ 0x4C ∷ 0x20 ∷ 0xFF
+        ensures bytes { body result ≡ CMD_PROGRAM_FLASH_ISP ∷ (big_bytes 2 (length bytes.now) ++ 0xC1 ∷ 0x0A ∷ 0x40 ∷ 0x4C ∷ 0x20 ∷ 0xFF
             ∷ 0xFF ∷ bytes.now) }
     {
         Command::ProgramFlash(programming(0x40, 0x4C, 0x20, bytes))
@@ -112,7 +118,7 @@ impl<'a> Command<'a> {
     /// Reads so many bytes of flash from the address that was loaded on.
     pub fn read_flash(count: u16) -> Command<'a>
         ensures value { result ≡ read_flash count }
-        ensures bytes { body result ≡ 0x14 ∷ (big_bytes 2 count ++ 0x20 ∷ []) }
+        ensures bytes { body result ≡ CMD_READ_FLASH_ISP ∷ (big_bytes 2 count ++ 0x20 ∷ []) }
     {
         Command::ReadFlash(ReadBlock { count, cmd1: 0x20 })
     }
@@ -121,7 +127,7 @@ impl<'a> Command<'a> {
     pub fn program_eeprom(bytes: &'a [u8]) -> Command<'a>
         requires { length bytes.now ≤ 265 }
         ensures value { result ≡ program_eeprom bytes.now }
-        ensures bytes { body result ≡ 0x15 ∷ (big_bytes 2 (length bytes.now) ++ 0xC1 ∷ 0x0A ∷ 0xC1 ∷ 0xC2 ∷ 0xA0 ∷ 0xFF
+        ensures bytes { body result ≡ CMD_PROGRAM_EEPROM_ISP ∷ (big_bytes 2 (length bytes.now) ++ 0xC1 ∷ 0x0A ∷ 0xC1 ∷ 0xC2 ∷ 0xA0 ∷ 0xFF
             ∷ 0xFF ∷ bytes.now) }
     {
         Command::ProgramEeprom(programming(0xC1, 0xC2, 0xA0, bytes))
@@ -130,7 +136,7 @@ impl<'a> Command<'a> {
     /// Reads so many bytes of EEPROM from the address that was loaded on.
     pub fn read_eeprom(count: u16) -> Command<'a>
         ensures value { result ≡ read_eeprom count }
-        ensures bytes { body result ≡ 0x16 ∷ (big_bytes 2 count ++ 0xA0 ∷ []) }
+        ensures bytes { body result ≡ CMD_READ_EEPROM_ISP ∷ (big_bytes 2 count ++ 0xA0 ∷ []) }
     {
         Command::ReadEeprom(ReadBlock { count, cmd1: 0xA0 })
     }
@@ -138,7 +144,7 @@ impl<'a> Command<'a> {
     /// Writes a fuse byte.
     pub fn program_fuse(fuse: Fuse, value: u8) -> Command<'a>
         ensures value { result ≡ program_fuse fuse value }
-        ensures bytes { body result ≡ 0x17 ∷ 0xAC ∷ write_address fuse ∷ 0x00 ∷ value ∷ [] }
+        ensures bytes { body result ≡ CMD_PROGRAM_FUSE_ISP ∷ 0xAC ∷ write_address fuse ∷ 0x00 ∷ value ∷ [] }
     {
         Command::ProgramFuse {
             instruction: [0xAC, write_address(fuse), 0x00, value],
@@ -148,7 +154,7 @@ impl<'a> Command<'a> {
     /// Reads a fuse byte.
     pub fn read_fuse(fuse: Fuse) -> Command<'a>
         ensures value { result ≡ read_fuse fuse }
-        ensures bytes { body result ≡ 0x18 ∷ 0x04 ∷ read_instruction fuse }
+        ensures bytes { body result ≡ CMD_READ_FUSE_ISP ∷ 0x04 ∷ read_instruction fuse }
     {
         Command::ReadFuse(ReadByte {
             return_address: 4,
@@ -159,7 +165,7 @@ impl<'a> Command<'a> {
     /// Writes the lock byte.
     pub fn program_lock(value: u8) -> Command<'a>
         ensures value { result ≡ program_lock value }
-        ensures bytes { body result ≡ 0x19 ∷ 0xAC ∷ 0xE0 ∷ 0x00 ∷ value ∷ [] }
+        ensures bytes { body result ≡ CMD_PROGRAM_LOCK_ISP ∷ 0xAC ∷ 0xE0 ∷ 0x00 ∷ value ∷ [] }
     {
         Command::ProgramLock {
             instruction: [0xAC, 0xE0, 0x00, value],
@@ -169,7 +175,7 @@ impl<'a> Command<'a> {
     /// Reads the lock byte.
     pub fn read_lock() -> Command<'a>
         ensures value { result ≡ read_lock }
-        ensures bytes { body result ≡ 0x1A ∷ 0x04 ∷ 0x58 ∷ 0x00 ∷ 0x00 ∷ 0x00 ∷ [] }
+        ensures bytes { body result ≡ CMD_READ_LOCK_ISP ∷ 0x04 ∷ 0x58 ∷ 0x00 ∷ 0x00 ∷ 0x00 ∷ [] }
     {
         Command::ReadLock(ReadByte {
             return_address: 4,
@@ -180,7 +186,7 @@ impl<'a> Command<'a> {
     /// Reads the signature's byte of this place, from 0 to 2.
     pub fn read_signature(place: u8) -> Command<'a>
         ensures value { result ≡ read_signature place }
-        ensures bytes { body result ≡ 0x1B ∷ 0x04 ∷ 0x30 ∷ 0x00 ∷ place ∷ 0x00 ∷ [] }
+        ensures bytes { body result ≡ CMD_READ_SIGNATURE_ISP ∷ 0x04 ∷ 0x30 ∷ 0x00 ∷ place ∷ 0x00 ∷ [] }
     {
         Command::ReadSignature(ReadByte {
             return_address: 4,
@@ -191,7 +197,7 @@ impl<'a> Command<'a> {
     /// Reads the calibration byte.
     pub fn read_calibration() -> Command<'a>
         ensures value { result ≡ read_calibration }
-        ensures bytes { body result ≡ 0x1C ∷ 0x04 ∷ 0x38 ∷ 0x00 ∷ 0x00 ∷ 0x00 ∷ [] }
+        ensures bytes { body result ≡ CMD_READ_OSCCAL_ISP ∷ 0x04 ∷ 0x38 ∷ 0x00 ∷ 0x00 ∷ 0x00 ∷ [] }
     {
         Command::ReadOsccal(ReadByte {
             return_address: 4,

@@ -16,6 +16,7 @@ mod decode;
 mod encode;
 mod frame;
 mod host_command;
+pub mod protocol;
 mod reader;
 #[cfg(test)]
 mod tests;
@@ -29,6 +30,7 @@ pub use command::{Command, EnterProgmode, ProgramBlock, ReadBlock, ReadByte};
 pub use data::Data;
 pub use frame::put_frame;
 pub use host_command::Fuse;
+pub use protocol::{LARGEST_BODY, LARGEST_FRAME};
 pub use reader::{Event, FrameReader};
 
 /// A law, and no code: whatever cuts bytes into pieces is the cutting, a frame is one good piece,
@@ -40,6 +42,6 @@ pub fn cutting_is_the_only_one()
         → (cut bytes ≡ pieces) × (rest bytes ≡ left) }
     ensures good { (piece : List ℕ) → IsPiece piece → is_good piece ≡ true → ((i : ℕ) → slice_index piece i < 256)
         → piece ≡ frame (seq_of piece) (body_of piece) }
-    ensures frames { (seq : ℕ) (body : List ℕ) → 0 < length body → length body ≤ 275 → IsPiece (frame seq body)
+    ensures frames { (seq : ℕ) (body : List ℕ) → 0 < length body → length body ≤ LARGEST_BODY → IsPiece (frame seq body)
         × (is_good (frame seq body) ≡ true) }
 {}

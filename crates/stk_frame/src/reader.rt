@@ -6,6 +6,7 @@ ghost use Rattle.stk_frame.specs.Cut.{piece_size, is_header, body_size, seq_of, 
 ghost use Rattle.stk_frame.specs.Reader.{Fed, HoldsFrame, IsHeld, Serves, found, Tells};
 
 use crate::frame::xor_of;
+use crate::protocol::{LARGEST_BODY, LARGEST_FRAME, MESSAGE_START, TOKEN};
 use arrayvec::ArrayVec;
 use byteorder::{BigEndian, ByteOrder};
 use memchr::memchr;
@@ -32,7 +33,7 @@ pub enum Event {
 /// is seen as these bytes.
 #[derive(Drop)]
 pub struct FrameReader {
-    held: ArrayVec<u8, 281>,
+    held: ArrayVec<u8, LARGEST_FRAME>,
 }
 
 impl Model for FrameReader {
@@ -49,10 +50,10 @@ impl Model for FrameReader {
 /// How many bytes a body has whose header has these bytes, if a frame can have it.
 fn size_in(high: u8, low: u8, token: u8) -> Option<usize>
     ensures { MatchOption result (is_header high low token ≡ false)
-        (λ size. (is_header high low token ≡ true) × (size ≡ body_size high low) × (size ≤ 275)) }
+        (λ size. (is_header high low token ≡ true) × (size ≡ body_size high low) × (size ≤ LARGEST_BODY)) }
 {
     let size = BigEndian::read_u16(&[high, low]) as usize;
-    if 1 <= size && size <= 275 && token == 0x0E {
+    if 1 <= size && size <= LARGEST_BODY && token == TOKEN {
         Some(size)
     } else {
         None
@@ -62,20 +63,20 @@ fn size_in(high: u8, low: u8, token: u8) -> Option<usize>
 /// How many bytes the piece has that these bytes begin, as far as they tell.
 fn size_of_piece(bytes: &[u8]) -> usize
     ensures size { result ≡ piece_size bytes.now }
-    ensures bound { result ≤ 281 }
+    ensures bound { result ≤ LARGEST_FRAME }
 {
     match bytes {
-        [0x1B, _, high, low, token, ..] => match size_in(*high, *low, *token) {
+        [MESSAGE_START, _, high, low, token, ..] => match size_in(*high, *low, *token) {
             Some(size) => size + 6,
             None => 5,
         },
-        [0x1B, ..] => 5,
+        [MESSAGE_START, ..] => 5,
         _ => 1,
     }
 }
 
 /// Drops a whole frame, which is done with.
-fn drop_whole(held: &mut ArrayVec<u8, 281>)
+fn drop_whole(held: &mut ArrayVec<u8, LARGEST_FRAME>)
     requires { IsHeld held.old.items }
     ensures part { length held.new.items < piece_size held.new.items }
     ensures same { Serves held.new.items held.old.items }
@@ -90,12 +91,12 @@ fn noise_in_front(bytes: &[u8]) -> usize
     ensures within { result ≤ length bytes.now }
     ensures fed { Fed [] (take result bytes.now) [] [] }
 {
-    memchr(0x1B, bytes).unwrap_or(bytes.len())
+    memchr(MESSAGE_START, bytes).unwrap_or(bytes.len())
 }
 
 /// Takes bytes that the piece still lacks, as far as what is held tells how many these are: up to the
 /// start byte, the header's end or the frame's end. Tells how many.
-fn take_missing(held: &mut ArrayVec<u8, 281>, bytes: &[u8]) -> usize
+fn take_missing(held: &mut ArrayVec<u8, LARGEST_FRAME>, bytes: &[u8]) -> usize
     requires part { length held.old.items < piece_size held.old.items }
     requires some { 0 < length bytes.now }
     ensures within { result ≤ length bytes.now }
@@ -110,7 +111,7 @@ fn take_missing(held: &mut ArrayVec<u8, 281>, bytes: &[u8]) -> usize
 }
 
 /// Tells what has ended with the last byte, and drops a piece that is no frame.
-fn end_piece(held: &mut ArrayVec<u8, 281>) -> Event
+fn end_piece(held: &mut ArrayVec<u8, LARGEST_FRAME>) -> Event
     requires { IsHeld held.old.items }
     ensures held { IsHeld held.new.items }
     ensures fed { (part bytes : List ℕ) → length part < piece_size part → held.old.items ≡ part ++ bytes
@@ -159,7 +160,7 @@ impl FrameReader {
     /// The body of the frame that has just ended.
     pub fn body(&self) -> &[u8]
         ensures body { result.now ≡ body_of self.now }
-        ensures fits { length result.now ≤ 275 }
+        ensures fits { length result.now ≤ LARGEST_BODY }
     {
         let bytes = self.held.as_slice();
         if bytes.len() < 6 {

@@ -1,6 +1,7 @@
 -- Words for the contracts of calls.
 use Rattle.std.specs.Prelude.{ℕ, Bool, List, [], ◌∷◌, ◌≡◌, ◌<◌, ◌≤◌, length, Option, Result, Ok, Err}
 use Rattle.avr_part.specs.declared.mem.Mem.{Mem}
+use Rattle.stk_frame.specs.declared.protocol.TheConstants.{LARGEST_BODY}
 use Rattle.stk_frame.specs.declared.command.Command.{Command}
 use Rattle.stk_frame.specs.declared.answer.Shape.{Shape}
 use Rattle.stk_frame.specs.declared.answer.Shape.TheVariants.{Name, Bytes, Closed}
@@ -132,7 +133,7 @@ UnlessBroken (Err fault) P = P
 
 -- the command fits a frame
 abbrev pub Fits : Command → Type 0
-Fits command = length (body command) ≤ 275
+Fits command = length (body command) ≤ LARGEST_BODY
 
 -- it does, and its answer brings no data
 pub record IsQuiet (command : Command) : Type 0 where

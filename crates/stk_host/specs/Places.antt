@@ -1,18 +1,20 @@
 -- Places of a memory taken in turn, and the addresses that are loaded for them.
-use Rattle.std.specs.Prelude.{ℕ, zero, suc, ◌+◌, ◌/◌, ◌^◌, List, [], ◌++◌, nat_lt, if◌then◌else◌}
+use Rattle.std.specs.Prelude.{ℕ, zero, suc, ◌+◌, ◌/◌, List, [], ◌++◌, nat_lt, if◌then◌else◌}
 use Rattle.avr_part.specs.Part.{Part}
+use Rattle.stk_frame.specs.declared.protocol.TheConstants.{EXTENDED_ADDRESS}
 use Rattle.stk_frame.specs.declared.command.Command.{Command}
 use Rattle.stk_frame.specs.declared.command.Command.TheVariants.{LoadAddress}
+use Rattle.stk_host.specs.declared.places.TheConstants.{NARROW_FLASH}
 
 -- the steps at so many places, from this one on
 abbrev pub each_from : (ℕ → List (List Command)) → ℕ → ℕ → List (List Command)
 each_from steps_at place zero = []
 each_from steps_at place (suc count) = steps_at place ++ each_from steps_at (place + 1) count
 
--- The address of a byte of flash counts words. Bit 31 asks for the extended address, which flash of more than
--- 131,072 bytes needs.
+-- The address of a byte of flash counts words. Flash of more bytes than words of 16 bits can address needs the extended
+-- address.
 abbrev pub flash_address : Part → ℕ → ℕ
-flash_address part start = if nat_lt 131072 part.flash_size then start / 2 + 2 ^ 31 else start / 2
+flash_address part start = if nat_lt NARROW_FLASH part.flash_size then start / 2 + EXTENDED_ADDRESS else start / 2
 
 abbrev pub load_flash : Part → ℕ → Command
 load_flash part start = LoadAddress (flash_address part start)

@@ -1,5 +1,6 @@
 -- Steps of commands, with their attempts.
 use Rattle.std.specs.Prelude.{ℕ, zero, suc, List, [], ◌∷◌, ◌++◌, Result, Ok, Err}
+use Rattle.stk_frame.specs.declared.protocol.TheConstants.{STATUS_CKSUM_ERROR}
 use Rattle.stk_frame.specs.declared.command.Command.{Command}
 use Rattle.stk_frame.specs.declared.answer.FrameFault.{FrameFault}
 use Rattle.stk_frame.specs.declared.answer.FrameFault.TheVariants.{WrongLength, WrongCommand, CheckSum, Status}
@@ -18,7 +19,7 @@ pub data Reply : Type 0 where
 
 abbrev pub judged : Command → Result (List ℕ) FrameFault → Reply
 judged command (Ok bytes) = Data bytes
-judged command (Err CheckSum) = Again (Refused (code command) 193)
+judged command (Err CheckSum) = Again (Refused (code command) STATUS_CKSUM_ERROR)
 judged command (Err (Status status)) = Stop (Refused (code command) status)
 judged command (Err WrongCommand) = Stop (BadAnswer (code command))
 judged command (Err WrongLength) = Stop (BadAnswer (code command))

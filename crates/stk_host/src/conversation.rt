@@ -2,6 +2,7 @@
 #![tactic(auto)]
 
 ghost use Rattle.std.specs.Prelude.{◌≡◌, ◌<◌, ◌≤◌, ◌++◌, ◌∷◌, [], length, IfOk, IfErr, IsOkAnd, OnOk, OnErr, All};
+ghost use Rattle.stk_frame.specs.declared.protocol.TheConstants.{LARGEST_FRAME};
 ghost use Rattle.stk_frame.specs.Frame.{frame};
 ghost use Rattle.stk_frame.specs.Commands.{body, judge, shape, SizedBy};
 ghost use Rattle.stk_host.specs.Talk.{HasFailed, Stays};
@@ -18,6 +19,7 @@ use crate::send::send_all;
 use crate::unread::Unread;
 use arrayvec::ArrayVec;
 use std::marker::Model;
+use stk_frame::protocol::STATUS_CKSUM_ERROR;
 use stk_frame::{Answer, Command, FrameFault, FrameReader};
 
 /// How many attempts a step has.
@@ -53,8 +55,9 @@ impl Model for Conversation {
     } };
 
     ghost use Rattle.std.specs.Prelude.{◌≤◌, length};
+    ghost use Rattle.stk_frame.specs.declared.protocol.TheConstants.{LARGEST_FRAME};
 
-    ghost invariant = { λ conversation. length conversation.unread ≤ 281 };
+    ghost invariant = { λ conversation. length conversation.unread ≤ LARGEST_FRAME };
 }
 
 fn send_command<L: Link>(link: &mut L, seq: u8, command: &Command<'_>) -> Result<(), LinkFault>
@@ -78,7 +81,10 @@ fn judge_body(command: &Command<'_>, body: &[u8]) -> Reply
 {
     match Answer::read(command, body) {
         Ok(_) => Reply::Data,
-        Err(FrameFault::CheckSum) => Reply::Again(StepFault::Refused(command.code(), 0xC1)),
+        Err(FrameFault::CheckSum) => Reply::Again(StepFault::Refused(
+            command.code(),
+            STATUS_CKSUM_ERROR,
+        )),
         Err(FrameFault::Status(status)) => Reply::Stop(StepFault::Refused(command.code(), status)),
         Err(FrameFault::WrongCommand | FrameFault::WrongLength) => {
             Reply::Stop(StepFault::BadAnswer(command.code()))
@@ -139,7 +145,7 @@ impl Conversation {
         ensures comes { Stays L.comes_of link.old link.new }
         ensures sound { OnOk result (L.failures link.new ≡ L.failures link.old) }
         ensures failed { OnErr result (HasFailed (L.failures link.old) (L.failures link.new)) }
-        ensures bound { length self.new.unread ≤ 281 }
+        ensures bound { length self.new.unread ≤ LARGEST_FRAME }
     {
         let seq = self.next;
         let Ok(()) = send_command(link, seq, command) else {
@@ -172,7 +178,7 @@ impl Conversation {
         ensures comes { Stays L.comes_of link.old link.new }
         ensures sound { OnOk result (L.failures link.new ≡ L.failures link.old) }
         ensures failed { OnErr result (HasFailed (L.failures link.old) (L.failures link.new)) }
-        ensures bound { length self.new.unread ≤ 281 }
+        ensures bound { length self.new.unread ≤ LARGEST_FRAME }
     {
         for command in first {
             match self.exchange(link, command)? {
@@ -201,7 +207,7 @@ impl Conversation {
         ensures sized { OnOk result (SizedBy (shape last.now) (data_held last.now self.new.held)) }
         ensures counted { CountsLink (L.failures link.old) (L.failures link.new) result }
         ensures comes { Stays L.comes_of link.old link.new }
-        ensures bound { length self.new.unread ≤ 281 }
+        ensures bound { length self.new.unread ≤ LARGEST_FRAME }
     {
         let mut fault = StepFault::NoAnswer;
         for tried in 0..ATTEMPTS {

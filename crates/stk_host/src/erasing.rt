@@ -2,6 +2,7 @@
 #![tactic(auto)]
 
 ghost use Rattle.std.specs.Prelude.{◌≡◌, ◌≤◌, ◌∷◌, [], length};
+ghost use Rattle.stk_frame.specs.declared.protocol.TheConstants.{LARGEST_FRAME};
 ghost use Rattle.stk_frame.specs.HostCommands.{erase};
 ghost use Rattle.stk_host.specs.Steps.{play};
 ghost use Rattle.stk_host.specs.Calls.{EndsSteps, CountsLink};
@@ -20,7 +21,7 @@ pub(crate) fn erase_chip<L: Link>(conversation: &mut Conversation, link: &mut L)
         (λ done. []) result conversation.new.next conversation.new.unread }
     ensures counted { CountsLink (L.failures link.old) (L.failures link.new) result }
     ensures comes { Stays L.comes_of link.old link.new }
-    ensures bound { length conversation.new.unread ≤ 281 }
+    ensures bound { length conversation.new.unread ≤ LARGEST_FRAME }
 {
     play_step(conversation, link, &[], &Command::erase())
 }

@@ -3,6 +3,7 @@
 
 ghost use Rattle.std.specs.Prelude.{◌≡◌, ◌<◌, ◌≤◌, ◌^◌, [], length, Some, None, Err, OnOk, OnErr};
 ghost use Rattle.avr_part.specs.Part.{size_of};
+ghost use Rattle.stk_frame.specs.declared.protocol.TheConstants.{LARGEST_FRAME};
 ghost use Rattle.stk_host.specs.declared.fault.HostFault.{HostFault};
 ghost use Rattle.stk_host.specs.Talk.{HasFailed, Stays};
 ghost use Rattle.stk_host.specs.Operations.{opening, closing, erasing, writing, reading, verifying};
@@ -65,8 +66,9 @@ impl Model for Host {
     } };
 
     ghost use Rattle.std.specs.Prelude.{◌≤◌, length};
+    ghost use Rattle.stk_frame.specs.declared.protocol.TheConstants.{LARGEST_FRAME};
 
-    ghost invariant = { λ host. length host.conversation.unread ≤ 281 };
+    ghost invariant = { λ host. length host.conversation.unread ≤ LARGEST_FRAME };
 }
 
 fn fault_of(stop: Stop) -> HostFault
@@ -186,7 +188,7 @@ impl Host {
         ensures counted { L.failures link.old ≤ L.failures link.new }
         ensures comes { Stays L.comes_of link.old link.new }
         // Of what was heard at most one piece is left.
-        ensures bound { self.old.broken ≡ None → length self.new.unread ≤ 281 }
+        ensures bound { self.old.broken ≡ None → length self.new.unread ≤ LARGEST_FRAME }
     {
         if let Some(fault) = self.broken {
             return Err(fault);
@@ -215,7 +217,7 @@ impl Host {
         ensures counted { L.failures link.old ≤ L.failures link.new }
         ensures comes { Stays L.comes_of link.old link.new }
         // Of what was heard at most one piece is left.
-        ensures bound { self.old.broken ≡ None → length self.new.unread ≤ 281 }
+        ensures bound { self.old.broken ≡ None → length self.new.unread ≤ LARGEST_FRAME }
     {
         if let Some(fault) = self.broken {
             return Err(fault);
@@ -250,7 +252,7 @@ impl Host {
         ensures counted { L.failures link.old ≤ L.failures link.new }
         ensures comes { Stays L.comes_of link.old link.new }
         // Of what was heard at most one piece is left.
-        ensures bound { self.old.broken ≡ None → length self.new.unread ≤ 281 }
+        ensures bound { self.old.broken ≡ None → length self.new.unread ≤ LARGEST_FRAME }
     {
         if let Some(fault) = self.broken {
             return Err(fault);
@@ -293,7 +295,7 @@ impl Host {
         ensures counted { L.failures link.old ≤ L.failures link.new }
         ensures comes { Stays L.comes_of link.old link.new }
         // Of what was heard at most one piece is left.
-        ensures bound { self.old.broken ≡ None → length self.new.unread ≤ 281 }
+        ensures bound { self.old.broken ≡ None → length self.new.unread ≤ LARGEST_FRAME }
     {
         out.clear();
         if let Some(fault) = self.broken {
@@ -339,7 +341,7 @@ impl Host {
         ensures counted { L.failures link.old ≤ L.failures link.new }
         ensures comes { Stays L.comes_of link.old link.new }
         // Of what was heard at most one piece is left.
-        ensures bound { self.old.broken ≡ None → length self.new.unread ≤ 281 }
+        ensures bound { self.old.broken ≡ None → length self.new.unread ≤ LARGEST_FRAME }
     {
         if let Some(fault) = self.broken {
             return Err(fault);
@@ -373,7 +375,7 @@ impl Host {
         ensures counted { L.failures link.old ≤ L.failures link.new }
         ensures comes { Stays L.comes_of link.old link.new }
         // Of what was heard at most one piece is left.
-        ensures bound { self.old.broken ≡ None → length self.new.unread ≤ 281 }
+        ensures bound { self.old.broken ≡ None → length self.new.unread ≤ LARGEST_FRAME }
     {
         if let Some(fault) = self.broken {
             return Err(fault);

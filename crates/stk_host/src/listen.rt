@@ -2,6 +2,7 @@
 #![tactic(auto)]
 
 ghost use Rattle.std.specs.Prelude.{◌≡◌, ◌<◌, ◌≤◌, ◌++◌, ℕ, List, length, IfOk, OnOk, OnErr, true, false, None};
+ghost use Rattle.stk_frame.specs.declared.protocol.TheConstants.{LARGEST_FRAME};
 ghost use Rattle.stk_frame.specs.Reader.{Fed, found, Tells, HoldsFrame};
 ghost use Rattle.stk_host.specs.Tape.{is_answer, first_answer};
 ghost use Rattle.stk_host.specs.Talk.{HasFailed, Stays};
@@ -34,7 +35,7 @@ fn read_on(reader: &mut FrameReader, unread: &mut Unread, most: usize) -> (usize
     ensures fed { (used : List ℕ) × (length used ≡ result.0) × (unread.old ≡ used ++ unread.new)
         × Fed reader.old used reader.new (found result.1 reader.new) }
     ensures tells { Tells result.1 reader.new }
-    ensures fits { length unread.new ≤ 281 }
+    ensures fits { length unread.new ≤ LARGEST_FRAME }
 {
     let (used, event) = reader.feed(unread.front(most));
     unread.consume(used);
@@ -61,10 +62,10 @@ pub(crate) fn listen<L: Link>(
     link: &mut L,
     seq: u8,
 ) -> Result<Reading, LinkFault>
-    requires few { length unread.old ≤ 281 }
+    requires few { length unread.old ≤ LARGEST_FRAME }
     ensures ok { IfOk result (λ reading. Hears seq unread.old (L.talk link.old) (L.talk link.new)
         (reading_of reading reader.new) unread.new) }
-    ensures fits { length unread.new ≤ 281 }
+    ensures fits { length unread.new ≤ LARGEST_FRAME }
     ensures holds { IfOk result (λ reading. HoldsAnswer reading reader.new) }
     ensures err { OnErr result (HearsNone seq unread.old (L.talk link.old) (L.talk link.new)) }
     ensures counted { L.failures link.old ≤ L.failures link.new }

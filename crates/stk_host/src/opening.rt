@@ -2,6 +2,7 @@
 #![tactic(auto)]
 
 ghost use Rattle.std.specs.Prelude.{◌≡◌, ◌≤◌, ◌∷◌, [], length};
+ghost use Rattle.stk_frame.specs.declared.protocol.TheConstants.{LARGEST_FRAME};
 ghost use Rattle.stk_frame.specs.HostCommands.{leave, read_signature};
 ghost use Rattle.stk_host.specs.Steps.{step};
 ghost use Rattle.stk_host.specs.Operations.{beginning};
@@ -24,7 +25,7 @@ fn signature_byte<L: Link>(
         (λ byte. byte ∷ []) result conversation.new.next conversation.new.unread }
     ensures counted { CountsLink (L.failures link.old) (L.failures link.new) result }
     ensures comes { Stays L.comes_of link.old link.new }
-    ensures bound { length conversation.new.unread ≤ 281 }
+    ensures bound { length conversation.new.unread ≤ LARGEST_FRAME }
 {
     let command = Command::read_signature(place);
     conversation.step(link, &[], &command)?;
@@ -38,7 +39,7 @@ pub(crate) fn begin<L: Link>(conversation: &mut Conversation, link: &mut L) -> R
         (λ found. found) result conversation.new.next conversation.new.unread }
     ensures counted { CountsLink (L.failures link.old) (L.failures link.new) result }
     ensures comes { Stays L.comes_of link.old link.new }
-    ensures bound { length conversation.new.unread ≤ 281 }
+    ensures bound { length conversation.new.unread ≤ LARGEST_FRAME }
 {
     conversation.step(link, &[], &Command::SignOn)?;
     conversation.step(link, &[], &Command::enter())?;
@@ -55,7 +56,7 @@ pub(crate) fn end<L: Link>(conversation: &mut Conversation, link: &mut L) -> Res
         (λ done. []) result conversation.new.next conversation.new.unread }
     ensures counted { CountsLink (L.failures link.old) (L.failures link.new) result }
     ensures comes { Stays L.comes_of link.old link.new }
-    ensures bound { length conversation.new.unread ≤ 281 }
+    ensures bound { length conversation.new.unread ≤ LARGEST_FRAME }
 {
     conversation.step(link, &[], &Command::leave())
 }

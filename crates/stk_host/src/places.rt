@@ -8,12 +8,10 @@ ghost use Rattle.stk_host.specs.Calls.{IsQuiet};
 
 use avr_part::{Mem, Part};
 use stk_frame::Command;
+use stk_frame::protocol::EXTENDED_ADDRESS;
 
 /// How many bytes of flash words of 16 bits can address.
 const NARROW_FLASH: u32 = 131_072;
-
-/// Asks for the extended address in an address that is loaded.
-const EXTENDED: u32 = 1 << 31;
 
 /// How many bytes of a memory are written at once.
 pub(crate) fn page_size(part: &Part, mem: Mem) -> u32
@@ -31,7 +29,7 @@ fn flash_address(part: &Part, start: u32) -> u32
     ensures { result ≡ flash_address part.now start }
 {
     if part.size_of(Mem::Flash) > NARROW_FLASH {
-        start / 2 + EXTENDED
+        start / 2 + EXTENDED_ADDRESS
     } else {
         start / 2
     }

@@ -3,6 +3,7 @@
 
 ghost use Rattle.std.specs.Prelude.{◌≡◌, ◌+◌, ◌<◌, ◌≤◌, ◌^◌, ◌∷◌, [], length, OnOk, vec_capacity};
 ghost use Rattle.avr_part.specs.Part as parts;
+ghost use Rattle.stk_frame.specs.declared.protocol.TheConstants.{LARGEST_FRAME};
 ghost use Rattle.stk_frame.specs.Commands.{shape};
 ghost use Rattle.stk_host.specs.Places.{each_from};
 ghost use Rattle.stk_host.specs.ReadSteps.{block_count, block_size, load_block, read_block, block_steps, signature_steps, read_steps};
@@ -69,7 +70,7 @@ fn read_blocks<L: Link>(
         (λ done. out.new.items) result conversation.new.next conversation.new.unread }
     ensures counted { CountsLink (L.failures link.old) (L.failures link.new) result }
     ensures comes { Stays L.comes_of link.old link.new }
-    ensures bound { length conversation.old.unread ≤ 281 → length conversation.new.unread ≤ 281 }
+    ensures bound { length conversation.old.unread ≤ LARGEST_FRAME → length conversation.new.unread ≤ LARGEST_FRAME }
     ensures size { OnOk result (length out.new.items ≡ parts.size_of mem part.now) }
 {
     let size = part.size_of(mem);
@@ -95,7 +96,7 @@ fn read_signature<L: Link>(
         (λ done. out.new.items) result conversation.new.next conversation.new.unread }
     ensures counted { CountsLink (L.failures link.old) (L.failures link.new) result }
     ensures comes { Stays L.comes_of link.old link.new }
-    ensures bound { length conversation.old.unread ≤ 281 → length conversation.new.unread ≤ 281 }
+    ensures bound { length conversation.old.unread ≤ LARGEST_FRAME → length conversation.new.unread ≤ LARGEST_FRAME }
     ensures size { OnOk result (length out.new.items ≡ 3) }
 {
     for place in 0..3 {
@@ -127,7 +128,7 @@ fn read_byte<L: Link>(
         (λ done. out.new.items) result conversation.new.next conversation.new.unread }
     ensures counted { CountsLink (L.failures link.old) (L.failures link.new) result }
     ensures comes { Stays L.comes_of link.old link.new }
-    ensures bound { length conversation.new.unread ≤ 281 }
+    ensures bound { length conversation.new.unread ≤ LARGEST_FRAME }
     ensures size { OnOk result (length out.new.items ≡ 1) }
 {
     read_step(conversation, link, &[], command, out)
@@ -148,7 +149,7 @@ pub(crate) fn read_memory<L: Link>(
         (λ done. out.new.items) result conversation.new.next conversation.new.unread }
     ensures counted { CountsLink (L.failures link.old) (L.failures link.new) result }
     ensures comes { Stays L.comes_of link.old link.new }
-    ensures bound { length conversation.old.unread ≤ 281 → length conversation.new.unread ≤ 281 }
+    ensures bound { length conversation.old.unread ≤ LARGEST_FRAME → length conversation.new.unread ≤ LARGEST_FRAME }
     ensures size { OnOk result (length out.new.items ≡ parts.size_of mem part.now) }
 {
     let command = match mem {

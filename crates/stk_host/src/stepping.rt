@@ -2,6 +2,7 @@
 #![tactic(auto)]
 
 ghost use Rattle.std.specs.Prelude.{◌≡◌, ◌+◌, ◌≤◌, ◌++◌, ◌∷◌, [], length, All, OnOk, vec_capacity};
+ghost use Rattle.stk_frame.specs.declared.protocol.TheConstants.{LARGEST_FRAME};
 ghost use Rattle.stk_frame.specs.Commands.{shape};
 ghost use Rattle.stk_host.specs.Calls.{GoesOn, CountsLink, Fits, IsQuiet, IsCounted, data_count};
 ghost use Rattle.stk_host.specs.Talk.{Stays};
@@ -36,7 +37,7 @@ pub(crate) fn play_step<L: Link>(
         result conversation.new.next conversation.new.unread }
     ensures counted { CountsLink (L.failures link.old) (L.failures link.new) result }
     ensures comes { Stays L.comes_of link.old link.new }
-    ensures bound { length conversation.new.unread ≤ 281 }
+    ensures bound { length conversation.new.unread ≤ LARGEST_FRAME }
 {
     conversation.step(link, first, last)
 }
@@ -58,7 +59,7 @@ pub(crate) fn read_step<L: Link>(
         result conversation.new.next conversation.new.unread }
     ensures counted { CountsLink (L.failures link.old) (L.failures link.new) result }
     ensures comes { Stays L.comes_of link.old link.new }
-    ensures bound { length conversation.new.unread ≤ 281 }
+    ensures bound { length conversation.new.unread ≤ LARGEST_FRAME }
     ensures size { OnOk result (length out.new.items ≡ length out.old.items + data_count (shape last.now)) }
     ensures room { vec_capacity out.old ≤ vec_capacity out.new }
 {

@@ -7,23 +7,25 @@ ghost use Rattle.stk_host.specs.Calls.{HearsPiece};
 
 use crate::link::{Heard, Link, LinkFault};
 use std::marker::Model;
+use stk_frame::LARGEST_FRAME;
 
 /// The rest of a piece that was heard.
 #[derive(Drop)]
 pub struct Unread {
-    piece: [u8; 281],
+    piece: [u8; LARGEST_FRAME],
     start: usize,
     end: usize,
 }
 
 impl Model for Unread {
     ghost use Rattle.std.specs.Prelude.{List, ℕ, ◌≤◌, slice_range};
+    ghost use Rattle.stk_frame.specs.declared.protocol.TheConstants.{LARGEST_FRAME};
 
     ghost Value = { List ℕ };
 
     ghost view = { λ unread. slice_range unread.piece unread.start unread.end };
 
-    ghost invariant = { λ unread. (unread.start ≤ unread.end) × (unread.end ≤ 281) };
+    ghost invariant = { λ unread. (unread.start ≤ unread.end) × (unread.end ≤ LARGEST_FRAME) };
 }
 
 impl Unread {
@@ -32,7 +34,7 @@ impl Unread {
         ensures { result ≡ [] }
     {
         Unread {
-            piece: [0; 281],
+            piece: [0; LARGEST_FRAME],
             start: 0,
             end: 0,
         }
@@ -64,7 +66,7 @@ impl Unread {
     pub fn consume(&mut self, count: usize)
         requires { count ≤ length self.old }
         ensures left { self.new ≡ drop count self.old }
-        ensures fits { length self.new ≤ 281 }
+        ensures fits { length self.new ≤ LARGEST_FRAME }
     {
         self.start += count;
     }
@@ -74,7 +76,7 @@ impl Unread {
         requires empty { length self.old ≡ 0 }
         requires room { 0 < most }
         ensures within { length self.new ≤ most }
-        ensures fits { length self.new ≤ 281 }
+        ensures fits { length self.new ≤ LARGEST_FRAME }
         ensures ok { IfOk result (λ heard. HearsPiece heard self.new (L.talk link.old) (L.talk link.new)) }
         ensures err { OnErr result (Grows (L.talk link.old) [] (L.talk link.new)) }
         ensures counted { L.failures link.old ≤ L.failures link.new }

@@ -4,6 +4,7 @@
 ghost use Rattle.std.specs.Prelude.{◌≡◌, ◌<◌, ◌≤◌, ◌-◌, ◌^◌, ◌∷◌, [], length};
 ghost use Rattle.avr_image.specs.Image.{byte_at, filled};
 ghost use Rattle.avr_part.specs.Part.{size_of};
+ghost use Rattle.stk_frame.specs.declared.protocol.TheConstants.{LARGEST_FRAME};
 ghost use Rattle.stk_frame.specs.HostCommands as host;
 ghost use Rattle.stk_host.specs.Places as places;
 ghost use Rattle.stk_host.specs.WriteSteps.{page_step, byte_steps, write_steps};
@@ -37,7 +38,7 @@ fn program_page<L: Link>(
         result conversation.new.next conversation.new.unread }
     ensures counted { CountsLink (L.failures link.old) (L.failures link.new) result }
     ensures comes { Stays L.comes_of link.old link.new }
-    ensures bound { length conversation.new.unread ≤ 281 }
+    ensures bound { length conversation.new.unread ≤ LARGEST_FRAME }
 {
     let size = page_size(part, Mem::Flash) as usize;
     let mut page = [0; LARGEST_PAGE];
@@ -60,7 +61,7 @@ fn write_flash<L: Link>(
         (λ done. []) result conversation.new.next conversation.new.unread }
     ensures counted { CountsLink (L.failures link.old) (L.failures link.new) result }
     ensures comes { Stays L.comes_of link.old link.new }
-    ensures bound { length conversation.old.unread ≤ 281 → length conversation.new.unread ≤ 281 }
+    ensures bound { length conversation.old.unread ≤ LARGEST_FRAME → length conversation.new.unread ≤ LARGEST_FRAME }
 {
     let size = page_size(part, Mem::Flash);
     let mut next = 0;
@@ -87,7 +88,7 @@ fn program_run<L: Link>(
         result conversation.new.next conversation.new.unread }
     ensures counted { CountsLink (L.failures link.old) (L.failures link.new) result }
     ensures comes { Stays L.comes_of link.old link.new }
-    ensures bound { length conversation.new.unread ≤ 281 }
+    ensures bound { length conversation.new.unread ≤ LARGEST_FRAME }
 {
     let size = (end - start) as usize;
     let mut run = [0; LARGEST_PAGE];
@@ -110,7 +111,7 @@ fn write_eeprom<L: Link>(
         (λ done. []) result conversation.new.next conversation.new.unread }
     ensures counted { CountsLink (L.failures link.old) (L.failures link.new) result }
     ensures comes { Stays L.comes_of link.old link.new }
-    ensures bound { length conversation.old.unread ≤ 281 → length conversation.new.unread ≤ 281 }
+    ensures bound { length conversation.old.unread ≤ LARGEST_FRAME → length conversation.new.unread ≤ LARGEST_FRAME }
 {
     let size = page_size(part, Mem::Eeprom);
     let mut next = 0;
@@ -134,7 +135,7 @@ fn write_fuse<L: Link>(
         (λ done. []) result conversation.new.next conversation.new.unread }
     ensures counted { CountsLink (L.failures link.old) (L.failures link.new) result }
     ensures comes { Stays L.comes_of link.old link.new }
-    ensures bound { length conversation.old.unread ≤ 281 → length conversation.new.unread ≤ 281 }
+    ensures bound { length conversation.old.unread ≤ LARGEST_FRAME → length conversation.new.unread ≤ LARGEST_FRAME }
 {
     match byte {
         Some(value) => play_step(conversation, link, &[], &Command::program_fuse(fuse, value)),
@@ -153,7 +154,7 @@ fn write_lock<L: Link>(
         (λ done. []) result conversation.new.next conversation.new.unread }
     ensures counted { CountsLink (L.failures link.old) (L.failures link.new) result }
     ensures comes { Stays L.comes_of link.old link.new }
-    ensures bound { length conversation.old.unread ≤ 281 → length conversation.new.unread ≤ 281 }
+    ensures bound { length conversation.old.unread ≤ LARGEST_FRAME → length conversation.new.unread ≤ LARGEST_FRAME }
 {
     match byte {
         Some(value) => play_step(conversation, link, &[], &Command::program_lock(value)),
@@ -175,7 +176,7 @@ pub(crate) fn write_memory<L: Link>(
         (λ done. []) result conversation.new.next conversation.new.unread }
     ensures counted { CountsLink (L.failures link.old) (L.failures link.new) result }
     ensures comes { Stays L.comes_of link.old link.new }
-    ensures bound { length conversation.old.unread ≤ 281 → length conversation.new.unread ≤ 281 }
+    ensures bound { length conversation.old.unread ≤ LARGEST_FRAME → length conversation.new.unread ≤ LARGEST_FRAME }
 {
     match mem {
         Mem::Flash => write_flash(conversation, link, part, image),

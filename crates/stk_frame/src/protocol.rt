@@ -1,0 +1,70 @@
+//! The numbers of the protocol, by the names that AVR068 gives them, and the sizes of frames.
+//!
+//! `CMD_..` is the first byte of a command's body and of its answer, `STATUS_..` the second byte of an answer.
+#![tactic(auto)]
+
+/// The first byte of a frame.
+pub const MESSAGE_START: u8 = 0x1B;
+
+/// The last byte of a frame's header.
+pub const TOKEN: u8 = 0x0E;
+
+/// The most bytes that a body has.
+pub const LARGEST_BODY: usize = 275;
+
+/// The most bytes that a frame has: a header of five, a body, and the byte that makes the XOR of all 0.
+pub const LARGEST_FRAME: usize = 281;
+
+/// Added to an address that is loaded: asks for the part's extended address.
+pub const EXTENDED_ADDRESS: u32 = 1 << 31;
+
+pub const CMD_SIGN_ON: u8 = 0x01;
+
+pub const CMD_SET_PARAMETER: u8 = 0x02;
+
+pub const CMD_GET_PARAMETER: u8 = 0x03;
+
+pub const CMD_LOAD_ADDRESS: u8 = 0x06;
+
+pub const CMD_ENTER_PROGMODE_ISP: u8 = 0x10;
+
+pub const CMD_LEAVE_PROGMODE_ISP: u8 = 0x11;
+
+pub const CMD_CHIP_ERASE_ISP: u8 = 0x12;
+
+pub const CMD_PROGRAM_FLASH_ISP: u8 = 0x13;
+
+pub const CMD_READ_FLASH_ISP: u8 = 0x14;
+
+pub const CMD_PROGRAM_EEPROM_ISP: u8 = 0x15;
+
+pub const CMD_READ_EEPROM_ISP: u8 = 0x16;
+
+pub const CMD_PROGRAM_FUSE_ISP: u8 = 0x17;
+
+pub const CMD_READ_FUSE_ISP: u8 = 0x18;
+
+pub const CMD_PROGRAM_LOCK_ISP: u8 = 0x19;
+
+pub const CMD_READ_LOCK_ISP: u8 = 0x1A;
+
+pub const CMD_READ_SIGNATURE_ISP: u8 = 0x1B;
+
+pub const CMD_READ_OSCCAL_ISP: u8 = 0x1C;
+
+pub const CMD_SPI_MULTI: u8 = 0x1D;
+
+/// The command was done.
+pub const STATUS_CMD_OK: u8 = 0x00;
+
+/// The command was not done.
+pub const STATUS_CMD_FAILED: u8 = 0xC0;
+
+/// A frame came spoiled; it stands behind `ANSWER_CKSUM_ERROR`.
+pub const STATUS_CKSUM_ERROR: u8 = 0xC1;
+
+/// There is no such command.
+pub const STATUS_CMD_UNKNOWN: u8 = 0xC9;
+
+/// What stands in the place of the command's byte where a frame came spoiled.
+pub const ANSWER_CKSUM_ERROR: u8 = 0xB0;
