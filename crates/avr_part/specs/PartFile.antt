@@ -1,5 +1,5 @@
 -- The parts of a part file, as its TOML tree is judged.
-use Rattle.std.specs.Prelude.{◌≡◌, ◌⊎◌, ℕ, ℤ, pos, negsuc, List, [], ◌∷◌, ◌&&◌, ◌==◌, ◌%◌, Option, Some, None, Result, Ok, Err, codes, if◌then◌else◌}
+use Rattle.std.specs.Prelude.{◌≡◌, ◌⊎◌, ℕ, ℤ, pos, negsuc, List, [], ◌∷◌, ◌&&◌, ◌==◌, ◌%◌, Option, Some, None, Result, Ok, Err, ok_or, codes, if◌then◌else◌}
 use Rattle.std.specs.Int.{is_power_of_two}
 use Rattle.std.specs.Str.{is_utf8}
 use Rattle.std.specs.Global.{Vec}
@@ -29,14 +29,12 @@ abbrev pub number_in : Field → ℕ → ℕ → ℤ → Result ℕ PartFault
 number_in f least most (pos n) = if is_between least most n then Ok n else Err (BadValue f)
 number_in f least most (negsuc n) = Err (BadValue f)
 
-abbrev pub number_value : Field → ℕ → ℕ → Option ℤ → Result ℕ PartFault
-number_value f least most None = Err (BadValue f)
-number_value f least most (Some z) = number_in f least most z
-
 -- a field that is a number from `least` to `most`
 abbrev pub number_field : Field → ℕ → ℕ → Option Data → Result ℕ PartFault
-number_field f least most None = Err (Missing f)
-number_field f least most (Some d) = number_value f least most (as_integer d)
+number_field f least most d = do
+  value ← ok_or d (Missing f)
+  number ← ok_or (as_integer value) (BadValue f)
+  number_in f least most number
 
 abbrev pub power_of : Field → ℕ → Result ℕ PartFault
 power_of f n = if is_power_of_two n then Ok n else Err (BadValue f)
@@ -49,14 +47,12 @@ abbrev pub hex_value : {E : Type 0} → Result Bytes E → Result Bytes PartFaul
 hex_value (Ok bytes) = Ok bytes
 hex_value (Err e) = Err (BadValue field.Signature)
 
-abbrev pub signature_value : Option Bytes → Result Bytes PartFault
-signature_value None = Err (BadValue field.Signature)
-signature_value (Some text) = hex_value (decode_sized text 3)
-
 -- the signature's three bytes
 abbrev pub signature_field : Option Data → Result Bytes PartFault
-signature_field None = Err (Missing field.Signature)
-signature_field (Some d) = signature_value (as_str d)
+signature_field d = do
+  value ← ok_or d (Missing field.Signature)
+  text ← ok_or (as_str value) (BadValue field.Signature)
+  hex_value (decode_sized text 3)
 
 -- the sizes are whole pages
 abbrev pub fitted_part : Part → Result Part PartFault
@@ -82,17 +78,12 @@ judged_fields id ms = do
     eesave_bit = eesave_bit;
   })
 
-abbrev pub judged_with : Option Bytes → Members → Result Part PartFault
-judged_with None ms = Err (BadValue field.Id)
-judged_with (Some id) ms = judged_fields id ms
-
-abbrev pub judged_table : Bytes → Option Members → Result Part PartFault
-judged_table key None = Err (BadValue field.Parts)
-judged_table key (Some ms) = judged_with (id_of key) ms
-
 -- a member of the table of parts: a table, named by the part's id
 abbrev pub judged : Bytes → Data → Result Part PartFault
-judged key d = judged_table key (as_table d)
+judged key d = do
+  fields ← ok_or (as_table d) (BadValue field.Parts)
+  id ← ok_or (id_of key) (BadValue field.Id)
+  judged_fields id fields
 
 -- the members of the table of parts, in the byte order of their keys
 abbrev pub judged_all : Members → Result (List Part) PartFault
@@ -102,31 +93,21 @@ judged_all (member key d rest) = do
   parts ← judged_all rest
   Ok (part ∷ parts)
 
-abbrev pub judged_parts : Option Members → Result (List Part) PartFault
-judged_parts None = Err (BadValue field.Parts)
-judged_parts (Some ms) = judged_all ms
-
-abbrev pub judged_value : Option Data → Result (List Part) PartFault
-judged_value None = Err (Missing field.Parts)
-judged_value (Some d) = judged_parts (as_table d)
-
 abbrev pub judged_document : Members → Result (List Part) PartFault
-judged_document ms = judged_value (get_member (codes "parts") ms)
-
-abbrev pub judged_text : Option Members → Result (List Part) PartFault
-judged_text None = Err NotToml
-judged_text (Some ms) = judged_document ms
+judged_document ms = do
+  parts ← ok_or (get_member (codes "parts") ms) (Missing field.Parts)
+  members ← ok_or (as_table parts) (BadValue field.Parts)
+  judged_all members
 
 abbrev pub text_of : Bytes → Option Bytes
 text_of bytes = if is_utf8 bytes then Some bytes else None
 
-abbrev pub judged_bytes : Option Bytes → Result (List Part) PartFault
-judged_bytes None = Err NotToml
-judged_bytes (Some text) = judged_text (parse_document text)
-
 -- the parts that a text defines
 abbrev pub parts_of : Bytes → Result (List Part) PartFault
-parts_of bytes = judged_bytes (text_of bytes)
+parts_of bytes = do
+  text ← ok_or (text_of bytes) NotToml
+  document ← ok_or (parse_document text) NotToml
+  judged_document document
 
 -- the result is the one wanted, or memory was refused
 abbrev pub GivesOrMemory : {T : Type 0} → Result T PartFault → Result T PartFault → Type 0

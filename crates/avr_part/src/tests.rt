@@ -1,6 +1,4 @@
 //! What no contract says: texts, and that calls succeed.
-#![tactic(auto)]
-
 use crate::{Chip, Field, Mem, Part, PartFault, Parts, parse_parts};
 use std::alloc::Global;
 use std::process::Abort;
