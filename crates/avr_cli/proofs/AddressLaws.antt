@@ -4,11 +4,11 @@ use Rattle.std.proofs.lemmas.Bool.{cases_Bool}
 use Rattle.std.proofs.lemmas.List.Sums.{AllPass-from_list_all}
 use Rattle.std.specs.List.{list_all}
 use Rattle.std.specs.Char.{is_ascii_digit}
-use Rattle.avr_cli.specs.Cuts.{Bytes, colon}
+use Rattle.avr_cli.specs.Split.{Bytes, colon}
 use Rattle.avr_cli.specs.Port.{is_address, port_number, port_of}
 use Rattle.avr_cli.specs.declared.chosen.Port.TheVariants.{Network}
 use Rattle.avr_cli.proofs.UpdateLaws.{not_empty}
-use Rattle.avr_cli.proofs.CutLemmas.{HasNoColon, cut_last-parts}
+use Rattle.avr_cli.proofs.SplitLemmas.{HasNoColon, split_last-parts}
 
 digits_without_colon : (text : Bytes) → list_all is_ascii_digit text ≡ true → HasNoColon text
 digits_without_colon text all i small e =
@@ -25,5 +25,5 @@ pub address_is_cut : (host port : Bytes) (number : ℕ) → host ≢ [] → port
     → port_of (codes "net:" ++ (host ++ colon ∷ port)) ≡ Ok (Network (host ++ colon ∷ port))
 address_is_cut host port number some is =
     let no_colon = digits_without_colon port (only_digits port number is) in
-    let address : is_address (host ++ colon ∷ port) ≡ true = rw (cut_last-parts host port no_colon, not_empty host some, is) refl in
+    let address : is_address (host ++ colon ∷ port) ≡ true = rw (split_last-parts host port no_colon, not_empty host some, is) refl in
     rw address refl

@@ -1,6 +1,6 @@
 pub mod AddressLaws
 pub mod CommandLemmas
-pub mod CutLemmas
+pub mod SplitLemmas
 pub mod KeepingLemmas
 mod LineRows
 pub mod PortLemmas

@@ -1,5 +1,5 @@
 pub mod Fault
-pub mod Cuts
+pub mod Split
 pub mod Update
 pub mod Port
 pub mod Standard

@@ -5,7 +5,7 @@ use Rattle.std.specs.List.{list_all}
 use Rattle.std.specs.Char.{is_ascii_digit}
 use Rattle.std.specs.Str.{bytes_eq}
 use Rattle.std.specs.Str.Parse.{digits_value}
-use Rattle.avr_cli.specs.Cuts.{Bytes, after_front, cut_last}
+use Rattle.avr_cli.specs.Split.{Bytes, after_prefix, split_last}
 use Rattle.avr_cli.specs.declared.chosen.Port.{Port}
 use Rattle.avr_cli.specs.declared.chosen.Port.TheVariants.{Stdio, Emulated, Network, Served}
 use Rattle.avr_cli.specs.declared.chosen.SettingsFault.{SettingsFault}
@@ -23,7 +23,7 @@ is_host_and_port (Some parts) = not (length parts.0 == 0) && is_some (port_numbe
 
 -- a host that isn't empty, a colon, which is the last one, and the number of a port
 abbrev pub is_address : Bytes → Bool
-is_address text = is_host_and_port (cut_last text)
+is_address text = is_host_and_port (split_last text)
 
 -- the port of a text, by what follows `emu:` or `net:` there
 abbrev pub port_after : Bytes → Option Bytes → Option Bytes → Result Port SettingsFault
@@ -36,7 +36,7 @@ port_after text None None = Err (BadPort (Some text))
 abbrev pub port_of : Bytes → Result Port SettingsFault
 port_of text =
     if bytes_eq text (codes "stdio:") then Ok Stdio
-    else port_after text (after_front (codes "emu:") text) (after_front (codes "net:") text)
+    else port_after text (after_prefix (codes "emu:") text) (after_prefix (codes "net:") text)
 
 -- the port of `-P`
 abbrev pub port_given_of : Option Bytes → Result Port SettingsFault

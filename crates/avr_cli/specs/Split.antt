@@ -1,14 +1,14 @@
--- Texts that are cut.
+-- Texts that are split at a colon or behind a prefix.
 use Rattle.std.specs.Prelude.{◌==◌, ℕ, List, [], ◌∷◌, Option, Some, None, option_map, if◌then◌else◌}
 
 abbrev pub Bytes : Type 0
 Bytes = List ℕ
 
--- what follows this front, if the text begins with it
-abbrev pub after_front : Bytes → Bytes → Option Bytes
-after_front [] text = Some text
-after_front (p ∷ ps) [] = None
-after_front (p ∷ ps) (c ∷ cs) = if p == c then after_front ps cs else None
+-- what follows this prefix, if the text begins with it
+abbrev pub after_prefix : Bytes → Bytes → Option Bytes
+after_prefix [] text = Some text
+after_prefix (p ∷ ps) [] = None
+after_prefix (p ∷ ps) (c ∷ cs) = if p == c then after_prefix ps cs else None
 
 abbrev pub colon : ℕ
 colon = 58
@@ -17,16 +17,16 @@ abbrev pub onto_front : ℕ → Option (Bytes × Bytes) → Option (Bytes × Byt
 onto_front c = option_map (λ p. (c ∷ p.0, p.1))
 
 -- what stands before the first colon, and what follows it
-abbrev pub cut_first : Bytes → Option (Bytes × Bytes)
-cut_first [] = None
-cut_first (c ∷ cs) = if c == colon then Some ([], cs) else onto_front c (cut_first cs)
+abbrev pub split_first : Bytes → Option (Bytes × Bytes)
+split_first [] = None
+split_first (c ∷ cs) = if c == colon then Some ([], cs) else onto_front c (split_first cs)
 
 abbrev pub or_else : Option (Bytes × Bytes) → Option (Bytes × Bytes) → Option (Bytes × Bytes)
 or_else (Some p) other = Some p
 or_else None other = other
 
 -- what stands before the last colon, and what follows it
-abbrev pub cut_last : Bytes → Option (Bytes × Bytes)
-cut_last [] = None
-cut_last (c ∷ cs) =
-    or_else (onto_front c (cut_last cs)) (if c == colon then Some ([], cs) else None)
+abbrev pub split_last : Bytes → Option (Bytes × Bytes)
+split_last [] = None
+split_last (c ∷ cs) =
+    or_else (onto_front c (split_last cs)) (if c == colon then Some ([], cs) else None)

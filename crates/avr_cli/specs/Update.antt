@@ -5,7 +5,7 @@ use Rattle.std.specs.Str.{bytes_eq}
 use Rattle.avr_part.specs.Mem.{name_of, named}
 use Rattle.avr_part.specs.declared.mem.Mem.{Mem}
 use Rattle.avr_part.specs.declared.mem.Mem.TheVariants.{Flash}
-use Rattle.avr_cli.specs.Cuts.{Bytes, colon, cut_first}
+use Rattle.avr_cli.specs.Split.{Bytes, colon, split_first}
 use Rattle.avr_cli.specs.declared.update.Op.{Op}
 use Rattle.avr_cli.specs.declared.update.Op.TheVariants.{Read, Write, Verify}
 use Rattle.avr_cli.specs.declared.update.Format.{Format}
@@ -88,7 +88,7 @@ op_and_rest after (Some parts) = parts
 abbrev pub with_memory : Option Mem → Bytes → Result Update UpdateFault
 with_memory None after = Err BadMemory
 with_memory (Some memory) after =
-    let parts = op_and_rest after (cut_first after) in with_op memory (op_named parts.0) parts.1
+    let parts = op_and_rest after (split_first after) in with_op memory (op_named parts.0) parts.1
 
 -- a text without a colon is a file, written to flash in whatever format it has
 abbrev pub update_cut : Bytes → Option (Bytes × Bytes) → Result Update UpdateFault
@@ -97,7 +97,7 @@ update_cut text (Some parts) = with_memory (named parts.0) parts.1
 
 -- the update that a text asks for
 abbrev pub update_of : Bytes → Result Update UpdateFault
-update_of text = update_cut text (cut_first text)
+update_of text = update_cut text (split_first text)
 
 -- the text of an update in all four parts
 abbrev pub update_text : Mem → Op → Bytes → ℕ → Bytes

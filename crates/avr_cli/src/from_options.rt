@@ -7,8 +7,8 @@ ghost use Rattle.avr_cli.specs.Settings.{run_settings, serve_settings, no_switch
 ghost use Rattle.avr_cli.specs.Update.{update_of};
 
 use crate::chosen::{Settings, SettingsFault, Switches};
-use crate::found::{switches_of, text_of, texts_of};
-use crate::keeping::{kept, kept_option};
+use crate::options::{switches_of, text_of, texts_of};
+use crate::owned::{owned, owned_option};
 use crate::ports::{port_given, served};
 use crate::standard::check_streams;
 use crate::update::{Update, UpdateFault};
@@ -31,7 +31,7 @@ fn check_programmer(alloc: Global, given: Option<&str>) -> Result<(), SettingsFa
     if name == "stk500v2" {
         return Ok(());
     }
-    Err(SettingsFault::BadProgrammer(kept(alloc, name)?))
+    Err(SettingsFault::BadProgrammer(owned(alloc, name)?))
 }
 
 /// The update of a text; the number, from 1 on, is told where it is none.
@@ -53,9 +53,7 @@ fn read_updates(alloc: Global, texts: &[&str]) -> Result<Updates, SettingsFault>
     let mut updates = Updates::new(alloc);
     for (i, text) in texts.iter().enumerate() {
         let update = update_at(alloc, i as u8 + 1, text)?;
-        if updates.push(update).is_err() {
-            return Err(SettingsFault::Memory);
-        }
+        updates.push(update).map_err(|_| SettingsFault::Memory)?;
     }
     Ok(updates)
 }
@@ -94,8 +92,8 @@ fn run_settings(
     let updates = updates_given(alloc, texts_of(matches, "update"))?;
     let parts = text_of(matches, "parts");
     check_streams(&port, updates.as_slice(), parts, text_of(matches, "chip"))?;
-    let part = kept(alloc, part)?;
-    let parts = kept_option(alloc, parts)?;
+    let part = owned(alloc, part)?;
+    let parts = owned_option(alloc, parts)?;
     Ok(Settings {
         part,
         port,
@@ -135,8 +133,8 @@ fn serve_settings(
     let chip = text_of(matches, "chip");
     let port = served(alloc, port, chip)?;
     check_streams(&port, &[], parts, chip)?;
-    let part = kept(alloc, part)?;
-    let parts = kept_option(alloc, parts)?;
+    let part = owned(alloc, part)?;
+    let parts = owned_option(alloc, parts)?;
     Ok(Settings {
         part,
         port,
@@ -161,9 +159,7 @@ pub fn settings(alloc: Global, matches: &ArgMatches<'_>) -> Result<Settings, Set
     ensures gives { GivesOrMemory (settings_of (entries_of (rows_of (found_of matches.now)))) result }
     ensures tells { TellsAnyway (settings_of (entries_of (rows_of (found_of matches.now)))) result }
 {
-    let Some(part) = text_of(matches, "part") else {
-        return Err(SettingsFault::NoPart);
-    };
+    let part = text_of(matches, "part").ok_or(SettingsFault::NoPart)?;
     match text_of(matches, "serve") {
         Some(port) => serve_settings(alloc, part, port, matches),
         None => run_settings(alloc, part, matches),

@@ -1,6 +1,6 @@
 //! Laws of the texts of a command line, over their definitions alone.
 ghost use Rattle.std.specs.Prelude.{◌≡◌, ◌≢◌, ◌∷◌, ◌++◌, [], ℕ, Ok, Some, codes};
-ghost use Rattle.avr_cli.specs.Cuts.{Bytes, colon};
+ghost use Rattle.avr_cli.specs.Split.{Bytes, colon};
 ghost use Rattle.avr_cli.specs.Port.{port_number, port_of};
 ghost use Rattle.avr_cli.specs.Update.{format_of, update_of, update_text};
 ghost use Rattle.avr_cli.specs.declared.chosen.Port.{Port};

@@ -9,21 +9,21 @@
 
 // the words
 mod command;
-mod found;
+mod options;
 
 // what they may ask for
 mod chosen;
 mod update;
 mod updates;
 
-// texts that are kept, and cut
-mod cuts;
-mod keeping;
+// texts that are owned, and split
+mod owned;
+mod split;
 mod text;
 
 // what they ask for
+mod from_options;
 mod ports;
-mod reading;
 mod standard;
 mod update_text;
 
@@ -32,9 +32,9 @@ mod laws;
 
 pub use chosen::{Port, Settings, SettingsFault, Switches};
 pub use command::{make_command, read_words};
+pub use from_options::settings;
 pub use laws::{a_written_update_is_read, an_address_is_cut_at_its_last_colon};
 pub use ports::port_number;
-pub use reading::settings;
 pub use text::Text;
 pub use update::{Format, Op, Update, UpdateFault};
 pub use update_text::parse_update;

@@ -1,4 +1,4 @@
-//! Texts that settings keep.
+//! Texts that settings own.
 ghost use Rattle.std.specs.Prelude.{Ok, option_map};
 ghost use Rattle.avr_cli.specs.Settings.{GivesOrMemory};
 
@@ -6,22 +6,19 @@ use crate::chosen::SettingsFault;
 use crate::text::Text;
 use std::alloc::Global;
 
-/// The text, for settings to keep.
-pub fn kept(alloc: Global, text: &str) -> Result<Text, SettingsFault>
+/// The text, for settings to own.
+pub fn owned(alloc: Global, text: &str) -> Result<Text, SettingsFault>
     ensures { GivesOrMemory (Ok text.now) result }
 {
-    match Text::new(alloc, text) {
-        Ok(text) => Ok(text),
-        Err(_) => Err(SettingsFault::Memory),
-    }
+    Text::new(alloc, text).map_err(|_| SettingsFault::Memory)
 }
 
-/// The text, where there is one, for settings to keep.
-pub fn kept_option(alloc: Global, text: Option<&str>) -> Result<Option<Text>, SettingsFault>
+/// The text, where there is one, for settings to own.
+pub fn owned_option(alloc: Global, text: Option<&str>) -> Result<Option<Text>, SettingsFault>
     ensures { GivesOrMemory (Ok (option_map (λ s. s.now) text.entry)) result }
 {
     match text {
-        Some(text) => Ok(Some(kept(alloc, text)?)),
+        Some(text) => Ok(Some(owned(alloc, text)?)),
         None => Ok(None),
     }
 }

@@ -6,8 +6,8 @@ ghost use Rattle.avr_cli.specs.Port.{port_number, is_address, port_after, port_o
 ghost use Rattle.avr_cli.specs.Settings.{GivesOrMemory, TellsAnyway};
 
 use crate::chosen::{Port, SettingsFault};
-use crate::cuts::{after_front, cut_last};
-use crate::keeping::kept;
+use crate::owned::owned;
+use crate::split::{after_prefix, split_last};
 use std::alloc::Global;
 
 /// Whether each byte is a decimal digit.
@@ -41,7 +41,7 @@ pub fn port_number(text: &str) -> Option<u16>
 fn is_address(text: &str) -> bool
     ensures { result ≡ is_address text.now }
 {
-    match cut_last(text) {
+    match split_last(text) {
         Some((host, port)) => !host.is_empty() && port_number(port).is_some(),
         None => false,
     }
@@ -51,7 +51,7 @@ fn is_address(text: &str) -> bool
 fn bad_port(alloc: Global, text: &str) -> SettingsFault
     ensures { (result ≡ SettingsFault.BadPort (Some text.now)) ⊎ (result ≡ SettingsFault.Memory) }
 {
-    match kept(alloc, text) {
+    match owned(alloc, text) {
         Ok(text) => SettingsFault::BadPort(Some(text)),
         Err(fault) => fault,
     }
@@ -64,7 +64,7 @@ fn emulated(alloc: Global, text: &str, file: &str) -> Result<Port, SettingsFault
     if file.is_empty() {
         return Err(bad_port(alloc, text));
     }
-    Ok(Port::Emulated(kept(alloc, file)?))
+    Ok(Port::Emulated(owned(alloc, file)?))
 }
 
 /// The port of the address that stands behind `net:` in a text.
@@ -72,7 +72,7 @@ fn network(alloc: Global, text: &str, address: &str) -> Result<Port, SettingsFau
     ensures { GivesOrMemory (port_after text.now None (Some address.now)) result }
 {
     if is_address(address) {
-        Ok(Port::Network(kept(alloc, address)?))
+        Ok(Port::Network(owned(alloc, address)?))
     } else {
         Err(bad_port(alloc, text))
     }
@@ -85,10 +85,10 @@ fn port_of(alloc: Global, text: &str) -> Result<Port, SettingsFault>
     if text == "stdio:" {
         return Ok(Port::Stdio);
     }
-    if let Some(file) = after_front(text, "emu:") {
+    if let Some(file) = after_prefix(text, "emu:") {
         return emulated(alloc, text, file);
     }
-    match after_front(text, "net:") {
+    match after_prefix(text, "net:") {
         Some(address) => network(alloc, text, address),
         None => Err(bad_port(alloc, text)),
     }
@@ -114,10 +114,8 @@ pub fn served(alloc: Global, text: &str, chip: Option<&str>) -> Result<Port, Set
     if port_number(text).is_none() {
         return Err(bad_port(alloc, text));
     }
-    let Some(chip) = chip else {
-        return Err(SettingsFault::NoChip);
-    };
-    let port = kept(alloc, text)?;
-    let chip = kept(alloc, chip)?;
+    let chip = chip.ok_or(SettingsFault::NoChip)?;
+    let port = owned(alloc, text)?;
+    let chip = owned(alloc, chip)?;
     Ok(Port::Served { port, chip })
 }

@@ -3,7 +3,7 @@ ghost use Rattle.std.specs.Prelude.{◌≡◌, option_map};
 ghost use Rattle.avr_cli.specs.Update.{op_named, format_named, format_of, file_and_letter, GivesUpdate, update_of};
 ghost use Rattle.avr_cli.specs.Update.{update_by};
 
-use crate::cuts::cut_first;
+use crate::split::split_first;
 use crate::text::Text;
 use crate::update::{Format, Op, Update, UpdateFault};
 use avr_part::Mem;
@@ -67,18 +67,14 @@ fn update_by(
     if file.is_empty() {
         return Err(UpdateFault::NoFile);
     }
-    let Some(format) = format_of(op, letter) else {
-        return Err(UpdateFault::BadFormat);
-    };
-    match Text::new(alloc, file) {
-        Ok(file) => Ok(Update {
-            memory,
-            op,
-            format,
-            file,
-        }),
-        Err(_) => Err(UpdateFault::Memory),
-    }
+    let format = format_of(op, letter).ok_or(UpdateFault::BadFormat)?;
+    let file = Text::new(alloc, file).map_err(|_| UpdateFault::Memory)?;
+    Ok(Update {
+        memory,
+        op,
+        format,
+        file,
+    })
 }
 
 /// The update that a text asks for: `MEMORY:OP:FILE`, `MEMORY:OP:FILE:FORMAT`, or a file alone,
@@ -96,19 +92,12 @@ fn update_by(
 pub fn parse_update(alloc: Global, text: &str) -> Result<Update, UpdateFault>
     ensures { GivesUpdate (update_of text.now) result }
 {
-    let Some((name, after)) = cut_first(text) else {
+    let Some((name, after)) = split_first(text) else {
         return update_by(alloc, Mem::Flash, Op::Write, text, None);
     };
-    let Some(memory) = Mem::named(name) else {
-        return Err(UpdateFault::BadMemory);
-    };
-    let (name, rest) = match cut_first(after) {
-        Some(parts) => parts,
-        None => (after, ""),
-    };
-    let Some(op) = op_named(name) else {
-        return Err(UpdateFault::BadOp);
-    };
+    let memory = Mem::named(name).ok_or(UpdateFault::BadMemory)?;
+    let (name, rest) = split_first(after).unwrap_or((after, ""));
+    let op = op_named(name).ok_or(UpdateFault::BadOp)?;
     let (file, letter) = file_and_letter(rest);
     update_by(alloc, memory, op, file, letter)
 }

@@ -2,11 +2,11 @@ use Rattle.std.proofs.Common.{subst, Option, Ok, Err}
 use Rattle.std.proofs.lemmas.Result.{err_from_is_err_and}
 use Rattle.clap.specs.Words.{found_of, rows_of}
 use Rattle.avr_cli.specs.Command.{entries_of}
-use Rattle.avr_cli.specs.Cuts.{Bytes}
+use Rattle.avr_cli.specs.Split.{Bytes}
 use Rattle.avr_cli.specs.Port.{port_given_of}
 use Rattle.avr_cli.specs.Settings.{GivesOrMemory, TellsAnyway}
 use Rattle.avr_cli.proofs.KeepingLemmas.{nothing_behind_port, port_is_told}
-use Rattle.avr_cli.proofs.reading.run_settings.Goals as goal
+use Rattle.avr_cli.proofs.from_options.run_settings.Goals as goal
 
 pub returns-in_err-port-clause-tells : goal.returns-in_err-port-clause-tells
 returns-in_err-port-clause-tells c = λ told.
