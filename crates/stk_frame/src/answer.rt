@@ -1,6 +1,4 @@
 //! Answers, as they are judged.
-#![tactic(auto)]
-
 ghost use Rattle.std.specs.Prelude.{◌≡◌, ◌<◌, ◌≤◌, length, MatchResult, IfOk, Ok, Err};
 ghost use Rattle.stk_frame.specs.Commands.{judge, shape, data_of, SizedBy};
 ghost use Rattle.stk_frame.specs.Faults.{number_of};

@@ -1,6 +1,4 @@
 //! Commands of the programmer.
-#![tactic(auto)]
-
 ghost use Rattle.std.specs.Prelude.{◌≡◌};
 ghost use Rattle.stk_frame.specs.Commands.{code};
 

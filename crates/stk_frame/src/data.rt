@@ -1,6 +1,4 @@
 //! The data that a command carries.
-#![tactic(auto)]
-
 ghost use Rattle.std.specs.Prelude.{◌≡◌};
 
 use std::marker::Model;

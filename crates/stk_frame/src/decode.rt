@@ -1,6 +1,4 @@
 //! Commands, from their bodies.
-#![tactic(auto)]
-
 ghost use Rattle.std.specs.Prelude.{◌≡◌, ◌↔◌, Some, IfSome};
 ghost use Rattle.stk_frame.specs.Commands.{body};
 ghost use Rattle.stk_frame.specs.Decoding.{Fits, command_of, with_fields, sign_on, set_parameter, get_parameter, load_address, enter_progmode, leave_progmode, chip_erase, program_block, read_block, instruction, read_byte, spi_multi};

@@ -1,6 +1,4 @@
 //! The bodies of commands, and the frames that carry them.
-#![tactic(auto)]
-
 ghost use Rattle.std.specs.Prelude.{◌≡◌, ◌+◌, ◌<◌, ◌≤◌, ◌++◌, length};
 ghost use Rattle.byteorder.specs.Endian.{big_bytes};
 ghost use Rattle.stk_frame.specs.Frame.{frame};

@@ -1,6 +1,4 @@
 //! Frames, as they are sent.
-#![tactic(auto)]
-
 ghost use Rattle.std.specs.Prelude.{◌≡◌, ◌<◌, ◌≤◌, length};
 ghost use Rattle.stk_frame.specs.Frame.{frame, xor_all, header, sealed};
 

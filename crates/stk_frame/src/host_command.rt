@@ -1,6 +1,4 @@
 //! The commands that a host sends, with its constants.
-#![tactic(auto)]
-
 ghost use Rattle.std.specs.Prelude.{◌≡◌, ◌≤◌, ◌∷◌, [], ◌++◌, length};
 ghost use Rattle.byteorder.specs.Endian.{big_bytes};
 ghost use Rattle.stk_frame.specs.Commands.{body};

@@ -1,8 +1,6 @@
 //! The numbers of the protocol, by the names that AVR068 gives them, and the sizes of frames.
 //!
 //! `CMD_..` is the first byte of a command's body and of its answer, `STATUS_..` the second byte of an answer.
-#![tactic(auto)]
-
 /// The first byte of a frame.
 pub const MESSAGE_START: u8 = 0x1B;
 

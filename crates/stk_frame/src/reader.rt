@@ -1,6 +1,4 @@
 //! A reader of frames from bytes in pieces.
-#![tactic(auto)]
-
 ghost use Rattle.std.specs.Prelude.{List, ℕ, ◌≡◌, [], ◌++◌, ◌<◌, ◌≤◌, length, take, true, false, MatchOption};
 ghost use Rattle.stk_frame.specs.Cut.{piece_size, is_header, body_size, seq_of, body_of};
 ghost use Rattle.stk_frame.specs.Reader.{Fed, HoldsFrame, IsHeld, Serves, found, Tells};

@@ -1,6 +1,4 @@
 //! Frames of a whole session with an ATmega328P, and what no clause says.
-#![tactic(auto)]
-
 use super::*;
 use arrayvec::ArrayVec;
 use std::test::Fail;

@@ -61,29 +61,6 @@ plays_lifted {E = E} {dialog = dialog} {m = m} {u = u} {talk = talk} {events = e
   in_turn = turns_lifted E dialog m u talk f.in_turn;
 }
 
-begun_raised : {E : Type 0} (SaidPart : E → E → Type 0) (begun later : List (Event ⊥)) → IsBegun NoPart begun later → IsBegun SaidPart (raised begun) (raised later)
-begun_raised SaidPart [] later part = tt
-begun_raised SaidPart (Said e ∷ begun) later part = absurd e
-begun_raised SaidPart (Frame x ∷ []) [] part = absurd part
-begun_raised SaidPart (Frame x ∷ []) (Frame y ∷ later) part = part
-begun_raised SaidPart (Frame x ∷ []) (Said e ∷ later) part = absurd e
-begun_raised SaidPart (Frame x ∷ e ∷ begun) later part = absurd part
-
-pub breaks_lifted : {E R : Type 0} (SaidPart : E → E → Type 0) {dialog : Dialog ⊥ R} {m : ℕ} {u : List ℕ} {talk : Talk} {shown : List (Event ⊥)}
-    → Breaks NoPart dialog m u talk shown → Breaks SaidPart (lifted dialog) m u talk (raised shown)
-breaks_lifted {E = E} SaidPart {dialog = dialog} {m = m} {u = u} {talk = talk} {shown = shown} f = record {
-  front = record {
-    whole = raised f.front.whole;
-    begun = raised f.front.begun;
-    later = raised f.front.later;
-    shown_is = ap raised f.front.shown_is ∙ raised_append f.front.whole f.front.begun;
-    events_are = ap (λ p. p.events) (played_lifted {E = E} dialog m (on_tape u ++ heard talk)) ∙ (ap raised f.front.events_are ∙ raised_append f.front.whole f.front.later);
-    part = begun_raised SaidPart f.front.begun f.front.later f.front.part;
-  };
-  all_sent = bytes_raised E shown ∙ f.all_sent;
-  in_turn = turns_lifted E dialog m u talk f.in_turn;
-}
-
 pub by_lifted : {R : Type 0} (E : Type 0) (by : Broken) (dialog : Dialog ⊥ R) (m : ℕ) (u : List ℕ) (talk : Talk) (shown : List (Event ⊥))
     → BreaksBy by dialog m u talk shown → BreaksBy {E = E} by (lifted dialog) m u talk (raised shown)
 by_lifted E broken.Send dialog m u talk shown f = record {

@@ -3,8 +3,8 @@ use Rattle.std.proofs.Common.{◌≡◌, ℕ, ◌+◌, ◌<◌, ◌≤◌, List,
 use Rattle.std.proofs.lemmas.List.{append-nil, length-map}
 use Rattle.stk_frame.specs.declared.reader.Event.{Event}
 use Rattle.stk_frame.specs.declared.reader.Event.TheVariants as event
-use Rattle.stk_frame.specs.Cut.{rest, body_of}
-use Rattle.stk_frame.specs.Reader.{Fed, HoldsFrame, found}
+use Rattle.stk_frame.specs.Cut.{cut, rest, body_of}
+use Rattle.stk_frame.specs.Reader.{Fed, HoldsFrame, Stands, found}
 use Rattle.stk_frame.proofs.Feeding.{rest_whole}
 use Rattle.stk_host.specs.declared.link.Heard.{Heard}
 use Rattle.stk_host.specs.declared.link.Heard.TheVariants as heard
@@ -12,10 +12,24 @@ use Rattle.stk_host.specs.declared.link.Item.{Item}
 use Rattle.stk_host.specs.declared.link.Item.TheVariants.{Byte, Silence, End}
 use Rattle.stk_host.specs.Tape.{Tape, Reading, on_tape, answer, first_answer, is_answer, limit, Answered, Silent, Ended, Babbled}
 use Rattle.stk_host.specs.Talk.{Talk, Got, heard as heard_in, Grows}
-use Rattle.stk_host.specs.Reach.{WaitsFrom, Listening, Hears, HearsNone}
+use Rattle.stk_host.specs.Reach.{WaitsFrom, Hears, HearsNone}
 use Rattle.stk_host.specs.Calls.{HearsPiece}
 use Rattle.stk_host.proofs.Tapes.{on_tape_append, answer_silent, answer_ended, answer_waits, answer_babbled, answer_found, still_none, now_found}
 use Rattle.stk_host.proofs.Talks.{heard_append, heard_both, grows_none, grows_on, waits_append}
+
+-- An answer is listened for: so many bytes of a text were read, no answer is in them, a reader holds what is left of
+-- them, and behind them come the bytes that are still unread.
+pub record Listening (seq : ℕ) (unread : List ℕ) (old : Option Talk) (held : List ℕ) (count : ℕ) (left : List ℕ)
+    (new : Option Talk) : Type 0 where
+  pub text : List ℕ
+  pub stands : Stands held text
+  pub counted : length text ≡ count
+  pub few : count + length left ≤ limit
+  pub no_answer : first_answer seq (cut text) ≡ None
+  pub during : Talk
+  pub grows : Grows old during new
+  pub waits : WaitsFrom seq (on_tape unread) during
+  pub all_heard : on_tape unread ++ heard_in during ≡ on_tape (text ++ left)
 
 pub begins : (seq : ℕ) (u : List ℕ) (o : Option Talk) → length u ≤ limit → Listening seq u o [] 0 u o
 begins seq u o few = record {

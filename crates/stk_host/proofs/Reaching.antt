@@ -3,10 +3,10 @@ use Rattle.std.proofs.Common.{ℕ, List, [], ◌++◌, Option}
 use Rattle.stk_host.specs.declared.fault.Broken.{Broken}
 use Rattle.stk_host.specs.Talk.{Talk}
 use Rattle.stk_host.specs.Dialog.{Dialog, Done, ◌>>=◌}
-use Rattle.stk_host.specs.Play.{PlaysOver, FailsOver, BreaksOver, NoPart}
+use Rattle.stk_host.specs.Play.{PlaysOver, FailsOver}
 use Rattle.stk_host.specs.Reach.{Reaches}
 use Rattle.stk_host.proofs.Talks.{grows_none, grows_on}
-use Rattle.stk_host.proofs.Leading.{leads_here, leads_on, leads_bind, leads_from, plays_from, by_on, by_bind, by_any}
+use Rattle.stk_host.proofs.Leading.{leads_here, leads_on, leads_bind, leads_from, plays_from, by_on, by_bind}
 
 pub reaches_here : {R : Type 0} (dialog : Dialog ⊥ R) (seq : ℕ) (u : List ℕ) (o : Option Talk) → Reaches dialog seq u o dialog seq u o
 reaches_here dialog seq u o = record { during = []; events = []; grows = grows_none o; leads = leads_here dialog seq u }
@@ -39,9 +39,6 @@ broken_on {by = by} {o = o} {p = p} {q = q} f g = record {
 
 pub broken_bind : {A B : Type 0} {by : Broken} {a : Dialog ⊥ A} {m : ℕ} {u : List ℕ} {o p : Option Talk} (go_on : A → Dialog ⊥ B) → FailsOver by a m u o p → FailsOver by (a >>= go_on) m u o p
 broken_bind {by = by} {a = a} {m = m} {u = u} go_on f = record { during = f.during; shown = f.shown; grows = f.grows; breaks = by_bind by a m u f.during f.shown go_on f.breaks }
-
-pub broken_any : {R : Type 0} {by : Broken} {a : Dialog ⊥ R} {m : ℕ} {u : List ℕ} {o p : Option Talk} → FailsOver by a m u o p → BreaksOver a m u o p
-broken_any {by = by} {a = a} {m = m} {u = u} f = record { during = f.during; shown = f.shown; grows = f.grows; breaks = by_any NoPart by a m u f.during f.shown f.breaks }
 
 -- a dialog played, and what follows it
 pub then_reaches : {A B : Type 0} {a : Dialog ⊥ A} {m n : ℕ} {u v : List ℕ} {o p : Option Talk} {result : A} (go_on : A → Dialog ⊥ B) → PlaysOver a m u o p result n v → Reaches (a >>= go_on) m u o (go_on result) n v p

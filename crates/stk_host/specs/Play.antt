@@ -109,11 +109,3 @@ pub record FailsOver {R : Type 0} (broken : Broken) (dialog : Dialog ⊥ R) (seq
   pub shown : List (Event ⊥)
   pub grows : Grows old during new
   pub breaks : BreaksBy broken dialog seq unread during shown
-
--- a call that broke off, at whatever it was
-pub record BreaksOver {R : Type 0} (dialog : Dialog ⊥ R) (seq : ℕ) (unread : List ℕ)
-    (old new : Option Talk) : Type 0 where
-  pub during : Talk
-  pub shown : List (Event ⊥)
-  pub grows : Grows old during new
-  pub breaks : Breaks NoPart dialog seq unread during shown

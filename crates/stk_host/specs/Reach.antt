@@ -1,9 +1,7 @@
 -- How far a call has come in a dialog. (For contracts below a host's calls, and of who sends and listens without a
 -- host.)
 use Rattle.std.specs.Prelude.{ℕ, List, [], ◌∷◌, ◌++◌, ◌+◌, ◌≡◌, ◌<◌, ◌≤◌, length, Option, Some, None}
-use Rattle.stk_frame.specs.Cut.{cut}
-use Rattle.stk_frame.specs.Reader.{Stands}
-use Rattle.stk_host.specs.Tape.{Tape, Reading, on_tape, answer, first_answer, limit}
+use Rattle.stk_host.specs.Tape.{Tape, Reading, on_tape, answer, limit}
 use Rattle.stk_host.specs.Talk.{Talk, Sent, Got, sent, heard, Grows}
 use Rattle.stk_host.specs.Dialog.{Dialog, Event, played, behind, bytes_sent}
 use Rattle.stk_host.specs.Play.{InTurn}
@@ -68,17 +66,3 @@ pub record HearsNone (seq : ℕ) (unread : List ℕ) (old new : Option Talk) : T
   pub waits : WaitsFrom seq (on_tape unread) during
   pub few : length unread + length (heard during) ≤ limit
   pub no_answer : answer seq (on_tape unread ++ heard during) ≡ None
-
--- An answer is listened for: so many bytes of a text were read, no answer is in them, a reader holds what is left of
--- them, and behind them come the bytes that are still unread.
-pub record Listening (seq : ℕ) (unread : List ℕ) (old : Option Talk) (held : List ℕ) (count : ℕ) (left : List ℕ)
-    (new : Option Talk) : Type 0 where
-  pub text : List ℕ
-  pub stands : Stands held text
-  pub counted : length text ≡ count
-  pub few : count + length left ≤ limit
-  pub no_answer : first_answer seq (cut text) ≡ None
-  pub during : Talk
-  pub grows : Grows old during new
-  pub waits : WaitsFrom seq (on_tape unread) during
-  pub all_heard : on_tape unread ++ heard during ≡ on_tape (text ++ left)

@@ -1,6 +1,4 @@
 //! Commands and their answers, attempts and steps.
-#![tactic(auto)]
-
 ghost use Rattle.std.specs.Prelude.{◌≡◌, ◌<◌, ◌≤◌, ◌++◌, ◌∷◌, [], length, IfOk, IfErr, IsOkAnd, OnOk, OnErr, All};
 ghost use Rattle.stk_frame.specs.declared.protocol.TheConstants.{LARGEST_FRAME};
 ghost use Rattle.stk_frame.specs.Frame.{frame};

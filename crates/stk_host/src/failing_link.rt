@@ -1,6 +1,4 @@
 //! A link that fails once, at a call that is chosen: for tests of what stands on links.
-#![tactic(auto)]
-
 ghost use Rattle.std.specs.Prelude.{◌≡◌, ◌==◌, ◌≢◌, ◌<◌, ◌≤◌, ◌+◌, ◌-◌, ◌^◌, ◌∷◌, [], ℕ, length, take, min, Err, IfOk, OnOk, OnErr};
 ghost use Rattle.stk_host.specs.declared.link.LinkFault.TheVariants.{Failed};
 ghost use Rattle.stk_host.specs.Links.{total_failures};

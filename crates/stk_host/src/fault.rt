@@ -1,6 +1,4 @@
 //! Why a host could not do what was asked.
-#![tactic(auto)]
-
 ghost use Rattle.std.specs.Prelude.{◌≡◌};
 ghost use Rattle.stk_host.specs.Calls.{fault_number};
 

@@ -1,6 +1,4 @@
 //! The host: operations over a link, and the fault after which it says nothing more.
-#![tactic(auto)]
-
 ghost use Rattle.std.specs.Prelude.{◌≡◌, ◌<◌, ◌≤◌, ◌^◌, [], length, Some, None, Err, OnOk, OnErr};
 ghost use Rattle.avr_part.specs.Part.{size_of};
 ghost use Rattle.stk_frame.specs.declared.protocol.TheConstants.{LARGEST_FRAME};
@@ -93,23 +91,18 @@ fn judge_signature(
 ) -> Result<[u8; 3], HostFault>
     ensures { result ≡ opened wanted force begun }
 {
-    match begun {
-        Ok(found) => if force || found == wanted {
-            Ok(found)
-        } else {
-            Err(HostFault::WrongSignature(found))
-        },
-        Err(stop) => Err(fault_of(stop)),
+    let found = begun.map_err(fault_of)?;
+    if force || found == wanted {
+        Ok(found)
+    } else {
+        Err(HostFault::WrongSignature(found))
     }
 }
 
 fn judge_end(ended: Result<(), Stop>) -> Result<(), HostFault>
     ensures { result ≡ closed ended }
 {
-    match ended {
-        Ok(()) => Ok(()),
-        Err(stop) => Err(fault_of(stop)),
-    }
+    ended.map_err(fault_of)
 }
 
 /// Keeps what was read, or nothing after a fault.
@@ -131,10 +124,8 @@ fn judge_comparison(
     requires { OnOk taken (length image.now ≤ length found.now) }
     ensures { result ≡ verified mem image.now found.now taken }
 {
-    match taken {
-        Ok(()) => compare(mem, image, found),
-        Err(stop) => Err(fault_of(stop)),
-    }
+    taken.map_err(fault_of)?;
+    compare(mem, image, found)
 }
 
 /// The fault that a call leaves for all later ones.

@@ -1,6 +1,4 @@
 //! Laws of the operations, and no code.
-#![tactic(auto)]
-
 ghost use Rattle.std.specs.Prelude.{ℕ, Bool, List, Option};
 ghost use Rattle.avr_part.specs.declared.mem.Mem.{Mem};
 ghost use Rattle.avr_part.specs.Part.{Part};

@@ -1,6 +1,4 @@
 //! The line between the host and a programmer.
-#![tactic(auto)]
-
 ghost use Rattle.std.specs.Prelude.{◌≡◌, ◌<◌, ◌≤◌, ℕ, length, take, [], ◌∷◌, ◌++◌, Option, IfOk, OnOk, OnErr};
 ghost use Rattle.stk_host.specs.Talk.{Talk, Sent, Got, Grows, HasFailed, Stays, FitsBuffer, items_of};
 

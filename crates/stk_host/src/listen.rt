@@ -1,6 +1,4 @@
 //! Listening for an answer.
-#![tactic(auto)]
-
 ghost use Rattle.std.specs.Prelude.{◌≡◌, ◌<◌, ◌≤◌, ◌++◌, ℕ, List, length, IfOk, OnOk, OnErr, true, false, None};
 ghost use Rattle.stk_frame.specs.declared.protocol.TheConstants.{LARGEST_FRAME};
 ghost use Rattle.stk_frame.specs.Reader.{Fed, found, Tells, HoldsFrame};

@@ -1,6 +1,4 @@
 //! A talk that is kept.
-#![tactic(auto)]
-
 ghost use Rattle.std.specs.Prelude.{◌≡◌, ◌<◌, ◌≤◌, ◌++◌, ◌∷◌, [], length, OnOk, OnErr};
 ghost use Rattle.stk_host.specs.declared.link.Item.TheVariants as item;
 ghost use Rattle.stk_host.specs.Tape.{on_tape};

@@ -1,6 +1,4 @@
 //! Worked operations: what a host sends to write, read and verify the memories of an ATmega328P.
-#![tactic(auto)]
-
 ghost use Rattle.std.specs.Prelude.{◌≡◌, length, IfOk};
 ghost use Rattle.avr_part.specs.Part.{size_of};
 

@@ -1,6 +1,4 @@
 //! Places of a memory, and the commands that load their addresses.
-#![tactic(auto)]
-
 ghost use Rattle.std.specs.Prelude.{◌≡◌, ◌<◌, ◌≤◌, ◌^◌};
 ghost use Rattle.avr_part.specs.Part.{page_of, IsPart};
 ghost use Rattle.stk_host.specs.Places.{flash_address, load_flash, load_eeprom};

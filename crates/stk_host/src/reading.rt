@@ -1,6 +1,4 @@
 //! The steps that read a whole memory.
-#![tactic(auto)]
-
 ghost use Rattle.std.specs.Prelude.{◌≡◌, ◌+◌, ◌<◌, ◌≤◌, ◌^◌, ◌∷◌, [], length, OnOk, vec_capacity};
 ghost use Rattle.avr_part.specs.Part as parts;
 ghost use Rattle.stk_frame.specs.declared.protocol.TheConstants.{LARGEST_FRAME};

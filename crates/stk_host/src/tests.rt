@@ -1,6 +1,4 @@
 //! Worked sessions: the frames are those of the STK500 protocol, version 2 (AVR068), for an ATmega328P.
-#![tactic(auto)]
-
 use crate::{FailingLink, Heard, Host, HostFault, Item, Link, LinkFault, StreamLink, TapeLink};
 use avr_part::{PartFault, Parts};
 use std::alloc::{AllocError, Global};

@@ -1,6 +1,4 @@
 //! The bytes that were heard and not read yet.
-#![tactic(auto)]
-
 ghost use Rattle.std.specs.Prelude.{◌≡◌, ◌<◌, ◌≤◌, ◌↔◌, IsTrue, ℕ, length, take, drop, [], ◌∷◌, ◌++◌, IfOk, OnOk, OnErr};
 ghost use Rattle.stk_host.specs.Talk.{Grows, HasFailed, Stays};
 ghost use Rattle.stk_host.specs.Calls.{HearsPiece};

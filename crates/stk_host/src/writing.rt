@@ -1,6 +1,4 @@
 //! The steps that write an image to a memory.
-#![tactic(auto)]
-
 ghost use Rattle.std.specs.Prelude.{◌≡◌, ◌<◌, ◌≤◌, ◌-◌, ◌^◌, ◌∷◌, [], length};
 ghost use Rattle.avr_image.specs.Image.{byte_at, filled};
 ghost use Rattle.avr_part.specs.Part.{size_of};
