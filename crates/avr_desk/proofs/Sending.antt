@@ -50,11 +50,6 @@ sent_on s old now new bytes m n first then =
     ∙ after_sent-after_sent s old (take m bytes) (take n (drop m bytes))
     ∙ ap (λ (b : Bytes). option_map (after_sent s b) old) (sym (take-add m n bytes))
 
--- a front of the bytes is sent, and the next call faults
-pub sent_part : (s : Stream) (old now new : Option Record) (bytes : Bytes) (m : ℕ) → m ≤ length bytes → now ≡ option_map (after_sent s (take m bytes)) old
-    → new ≡ option_map (after_sent s []) now → SendsPart s old new bytes
-sent_part s old now new bytes m within first then = (m, within, then ∙ sym (sent_none s now) ∙ first)
-
 -- the first m bytes are sent, and of the others a front
 pub sent_on_part : (s : Stream) (old now new : Option Record) (bytes : Bytes) (m : ℕ) → m ≤ length bytes → now ≡ option_map (after_sent s (take m bytes)) old
     → SendsPart s now new (take (length bytes - m) (drop m bytes)) → SendsPart s old new bytes

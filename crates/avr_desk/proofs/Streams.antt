@@ -24,8 +24,3 @@ kept_nothing None b c n bytes p e q = tt
 kept_nothing (Some x) None c n bytes p e q = absurd p
 kept_nothing (Some x) (Some y) None n bytes p e q = absurd q
 kept_nothing (Some x) (Some y) (Some z) n bytes p e q = q ∙ ap (λ m. y ++ take m bytes) e ∙ append-nil y ∙ p
-
-pub wrote_none : (a b : Option Bytes) (bytes : Bytes) → Keeps a b → AppendsFront a b bytes
-wrote_none None b bytes p = ([], (bytes, refl), tt)
-wrote_none (Some x) None bytes p = absurd p
-wrote_none (Some x) (Some y) bytes p = ([], (bytes, refl), p ∙ sym (append-nil x))
