@@ -6,7 +6,7 @@ use Rattle.stk_host.specs.declared.fault.Broken.TheVariants as broken
 use Rattle.stk_host.specs.Tape.{Tape, on_tape, answer}
 use Rattle.stk_host.specs.Talk.{Talk, heard}
 use Rattle.stk_host.specs.Dialog.{Dialog, Done, Say, Ask, lifted, Event, Frame, Said, Played, played, behind, by_answer, next, bytes_sent, sayings}
-use Rattle.stk_host.specs.Play.{IsDue, InTurn, Plays, Breaks, BreaksBy, IsBegun, NoPart}
+use Rattle.stk_host.specs.Play.{IsDue, InTurn, Plays, BreaksBy}
 use Rattle.stk_host.proofs.Leading.{turns_behind}
 
 -- events among which nothing is said
