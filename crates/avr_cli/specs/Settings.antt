@@ -37,13 +37,13 @@ keeps_nothing (BadPort None) = true
 keeps_nothing NoChip = true
 keeps_nothing fault = false
 
-abbrev pub is_told : {T : Type 0} → Result T SettingsFault → Bool
-is_told (Ok value) = false
-is_told (Err fault) = keeps_nothing fault
+abbrev pub is_told_anyway : {T : Type 0} → Result T SettingsFault → Bool
+is_told_anyway (Ok value) = false
+is_told_anyway (Err fault) = keeps_nothing fault
 
 -- such a fault is told even where memory is refused
 abbrev pub TellsAnyway : {T : Type 0} → Result T SettingsFault → Result T SettingsFault → Type 0
-TellsAnyway want got = is_told want ≡ true → got ≡ want
+TellsAnyway want got = is_told_anyway want ≡ true → got ≡ want
 
 infixl 10 ◌>>=◌
 abbrev pub ◌>>=◌ : {A B : Type 0} → Result A SettingsFault → (A → Result B SettingsFault) → Result B SettingsFault

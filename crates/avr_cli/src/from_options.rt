@@ -127,7 +127,8 @@ fn serve_settings(
 ) -> Result<Settings, SettingsFault>
     ensures gives { GivesOrMemory (serve_settings part.now port.now (entries_of (rows_of (found_of matches.now))))
         result }
-    ensures tells { TellsAnyway (serve_settings part.now port.now (entries_of (rows_of (found_of matches.now)))) result }
+    ensures tells { TellsAnyway (serve_settings part.now port.now (entries_of (rows_of (found_of matches.now))))
+        result }
 {
     let parts = text_of(matches, "parts");
     let chip = text_of(matches, "chip");

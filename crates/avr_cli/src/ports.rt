@@ -109,7 +109,8 @@ pub fn port_given(alloc: Global, text: Option<&str>) -> Result<Port, SettingsFau
 pub fn served(alloc: Global, text: &str, chip: Option<&str>) -> Result<Port, SettingsFault>
     ensures gives { GivesOrMemory (served_at text.now (port_number text.now) (option_map (λ s. s.now) chip.entry))
         result }
-    ensures tells { TellsAnyway (served_at text.now (port_number text.now) (option_map (λ s. s.now) chip.entry)) result }
+    ensures tells { TellsAnyway (served_at text.now (port_number text.now) (option_map (λ s. s.now) chip.entry))
+        result }
 {
     if port_number(text).is_none() {
         return Err(bad_port(alloc, text));

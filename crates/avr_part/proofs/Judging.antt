@@ -6,7 +6,7 @@ use Rattle.std.proofs.lemmas.Str.{is_utf8-from_IsUtf8, IsUtf8-from_is_utf8}
 use Rattle.toml.specs.View.{view, members_view}
 use Rattle.toml.specs.declared.value.Value.{Value}
 use Rattle.avr_part.specs.Part.{Part}
-use Rattle.avr_part.specs.PartFile.{Bytes, ◌>>=◌, judged, judged_all, text_of}
+use Rattle.avr_part.specs.PartFile.{Bytes, ◌>>=◌, part_of, parts_in, utf8_text}
 use Rattle.avr_part.specs.declared.fault.PartFault.{PartFault}
 
 -- these parts, and then those of the result
@@ -20,17 +20,17 @@ onto-next ps p (Err e) = refl
 
 -- one more member is judged
 pub judged_next : (all : Result (List Part) PartFault) (ps : List Part) (left next : List (String Global × Value)) (k : String Global) (v : Value) (p : Part)
-    → left ≡ (k, v) ∷ next → all ≡ onto ps (judged_all (members_view left)) → Ok p ≡ judged (string_bytes k) (view v)
-    → all ≡ onto (ps ++ p ∷ []) (judged_all (members_view next))
+    → left ≡ (k, v) ∷ next → all ≡ onto ps (parts_in (members_view left)) → Ok p ≡ part_of (string_bytes k) (view v)
+    → all ≡ onto (ps ++ p ∷ []) (parts_in (members_view next))
 judged_next all ps left next k v p split so_far is =
     so_far
-    ∙ ap (λ (es : List (String Global × Value)). onto ps (judged_all (members_view es))) split
-    ∙ ap (λ (r : Result Part PartFault). onto ps (r >>= (λ part. judged_all (members_view next) >>= (λ parts. Ok (part ∷ parts))))) (sym is)
-    ∙ onto-next ps p (judged_all (members_view next))
+    ∙ ap (λ (es : List (String Global × Value)). onto ps (parts_in (members_view es))) split
+    ∙ ap (λ (r : Result Part PartFault). onto ps (r >>= (λ part. parts_in (members_view next) >>= (λ parts. Ok (part ∷ parts))))) (sym is)
+    ∙ onto-next ps p (parts_in (members_view next))
 
 -- bytes that are text, and bytes that are none
-pub text_of-text : (bytes : Bytes) → IsUtf8 bytes → text_of bytes ≡ Some bytes
-text_of-text bytes h = rw (is_utf8-from_IsUtf8 bytes h)
+pub utf8_text-text : (bytes : Bytes) → IsUtf8 bytes → utf8_text bytes ≡ Some bytes
+utf8_text-text bytes h = rw (is_utf8-from_IsUtf8 bytes h)
 
-pub text_of-other : (bytes : Bytes) → (IsUtf8 bytes → ⊥) → text_of bytes ≡ None
-text_of-other bytes h = rw (false_from_ne_true (is_utf8 bytes) (λ e. h (IsUtf8-from_is_utf8 bytes e)))
+pub utf8_text-other : (bytes : Bytes) → (IsUtf8 bytes → ⊥) → utf8_text bytes ≡ None
+utf8_text-other bytes h = rw (false_from_ne_true (is_utf8 bytes) (λ e. h (IsUtf8-from_is_utf8 bytes e)))

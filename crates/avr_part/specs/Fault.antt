@@ -15,11 +15,11 @@ field_name field.EepromSize = codes "eeprom_size"
 field_name field.EepromPage = codes "eeprom_page"
 field_name field.EesaveBit = codes "eesave_bit"
 
-abbrev pub fault_number : PartFault → ℕ
-fault_number NotToml = 1
-fault_number (Missing field) = 2
-fault_number (BadValue field) = 3
-fault_number BadSizes = 4
-fault_number NoSuchPart = 5
-fault_number (BadChipFile length) = 6
-fault_number Memory = 7
+abbrev pub part_fault_number : PartFault → ℕ
+part_fault_number NotToml = 1
+part_fault_number (Missing field) = 2
+part_fault_number (BadValue field) = 3
+part_fault_number BadSizes = 4
+part_fault_number NoSuchPart = 5
+part_fault_number (BadChipFile length) = 6
+part_fault_number Memory = 7

@@ -60,8 +60,8 @@ fitted_part p =
     if p.flash_size % p.flash_page == 0 && p.eeprom_size % p.eeprom_page == 0 then Ok p else Err BadSizes
 
 -- the fields of a part, in their order
-abbrev pub judged_fields : Bytes → Members → Result Part PartFault
-judged_fields id ms = do
+abbrev pub part_with : Bytes → Members → Result Part PartFault
+part_with id ms = do
   signature ← signature_field (get_member (codes "signature") ms)
   flash_size ← number_field field.FlashSize 2 262144 (get_member (codes "flash_size") ms)
   flash_page ← page_field field.FlashPage 2 (get_member (codes "flash_page") ms)
@@ -79,35 +79,35 @@ judged_fields id ms = do
   })
 
 -- a member of the table of parts: a table, named by the part's id
-abbrev pub judged : Bytes → Data → Result Part PartFault
-judged key d = do
+abbrev pub part_of : Bytes → Data → Result Part PartFault
+part_of key d = do
   fields ← ok_or (as_table d) (BadValue field.Parts)
   id ← ok_or (id_of key) (BadValue field.Id)
-  judged_fields id fields
+  part_with id fields
 
 -- the members of the table of parts, in the byte order of their keys
-abbrev pub judged_all : Members → Result (List Part) PartFault
-judged_all no_members = Ok []
-judged_all (member key d rest) = do
-  part ← judged key d
-  parts ← judged_all rest
+abbrev pub parts_in : Members → Result (List Part) PartFault
+parts_in no_members = Ok []
+parts_in (member key d rest) = do
+  part ← part_of key d
+  parts ← parts_in rest
   Ok (part ∷ parts)
 
-abbrev pub judged_document : Members → Result (List Part) PartFault
-judged_document ms = do
+abbrev pub document_parts : Members → Result (List Part) PartFault
+document_parts ms = do
   parts ← ok_or (get_member (codes "parts") ms) (Missing field.Parts)
   members ← ok_or (as_table parts) (BadValue field.Parts)
-  judged_all members
+  parts_in members
 
-abbrev pub text_of : Bytes → Option Bytes
-text_of bytes = if is_utf8 bytes then Some bytes else None
+abbrev pub utf8_text : Bytes → Option Bytes
+utf8_text bytes = if is_utf8 bytes then Some bytes else None
 
 -- the parts that a text defines
 abbrev pub parts_of : Bytes → Result (List Part) PartFault
 parts_of bytes = do
-  text ← ok_or (text_of bytes) NotToml
+  text ← ok_or (utf8_text bytes) NotToml
   document ← ok_or (parse_document text) NotToml
-  judged_document document
+  document_parts document
 
 -- the result is the one wanted, or memory was refused
 abbrev pub GivesOrMemory : {T : Type 0} → Result T PartFault → Result T PartFault → Type 0

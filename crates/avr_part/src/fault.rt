@@ -1,6 +1,6 @@
 //! Why there is no part or no chip.
 ghost use Rattle.std.specs.Prelude.{◌≡◌, Some};
-ghost use Rattle.avr_part.specs.Fault.{field_name, fault_number};
+ghost use Rattle.avr_part.specs.Fault.{field_name, part_fault_number};
 
 use std::fmt;
 use thiserror::Error;
@@ -88,7 +88,7 @@ impl PartFault {
     /// assert_eq!(rt; PartFault::Missing(Field::Signature).number(), 2);
     /// ```
     pub fn number(&self) -> u8
-        ensures { result ≡ fault_number self.now }
+        ensures { result ≡ part_fault_number self.now }
     {
         match self {
             PartFault::NotToml => 1,

@@ -5,7 +5,7 @@ ghost use Rattle.hex.specs.Hex.{decode_sized};
 ghost use Rattle.toml.specs.View.{table_view, view};
 ghost use Rattle.toml.specs.Data.{get_member};
 ghost use Rattle.avr_part.specs.Part.{is_id_byte, is_id, id_of};
-ghost use Rattle.avr_part.specs.PartFile.{number_in, number_field, page_field, power_of, hex_value, signature_field, judged_fields, judged};
+ghost use Rattle.avr_part.specs.PartFile.{number_in, number_field, page_field, power_of, hex_value, signature_field, part_with, part_of};
 
 use crate::fault::{Field, PartFault};
 use crate::part::Part;
@@ -124,7 +124,7 @@ fn signature(table: &Table) -> Result<[u8; 3], PartFault>
 /// The fields of a part, in their order.
 fn judge_fields(id: ArrayString<31>, table: &Table) -> Result<Part, PartFault>
     requires { is_id id.bytes ≡ true }
-    ensures { result ≡ judged_fields id.bytes (table_view table.now) }
+    ensures { result ≡ part_with id.bytes (table_view table.now) }
 {
     let signature = signature(table)?;
     let flash_size = number(table, "flash_size", Field::FlashSize, 2, 262_144)?;
@@ -148,7 +148,7 @@ fn judge_fields(id: ArrayString<31>, table: &Table) -> Result<Part, PartFault>
 
 /// A member of the table of parts.
 pub fn judge_part(key: &str, value: &Value) -> Result<Part, PartFault>
-    ensures { result ≡ judged key.now (view value.now) }
+    ensures { result ≡ part_of key.now (view value.now) }
 {
     let table = value.as_table().ok_or(PartFault::BadValue(Field::Parts))?;
     let id = id_of(key).ok_or(PartFault::BadValue(Field::Id))?;

@@ -2,7 +2,7 @@
 ghost use Rattle.std.specs.Prelude.{◌≡◌, option_map};
 ghost use Rattle.toml.specs.View.{table_view};
 ghost use Rattle.toml.specs.Parse.{parse_document};
-ghost use Rattle.avr_part.specs.PartFile.{GivesOrMemory, listed_items, judged_all, judged_document, parts_of, text_of, ReadsDocument};
+ghost use Rattle.avr_part.specs.PartFile.{GivesOrMemory, listed_items, parts_in, document_parts, parts_of, utf8_text, ReadsDocument};
 
 use crate::fault::{Field, PartFault};
 use crate::judge::{at_key, judge_part};
@@ -14,7 +14,7 @@ use toml::Table;
 
 /// The members of the table of parts, in order.
 fn judge_all(alloc: Global, table: &Table) -> Result<Vec<Part>, PartFault>
-    ensures { GivesOrMemory (judged_all (table_view table.now)) (listed_items result) }
+    ensures { GivesOrMemory (parts_in (table_view table.now)) (listed_items result) }
 {
     let mut parts = Vec::new(alloc);
     for (key, value) in table {
@@ -26,7 +26,7 @@ fn judge_all(alloc: Global, table: &Table) -> Result<Vec<Part>, PartFault>
 
 /// The parts of a document.
 fn judge_document(alloc: Global, document: &Table) -> Result<Vec<Part>, PartFault>
-    ensures { GivesOrMemory (judged_document (table_view document.now)) (listed_items result) }
+    ensures { GivesOrMemory (document_parts (table_view document.now)) (listed_items result) }
 {
     let value = at_key(document, "parts").ok_or(PartFault::Missing(Field::Parts))?;
     let table = value.as_table().ok_or(PartFault::BadValue(Field::Parts))?;
@@ -44,8 +44,8 @@ fn read_document(alloc: Global, text: &str) -> Result<Table, PartFault>
 }
 
 /// The text of bytes that are UTF-8.
-fn text_of(bytes: &[u8]) -> Option<&str>
-    ensures { option_map (λ s. s.now) result ≡ text_of bytes.now }
+fn utf8_text(bytes: &[u8]) -> Option<&str>
+    ensures { option_map (λ s. s.now) result ≡ utf8_text bytes.now }
 {
     match str::from_utf8(bytes) {
         Ok(text) => Some(text),
@@ -74,7 +74,7 @@ fn text_of(bytes: &[u8]) -> Option<&str>
 pub fn parse_parts(alloc: Global, text: &[u8]) -> Result<Parts, PartFault>
     ensures { GivesOrMemory (parts_of text.now) result }
 {
-    let text = text_of(text).ok_or(PartFault::NotToml)?;
+    let text = utf8_text(text).ok_or(PartFault::NotToml)?;
     let document = read_document(alloc, text)?;
     let parts = judge_document(alloc, &document)?;
     Ok(Parts::of_file(parts))

@@ -7,7 +7,7 @@ use Rattle.byteorder.specs.Numbers.{big_number-reads_back}
 use Rattle.stk_frame.specs.declared.command.Command.{Command}
 use Rattle.stk_frame.specs.declared.command.Command.TheVariants.{SignOn, SetParameter, GetParameter, LoadAddress, EnterProgmode, LeaveProgmode, ChipErase, ProgramFlash, ReadFlash, ProgramEeprom, ReadEeprom, ProgramFuse, ReadFuse, ProgramLock, ReadLock, ReadSignature, ReadOsccal, SpiMulti}
 use Rattle.stk_frame.specs.Commands.{body}
-use Rattle.stk_frame.specs.Decoding.{Fits, command_of, with_fields, sign_on, set_parameter, get_parameter, load_address, enter_progmode, leave_progmode, chip_erase, program_block, read_block, instruction, read_byte, spi_multi}
+use Rattle.stk_frame.specs.Decoding.{FieldsFit, command_of, with_fields, sign_on, set_parameter, get_parameter, load_address, enter_progmode, leave_progmode, chip_erase, program_block, read_block, instruction, read_byte, spi_multi}
 use Rattle.stk_frame.proofs.Cut.{chosen, refused}
 
 -- a list of four
@@ -19,7 +19,7 @@ of_four P four (a ∷ b ∷ c ∷ []) e = absurd (omega arith)
 of_four P four (a ∷ b ∷ c ∷ d ∷ []) e = four a b c d
 of_four P four (a ∷ b ∷ c ∷ d ∷ f ∷ xs) e = absurd (omega arith)
 
-pub read_back : (c : Command) → Fits c → command_of (body c) ≡ Some c
+pub read_back : (c : Command) → FieldsFit c → command_of (body c) ≡ Some c
 read_back SignOn fits = refl
 read_back (SetParameter number value) fits = refl
 read_back (GetParameter number) fits = refl
@@ -47,7 +47,7 @@ read_back (SpiMulti send_count receive_count receive_start bytes) fits = refl
 
 -- What was read is a command of exactly this body.
 pub record Sound (code : ℕ) (fields : List ℕ) (read : Option Command) : Type 0 where
-  pub says : MatchOption read (Unit {0}) (λ c. (body c ≡ code ∷ fields) × Fits c)
+  pub says : MatchOption read (Unit {0}) (λ c. (body c ≡ code ∷ fields) × FieldsFit c)
 
 abbrev pub Below : List ℕ → Type 0
 Below bytes = (i : ℕ) → slice_index bytes i < 256
@@ -180,13 +180,13 @@ with_fields_sound code fields below =
     (row 0x1C code fields _ _ (read_osccal_sound fields)
     (row 0x1D code fields _ _ (spi_multi_sound fields) (none_sound code fields))))))))))))))))))
 
-pub only_body : (bytes : List ℕ) → Below bytes → MatchOption (command_of bytes) (Unit {0}) (λ c. (body c ≡ bytes) × Fits c)
+pub only_body : (bytes : List ℕ) → Below bytes → MatchOption (command_of bytes) (Unit {0}) (λ c. (body c ≡ bytes) × FieldsFit c)
 only_body [] below = tt
 only_body (code ∷ fields) below = (with_fields_sound code fields (λ i. below (suc i))).says
 
 -- These bytes are read as exactly the command whose body they are.
-pub is_read : (bytes : List ℕ) → Below bytes → (c : Command) → Fits c → (command_of bytes ≡ Some c) ↔ (body c ≡ bytes)
+pub is_read : (bytes : List ℕ) → Below bytes → (c : Command) → FieldsFit c → (command_of bytes ≡ Some c) ↔ (body c ≡ bytes)
 is_read bytes below c fits = (
-  λ e. (subst (λ r. MatchOption r (Unit {0}) (λ c. (body c ≡ bytes) × Fits c)) e (only_body bytes below)).0,
+  λ e. (subst (λ r. MatchOption r (Unit {0}) (λ c. (body c ≡ bytes) × FieldsFit c)) e (only_body bytes below)).0,
   λ e. ap command_of (sym e) ∙ read_back c fits,
 )

@@ -112,22 +112,22 @@ command_of [] = None
 command_of (code ∷ bytes) = with_fields code bytes
 
 -- The numbers of a command fit their bytes, and an instruction has four.
-abbrev pub Fits : Command → Type 0
-Fits SignOn = Unit {0}
-Fits (SetParameter number value) = Unit {0}
-Fits (GetParameter number) = Unit {0}
-Fits (LoadAddress address) = address < 2 ^ 32
-Fits (EnterProgmode f) = length f.instruction ≡ 4
-Fits (LeaveProgmode pre_delay post_delay) = Unit {0}
-Fits (ChipErase erase_delay poll_method bytes) = length bytes ≡ 4
-Fits (ProgramFlash f) = f.count < 2 ^ 16
-Fits (ReadFlash f) = f.count < 2 ^ 16
-Fits (ProgramEeprom f) = f.count < 2 ^ 16
-Fits (ReadEeprom f) = f.count < 2 ^ 16
-Fits (ProgramFuse bytes) = length bytes ≡ 4
-Fits (ReadFuse f) = length f.instruction ≡ 4
-Fits (ProgramLock bytes) = length bytes ≡ 4
-Fits (ReadLock f) = length f.instruction ≡ 4
-Fits (ReadSignature f) = length f.instruction ≡ 4
-Fits (ReadOsccal f) = length f.instruction ≡ 4
-Fits (SpiMulti send_count receive_count receive_start bytes) = Unit {0}
+abbrev pub FieldsFit : Command → Type 0
+FieldsFit SignOn = Unit {0}
+FieldsFit (SetParameter number value) = Unit {0}
+FieldsFit (GetParameter number) = Unit {0}
+FieldsFit (LoadAddress address) = address < 2 ^ 32
+FieldsFit (EnterProgmode f) = length f.instruction ≡ 4
+FieldsFit (LeaveProgmode pre_delay post_delay) = Unit {0}
+FieldsFit (ChipErase erase_delay poll_method bytes) = length bytes ≡ 4
+FieldsFit (ProgramFlash f) = f.count < 2 ^ 16
+FieldsFit (ReadFlash f) = f.count < 2 ^ 16
+FieldsFit (ProgramEeprom f) = f.count < 2 ^ 16
+FieldsFit (ReadEeprom f) = f.count < 2 ^ 16
+FieldsFit (ProgramFuse bytes) = length bytes ≡ 4
+FieldsFit (ReadFuse f) = length f.instruction ≡ 4
+FieldsFit (ProgramLock bytes) = length bytes ≡ 4
+FieldsFit (ReadLock f) = length f.instruction ≡ 4
+FieldsFit (ReadSignature f) = length f.instruction ≡ 4
+FieldsFit (ReadOsccal f) = length f.instruction ≡ 4
+FieldsFit (SpiMulti send_count receive_count receive_start bytes) = Unit {0}

@@ -1,7 +1,7 @@
 //! Answers, as they are judged.
 ghost use Rattle.std.specs.Prelude.{◌≡◌, ◌<◌, ◌≤◌, length, MatchResult, IfOk, Ok, Err};
 ghost use Rattle.stk_frame.specs.Commands.{judge, shape, data_of, SizedBy};
-ghost use Rattle.stk_frame.specs.Faults.{number_of};
+ghost use Rattle.stk_frame.specs.Faults.{frame_fault_number};
 
 use crate::command::Command;
 use crate::protocol::{ANSWER_CKSUM_ERROR, STATUS_CKSUM_ERROR, STATUS_CMD_OK};
@@ -27,7 +27,7 @@ pub enum FrameFault {
 impl FrameFault {
     /// The fault's number.
     pub fn number(&self) -> u8
-        ensures { result ≡ number_of self.now }
+        ensures { result ≡ frame_fault_number self.now }
     {
         match self {
             FrameFault::WrongLength => 1,

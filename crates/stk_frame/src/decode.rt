@@ -1,7 +1,7 @@
 //! Commands, from their bodies.
 ghost use Rattle.std.specs.Prelude.{◌≡◌, ◌↔◌, Some, IfSome};
 ghost use Rattle.stk_frame.specs.Commands.{body};
-ghost use Rattle.stk_frame.specs.Decoding.{Fits, command_of, with_fields, sign_on, set_parameter, get_parameter, load_address, enter_progmode, leave_progmode, chip_erase, program_block, read_block, instruction, read_byte, spi_multi};
+ghost use Rattle.stk_frame.specs.Decoding.{FieldsFit, command_of, with_fields, sign_on, set_parameter, get_parameter, load_address, enter_progmode, leave_progmode, chip_erase, program_block, read_block, instruction, read_byte, spi_multi};
 
 use crate::command::{Command, EnterProgmode, ProgramBlock, ReadBlock, ReadByte};
 use crate::data::Data;
@@ -234,8 +234,8 @@ impl<'a> Command<'a> {
     /// The command whose body these bytes are; None where they are no command's.
     pub fn read(bytes: &'a [u8]) -> Option<Command<'a>>
         ensures value { result ≡ command_of bytes.now }
-        ensures body { (command : Command) → Fits command → (result ≡ Some command) ↔ (body command ≡ bytes.now) }
-        ensures fits { IfSome result Fits }
+        ensures body { (command : Command) → FieldsFit command → (result ≡ Some command) ↔ (body command ≡ bytes.now) }
+        ensures fits { IfSome result FieldsFit }
     {
         match bytes {
             [] => None,

@@ -65,8 +65,8 @@ impl<'a> Command<'a> {
     /// Turns programming mode on, and tests that the part is in step.
     pub fn enter() -> Command<'a>
         ensures value { result ≡ enter }
-        ensures bytes { body result ≡ CMD_ENTER_PROGMODE_ISP ∷ 0xC8 ∷ 0x64 ∷ 0x19 ∷ 0x20 ∷ 0x00 ∷ 0x53 ∷ 0x03 ∷ 0xAC ∷ 0x53 ∷ 0x00 ∷ 0x00
-            ∷ [] }
+        ensures bytes { body result ≡ CMD_ENTER_PROGMODE_ISP ∷ 0xC8 ∷ 0x64 ∷ 0x19 ∷ 0x20 ∷ 0x00 ∷ 0x53 ∷ 0x03 ∷ 0xAC
+            ∷ 0x53 ∷ 0x00 ∷ 0x00 ∷ [] }
     {
         Command::EnterProgmode(EnterProgmode {
             timeout: 0xC8,
@@ -107,8 +107,8 @@ impl<'a> Command<'a> {
     pub fn program_page(bytes: &'a [u8]) -> Command<'a>
         requires { length bytes.now ≤ 265 }
         ensures value { result ≡ program_page bytes.now }
-        ensures bytes { body result ≡ CMD_PROGRAM_FLASH_ISP ∷ (big_bytes 2 (length bytes.now) ++ 0xC1 ∷ 0x0A ∷ 0x40 ∷ 0x4C ∷ 0x20 ∷ 0xFF
-            ∷ 0xFF ∷ bytes.now) }
+        ensures bytes { body result ≡ CMD_PROGRAM_FLASH_ISP ∷ (big_bytes 2 (length bytes.now) ++ 0xC1 ∷ 0x0A
+            ∷ 0x40 ∷ 0x4C ∷ 0x20 ∷ 0xFF ∷ 0xFF ∷ bytes.now) }
     {
         Command::ProgramFlash(programming(0x40, 0x4C, 0x20, bytes))
     }
@@ -125,8 +125,8 @@ impl<'a> Command<'a> {
     pub fn program_eeprom(bytes: &'a [u8]) -> Command<'a>
         requires { length bytes.now ≤ 265 }
         ensures value { result ≡ program_eeprom bytes.now }
-        ensures bytes { body result ≡ CMD_PROGRAM_EEPROM_ISP ∷ (big_bytes 2 (length bytes.now) ++ 0xC1 ∷ 0x0A ∷ 0xC1 ∷ 0xC2 ∷ 0xA0 ∷ 0xFF
-            ∷ 0xFF ∷ bytes.now) }
+        ensures bytes { body result ≡ CMD_PROGRAM_EEPROM_ISP ∷ (big_bytes 2 (length bytes.now) ++ 0xC1 ∷ 0x0A
+            ∷ 0xC1 ∷ 0xC2 ∷ 0xA0 ∷ 0xFF ∷ 0xFF ∷ bytes.now) }
     {
         Command::ProgramEeprom(programming(0xC1, 0xC2, 0xA0, bytes))
     }

@@ -1,7 +1,7 @@
 //! A reader of frames from bytes in pieces.
 ghost use Rattle.std.specs.Prelude.{List, ℕ, ◌≡◌, [], ◌++◌, ◌<◌, ◌≤◌, length, take, true, false, MatchOption};
 ghost use Rattle.stk_frame.specs.Cut.{piece_size, is_header, body_size, seq_of, body_of};
-ghost use Rattle.stk_frame.specs.Reader.{Fed, HoldsFrame, IsHeld, Serves, found, Tells};
+ghost use Rattle.stk_frame.specs.Reader.{Fed, HoldsFrame, IsHeld, FeedsLike, found, Tells};
 
 use crate::frame::xor_of;
 use crate::protocol::{LARGEST_BODY, LARGEST_FRAME, MESSAGE_START, TOKEN};
@@ -77,7 +77,7 @@ fn size_of_piece(bytes: &[u8]) -> usize
 fn drop_whole(held: &mut ArrayVec<u8, LARGEST_FRAME>)
     requires { IsHeld held.old.items }
     ensures part { length held.new.items < piece_size held.new.items }
-    ensures same { Serves held.new.items held.old.items }
+    ensures same { FeedsLike held.new.items held.old.items }
 {
     if size_of_piece(held.as_slice()) == held.len() {
         held.clear();

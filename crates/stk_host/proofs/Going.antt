@@ -23,7 +23,7 @@ use Rattle.stk_host.specs.Steps.{Outcome, step, play}
 use Rattle.stk_host.specs.Places.{each_from}
 use Rattle.stk_host.specs.WriteSteps.{write_steps}
 use Rattle.stk_host.specs.Operations.{judged_by, operation, writing, Difference, difference_from, differs, compared}
-use Rattle.stk_host.specs.Calls.{StopsSteps, EndsSteps, EndsCall, EndsOrLacks, GoesOn, IsCounted, data_count, told, closed, given, kept, verified}
+use Rattle.stk_host.specs.Calls.{StopsSteps, EndsSteps, EndsCall, EndsOrLacks, EndsInnerStep, IsCounted, data_count, told, closed, given, kept, verified}
 use Rattle.stk_host.proofs.Reaching.{reaches_here, reaches_on, played_from, broken_bind, then_reaches}
 use Rattle.stk_host.proofs.Ends.{stops_on, play_on, play_stops, play_done}
 
@@ -39,28 +39,28 @@ none_of (b ∷ bytes) e = absurd (omega (arith, e))
 
 -- a step that was played goes on with those that follow
 pub goes_with : (commands : List Command) (before bytes : List ℕ) {m n : ℕ} {u v : List ℕ} {o p : Option Talk}
-    → PlaysOver (step commands) m u o p (Ok bytes) n v → GoesOn commands before (before ++ bytes) m u o p (Ok tt) n v
+    → PlaysOver (step commands) m u o p (Ok bytes) n v → EndsInnerStep commands before (before ++ bytes) m u o p (Ok tt) n v
 goes_with commands before bytes f = λ steps. play_on commands steps before bytes f
 
 pub stops_with : (commands : List Command) (before after : List ℕ) (m n : ℕ) (u v : List ℕ) (o p : Option Talk) (stop : Stop)
-    → StopsSteps (step commands) m u o p stop n v → GoesOn commands before after m u o p (Err stop) n v
+    → StopsSteps (step commands) m u o p stop n v → EndsInnerStep commands before after m u o p (Err stop) n v
 stops_with commands before after m n u v o p stop e = λ steps. play_stops commands steps before m n u v o p stop e
 
 -- a step that brings no data
 pub goes_quietly : (commands : List Command) (of : Shape) (bytes : List ℕ) (result : Result (Unit {0}) Stop) (m n : ℕ) (u v : List ℕ) (o p : Option Talk)
-    → IsCounted of → data_count of ≡ 0 → OnOk result (SizedBy of bytes) → EndsSteps (step commands) m u o p (λ done. bytes) result n v → GoesOn commands [] [] m u o p result n v
+    → IsCounted of → data_count of ≡ 0 → OnOk result (SizedBy of bytes) → EndsSteps (step commands) m u o p (λ done. bytes) result n v → EndsInnerStep commands [] [] m u o p result n v
 goes_quietly commands of bytes (Ok done) m n u v o p counted zero sized e =
-    subst (λ bs. GoesOn commands [] bs m u o p (Ok tt) n v) (none_of bytes (counted_data of bytes counted sized ∙ zero)) (goes_with commands [] bytes e)
+    subst (λ bs. EndsInnerStep commands [] bs m u o p (Ok tt) n v) (none_of bytes (counted_data of bytes counted sized ∙ zero)) (goes_with commands [] bytes e)
 goes_quietly commands of bytes (Err stop) m n u v o p counted zero sized e = stops_with commands [] [] m n u v o p stop e
 
 -- a step that nothing follows
 pub alone : (commands : List Command) (before after : List ℕ) (result : Result (Unit {0}) Stop) (m n : ℕ) (u v : List ℕ) (o p : Option Talk)
-    → GoesOn commands before after m u o p result n v → EndsSteps (play (commands ∷ []) before) m u o p (λ done. after) result n v
+    → EndsInnerStep commands before after m u o p result n v → EndsSteps (play (commands ∷ []) before) m u o p (λ done. after) result n v
 alone commands before after (Ok done) m n u v o p e = play_done after (e [])
 alone commands before after (Err stop) m n u v o p e = e []
 
 pub alone_first : (commands : List Command) (before after : List ℕ) (result : Result (Unit {0}) Stop) (m n : ℕ) (u v : List ℕ) (o p : Option Talk)
-    → before ≡ [] → GoesOn commands before after m u o p result n v → EndsSteps (play (commands ∷ []) []) m u o p (λ done. after) result n v
+    → before ≡ [] → EndsInnerStep commands before after m u o p result n v → EndsSteps (play (commands ∷ []) []) m u o p (λ done. after) result n v
 alone_first commands before after result m n u v o p is e =
     subst (λ (b : List ℕ). EndsSteps (play (commands ∷ []) b) m u o p (λ done. after) result n v) is (alone commands before after result m n u v o p e)
 
@@ -70,12 +70,12 @@ none_played m u o = play_done [] (reaches_here (play [] []) m u o)
 
 -- a step among the steps that are left of a dialog
 pub reaches_next : {a : Dialog ⊥ Outcome} {k m n : ℕ} {s u v : List ℕ} {r o p : Option Talk} (steps rest : List (List Command)) (commands : List Command) (before after : List ℕ)
-    → Reaches a k s r (play steps before) m u o → steps ≡ commands ∷ rest → GoesOn commands before after m u o p (Ok tt) n v → Reaches a k s r (play rest after) n v p
+    → Reaches a k s r (play steps before) m u o → steps ≡ commands ∷ rest → EndsInnerStep commands before after m u o p (Ok tt) n v → Reaches a k s r (play rest after) n v p
 reaches_next {a = a} {k = k} {m = m} {s = s} {u = u} {r = r} {o = o} steps rest commands before after f is e =
     reaches_on (subst (λ ss. Reaches a k s r (play ss before) m u o) is f) (e rest)
 
 pub stops_next : {a : Dialog ⊥ Outcome} {k m : ℕ} {s u : List ℕ} {r o : Option Talk} (n : ℕ) (v : List ℕ) (p : Option Talk) (steps rest : List (List Command)) (commands : List Command) (before after : List ℕ) (stop : Stop)
-    → Reaches a k s r (play steps before) m u o → steps ≡ commands ∷ rest → GoesOn commands before after m u o p (Err stop) n v → StopsSteps a k s r p stop n v
+    → Reaches a k s r (play steps before) m u o → steps ≡ commands ∷ rest → EndsInnerStep commands before after m u o p (Err stop) n v → StopsSteps a k s r p stop n v
 stops_next {a = a} {k = k} {m = m} {s = s} {u = u} {r = r} {o = o} n v p steps rest commands before after stop f is e =
     stops_on n v p stop (subst (λ ss. Reaches a k s r (play ss before) m u o) is f) (e rest)
 

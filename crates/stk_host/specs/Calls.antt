@@ -68,12 +68,12 @@ EndsSteps dialog seq unread old new bytes (Ok a) next left =
 EndsSteps dialog seq unread old new bytes (Err stop) next left = StopsSteps dialog seq unread old new stop next left
 
 -- How a step ends that others follow: they are left to play, behind all data so far; or with it all of them stop.
-abbrev pub GoesOn : List Command → List ℕ → List ℕ → ℕ → List ℕ → Option Talk → Option Talk → Result (Unit {0}) Stop → ℕ
+abbrev pub EndsInnerStep : List Command → List ℕ → List ℕ → ℕ → List ℕ → Option Talk → Option Talk → Result (Unit {0}) Stop → ℕ
     → List ℕ → Type 0
-GoesOn commands before after seq unread old new (Ok done) next left =
+EndsInnerStep commands before after seq unread old new (Ok done) next left =
     (steps : List (List Command)) → Reaches (play (commands ∷ steps) before) seq unread old
     (play steps after) next left new
-GoesOn commands before after seq unread old new (Err stop) next left =
+EndsInnerStep commands before after seq unread old new (Err stop) next left =
     (steps : List (List Command)) → StopsSteps (play (commands ∷ steps) before) seq unread old new stop next left
 
 -- how many data bytes an answer of this shape brings, if the shape says it
@@ -132,27 +132,27 @@ UnlessBroken (Err RecvFailed) P = Unit {0}
 UnlessBroken (Err fault) P = P
 
 -- the command fits a frame
-abbrev pub Fits : Command → Type 0
-Fits command = length (body command) ≤ LARGEST_BODY
+abbrev pub FitsFrame : Command → Type 0
+FitsFrame command = length (body command) ≤ LARGEST_BODY
 
 -- it does, and its answer brings no data
-pub record IsQuiet (command : Command) : Type 0 where
-  pub fits : Fits command
+pub record BringsNoData (command : Command) : Type 0 where
+  pub fits : FitsFrame command
   pub quiet : shape command ≡ Bytes 0
 
 -- the faults' numbers
-abbrev pub fault_number : HostFault → ℕ
-fault_number NoAnswer = 1
-fault_number LinkEnded = 2
-fault_number SendFailed = 3
-fault_number Babble = 4
-fault_number (Refused command status) = 5
-fault_number (BadAnswer command) = 6
-fault_number (WrongSignature found) = 7
-fault_number (Differs mem addr want found) = 8
-fault_number (ReadOnly mem) = 9
-fault_number Memory = 10
-fault_number RecvFailed = 11
+abbrev pub host_fault_number : HostFault → ℕ
+host_fault_number NoAnswer = 1
+host_fault_number LinkEnded = 2
+host_fault_number SendFailed = 3
+host_fault_number Babble = 4
+host_fault_number (Refused command status) = 5
+host_fault_number (BadAnswer command) = 6
+host_fault_number (WrongSignature found) = 7
+host_fault_number (Differs mem addr want found) = 8
+host_fault_number (ReadOnly mem) = 9
+host_fault_number Memory = 10
+host_fault_number RecvFailed = 11
 
 -- a stop, as the host tells it
 abbrev pub told : Stop → HostFault

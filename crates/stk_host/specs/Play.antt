@@ -36,15 +36,15 @@ abbrev pub IsPrefixOf : List ℕ → List ℕ → Type 0
 IsPrefixOf front bytes = (back : List ℕ) × (front ++ back ≡ bytes)
 
 -- an event is a part of another: a front of its frame, or a part of what is said
-abbrev pub IsPart : {E : Type 0} → (E → E → Type 0) → Event E → Event E → Type 0
-IsPart SaidPart (Frame part) (Frame whole) = IsPrefixOf part whole
-IsPart SaidPart (Said part) (Said whole) = SaidPart part whole
-IsPart SaidPart _ _ = ⊥
+abbrev pub IsPartOf : {E : Type 0} → (E → E → Type 0) → Event E → Event E → Type 0
+IsPartOf SaidPart (Frame part) (Frame whole) = IsPrefixOf part whole
+IsPartOf SaidPart (Said part) (Said whole) = SaidPart part whole
+IsPartOf SaidPart _ _ = ⊥
 
 -- nothing, or a part of the first of the events
 abbrev pub IsBegun : {E : Type 0} → (E → E → Type 0) → List (Event E) → List (Event E) → Type 0
 IsBegun SaidPart [] events = Unit {0}
-IsBegun SaidPart (part ∷ []) (event ∷ events) = IsPart SaidPart part event
+IsBegun SaidPart (part ∷ []) (event ∷ events) = IsPartOf SaidPart part event
 IsBegun SaidPart _ _ = ⊥
 
 -- some of the events in their order, and perhaps a part of the next one

@@ -8,7 +8,7 @@ ghost use Rattle.stk_host.specs.Play.{PlaysOver, FailsOver};
 ghost use Rattle.stk_host.specs.Reach.{Says, SaysPart};
 ghost use Rattle.stk_host.specs.Steps.{exchange, attempt, step, judged, replied};
 ghost use Rattle.stk_host.specs.State.{data_in, data_held};
-ghost use Rattle.stk_host.specs.Calls.{HoldsAnswer, reading_of, reply_of, EndsSteps, CountsLink, Fits, IsQuiet};
+ghost use Rattle.stk_host.specs.Calls.{HoldsAnswer, reading_of, reply_of, EndsSteps, CountsLink, FitsFrame, BringsNoData};
 
 use crate::fault::{Broken, StepFault, Stop};
 use crate::link::{Link, LinkFault};
@@ -59,7 +59,7 @@ impl Model for Conversation {
 }
 
 fn send_command<L: Link>(link: &mut L, seq: u8, command: &Command<'_>) -> Result<(), LinkFault>
-    requires { Fits command.now }
+    requires { FitsFrame command.now }
     ensures ok { OnOk result (Says (frame seq (body command.now)) (L.talk link.old) (L.talk link.new)) }
     ensures err { OnErr result (SaysPart (frame seq (body command.now)) (L.talk link.old) (L.talk link.new)) }
     ensures counted { L.failures link.old ≤ L.failures link.new }
@@ -129,13 +129,13 @@ impl Conversation {
 
     /// Sends a command and reads its answer.
     fn exchange<L: Link>(&mut self, link: &mut L, command: &Command<'_>) -> Result<Reply, Broken>
-        requires { Fits command.now }
+        requires { FitsFrame command.now }
         ensures ok { IfOk result (λ reply. PlaysOver (exchange command.now) self.old.next self.old.unread
             (L.talk link.old) (L.talk link.new)
             (reply_of reply (data_held command.now self.new.held)) self.new.next self.new.unread) }
         ensures sized { IsOkAnd result (λ reply. reply ≡ Reply.Data)
             → SizedBy (shape command.now) (data_held command.now self.new.held) }
-        ensures quiet { IsQuiet command.now → IsOkAnd result (λ reply. reply ≡ Reply.Data)
+        ensures quiet { BringsNoData command.now → IsOkAnd result (λ reply. reply ≡ Reply.Data)
             → data_held command.now self.new.held ≡ [] }
         ensures err { IfErr result (λ broken. FailsOver broken (exchange command.now) self.old.next self.old.unread
             (L.talk link.old) (L.talk link.new)) }
@@ -163,8 +163,8 @@ impl Conversation {
         first: &[Command<'_>],
         last: &Command<'_>,
     ) -> Result<Reply, Broken>
-        requires quiet { All IsQuiet first.now }
-        requires fits { Fits last.now }
+        requires quiet { All BringsNoData first.now }
+        requires fits { FitsFrame last.now }
         ensures ok { IfOk result (λ reply. PlaysOver (attempt (first.now ++ last.now ∷ []) []) self.old.next
             self.old.unread (L.talk link.old) (L.talk link.new)
             (reply_of reply (data_held last.now self.new.held)) self.new.next self.new.unread) }
@@ -197,8 +197,8 @@ impl Conversation {
         first: &[Command<'_>],
         last: &Command<'_>,
     ) -> Result<(), Stop>
-        requires quiet { All IsQuiet first.now }
-        requires fits { Fits last.now }
+        requires quiet { All BringsNoData first.now }
+        requires fits { FitsFrame last.now }
         ensures played { EndsSteps (step (first.now ++ last.now ∷ [])) self.old.next self.old.unread (L.talk link.old)
             (L.talk link.new)
             (λ done. data_held last.now self.new.held) result self.new.next self.new.unread }

@@ -1,6 +1,6 @@
 //! Why a host could not do what was asked.
 ghost use Rattle.std.specs.Prelude.{◌≡◌};
-ghost use Rattle.stk_host.specs.Calls.{fault_number};
+ghost use Rattle.stk_host.specs.Calls.{host_fault_number};
 
 use avr_part::Mem;
 use thiserror::Error;
@@ -79,7 +79,7 @@ pub enum HostFault {
 impl HostFault {
     /// The fault's number, which no later version changes.
     pub fn number(&self) -> u8
-        ensures { result ≡ fault_number self.now }
+        ensures { result ≡ host_fault_number self.now }
     {
         match self {
             HostFault::NoAnswer => 1,

@@ -85,7 +85,8 @@ pub trait Link {
     fn recv(&mut self, buffer: &mut [u8]) -> Result<Heard, LinkFault>
         requires { 0 < length buffer.old }
         ensures within { IfOk result (λ heard. FitsBuffer heard (length buffer.new)) }
-        ensures ok { IfOk result (λ heard. Grows (talk self.old) (Got (items_of heard buffer.new) ∷ []) (talk self.new)) }
+        ensures ok { IfOk result (λ heard. Grows (talk self.old) (Got (items_of heard buffer.new) ∷ [])
+            (talk self.new)) }
         ensures err { OnErr result (Grows (talk self.old) [] (talk self.new)) }
         ensures counted { failures self.old ≤ failures self.new }
         ensures failed { OnErr result (HasFailed (failures self.old) (failures self.new)) }

@@ -2,7 +2,7 @@
 ghost use Rattle.std.specs.Prelude.{◌≡◌, ◌<◌, ◌≤◌, ◌^◌};
 ghost use Rattle.avr_part.specs.Part.{page_of, IsPart};
 ghost use Rattle.stk_host.specs.Places.{flash_address, load_flash, load_eeprom};
-ghost use Rattle.stk_host.specs.Calls.{IsQuiet};
+ghost use Rattle.stk_host.specs.Calls.{BringsNoData};
 
 use avr_part::{Mem, Part};
 use stk_frame::Command;
@@ -37,7 +37,7 @@ fn flash_address(part: &Part, start: u32) -> u32
 pub(crate) fn load_flash<'a>(part: &Part, start: u32) -> Command<'a>
     requires { start < 2 ^ 20 }
     ensures value { result ≡ load_flash part.now start }
-    ensures quiet { IsQuiet result }
+    ensures quiet { BringsNoData result }
 {
     Command::LoadAddress {
         address: flash_address(part, start),
@@ -47,7 +47,7 @@ pub(crate) fn load_flash<'a>(part: &Part, start: u32) -> Command<'a>
 /// Loads the address of a byte of EEPROM.
 pub(crate) fn load_eeprom<'a>(start: u32) -> Command<'a>
     ensures value { result ≡ load_eeprom start }
-    ensures quiet { IsQuiet result }
+    ensures quiet { BringsNoData result }
 {
     Command::LoadAddress { address: start }
 }

@@ -6,7 +6,7 @@ ghost use Rattle.stk_frame.specs.Commands.{shape};
 ghost use Rattle.stk_host.specs.Places.{each_from};
 ghost use Rattle.stk_host.specs.ReadSteps.{block_count, block_size, load_block, read_block, block_steps, signature_steps, read_steps};
 ghost use Rattle.stk_host.specs.Steps.{play};
-ghost use Rattle.stk_host.specs.Calls.{EndsSteps, CountsLink, Fits, IsQuiet, IsCounted, data_count};
+ghost use Rattle.stk_host.specs.Calls.{EndsSteps, CountsLink, FitsFrame, BringsNoData, IsCounted, data_count};
 ghost use Rattle.stk_host.specs.Talk.{Stays};
 
 use crate::conversation::Conversation;
@@ -24,7 +24,7 @@ const BLOCK: u32 = 256;
 fn load_block<'a>(part: &Part, mem: Mem, start: u32) -> Command<'a>
     requires { start < 2 ^ 20 }
     ensures value { result ≡ load_block part.now mem start }
-    ensures quiet { IsQuiet result }
+    ensures quiet { BringsNoData result }
 {
     match mem {
         Mem::Flash => load_flash(part, start),
@@ -35,7 +35,7 @@ fn load_block<'a>(part: &Part, mem: Mem, start: u32) -> Command<'a>
 /// Reads so many bytes of flash or EEPROM.
 fn read_block<'a>(mem: Mem, count: u16) -> Command<'a>
     ensures value { result ≡ read_block mem count }
-    ensures fits { Fits result }
+    ensures fits { FitsFrame result }
     ensures counted { IsCounted (shape result) }
     ensures size { data_count (shape result) ≡ count }
 {
@@ -116,7 +116,7 @@ fn read_byte<L: Link>(
     command: &Command<'_>,
     out: &mut Vec<u8>,
 ) -> Result<(), Stop>
-    requires fits { Fits command.now }
+    requires fits { FitsFrame command.now }
     requires counted { IsCounted (shape command.now) }
     requires one { data_count (shape command.now) ≡ 1 }
     requires empty { out.old.items ≡ [] }

@@ -2,7 +2,7 @@
 ghost use Rattle.std.specs.Prelude.{◌≡◌, ◌+◌, ◌≤◌, ◌++◌, ◌∷◌, [], length, All, OnOk, vec_capacity};
 ghost use Rattle.stk_frame.specs.declared.protocol.TheConstants.{LARGEST_FRAME};
 ghost use Rattle.stk_frame.specs.Commands.{shape};
-ghost use Rattle.stk_host.specs.Calls.{GoesOn, CountsLink, Fits, IsQuiet, IsCounted, data_count};
+ghost use Rattle.stk_host.specs.Calls.{EndsInnerStep, CountsLink, FitsFrame, BringsNoData, IsCounted, data_count};
 ghost use Rattle.stk_host.specs.Talk.{Stays};
 
 use crate::conversation::Conversation;
@@ -26,11 +26,11 @@ pub(crate) fn play_step<L: Link>(
     first: &[Command<'_>],
     last: &Command<'_>,
 ) -> Result<(), Stop>
-    requires quiet { All IsQuiet first.now }
-    requires fits { Fits last.now }
+    requires quiet { All BringsNoData first.now }
+    requires fits { FitsFrame last.now }
     requires counted { IsCounted (shape last.now) }
     requires no_data { data_count (shape last.now) ≡ 0 }
-    ensures played { GoesOn (first.now ++ last.now ∷ []) [] [] conversation.old.next conversation.old.unread
+    ensures played { EndsInnerStep (first.now ++ last.now ∷ []) [] [] conversation.old.next conversation.old.unread
         (L.talk link.old) (L.talk link.new)
         result conversation.new.next conversation.new.unread }
     ensures counted { CountsLink (L.failures link.old) (L.failures link.new) result }
@@ -48,11 +48,11 @@ pub(crate) fn read_step<L: Link>(
     last: &Command<'_>,
     out: &mut Vec<u8>,
 ) -> Result<(), Stop>
-    requires quiet { All IsQuiet first.now }
-    requires fits { Fits last.now }
+    requires quiet { All BringsNoData first.now }
+    requires fits { FitsFrame last.now }
     requires counted { IsCounted (shape last.now) }
     requires room { length out.old.items + data_count (shape last.now) ≤ vec_capacity out.old }
-    ensures played { GoesOn (first.now ++ last.now ∷ []) out.old.items out.new.items conversation.old.next
+    ensures played { EndsInnerStep (first.now ++ last.now ∷ []) out.old.items out.new.items conversation.old.next
         conversation.old.unread (L.talk link.old) (L.talk link.new)
         result conversation.new.next conversation.new.unread }
     ensures counted { CountsLink (L.failures link.old) (L.failures link.new) result }

@@ -135,7 +135,8 @@ impl<R: Read + Drop, W: Write + Drop> Link for StreamLink<R, W> {
         // The writer took the bytes that are said to be sent, or at a failure a front of them.
         ensures written { IfOk result (λ n. Appends (W.contents self.old.writer) (W.contents self.new.writer)
             (take n bytes.now)) }
-        ensures broken { OnErr result (AppendsFront (W.contents self.old.writer) (W.contents self.new.writer) bytes.now) }
+        ensures broken { OnErr result (AppendsFront (W.contents self.old.writer) (W.contents self.new.writer)
+            bytes.now) }
         ensures reader { self.new.reader ≡ self.old.reader }
         ensures sound { OnOk result (self.new.failures ≡ self.old.failures) }
     {

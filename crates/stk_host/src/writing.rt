@@ -7,7 +7,7 @@ ghost use Rattle.stk_frame.specs.HostCommands as host;
 ghost use Rattle.stk_host.specs.Places as places;
 ghost use Rattle.stk_host.specs.WriteSteps.{page_step, byte_steps, write_steps};
 ghost use Rattle.stk_host.specs.Steps.{play};
-ghost use Rattle.stk_host.specs.Calls.{GoesOn, EndsSteps, CountsLink};
+ghost use Rattle.stk_host.specs.Calls.{EndsInnerStep, EndsSteps, CountsLink};
 ghost use Rattle.stk_host.specs.Talk.{Stays};
 
 use crate::conversation::Conversation;
@@ -31,7 +31,7 @@ fn program_page<L: Link>(
     start: u32,
 ) -> Result<(), Stop>
     requires { start < 2 ^ 20 }
-    ensures played { GoesOn (page_step part.now image.now start) [] [] conversation.old.next conversation.old.unread
+    ensures played { EndsInnerStep (page_step part.now image.now start) [] [] conversation.old.next conversation.old.unread
         (L.talk link.old) (L.talk link.new)
         result conversation.new.next conversation.new.unread }
     ensures counted { CountsLink (L.failures link.old) (L.failures link.new) result }
@@ -81,7 +81,7 @@ fn program_run<L: Link>(
 ) -> Result<(), Stop>
     requires order { start ≤ end }
     requires fits { end - start ≤ 256 }
-    ensures played { GoesOn (places.load_eeprom start ∷ host.program_eeprom (filled image.now start (end - start)) ∷ [])
+    ensures played { EndsInnerStep (places.load_eeprom start ∷ host.program_eeprom (filled image.now start (end - start)) ∷ [])
         [] [] conversation.old.next conversation.old.unread (L.talk link.old) (L.talk link.new)
         result conversation.new.next conversation.new.unread }
     ensures counted { CountsLink (L.failures link.old) (L.failures link.new) result }

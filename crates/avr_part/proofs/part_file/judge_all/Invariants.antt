@@ -1,9 +1,9 @@
 use Rattle.std.proofs.Common.{◌≡◌}
 use Rattle.toml.specs.View.{members_view}
-use Rattle.avr_part.specs.PartFile.{judged_all}
+use Rattle.avr_part.specs.PartFile.{parts_in}
 use Rattle.avr_part.proofs.Judging.{onto}
 use Rattle.avr_part.proofs.part_file.judge_all.Given as goal
 
 abbrev pub invariant-loop-key : goal.invariant-loop-key
 invariant-loop-key l =
-    judged_all (members_view l.table.entries) ≡ onto l.parts.items (judged_all (members_view l.key-iterator))
+    parts_in (members_view l.table.entries) ≡ onto l.parts.items (parts_in (members_view l.key-iterator))

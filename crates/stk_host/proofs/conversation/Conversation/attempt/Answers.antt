@@ -3,7 +3,7 @@ use Rattle.std.proofs.lemmas.Result.{err_from_is_err_and}
 use Rattle.std.proofs.lemmas.List.{drop_all}
 use Rattle.std.proofs.lemmas.List.Elements.{All-get_or}
 use Rattle.stk_frame.specs.declared.command.Command.{Command}
-use Rattle.stk_host.specs.Calls.{IsQuiet}
+use Rattle.stk_host.specs.Calls.{BringsNoData}
 use Rattle.stk_host.proofs.Reaching.{reaches_here}
 use Rattle.stk_host.proofs.Steps.{turn_data, turn_again, turn_stop, turn_breaks, turn_last}
 use Rattle.stk_host.proofs.conversation.Conversation.attempt.Goals as goal
@@ -13,8 +13,8 @@ next_command : (first : List Command) (last item : Command) (i : ℕ) → i < le
 next_command first last item i lt is = ap (λ cs. cs ++ last ∷ []) (drop-cons first i item lt) ∙ ap (λ x. x ∷ (drop (suc i) first ++ last ∷ [])) (sym is)
 
 -- and what holds of all of them holds of it
-its_own : (first : List Command) (item : Command) (i : ℕ) → i < length first → item ≡ get_or first i item → All IsQuiet first → IsQuiet item
-its_own first item i lt is all = subst IsQuiet (sym is) (All-get_or IsQuiet first i item lt all)
+its_own : (first : List Command) (item : Command) (i : ℕ) → i < length first → item ≡ get_or first i item → All BringsNoData first → BringsNoData item
+its_own first item i lt is all = subst BringsNoData (sym is) (All-get_or BringsNoData first i item lt all)
 
 pub loop-command-init : goal.loop-command-init
 loop-command-init g c = record {
