@@ -68,8 +68,8 @@ EndsSteps dialog seq unread old new bytes (Ok a) next left =
 EndsSteps dialog seq unread old new bytes (Err stop) next left = StopsSteps dialog seq unread old new stop next left
 
 -- How a step ends that others follow: they are left to play, behind all data so far; or with it all of them stop.
-abbrev pub EndsInnerStep : List Command → List ℕ → List ℕ → ℕ → List ℕ → Option Talk → Option Talk → Result (Unit {0}) Stop → ℕ
-    → List ℕ → Type 0
+abbrev pub EndsInnerStep : List Command → List ℕ → List ℕ → ℕ → List ℕ → Option Talk → Option Talk
+    → Result (Unit {0}) Stop → ℕ → List ℕ → Type 0
 EndsInnerStep commands before after seq unread old new (Ok done) next left =
     (steps : List (List Command)) → Reaches (play (commands ∷ steps) before) seq unread old
     (play steps after) next left new

@@ -31,8 +31,8 @@ fn program_page<L: Link>(
     start: u32,
 ) -> Result<(), Stop>
     requires { start < 2 ^ 20 }
-    ensures played { EndsInnerStep (page_step part.now image.now start) [] [] conversation.old.next conversation.old.unread
-        (L.talk link.old) (L.talk link.new)
+    ensures played { EndsInnerStep (page_step part.now image.now start) [] [] conversation.old.next
+        conversation.old.unread (L.talk link.old) (L.talk link.new)
         result conversation.new.next conversation.new.unread }
     ensures counted { CountsLink (L.failures link.old) (L.failures link.new) result }
     ensures comes { Stays L.comes_of link.old link.new }
@@ -81,7 +81,8 @@ fn program_run<L: Link>(
 ) -> Result<(), Stop>
     requires order { start ≤ end }
     requires fits { end - start ≤ 256 }
-    ensures played { EndsInnerStep (places.load_eeprom start ∷ host.program_eeprom (filled image.now start (end - start)) ∷ [])
+    ensures played { EndsInnerStep
+        (places.load_eeprom start ∷ host.program_eeprom (filled image.now start (end - start)) ∷ [])
         [] [] conversation.old.next conversation.old.unread (L.talk link.old) (L.talk link.new)
         result conversation.new.next conversation.new.unread }
     ensures counted { CountsLink (L.failures link.old) (L.failures link.new) result }

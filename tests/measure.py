@@ -1,0 +1,188 @@
+#!/usr/bin/env python3
+"""How large the project is and how it reads: what can be counted in its sources.
+
+    tests/measure.py         the tables (docs/PROOFS has those of the last change that was measured)
+    tests/measure.py -v      also the places: lines over 120 columns, the widest definitions, names with several meanings
+
+Only files that git knows of are read. Lines of code are those of src/ without tests, blank lines, comments and contracts;
+contracts are the clauses of functions, definitions specs/, proofs proofs/, each without blank lines, comments and `use`
+lines. Wide lines have more than 120 columns; imports aside. A clause is one `requires` or `ensures`; the mean is over
+public functions. A definition is as wide as it has explicit arguments.
+"""
+
+import re
+import subprocess
+import sys
+from collections import defaultdict
+from pathlib import Path
+
+TOP = Path(__file__).resolve().parent.parent
+WIDEST = 120
+
+CLAUSE = re.compile(r"^\s*(?:requires|ensures)\b")
+FUNCTION = re.compile(r"^\s*(pub |pub\(crate\) )?(?:const |unsafe )?fn (\w+)")
+HEADER = re.compile(r"^\s*(?:(?:abbrev|unfoldable) pub|pub (record|data)) (\S+)(.*)")
+TEST = re.compile(r"/src/(?:.*/)?(?:\w*tests?|examples)(?:/|\.rt)")
+
+
+def known_files():
+    """The files of each crate, by its name."""
+    listed = subprocess.run(["git", "-C", TOP, "ls-files", "crates"], capture_output=True, text=True, check=True)
+    crates = defaultdict(list)
+    for name in listed.stdout.splitlines():
+        if name.endswith((".rt", ".antt")) and (TOP / name).exists():
+            crates[name.split("/")[1]].append(name)
+    return crates
+
+
+def lines_of(name):
+    return (TOP / name).read_text().splitlines()
+
+
+def is_text(line, name):
+    """Whether a line counts: neither blank nor a comment nor an import."""
+    line = line.strip()
+    if name.endswith(".antt"):
+        return bool(line) and not line.startswith(("--", "use ", "pub use ", "pub mod "))
+    return bool(line) and not line.startswith(("//", "use ", "pub use ", "ghost use ", "#!["))
+
+
+def depth(line):
+    return line.count("{") - line.count("}")
+
+
+def clauses_in(name):
+    """The lines of clauses in a file of src/, and for each function whether it is public and how many clauses it has."""
+    contract, functions, open_braces = [], [], 0
+    for line in lines_of(name):
+        function = FUNCTION.match(line)
+        if function and not open_braces:
+            functions.append([function.group(1) == "pub ", 0])
+        if open_braces or CLAUSE.match(line):
+            if not open_braces and functions:
+                functions[-1][1] += 1
+            contract.append(line)
+            open_braces += depth(line)
+    return contract, functions
+
+
+def definitions_in(name):
+    """The definitions of a file of specs/: name, kind, arguments and text of each."""
+    found, block = [], None
+    for line in lines_of(name):
+        header = HEADER.match(line)
+        if header:
+            block = [header.group(2), header.group(1), line]
+            found.append(block)
+        elif block and line.strip() and not line.startswith(("use ", "--")):
+            block[2] += "\n" + line
+        elif not line.strip():
+            block = None
+    return found
+
+
+def without_nested(text):
+    """A type without what stands in parentheses and braces, but a mark for each explicit binder."""
+    kept, level, group = "", 0, ""
+    for character in text:
+        if character in "({":
+            level += 1
+            group = group + character if level > 1 else character
+        elif character in ")}":
+            level -= 1
+            group += character
+            if level == 0:
+                binder = re.match(r"\(([\w' ]+) :", group)
+                kept += " ".join(["#"] * len(binder.group(1).split())) + " " if binder else ("_" if group[0] == "(" else "")
+        elif level:
+            group += character
+        else:
+            kept += character
+    return kept
+
+
+def arguments_of(name, kind, text):
+    """How many explicit arguments a definition takes."""
+    if kind:
+        head = text.split(" where", 1)[0].split(name, 1)[1]
+        return without_nested(head.rsplit(" : ", 1)[0]).count("#")
+    head = text.split(f"{name} : ", 1)
+    if len(head) < 2:
+        return 0
+    lines = head[1].split("\n")
+    kept = [lines[0]]
+    for line in lines[1:]:
+        if not line.startswith("    "):
+            break
+        kept.append(line)
+    plain = without_nested(" ".join(kept))
+    return plain.count("#") + sum(1 for part in plain.split("→")[:-1] if part.replace("#", "").strip())
+
+
+def measured(name):
+    """What one crate comes to."""
+    code = contracts = definitions = proofs = over_in_proofs = 0
+    over, widest, longest, clauses = [], 0, 0, []
+    for file in CRATES[name]:
+        lines = lines_of(file)
+        long = [f"{file}:{i}" for i, line in enumerate(lines, 1) if len(line) > WIDEST and "use Rattle." not in line]
+        if "/proofs/" in file:
+            over_in_proofs += len(long)
+        else:
+            over += long
+        count = sum(1 for line in lines if is_text(line, file))
+        if "/specs/" in file:
+            definitions += count
+            for definition in definitions_in(file):
+                size = arguments_of(*definition)
+                widest = max(widest, size)
+                ARGUMENTS.append((size, f"{name}.{Path(file).stem}.{definition[0]}"))
+        elif "/proofs/" in file:
+            proofs += count
+        elif not TEST.search(file):
+            contract, functions = clauses_in(file)
+            contracts += sum(1 for line in contract if line.strip())
+            code += count - sum(1 for line in contract if is_text(line, file))
+            longest = max([longest] + [len(line) for line in contract])
+            clauses += [number for public, number in functions if public]
+    OVER.extend(over)
+    mean = sum(clauses) / len(clauses) if clauses else 0
+    most = max(clauses, default=0)
+    return code, contracts, definitions, proofs, len(over), over_in_proofs, longest, mean, most, widest
+
+
+def meanings():
+    """Names that are defined in more than one file of specs/, with another text in each."""
+    texts = defaultdict(dict)
+    for name, files in CRATES.items():
+        for file in files:
+            if "/specs/" in file:
+                for defined, _, text in definitions_in(file):
+                    texts[defined].setdefault(" ".join(text.split()), f"{name}.{Path(file).stem}")
+    return {defined: sorted(where.values()) for defined, where in texts.items() if len(where) > 1}
+
+
+def main():
+    titles = ["Crate", "Code", "Contracts", "Definitions", "Proofs", "Wide lines", "in proofs", "Longest clause line",
+              "Clauses, mean", "Clauses, most", "Widest definition"]
+    print("| " + " | ".join(titles) + " |")
+    print("| --- |" + " ---: |" * (len(titles) - 1))
+    rows = {name: measured(name) for name in CRATES}
+    for name, row in rows.items():
+        print(f"| {name} | " + " | ".join(f"{x:.1f}" if isinstance(x, float) else str(x) for x in row) + " |")
+    sums = [str(sum(row[i] for row in rows.values())) for i in range(6)]
+    most = [max(row[i] for row in rows.values()) for i in (6, 8, 9)]
+    print("| in all | " + " | ".join(sums) + f" | {most[0]} | | {most[1]} | {most[2]} |")
+    several = meanings()
+    print(f"\nNames that are defined in more than one file of specs/ with another meaning in each: {len(several)}")
+    if "-v" in sys.argv:
+        print("\n".join(f"  {name}: {', '.join(where)}" for name, where in sorted(several.items())))
+        print("\nThe widest definitions:")
+        print("\n".join(f"  {size} {where}" for size, where in sorted(ARGUMENTS, reverse=True)[:20]))
+        print("\nLines over 120 columns, imports and proofs aside:")
+        print("\n".join("  " + place for place in OVER))
+
+
+CRATES = known_files()
+OVER, ARGUMENTS = [], []
+main()
