@@ -17,8 +17,6 @@ mod encode;
 mod frame;
 mod host_command;
 mod reader;
-#[cfg(test)]
-mod tests;
 
 ghost use Rattle.std.specs.Prelude.{◌≡◌, ◌<◌, ◌≤◌, List, ℕ, true, length, slice_index};
 ghost use Rattle.stk_frame.specs.Frame.{frame};
