@@ -8,7 +8,7 @@ use Rattle.stk_host.specs.Tape.{Reading}
 use Rattle.stk_host.specs.Dialog.{Dialog, Done, Say, Ask, ◌>>=◌}
 use Rattle.stk_host.specs.Steps.{Reply, Data, Again, Stop, Outcome, replied, with_data, exchange, attempt, settled, tries, step}
 use Rattle.stk_emu.specs.declared.fate.Fate.{Fate}
-use Rattle.stk_emu.specs.declared.fate.Fate.TheVariants.{Good, LostCommand, LostAnswer, LateAnswer, CommandRefused, AnswerSpoiled}
+use Rattle.stk_emu.specs.declared.fate.Fate.TheVariants.{Good, LostCommand, LostAnswer, LateAnswer, HeldAnswer, CommandRefused, AnswerSpoiled}
 use Rattle.stk_emu.specs.Device.{Device}
 use Rattle.stk_emu.specs.Wire.{first_fate, other_fates, after_fate}
 use Rattle.stk_emu.specs.Along.{reading_of, Standing, along}
@@ -74,6 +74,7 @@ module _ {P : Type 0} (m : Device P) where
   asked k LostCommand command commands go_on p fates each = ends_again k 0 (command ∷ commands) _ p p fates refl
   asked k LostAnswer command commands go_on p fates each = ends_again k 1 (command ∷ commands) _ p (m.after (body command) p) fates refl
   asked k LateAnswer command commands go_on p fates each = ends_again k 1 (command ∷ commands) _ p (m.after (body command) p) fates refl
+  asked k HeldAnswer command commands go_on p fates each = ends_again k 1 (command ∷ commands) _ p (m.after (body command) p) fates refl
   asked k CommandRefused command commands go_on p fates each = ends_again k 0 (command ∷ commands) _ p p fates refl
   asked k (AnswerSpoiled noise) command commands go_on p fates each = ends_again k 1 (command ∷ commands) _ p (m.after (body command) p) fates refl
 

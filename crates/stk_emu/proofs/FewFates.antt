@@ -12,7 +12,7 @@ use Rattle.stk_host.specs.Bound.{AsksAtMost}
 use Rattle.stk_host.specs.Steps.{Reply, Data, Again, Stop, Outcome, replied, with_data, exchange, attempt, settled, tries, step, if_done, play}
 use Rattle.stk_host.proofs.Bounds.{step_most}
 use Rattle.stk_emu.specs.declared.fate.Fate.{Fate}
-use Rattle.stk_emu.specs.declared.fate.Fate.TheVariants.{Good, LostCommand, LostAnswer, LateAnswer, CommandRefused, AnswerSpoiled}
+use Rattle.stk_emu.specs.declared.fate.Fate.TheVariants.{Good, LostCommand, LostAnswer, LateAnswer, HeldAnswer, CommandRefused, AnswerSpoiled}
 use Rattle.stk_emu.specs.Programmer.{Programmer}
 use Rattle.stk_emu.specs.Device.{Device, device}
 use Rattle.stk_emu.specs.Wire.{first_fate, other_fates, after_fate}
@@ -152,6 +152,7 @@ module _ {P : Type 0} (m : Device P) where
   by_fate k LostCommand command then go_on go size p fates got is has each e = wrong size fates got then _ is e
   by_fate k LostAnswer command then go_on go size p fates got is has each e = wrong size fates got then _ is e
   by_fate k LateAnswer command then go_on go size p fates got is has each e = wrong size fates got then _ is e
+  by_fate k HeldAnswer command then go_on go size p fates got is has each e = wrong size fates got then _ is e
   by_fate k CommandRefused command then go_on go size p fates got is has each e = wrong size fates got then _ is e
   by_fate k (AnswerSpoiled noise) command then go_on go size p fates got is has each e = wrong size fates got then _ is e
 

@@ -7,7 +7,7 @@ use Rattle.stk_host.specs.declared.fault.StepFault.TheVariants.{NoAnswer}
 use Rattle.stk_host.specs.Dialog.{Dialog, Done, Say, Ask}
 use Rattle.stk_host.specs.Steps.{Reply, Data, Again, Stop, Outcome, replied, with_data, exchange, attempt, settled, tries, step}
 use Rattle.stk_emu.specs.declared.fate.Fate.{Fate}
-use Rattle.stk_emu.specs.declared.fate.Fate.TheVariants.{Good, LostCommand, LostAnswer, LateAnswer, CommandRefused, AnswerSpoiled}
+use Rattle.stk_emu.specs.declared.fate.Fate.TheVariants.{Good, LostCommand, LostAnswer, LateAnswer, HeldAnswer, CommandRefused, AnswerSpoiled}
 use Rattle.stk_emu.specs.Device.{Device}
 use Rattle.stk_emu.specs.Wire.{first_fate, other_fates, after_fate}
 use Rattle.stk_emu.specs.Along.{reading_of, along}
@@ -53,6 +53,7 @@ module _ {P : Type 0} (m : Device P) where
   by_fate k LostCommand command go_on then p fates got each e = silent _ got _ e
   by_fate k LostAnswer command go_on then p fates got each e = silent _ got _ e
   by_fate k LateAnswer command go_on then p fates got each e = silent _ got _ e
+  by_fate k HeldAnswer command go_on then p fates got each e = silent _ got _ e
   by_fate k CommandRefused command go_on then p fates got each e = silent _ got _ e
   by_fate k (AnswerSpoiled noise) command go_on then p fates got each e = silent _ got _ e
 

@@ -3,7 +3,7 @@ use Rattle.std.specs.Prelude.{ℕ, zero, suc, List, [], ◌∷◌, ◌≡◌, So
 use Rattle.stk_host.specs.Tape.{Tape, Reading, Answered, Silent}
 use Rattle.stk_host.specs.Dialog.{Dialog, Done, Say, Ask, played}
 use Rattle.stk_emu.specs.declared.fate.Fate.{Fate}
-use Rattle.stk_emu.specs.declared.fate.Fate.TheVariants.{Good, LostCommand, LostAnswer, LateAnswer, CommandRefused, AnswerSpoiled}
+use Rattle.stk_emu.specs.declared.fate.Fate.TheVariants.{Good, LostCommand, LostAnswer, LateAnswer, HeldAnswer, CommandRefused, AnswerSpoiled}
 use Rattle.stk_emu.specs.Device.{Device, refusal}
 use Rattle.stk_emu.specs.Lawful.{IsBody}
 use Rattle.stk_emu.specs.Wire.{first_fate, other_fates, after_fate, Wire, tape_of, wire_after}
@@ -14,6 +14,7 @@ reading_of Good answered = Answered answered
 reading_of LostCommand answered = Silent
 reading_of LostAnswer answered = Silent
 reading_of LateAnswer answered = Silent
+reading_of HeldAnswer answered = Silent
 reading_of CommandRefused answered = Answered refusal
 reading_of (AnswerSpoiled noise) answered = Silent
 

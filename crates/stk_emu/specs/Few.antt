@@ -1,7 +1,7 @@
 -- A line on which few frames go wrong.
 use Rattle.std.specs.Prelude.{ℕ, zero, suc, ◌+◌, ◌≤◌, List, [], ◌∷◌}
 use Rattle.stk_emu.specs.declared.fate.Fate.{Fate}
-use Rattle.stk_emu.specs.declared.fate.Fate.TheVariants.{Good, LostCommand, LostAnswer, LateAnswer, CommandRefused, AnswerSpoiled}
+use Rattle.stk_emu.specs.declared.fate.Fate.TheVariants.{Good, LostCommand, LostAnswer, LateAnswer, HeldAnswer, CommandRefused, AnswerSpoiled}
 use Rattle.stk_emu.specs.Wire.{first_fate, other_fates}
 
 -- one, where a frame goes wrong
@@ -10,6 +10,7 @@ bad Good = 0
 bad LostCommand = 1
 bad LostAnswer = 1
 bad LateAnswer = 1
+bad HeldAnswer = 1
 bad CommandRefused = 1
 bad (AnswerSpoiled noise) = 1
 

@@ -273,6 +273,7 @@ fn gets_through(alloc: Global, place: usize, kind: usize) -> Result<bool, Fail> 
         2 => Fate::LostAnswer,
         3 => Fate::LateAnswer,
         4 => Fate::CommandRefused,
+        5 => Fate::HeldAnswer,
         _ => {
             let noise = [0x1B, 0x06, 0x00, 0x03, 0x0E, 0x17, 0x00, 0x00, 0x00];
             if !noise_is_lawful(&noise) {
@@ -291,7 +292,7 @@ fn gets_through(alloc: Global, place: usize, kind: usize) -> Result<bool, Fail> 
 #[test]
 fn a_session_gets_through_every_fate(rt: HostRuntime) -> Result<(), Fail> {
     for place in 0..6usize {
-        for kind in 0..6usize {
+        for kind in 0..7usize {
             assert!(rt;
                 gets_through(rt.alloc(), place, kind)?,
                 "frame {place}, fate {kind}"
@@ -313,5 +314,22 @@ fn a_late_answer_comes_before_the_next(rt: HostRuntime) -> Result<(), Fail> {
     assert_eq!(rt; link.recv(&mut buffer), Ok(Heard::Bytes(25)));
     assert!(rt; buffer.starts_with(&ANSWERS[..25]));
     assert_eq!(rt; link.recv(&mut buffer), Ok(Heard::Silence));
+    Ok(())
+}
+
+#[test]
+fn held_answers_come_together(rt: HostRuntime) -> Result<(), Fail> {
+    let alloc = rt.alloc();
+    let mut fates = fates(alloc, 0, 0, Fate::HeldAnswer)?;
+    add(&mut fates, Fate::HeldAnswer)?;
+    let mut link = Wired::new(alloc, m328p(alloc)?, fates);
+    let mut buffer = [0; 64];
+    assert_eq!(rt; link.send(&FRAMES), Ok(7));
+    assert_eq!(rt; link.recv(&mut buffer), Ok(Heard::Silence));
+    assert_eq!(rt; link.send(&FRAMES[7..25]), Ok(18));
+    assert_eq!(rt; link.recv(&mut buffer), Ok(Heard::Silence));
+    assert_eq!(rt; link.send(&FRAMES[25..37]), Ok(12));
+    assert_eq!(rt; link.recv(&mut buffer), Ok(Heard::Bytes(35)));
+    assert!(rt; buffer.starts_with(&ANSWERS[..35]));
     Ok(())
 }
