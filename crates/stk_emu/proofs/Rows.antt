@@ -7,10 +7,10 @@ use Rattle.stk_frame.specs.Frame.{frame}
 use Rattle.stk_frame.specs.HostCommands.{enter}
 use Rattle.stk_host.specs.declared.link.Item.TheVariants.{Silence}
 use Rattle.stk_host.specs.Tape.{Tape, on_tape}
-use Rattle.stk_emu.specs.Programmer.{Programmer, fresh_programmer, obey}
+use Rattle.stk_emu.specs.Programmer.{Programmer, fresh_programmer, restarted, obey}
 use Rattle.stk_emu.specs.Emulator.{emulate}
 use Rattle.stk_emu.specs.declared.fate.Fate.{Fate}
-use Rattle.stk_emu.specs.declared.fate.Fate.TheVariants.{Good, LostAnswer, LateAnswer, HeldAnswer}
+use Rattle.stk_emu.specs.declared.fate.Fate.TheVariants.{Good, LostAnswer, LateAnswer, HeldAnswer, Reset}
 use Rattle.stk_emu.specs.Device.{device}
 use Rattle.stk_emu.specs.Wire.{fresh, tape_of}
 
@@ -102,3 +102,12 @@ late_behind_held = refl
 pub four_held : brings (HeldAnswer ∷ HeldAnswer ∷ HeldAnswer ∷ HeldAnswer ∷ [])
     ≡ Silence ∷ Silence ∷ Silence ∷ Silence ∷ on_tape (told 2 ++ (told 3 ++ (told 4 ++ told 5)))
 four_held = refl
+
+-- A reset brings what is held, and then a silence.
+pub held_before_reset : brings (HeldAnswer ∷ Reset ∷ [])
+    ≡ Silence ∷ (on_tape (told 1) ++ Silence ∷ on_tape (told 3 ++ (told 4 ++ told 5)))
+held_before_reset = refl
+
+-- a page that is loaded, and not written, is lost with programming mode
+pub load_is_lost : restarted (behind (0x13 ∷ 0x00 ∷ 0x02 ∷ 0x41 ∷ 0x0A ∷ 0x40 ∷ 0x4C ∷ 0x20 ∷ 0xFF ∷ 0xFF ∷ 0x12 ∷ 0x34 ∷ []) loaded) ≡ start
+load_is_lost = refl

@@ -34,7 +34,7 @@ said_bind m k (Done a) next p fates = refl
 said_bind m k (Say e d) next p fates = ap (λ said. e ∷ said) (said_bind m k d next p fates)
 said_bind m zero (Ask bytes go_on) next p fates = refl
 said_bind m (suc k) (Ask bytes go_on) next p fates =
-    said_bind m k (go_on (reading_of (first_fate fates) (m.answer bytes p))) next (after_fate (first_fate fates) (m.after bytes p) p) (other_fates fates)
+    said_bind m k (go_on (reading_of (first_fate fates) (m.answer bytes p))) next (after_fate (first_fate fates) (m.after bytes p) p (m.reset p)) (other_fates fates)
 
 -- a dialog that can say nothing says nothing
 pub said_lifted : {E R P : Type 0} (m : Device P) (k : ℕ) (d : Dialog ⊥ R) (p : P) (fates : List Fate) → said_along {E = E} m k (lifted d) p fates ≡ []
@@ -42,7 +42,7 @@ said_lifted m k (Done r) p fates = refl
 said_lifted m k (Say e d) p fates = absurd e
 said_lifted m zero (Ask bytes go_on) p fates = refl
 said_lifted {E = E} m (suc k) (Ask bytes go_on) p fates =
-    said_lifted {E = E} m k (go_on (reading_of (first_fate fates) (m.answer bytes p))) (after_fate (first_fate fates) (m.after bytes p) p) (other_fates fates)
+    said_lifted {E = E} m k (go_on (reading_of (first_fate fates) (m.answer bytes p))) (after_fate (first_fate fates) (m.after bytes p) p (m.reset p)) (other_fates fates)
 
 cons_none : (x : List ℕ) (xs : List (List ℕ)) → [] ≡ x ∷ xs → ⊥
 cons_none x xs e = cc

@@ -13,7 +13,7 @@ use Rattle.stk_host.specs.Tape.{Tape, Answered, Silent, answer, on_tape, first_a
 use Rattle.stk_host.specs.Dialog.{next}
 use Rattle.stk_host.proofs.Tapes.{answer_found, answer_silent, on_tape_append}
 use Rattle.stk_emu.specs.declared.fate.Fate.{Fate}
-use Rattle.stk_emu.specs.declared.fate.Fate.TheVariants.{Good, LostCommand, LostAnswer, LateAnswer, HeldAnswer, CommandRefused, AnswerSpoiled}
+use Rattle.stk_emu.specs.declared.fate.Fate.TheVariants.{Good, LostCommand, LostAnswer, LateAnswer, HeldAnswer, Reset, CommandRefused, AnswerSpoiled}
 use Rattle.stk_emu.specs.Device.{Device, refusal, answer_body}
 use Rattle.stk_emu.specs.Wire.{IsLawfulFate, first_fate, after_fate, back, let_go, late_of, Wire, segment, passed}
 use Rattle.stk_emu.specs.Along.{reading_of}
@@ -154,6 +154,7 @@ reads_back n LostCommand late bytes more clear lawful b = reads_silence n (waiti
 reads_back n LostAnswer late bytes more clear lawful b = reads_silence n (waiting late) [] more (clear_skipped n late clear) (clear_length n late clear) no_noise
 reads_back n LateAnswer late bytes more clear lawful b = reads_silence n (waiting late) [] more (clear_skipped n late clear) (clear_length n late clear) no_noise
 reads_back n HeldAnswer late bytes more clear lawful b = reads_silence n [] [] more (none_skipped n) (omega arith) no_noise
+reads_back n Reset late bytes more clear lawful b = reads_silence n (waiting late) [] more (clear_skipped n late clear) (clear_length n late clear) no_noise
 reads_back n CommandRefused late bytes more clear lawful b = reads_frame n (waiting late) refusal more (clear_skipped n late clear) (clear_length n late clear) refusal_is_body
 reads_back n (AnswerSpoiled noise) late bytes more clear lawful b = reads_silence n (waiting late) noise.items more (clear_skipped n late clear) (clear_length n late clear) lawful
 
@@ -169,10 +170,10 @@ segment_read m n bytes w more b a clear lawful =
 
 -- and the programmer behind it
 pub segment_leaves : {P : Type 0} (m : Device P) (n : ℕ) (bytes : List ℕ) (w : Wire P) → IsBody bytes
-    → (passed m (frame n bytes) w).programmer ≡ after_fate (first_fate w.fates) (m.after bytes w.programmer) w.programmer
+    → (passed m (frame n bytes) w).programmer ≡ after_fate (first_fate w.fates) (m.after bytes w.programmer) w.programmer (m.reset w.programmer)
 segment_leaves m n bytes w b =
     let good : is_good (frame n bytes) ≡ true = frame_is_good n bytes b.some in
-    ap (λ q. after_fate (first_fate w.fates) q w.programmer) (chosen (is_good (frame n bytes)) _ _ good ∙ ap (λ x. m.after x w.programmer) (body_of_frame n bytes))
+    ap (λ q. after_fate (first_fate w.fates) q w.programmer (m.reset w.programmer)) (chosen (is_good (frame n bytes)) _ _ good ∙ ap (λ x. m.after x w.programmer) (body_of_frame n bytes))
 
 -- nothing waits
 pub none_clear : (n : ℕ) → IsClear n none_late
@@ -198,6 +199,7 @@ late_is n LostCommand bytes late b c = none_clear (next n)
 late_is n LostAnswer bytes late b c = none_clear (next n)
 late_is n LateAnswer bytes late b c = behind_clear n none_late bytes b (none_clear n)
 late_is n HeldAnswer bytes late b c = behind_clear n late bytes b c
+late_is n Reset bytes late b c = none_clear (next n)
 late_is n CommandRefused bytes late b c = none_clear (next n)
 late_is n (AnswerSpoiled noise) bytes late b c = none_clear (next n)
 

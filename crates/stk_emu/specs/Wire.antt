@@ -5,7 +5,7 @@ use Rattle.stk_frame.specs.Cut.{frames, seq_of}
 use Rattle.stk_host.specs.declared.link.Item.TheVariants.{Silence}
 use Rattle.stk_host.specs.Tape.{Tape, on_tape}
 use Rattle.stk_emu.specs.declared.fate.Fate.{Fate}
-use Rattle.stk_emu.specs.declared.fate.Fate.TheVariants.{Good, LostCommand, LostAnswer, LateAnswer, HeldAnswer, CommandRefused, AnswerSpoiled}
+use Rattle.stk_emu.specs.declared.fate.Fate.TheVariants.{Good, LostCommand, LostAnswer, LateAnswer, HeldAnswer, Reset, CommandRefused, AnswerSpoiled}
 use Rattle.stk_emu.specs.Lawful.{IsLawful, Late, none_late, behind_late, waiting}
 use Rattle.stk_emu.specs.Device.{Device, refusal, answer_frame, after_frame}
 
@@ -16,6 +16,7 @@ IsLawfulFate LostCommand = Unit {0}
 IsLawfulFate LostAnswer = Unit {0}
 IsLawfulFate LateAnswer = Unit {0}
 IsLawfulFate HeldAnswer = Unit {0}
+IsLawfulFate Reset = Unit {0}
 IsLawfulFate CommandRefused = Unit {0}
 
 abbrev pub AreLawful : List Fate → Type 0
@@ -30,15 +31,16 @@ abbrev pub other_fates : List Fate → List Fate
 other_fates [] = []
 other_fates (fate ∷ fates) = fates
 
--- the programmer after a frame of this fate: the one that obeyed it, or the one that never saw it
-abbrev pub after_fate : {P : Type 0} → Fate → P → P → P
-after_fate Good obeyed kept = obeyed
-after_fate LostCommand obeyed kept = kept
-after_fate LostAnswer obeyed kept = obeyed
-after_fate LateAnswer obeyed kept = obeyed
-after_fate HeldAnswer obeyed kept = obeyed
-after_fate CommandRefused obeyed kept = kept
-after_fate (AnswerSpoiled noise) obeyed kept = obeyed
+-- the programmer after a frame of this fate: the one that obeyed it, the one that never saw it, or one begun anew
+abbrev pub after_fate : {P : Type 0} → Fate → P → P → P → P
+after_fate Good obeyed kept anew = obeyed
+after_fate LostCommand obeyed kept anew = kept
+after_fate LostAnswer obeyed kept anew = obeyed
+after_fate LateAnswer obeyed kept anew = obeyed
+after_fate HeldAnswer obeyed kept anew = obeyed
+after_fate Reset obeyed kept anew = anew
+after_fate CommandRefused obeyed kept anew = kept
+after_fate (AnswerSpoiled noise) obeyed kept anew = obeyed
 
 -- what comes back, by the frames of its answer and of the refusal
 abbrev pub back : Fate → List ℕ → List ℕ → Tape
@@ -47,6 +49,7 @@ back LostCommand answered refused = Silence ∷ []
 back LostAnswer answered refused = Silence ∷ []
 back LateAnswer answered refused = Silence ∷ []
 back HeldAnswer answered refused = Silence ∷ []
+back Reset answered refused = Silence ∷ []
 back CommandRefused answered refused = on_tape refused
 back (AnswerSpoiled noise) answered refused = on_tape noise.items ++ Silence ∷ []
 
@@ -57,6 +60,7 @@ is_held LostCommand = false
 is_held LostAnswer = false
 is_held LateAnswer = false
 is_held HeldAnswer = true
+is_held Reset = false
 is_held CommandRefused = false
 is_held (AnswerSpoiled noise) = false
 
@@ -71,6 +75,7 @@ late_of LostCommand answered late = none_late
 late_of LostAnswer answered late = none_late
 late_of LateAnswer answered late = behind_late none_late answered
 late_of HeldAnswer answered late = behind_late late answered
+late_of Reset answered late = none_late
 late_of CommandRefused answered late = none_late
 late_of (AnswerSpoiled noise) answered late = none_late
 
@@ -89,7 +94,7 @@ segment m piece w =
 -- and what it leaves
 abbrev pub passed : {P : Type 0} → Device P → List ℕ → Wire P → Wire P
 passed m piece w = record {
-  programmer = after_fate (first_fate w.fates) (after_frame m piece w.programmer) w.programmer;
+  programmer = after_fate (first_fate w.fates) (after_frame m piece w.programmer) w.programmer (m.reset w.programmer);
   fates = other_fates w.fates;
   late = late_of (first_fate w.fates) (answer_frame m piece w.programmer) w.late;
 }

@@ -6,7 +6,7 @@ ghost use Rattle.stk_frame.specs.Frame.{frame};
 ghost use Rattle.stk_frame.specs.Cut.{is_good, seq_of};
 ghost use Rattle.stk_frame.specs.Reader.{HoldsFrame, Tells, found};
 ghost use Rattle.stk_host.specs.Tape.{on_tape};
-ghost use Rattle.stk_emu.specs.Programmer.{fresh_programmer};
+ghost use Rattle.stk_emu.specs.Programmer.{fresh_programmer, restarted};
 ghost use Rattle.stk_emu.specs.Device.{device, refusal, answer_frame, after_frame};
 ghost use Rattle.stk_emu.specs.Lawful.{none_late};
 ghost use Rattle.stk_emu.specs.Waiting.{tape_in};
@@ -56,6 +56,7 @@ fn is_held(fate: &Fate) -> bool
         | Fate::LostCommand
         | Fate::LostAnswer
         | Fate::LateAnswer
+        | Fate::Reset
         | Fate::CommandRefused
         | Fate::AnswerSpoiled(_) => false,
     }
@@ -90,7 +91,7 @@ fn pass_with(
     ensures items { tape_in out.new.items ≡ on_tape (let_go fate.now late.old)
         ++ back fate.now (answer_frame device reader.now programmer.old) (frame (seq_of reader.now) refusal) }
     ensures programmer { programmer.new ≡ after_fate fate.now (after_frame device reader.now programmer.old)
-        programmer.old }
+        programmer.old (restarted programmer.old) }
     ensures late { late.new ≡ late_of fate.now (answer_frame device reader.now programmer.old) late.old }
 {
     let mut frame = Frame::new();
@@ -108,6 +109,10 @@ fn pass_with(
         Fate::LateAnswer | Fate::HeldAnswer => {
             answer(reader, good, programmer, &mut frame);
             late.hold(frame);
+            put_silence(out);
+        }
+        Fate::Reset => {
+            programmer.restart();
             put_silence(out);
         }
         Fate::CommandRefused => {
