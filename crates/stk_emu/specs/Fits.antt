@@ -18,6 +18,7 @@ obeyed m (suc i) (command ∷ commands) p = obeyed m i commands (m.after (body c
 pub record Fits {P : Type 0} (m : Device P) (commands : List Command) (Before After : P → Type 0) : Type 0 where
   pub front : (p : P) (i : ℕ) → Before p → Before (obeyed m i commands p) ⊎ After (obeyed m i commands p)
   pub again : (p : P) (i : ℕ) → After p → After (obeyed m i commands p)
-  pub whole : (p : P) (bytes : List ℕ) → gathered m commands [] p ≡ Data bytes → Before p → After (obeyed m (length commands) commands p)
+  pub whole : (p : P) (bytes : List ℕ) → gathered m commands [] p ≡ Data bytes → Before p
+      → After (obeyed m (length commands) commands p)
   pub anew : (p : P) → Before p → Before (m.reset p)
   pub anew_again : (p : P) → After p → After (m.reset p)

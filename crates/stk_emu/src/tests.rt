@@ -265,6 +265,19 @@ fn nothing_is_obeyed_where_all_is_lost(rt: HostRuntime) -> Result<(), Fail> {
     Ok(())
 }
 
+#[test]
+fn a_programmer_that_begins_anew_is_outside_the_mode(rt: HostRuntime) -> Result<(), Fail> {
+    let fates = fates(rt.alloc(), 2, 0, Fate::Reset)?;
+    let mut link = Wired::new(rt.alloc(), m328p(rt.alloc())?, fates);
+    let mut host = Host::new(&Parts::none().find("m328p")?);
+    assert_eq!(rt;
+        host.open(&mut link, false),
+        Err(HostFault::Refused(0x1B, 0xC0))
+    );
+    assert_eq!(rt; host.close(&mut link), Ok(()));
+    Ok(())
+}
+
 /// Whether a session opens and closes in which the frame of this place has a fate of this kind.
 fn gets_through(alloc: Global, place: usize, kind: usize) -> Result<bool, Fail> {
     let fate = match kind {
