@@ -7,3 +7,4 @@ pub mod OverWire
 pub mod Refusing
 pub mod OverTalk
 pub mod Further
+pub mod OverEmulator

@@ -168,7 +168,7 @@ module _ (plan : Plan) (w v : State) (fresh : IsFresh w) (stays : Stays ComesOf 
 
 module _ (settings : Settings) (old new : Option Record) (before now status : ℕ) where
   -- a plan that was made, and its session
-  module _ (plan : Plan) (w v : State) (between : Option Record) (count : ℕ) (made : Went (planned settings) old between (Made plan)) (rises : before ≤ count) where
+  module _ (plan : Plan) (w v : State) (between : Option Record) (count : ℕ) (made : Went (planned settings) old between (Made plan)) (rises : before ≤ count) (until : count ≤ now) where
     run_or_stop : RunsTo (session plan) (Some w.talk) (Some v.talk) between new (Stops (takes_memory plan) w.failures v.failures count now) status
         → ((r : IsRun settings (Some w.talk) (Some v.talk) old new status) × (r.openings ≡ made.passed))
         ⊎ ((s : StoppedPlaying settings (Some w.talk) (Some v.talk) old new w.failures v.failures before now status) × (s.plan ≡ plan) × (s.between ≡ between))
@@ -182,7 +182,7 @@ module _ (settings : Settings) (old new : Option Record) (before now status : �
       between = between;
       count = count;
       made = made;
-      rises = rises;
+      in_order = (rises, until);
       runs = run_or_stop runs;
       line = λ part_is. over_any_line plan w v fresh stays is_sound fitted between new count now status runs part_is;
     }
