@@ -1,6 +1,6 @@
 -- Wrong ends of a plan that writes the file `x.hex` to flash, where the desk shows that no file was opened: its contract
 -- admits none of them.
-use Rattle.std.proofs.Common.{◌≡◌, ◌∙◌, sym, ap, subst, arith, ℕ, ◌+◌, ◌<◌, ◌≤◌, ◌-◌, ◌^◌, ◌⊎◌, inl, inr, List, [], ◌∷◌, ◌++◌, take, get_or, append-nil, Some, None, Ok, Err}
+use Rattle.std.proofs.Common.{◌≡◌, ◌∙◌, sym, ap, subst, arith, ℕ, ◌+◌, ◌<◌, ◌≤◌, ◌-◌, ◌^◌, ◌⊎◌, inl, inr, List, [], ◌∷◌, ◌++◌, take, get_or, append-nil, true, Option, Some, None, Ok, Err}
 use Rattle.std.specs.Prelude.{codes}
 use Rattle.avr_cli.specs.Settings.{no_switches}
 use Rattle.avr_cli.specs.declared.chosen.Port.TheVariants.{Stdio}
@@ -9,18 +9,20 @@ use Rattle.avr_cli.specs.declared.update.Format.TheVariants.{Ihex}
 use Rattle.avr_cli.specs.declared.update.Op.TheVariants as op
 use Rattle.avr_desk.specs.Fault.{HasFailed}
 use Rattle.avr_desk.specs.Record.{Record, after_err}
+use Rattle.avr_desk.specs.declared.record.Opening.TheVariants.{Found}
 use Rattle.avr_message.specs.Lines.{Bytes}
-use Rattle.avr_message.specs.Said.{TellsLine, TellsFailure}
+use Rattle.avr_message.specs.Said.{Opens, Line, TellsLine, TellsFailure, after_all}
 use Rattle.avr_message.proofs.Telling.{failed_before}
 use Rattle.avr_part.specs.BuiltIn.{m328p}
 use Rattle.avr_part.specs.declared.mem.Mem.TheVariants.{Flash}
+use Rattle.avr_records.specs.declared.kind.Ending.{Ending}
 use Rattle.avr_plan.specs.Lines.{memory_line, not_opened_line}
 use Rattle.avr_plan.specs.Planning.{planned, file_image_stage, judged_image, warned}
 use Rattle.avr_plan.specs.Playing.{Goes}
 use Rattle.avr_plan.specs.Stage.{Stage, settled, said, file_stage, ◌>>=◌}
 use Rattle.avr_plan.specs.declared.task.Task.{Task}
 use Rattle.avr_plan.specs.declared.task.Task.TheVariants.{Write}
-use Rattle.avr_plan.proofs.Breaks.{Begins, begins_then, begins_file, unopened}
+use Rattle.avr_plan.proofs.Breaks.{Begins, begins_then, begins_file, unopened, opened_is_told}
 
 abbrev file : Bytes
 file = codes "x.hex"
@@ -120,3 +122,12 @@ module _ (r : Record) (k l status : ℕ) where
   silence sound ends =
       let same : after_err [] r ≡ r = ap (λ bytes. record r { messages = bytes }) (append-nil r.messages) in
       nothing_told sound (told_by [] (subst (λ x. Goes (planned wanted) (Some r) (Some x) k l (Err status)) (sym same) ends))
+
+  -- the line of a file that was opened, read to its end and good
+  opened_well : (bytes : Bytes) (good : List (Option ℕ) × Ending) → judged_image file Ihex 32768 bytes ≡ Ok good
+      → Goes (file_stage file 4194304 (judged_image file Ihex 32768)) (Some r)
+      (Some (after_all (Opens (Found (record { name = file; bytes = bytes; ended = true })) ∷ Line (not_opened_line file) ∷ []) r)) k l (Err status)
+      → ⊥
+  opened_well bytes good given ends =
+      differs 15 memory_line (not_opened_line file) k l (λ back is. let e : ◌≡◌ {A = ℕ} 120 111 = is in omega (arith, e))
+      (opened_is_told file 4194304 (judged_image file Ihex 32768) bytes (not_opened_line file) good given r k l status ends)

@@ -1,19 +1,20 @@
 -- What is told where planning broke off, by what a desk shows.
-use Rattle.std.proofs.Common.{◌≡◌, ◌∙◌, sym, ap, subst, refl, arith, ℕ, ◌+◌, ◌⊎◌, inl, inr, List, [], ◌∷◌, ◌++◌, length, drop, append-nil, Option, Some, option_map, Result, Err}
-use Rattle.std.proofs.lemmas.List.{append_cancel_left, length-append}
+use Rattle.std.proofs.Common.{◌≡◌, ◌∙◌, sym, ap, subst, refl, ℕ, ◌+◌, ◌⊎◌, inl, inr, List, [], ◌∷◌, ◌++◌, drop, append-nil, append_assoc, Option, Some, option_map, Result, Ok, Err, true, false}
+use Rattle.std.proofs.lemmas.List.{append_cancel_left}
 use Rattle.avr_desk.specs.Fault.{HasFailed}
 use Rattle.avr_desk.specs.Record.{Record, all_openings, opening_of, after_err, written_on}
 use Rattle.avr_desk.specs.declared.record.Open.{Open}
 use Rattle.avr_desk.specs.declared.record.Open.TheVariants.{Closed, ToRead, ToWrite}
 use Rattle.avr_desk.specs.declared.record.Opening.{Opening}
 use Rattle.avr_desk.specs.declared.record.Opening.TheVariants.{Absent, Found}
+use Rattle.avr_desk.specs.declared.record.Reading.{Reading}
 use Rattle.avr_message.specs.Lines.{Bytes}
 use Rattle.avr_message.specs.Said.{Saying, Opens, Line, Creates, Writes, Outs, TellsLine, TellsFailure, after, after_all}
 use Rattle.avr_message.proofs.Saying.{after_append}
 use Rattle.avr_message.proofs.Telling.{failed_before}
 use Rattle.avr_plan.specs.Lines.{memory_line, not_opened_line}
 use Rattle.avr_plan.specs.Playing.{Went, Break, InLine, NotOpened, NotRead, NoMemory, NoMemoryFor, last_done, IsBreak, TellsBreak, BrokeOff, Goes, part_read}
-use Rattle.avr_plan.specs.Stage.{Stage, Refused, Played, ◌>>=◌, judged, next_opening, file_stage}
+use Rattle.avr_plan.specs.Stage.{Stage, Made, Refused, Played, ◌>>=◌, judged, next_opening, file_stage}
 use Rattle.avr_plan.proofs.Played.{says_more}
 
 -- ---- where the desk did not fail
@@ -61,39 +62,52 @@ sound_refusal stage before after k l status sound has_memory (one, inr broke) =
 
 -- ---- where the desk shows no file that was opened
 
-abbrev openings_in : List Saying → ℕ
-openings_in [] = 0
-openings_in (Opens opening ∷ sayings) = 1 + openings_in sayings
-openings_in (Line bytes ∷ sayings) = openings_in sayings
-openings_in (Creates name ∷ sayings) = openings_in sayings
-openings_in (Writes bytes ∷ sayings) = openings_in sayings
-openings_in (Outs bytes ∷ sayings) = openings_in sayings
-
-abbrev shown : Record → ℕ
-shown r = length (all_openings r)
+abbrev opened_in : List Saying → List Opening
+opened_in [] = []
+opened_in (Opens opening ∷ sayings) = opening ∷ opened_in sayings
+opened_in (Line bytes ∷ sayings) = opened_in sayings
+opened_in (Creates name ∷ sayings) = opened_in sayings
+opened_in (Writes bytes ∷ sayings) = opened_in sayings
+opened_in (Outs bytes ∷ sayings) = opened_in sayings
 
 written_openings : (bytes : Bytes) (o : Open) → opening_of (written_on bytes o) ≡ opening_of o
 written_openings bytes Closed = refl
 written_openings bytes (ToRead x) = refl
 written_openings bytes (ToWrite x) = refl
 
+-- one more, and those behind it
+one_more : (shown now more : List Opening) (next : Opening) (all : List Opening) → now ≡ shown ++ next ∷ [] → all ≡ now ++ more → all ≡ shown ++ next ∷ more
+one_more shown now more next all one is = is ∙ (ap (λ (os : List Opening). os ++ more) one ∙ append_assoc shown (next ∷ []) more)
+
+none_more : (shown now more all : List Opening) → now ≡ shown → all ≡ now ++ more → all ≡ shown ++ more
+none_more shown now more all same is = is ∙ ap (λ (os : List Opening). os ++ more) same
+
 -- each opening is shown
-openings_shown : (sayings : List Saying) (r : Record) → shown (after_all sayings r) ≡ shown r + openings_in sayings
-openings_shown [] r = omega arith
+openings_shown : (sayings : List Saying) (r : Record) → all_openings (after_all sayings r) ≡ all_openings r ++ opened_in sayings
+openings_shown [] r = sym (append-nil (all_openings r))
 openings_shown (Opens (Absent name) ∷ sayings) r =
-    let one : shown (after (Opens (Absent name)) r) ≡ shown r + 1 = ap length (append-nil _) ∙ length-append (all_openings r) (Absent name ∷ []) in
-    openings_shown sayings (after (Opens (Absent name)) r) ∙ omega (arith, one)
+    let now = after (Opens (Absent name)) r in
+    one_more (all_openings r) (all_openings now) (opened_in sayings) (Absent name) (all_openings (after_all sayings now)) (append-nil _) (openings_shown sayings now)
 openings_shown (Opens (Found reading) ∷ sayings) r =
-    let one : shown (after (Opens (Found reading)) r) ≡ shown r + 1 = length-append (all_openings r) (Found reading ∷ []) in
-    openings_shown sayings (after (Opens (Found reading)) r) ∙ omega (arith, one)
+    let now = after (Opens (Found reading)) r in
+    one_more (all_openings r) (all_openings now) (opened_in sayings) (Found reading) (all_openings (after_all sayings now)) refl (openings_shown sayings now)
 openings_shown (Line bytes ∷ sayings) r = openings_shown sayings (after (Line bytes) r)
 openings_shown (Creates name ∷ sayings) r =
-    let same : shown (after (Creates name) r) ≡ shown r = ap length (append-nil (all_openings r)) in
-    openings_shown sayings (after (Creates name) r) ∙ omega (arith, same)
+    let now = after (Creates name) r in
+    none_more (all_openings r) (all_openings now) (opened_in sayings) (all_openings (after_all sayings now)) (append-nil (all_openings r)) (openings_shown sayings now)
 openings_shown (Writes bytes ∷ sayings) r =
-    let same : shown (after (Writes bytes) r) ≡ shown r = ap (λ (os : List Opening). length (r.openings ++ os)) (written_openings bytes r.current) in
-    openings_shown sayings (after (Writes bytes) r) ∙ omega (arith, same)
+    let now = after (Writes bytes) r in
+    none_more (all_openings r) (all_openings now) (opened_in sayings) (all_openings (after_all sayings now))
+    (ap (λ (os : List Opening). r.openings ++ os) (written_openings bytes r.current)) (openings_shown sayings now)
 openings_shown (Outs bytes ∷ sayings) r = openings_shown sayings (after (Outs bytes) r)
+
+-- so the same record shows the same openings
+same_openings : (first second : List Saying) (r : Record) → ◌≡◌ {A = Option Record} (Some (after_all first r)) (Some (after_all second r))
+    → opened_in first ≡ opened_in second
+same_openings first second r kept =
+    let same : after_all first r ≡ after_all second r = cc in
+    append_cancel_left (all_openings r) (opened_in first) (opened_in second)
+    (sym (openings_shown first r) ∙ (ap all_openings same ∙ openings_shown second r))
 
 -- ---- a stage that begins with the opening of a file
 
@@ -116,17 +130,10 @@ same_name name other [] is = cc
 same_name name other (Absent x ∷ passed) is = cc
 same_name name other (Found x ∷ passed) is = cc
 
--- nothing but this line was told since, and no file shown
-module _ (r : Record) (told : Bytes) where
-  none_shown : (sayings : List Saying) → ◌≡◌ {A = Option Record} (Some (after_err told r)) (Some (after_all sayings r)) → openings_in sayings ≡ 0
-  none_shown sayings kept =
-      let same : after_err told r ≡ after_all sayings r = cc in
-      let count : shown r ≡ shown r + openings_in sayings = ap shown same ∙ openings_shown sayings r in
-      omega (arith, count)
-
-  only_told : (line : Bytes) → ◌≡◌ {A = Option Record} (Some (after_err told r)) (Some (after_all (Line line ∷ []) r)) → told ≡ line
-  only_told line kept =
-      let same : after_err told r ≡ after_err line r = cc in append_cancel_left r.messages told line (ap (λ (x : Record). x.messages) same)
+-- nothing but this line was told since
+only_told : (r : Record) (told line : Bytes) → ◌≡◌ {A = Option Record} (Some (after_err told r)) (Some (after_all (Line line ∷ []) r)) → told ≡ line
+only_told r told line kept =
+    let same : after_err told r ≡ after_err line r = cc in append_cancel_left r.messages told line (ap (λ (x : Record). x.messages) same)
 
 -- Of a stage that begins so, where the desk shows no opening: the file could not be opened, and that was told, or memory
 -- was refused, and that was.
@@ -152,27 +159,116 @@ module _ {A : Type 0} (name told : Bytes) (stage : Stage A) (begins : Begins nam
       let named = first_is passed other is.0 is.1 in
       inl (subst (λ n. TellsFailure (not_opened_line n) told k l) (sym named) (subst (λ t. TellsFailure (not_opened_line other) t k l) (sym (only_told r told line kept)) tells))
   by_break passed (NotRead other bytes) line is tells kept =
-      let none : ◌≡◌ {A = ℕ} 1 0 = none_shown r told (part_read other bytes ∷ Line line ∷ []) kept in absurd (omega (arith, none))
+      let none : ◌≡◌ {A = List Opening} [] (Found (record { name = other; bytes = bytes; ended = false }) ∷ []) =
+      same_openings (Line told ∷ []) (part_read other bytes ∷ Line line ∷ []) r kept in absurd (cc)
   by_break passed NoMemory line is tells kept = inr (subst (λ t. TellsLine memory_line t k l) (sym (only_told r told line kept)) tells)
   by_break passed (NoMemoryFor reading) line is tells kept =
-      let none : ◌≡◌ {A = ℕ} 1 0 = none_shown r told (Opens (Found reading) ∷ Line line ∷ []) kept in absurd (omega (arith, none))
+      let none : ◌≡◌ {A = List Opening} [] (Found reading ∷ []) = same_openings (Line told ∷ []) (Opens (Found reading) ∷ Line line ∷ []) r kept in absurd (cc)
 
   by_whole : (passed : List Opening) (whole later : List Saying) (break : Break) (line : Bytes) → Next passed ≡ whole ++ later → IsBreak break [] later
       → TellsBreak break line k l → Leaves (whole ++ last_done break line) → Told
   by_whole passed [] later break line says is tells kept = by_break passed break line (subst (IsBreak break []) (sym says) is) tells kept
   by_whole passed (first ∷ whole) later break line says is tells kept =
-      let opens : Opens (next_opening name (passed ++ [])) ≡ first = cc in
-      let none = none_shown r told (first ∷ (whole ++ last_done break line)) kept in
-      let some : openings_in (first ∷ (whole ++ last_done break line)) ≡ 1 + openings_in (whole ++ last_done break line) =
-      ap (λ (s : Saying). openings_in (s ∷ (whole ++ last_done break line))) (sym opens) in
-      absurd (omega (arith, none, some))
+      let opens : first ≡ Opens (next_opening name (passed ++ [])) = cc in
+      let none = same_openings (Line told ∷ []) (first ∷ (whole ++ last_done break line)) r kept in
+      let some : opened_in (first ∷ (whole ++ last_done break line)) ≡ next_opening name (passed ++ []) ∷ opened_in (whole ++ last_done break line) =
+      ap (λ (s : Saying). opened_in (s ∷ (whole ++ last_done break line))) opens in
+      let clash : [] ≡ next_opening name (passed ++ []) ∷ opened_in (whole ++ last_done break line) = none ∙ some in
+      absurd (cc)
 
   pub unopened : (status : ℕ) → Goes stage (Some r) (Some (after_err told r)) k l (Err status) → Told
   unopened status (one, inl went) =
       let says : went.says ≡ Next went.passed = sym (ap (λ (p : Played A). p.says) (went.comes [])) ∙ (begins (went.passed ++ [])).1 in
-      let none = none_shown r told went.says went.kept in
-      let some : openings_in went.says ≡ 1 + openings_in (begins (went.passed ++ [])).0 = ap openings_in says in
-      absurd (omega (arith, none, some))
+      let none = same_openings (Line told ∷ []) went.says r went.kept in
+      let clash : [] ≡ next_opening name (went.passed ++ []) ∷ opened_in (begins (went.passed ++ [])).0 = none ∙ ap opened_in says in
+      absurd (cc)
   unopened status (one, inr b) =
       let rest = b.rest [] in
       by_whole b.passed b.whole rest.later b.break b.told (sym (begins (b.passed ++ [])).1 ∙ rest.says_are) rest.broken b.tells b.kept
+
+-- ---- a file that was opened and is good
+
+-- it was read to its end, and this is what it comes to
+module _ {A : Type 0} (name : Bytes) (limit : ℕ) (judge : Bytes → Result A Bytes) (bytes told : Bytes) (good : A) (given : judge bytes ≡ Ok good) (r : Record) (k l : ℕ) where
+  abbrev reading : Reading
+  reading = record { name = name; bytes = bytes; ended = true }
+
+  abbrev done : List Saying
+  done = Opens (Found reading) ∷ Line told ∷ []
+
+  abbrev Leaves_it : List Saying → Type 0
+  Leaves_it sayings = ◌≡◌ {A = Option Record} (Some (after_all done r)) (Some (after_all sayings r))
+
+  abbrev made : List Opening → Played A
+  made left = record { says = Opens (Found reading) ∷ []; answer = Made good; left = left }
+
+  -- where the next opening gives it, it is made
+  comes_to : (openings : List Opening) → next_opening name openings ≡ Found reading → file_stage name limit judge openings ≡ made (drop 1 openings)
+  comes_to openings is = rw (is, given) refl
+
+  told_is : (opening : Opening) (line : Bytes) → Leaves_it (Opens opening ∷ Line line ∷ []) → told ≡ line
+  told_is (Absent other) line kept =
+      let same : after_all done r ≡ after_all (Opens (Absent other) ∷ Line line ∷ []) r = cc in
+      append_cancel_left r.messages told line (ap (λ (x : Record). x.messages) same)
+  told_is (Found x) line kept =
+      let same : after_all done r ≡ after_all (Opens (Found x) ∷ Line line ∷ []) r = cc in
+      append_cancel_left r.messages told line (ap (λ (x : Record). x.messages) same)
+
+  -- a break before the file was opened
+  before_it : (break : Break) (line : Bytes) → TellsBreak break line k l → Leaves_it (last_done break line) → TellsLine memory_line told k l
+  before_it (InLine due) line tells kept =
+      let none : ◌≡◌ {A = List Opening} (Found reading ∷ []) [] = same_openings done (Line line ∷ []) r kept in absurd (cc)
+  before_it (NotOpened other) line tells kept =
+      let none : ◌≡◌ {A = List Opening} (Found reading ∷ []) [] = same_openings done (Line line ∷ []) r kept in absurd (cc)
+  before_it (NotRead other some) line tells kept =
+      let part : Reading = record { name = other; bytes = some; ended = false } in
+      let one : ◌≡◌ {A = List Opening} (Found reading ∷ []) (Found part ∷ []) = same_openings done (part_read other some ∷ Line line ∷ []) r kept in
+      let same : reading ≡ part = cc in
+      let ends : true ≡ false = ap (λ (x : Reading). x.ended) same in
+      absurd (cc)
+  before_it NoMemory line tells kept =
+      let none : ◌≡◌ {A = List Opening} (Found reading ∷ []) [] = same_openings done (Line line ∷ []) r kept in absurd (cc)
+  before_it (NoMemoryFor x) line tells kept = subst (λ t. TellsLine memory_line t k l) (sym (told_is (Found x) line kept)) tells
+
+  -- or behind it, where nothing more is said
+  behind_it : (break : Break) (line : Bytes) (opening : Opening) → IsBreak break [] [] → TellsBreak break line k l → Leaves_it (Opens opening ∷ last_done break line)
+      → TellsLine memory_line told k l
+  behind_it (InLine due) line opening is tells kept = let e : [] ≡ Line due ∷ is.0 = is.1 in absurd (cc)
+  behind_it (NotOpened other) line opening is tells kept = let e : [] ≡ Opens (next_opening other []) ∷ is.0 = is.1 in absurd (cc)
+  behind_it (NotRead other some) line opening is tells kept = let e : [] ≡ Opens (next_opening other []) ∷ is.0 = is.1 in absurd (cc)
+  behind_it NoMemory line opening is tells kept = subst (λ t. TellsLine memory_line t k l) (sym (told_is opening line kept)) tells
+  behind_it (NoMemoryFor x) line opening is tells kept = let e : [] ≡ Opens (next_opening x.name []) ∷ is.0 = is.1 in absurd (cc)
+
+  by_end : (first : Saying) (opening : Opening) (whole later : List Saying) (break : Break) (line : Bytes) → first ≡ Opens opening → whole ++ later ≡ []
+      → IsBreak break [] later → TellsBreak break line k l → Leaves_it (first ∷ (whole ++ last_done break line)) → TellsLine memory_line told k l
+  by_end first opening [] [] break line one none is tells kept =
+      behind_it break line opening is tells (subst (λ s. Leaves_it (s ∷ last_done break line)) one kept)
+  by_end first opening [] (x ∷ later) break line one none is tells kept = absurd (cc)
+  by_end first opening (x ∷ whole) later break line one none is tells kept = absurd (cc)
+
+  by_front : (openings : List Opening) (whole later : List Saying) (break : Break) (line : Bytes) → (file_stage name limit judge openings).says ≡ whole ++ later
+      → IsBreak break [] later → TellsBreak break line k l → Leaves_it (whole ++ last_done break line) → TellsLine memory_line told k l
+  by_front openings [] later break line says is tells kept = before_it break line tells kept
+  by_front openings (first ∷ whole) later break line says is tells kept =
+      let extra = (begins_file name limit judge openings).0 in
+      let both : first ∷ (whole ++ later) ≡ Opens (next_opening name openings) ∷ extra = sym says ∙ (begins_file name limit judge openings).1 in
+      let first_is : first ≡ Opens (next_opening name openings) = cc in
+      let shown : Found reading ∷ [] ≡ next_opening name openings ∷ opened_in (whole ++ last_done break line) =
+      same_openings done (first ∷ (whole ++ last_done break line)) r kept ∙ ap (λ (s : Saying). opened_in (s ∷ (whole ++ last_done break line))) first_is in
+      let opening : next_opening name openings ≡ Found reading = cc in
+      let all : first ∷ (whole ++ later) ≡ Opens (Found reading) ∷ [] = sym says ∙ ap (λ (p : Played A). p.says) (comes_to openings opening) in
+      let none : whole ++ later ≡ [] = cc in
+      by_end first (next_opening name openings) whole later break line first_is none is tells kept
+
+  -- So the desk was shown to open it, to its end, and what was told is the line of memory.
+  pub opened_is_told : (status : ℕ) → Goes (file_stage name limit judge) (Some r) (Some (after_all done r)) k l (Err status) → TellsLine memory_line told k l
+  opened_is_told status (one, inl went) =
+      let openings = went.passed ++ [] in
+      let begun = begins_file name limit judge openings in
+      let says : went.says ≡ Opens (next_opening name openings) ∷ begun.0 = sym (ap (λ (p : Played A). p.says) (went.comes [])) ∙ begun.1 in
+      let shown : Found reading ∷ [] ≡ next_opening name openings ∷ opened_in begun.0 = same_openings done went.says r went.kept ∙ ap opened_in says in
+      let opening : next_opening name openings ≡ Found reading = cc in
+      let answers : Made good ≡ Refused = sym (ap (λ (p : Played A). p.answer) (comes_to openings opening)) ∙ ap (λ (p : Played A). p.answer) (went.comes []) in
+      absurd (cc)
+  opened_is_told status (one, inr b) =
+      let rest = b.rest [] in by_front (b.passed ++ []) b.whole rest.later b.break b.told rest.says_are rest.broken b.tells b.kept
