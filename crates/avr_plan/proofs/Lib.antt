@@ -11,3 +11,5 @@ pub mod ValueStages
 pub mod TaskStages
 pub mod Plans
 pub mod OnlyReading
+pub mod Breaks
+pub mod BreakRows

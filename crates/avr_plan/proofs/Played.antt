@@ -37,7 +37,7 @@ break_more NoMemory more later extra is = is
 break_more (NoMemoryFor reading) more later extra is = next_more (Opens (next_opening reading.name more)) later extra is
 
 -- what a stage says, the stage behind it says after that
-says_more : {A B : Type 0} (says : List Saying) (left : List Opening) (go_on : A → Stage B) (answer : Answer A)
+pub says_more : {A B : Type 0} (says : List Saying) (left : List Opening) (go_on : A → Stage B) (answer : Answer A)
     → (extra : List Saying) × ((going_on says left go_on answer).says ≡ says ++ extra)
 says_more says left go_on (Made a) = ((go_on a left).says, refl)
 says_more says left go_on Refused = ([], sym (append-nil says))

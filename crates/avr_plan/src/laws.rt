@@ -1,12 +1,27 @@
-//! A law of planning, over the definitions alone. No code.
-ghost use Rattle.std.specs.Prelude.{List};
+//! Laws of planning, over the definitions alone. No code.
+ghost use Rattle.std.specs.Prelude.{◌≡◌, ◌++◌, ℕ, List, Some, Err};
 ghost use Rattle.avr_cli.specs.declared.chosen.Settings.{Settings};
+ghost use Rattle.avr_desk.specs.Fault.{HasFailed};
+ghost use Rattle.avr_desk.specs.Record.{Record};
 ghost use Rattle.avr_desk.specs.declared.record.Opening.{Opening};
+ghost use Rattle.avr_message.specs.Lines.{Bytes};
+ghost use Rattle.avr_plan.specs.Lines.{memory_line};
 ghost use Rattle.avr_plan.specs.OnlyReading.{OnlyReads};
 ghost use Rattle.avr_plan.specs.Planning.{planned};
+ghost use Rattle.avr_plan.specs.Playing.{Goes, Went};
+ghost use Rattle.avr_plan.specs.Stage.{Refused};
 
 /// Whatever files give, planning opens files to be read and prints lines: nothing is created, written or put out. (That
 /// it sends nothing is so by its type: a stage knows of no line.)
 pub fn a_plan_only_reads_and_warns()
     ensures { (s : Settings) (openings : List Opening) → OnlyReads (planned s openings).says }
+{}
+
+/// Where the desk did not fail, by its count, a plan that is not made is refused as planning says, with its line, or the
+/// messages end with the line of memory.
+pub fn a_sound_plan_is_refused_aloud()
+    ensures { (s : Settings) (before after : Record) (k l status : ℕ) → (HasFailed k l → ⊥)
+        → ((front : Bytes) → after.messages ≡ front ++ memory_line → ⊥)
+        → Goes (planned s) (Some before) (Some after) k l (Err status)
+        → Went (planned s) (Some before) (Some after) Refused }
 {}

@@ -1,11 +1,9 @@
 -- Where no device failed, a run was played whole, or its messages say that memory was refused.
 use Rattle.std.proofs.Common.{◌≡◌, ℕ, ◌≤◌, Bool, true, false, List, [], ◌∷◌, ◌++◌, refl, sym, ap, ◌∙◌, subst, append-nil, Option, Some, None, inl, inr}
-use Rattle.std.specs.List.{list_any}
 use Rattle.std.proofs.lemmas.List.{append_cancel_left}
 use Rattle.avr_desk.specs.Fault.{HasFailed}
 use Rattle.avr_desk.specs.Record.{Record, after_err}
 use Rattle.avr_plan.specs.Plan.{Plan}
-use Rattle.avr_plan.specs.declared.task.Task.{Task}
 use Rattle.stk_host.specs.Operations as operations
 use Rattle.stk_host.specs.Operations.{opening}
 use Rattle.stk_host.specs.Steps.{tries, attempt, exchange}
@@ -15,7 +13,7 @@ use Rattle.stk_host.specs.Dialog.{Dialog, Event, Said, Played, played, sayings}
 use Rattle.avr_message.specs.Lines.{Bytes}
 use Rattle.avr_message.specs.Said.{Saying, Line, Creates, Writes, Outs, after_all}
 use Rattle.avr_session.specs.Runs.{Cause, OfSending, OfListening, OfFile, OfPrinting, OfMemory, NotCreated, NotWritten, cause_line, tells_fault, TellsCause, StopsAt, Stops, BrokeOff, RunsTo}
-use Rattle.avr_session.specs.Session.{session, takes_memory, task_takes_memory}
+use Rattle.avr_session.specs.Session.{session, takes_memory}
 use Rattle.avr_session.specs.Stopping.{IsSound, LacksMemory, IsPlayed}
 use Rattle.avr_message.proofs.Telling.{failed_later, failed_before}
 
@@ -138,11 +136,10 @@ silent OfMemory told before now tells = absurd tells
 pub told_once : (takes : Bool) (k l a b : ℕ) (said : List Saying) (cause : Cause) (told : Bytes) → Stops takes k l a b said cause told → tells_fault said ≡ true → told ≡ []
 told_once takes k l a b said cause told stops is = silent cause told stops.count b (subst (λ flag. TellsCause flag cause told stops.count b) is stops.tells)
 
--- memory is not refused in a session without updates
-pub no_memory : (plan : Plan) (k l a b : ℕ) (said : List Saying) (told : Bytes) → plan.tasks ≡ [] → Stops (takes_memory plan) k l a b said OfMemory told → ⊥
+-- memory is not refused where none is taken
+pub no_memory : (plan : Plan) (k l a b : ℕ) (said : List Saying) (told : Bytes) → takes_memory plan ≡ false → Stops (takes_memory plan) k l a b said OfMemory told → ⊥
 no_memory plan k l a b said told none stops =
-    let e : takes_memory plan ≡ false = ap (λ (tasks : List Task). list_any (task_takes_memory plan.switches) tasks) none in
-    let clash = sym e ∙ stops.has_come in
+    let clash = sym none ∙ stops.has_come in
     absurd (cc)
 
 -- a file that was not created is the one that was due
@@ -152,6 +149,28 @@ its_own_file file named whole begun later place =
     let saying : Creates file ≡ Creates named = cc in
     let same : file ≡ named = cc in
     sym same
+
+-- what stands last is one
+last_of : {E : Type 0} (xs ys : List E) (x y : E) → xs ++ x ∷ [] ≡ ys ++ y ∷ [] → x ≡ y
+last_of [] [] x y is = cc
+last_of [] (z ∷ []) x y is = let none : [] ≡ y ∷ [] = cc in absurd (cc)
+last_of [] (z ∷ w ∷ ys) x y is = let none : [] ≡ w ∷ (ys ++ y ∷ []) = cc in absurd (cc)
+last_of (z ∷ []) [] x y is = let none : x ∷ [] ≡ [] = cc in absurd (cc)
+last_of (z ∷ w ∷ xs) [] x y is = let none : w ∷ (xs ++ x ∷ []) ≡ [] = cc in absurd (cc)
+last_of (z ∷ xs) (w ∷ ys) x y is = let rest : xs ++ x ∷ [] ≡ ys ++ y ∷ [] = cc in last_of xs ys x y rest
+
+-- nor is one that was not written another than the one that was created last
+pub its_own_text : (file named bytes : Bytes) (before begun later : List (Event Saying)) → StopsAt (OfFile named NotWritten) (before ++ Said (Creates file) ∷ []) begun (Said (Writes bytes) ∷ later)
+    → named ≡ file
+its_own_text file named bytes before begun later (inl place) =
+    let event : ◌≡◌ {A = Event Saying} (Said (Creates file)) (Said (Creates named)) = last_of before place.before (Said (Creates file)) (Said (Creates named)) place.created in
+    let saying : Creates file ≡ Creates named = cc in
+    let same : file ≡ named = cc in
+    sym same
+its_own_text file named bytes before begun later (inr place) = let due = place.due in absurd (not_put bytes place.bytes later place.more due)
+  where
+    not_put : (x y : Bytes) (more rest : List (Event Saying)) → Said (Writes x) ∷ more ≡ Said (Outs y) ∷ rest → ⊥
+    not_put x y more rest is = let e : Writes x ≡ Outs y = cc in cc
 
 -- a line stands in part only where printing failed
 pub half_a_line : (cause : Cause) (bytes : Bytes) (whole begun later : List (Event Saying)) → StopsAt cause whole (Said (Line bytes) ∷ begun) later → cause ≡ OfPrinting

@@ -2,11 +2,11 @@
 ghost use Rattle.std.specs.Prelude.{◌≡◌, ◌∷◌, ◌++◌, [], ℕ, Bool, List, Option, None, Some, true, false};
 ghost use Rattle.avr_desk.specs.Record.{Record};
 ghost use Rattle.avr_message.specs.Lines.{Bytes};
-ghost use Rattle.avr_message.specs.Said.{Saying, Line, Creates};
+ghost use Rattle.avr_message.specs.Said.{Saying, Line, Creates, Writes};
 ghost use Rattle.stk_host.specs.Dialog.{Dialog, Event, Said, played};
 ghost use Rattle.stk_host.specs.Talk.{Talk, heard};
 ghost use Rattle.avr_plan.specs.Plan.{Plan};
-ghost use Rattle.avr_session.specs.Runs.{Cause, OfFile, OfPrinting, OfMemory, NotCreated, tells_fault, StopsAt, Stops, RunsTo};
+ghost use Rattle.avr_session.specs.Runs.{Cause, OfFile, OfPrinting, OfMemory, NotCreated, NotWritten, tells_fault, StopsAt, Stops, RunsTo};
 ghost use Rattle.avr_session.specs.Session.{session, takes_memory};
 ghost use Rattle.avr_session.specs.Stopping.{IsSound, LacksMemory, IsPlayed};
 
@@ -41,15 +41,19 @@ pub fn a_sound_run_has_no_other_end()
         → RunsTo (session plan) (Some talk) (Some talk) (Some r) (Some r) (Stops takes k l a b) status → ⊥ }
 {}
 
-/// Wrong stops, whatever failed: a second line behind the line of a fault; memory in a session without updates; another
-/// file than the one that was due; a line in part where printing did not fail.
+/// Wrong stops, whatever failed: a second line behind the line of a fault; memory where none is taken; another file than
+/// the one that was due to be created, or that was created and was due to be written; a line in part where printing did
+/// not fail.
 pub fn a_stop_tells_its_cause()
     ensures once { (takes : Bool) (k l a b : ℕ) (said : List Saying) (cause : Cause) (told : Bytes)
         → Stops takes k l a b said cause told → tells_fault said ≡ true → told ≡ [] }
     ensures memory { (plan : Plan) (k l a b : ℕ) (said : List Saying) (told : Bytes)
-        → plan.tasks ≡ [] → Stops (takes_memory plan) k l a b said OfMemory told → ⊥ }
+        → takes_memory plan ≡ false → Stops (takes_memory plan) k l a b said OfMemory told → ⊥ }
     ensures file { (file named : Bytes) (whole begun later : List (Event Saying))
         → StopsAt (OfFile named NotCreated) whole begun (Said (Creates file) ∷ later) → named ≡ file }
+    ensures written { (file named bytes : Bytes) (before begun later : List (Event Saying))
+        → StopsAt (OfFile named NotWritten) (before ++ Said (Creates file) ∷ []) begun (Said (Writes bytes) ∷ later)
+        → named ≡ file }
     ensures line { (cause : Cause) (bytes : Bytes) (whole begun later : List (Event Saying))
         → StopsAt cause whole (Said (Line bytes) ∷ begun) later → cause ≡ OfPrinting }
 {}

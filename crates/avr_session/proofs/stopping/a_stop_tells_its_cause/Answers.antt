@@ -1,4 +1,4 @@
-use Rattle.avr_session.proofs.SoundRuns.{told_once, no_memory, its_own_file, half_a_line}
+use Rattle.avr_session.proofs.SoundRuns.{told_once, no_memory, its_own_file, its_own_text, half_a_line}
 use Rattle.avr_session.proofs.stopping.a_stop_tells_its_cause.Goals as goal
 
 pub returns-clause-once : goal.returns-clause-once
@@ -12,3 +12,6 @@ returns-clause-file c = its_own_file
 
 pub returns-clause-line : goal.returns-clause-line
 returns-clause-line c = half_a_line
+
+pub returns-clause-written : goal.returns-clause-written
+returns-clause-written c = its_own_text

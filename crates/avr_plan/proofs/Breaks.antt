@@ -1,0 +1,274 @@
+-- What is told where planning broke off, by what a desk shows.
+use Rattle.std.proofs.Common.{◌≡◌, ◌∙◌, sym, ap, subst, refl, ℕ, ◌+◌, ◌⊎◌, inl, inr, List, [], ◌∷◌, ◌++◌, drop, append-nil, append_assoc, Option, Some, option_map, Result, Ok, Err, true, false}
+use Rattle.std.proofs.lemmas.List.{append_cancel_left}
+use Rattle.avr_desk.specs.Fault.{HasFailed}
+use Rattle.avr_desk.specs.Record.{Record, all_openings, opening_of, after_err, written_on}
+use Rattle.avr_desk.specs.declared.record.Open.{Open}
+use Rattle.avr_desk.specs.declared.record.Open.TheVariants.{Closed, ToRead, ToWrite}
+use Rattle.avr_desk.specs.declared.record.Opening.{Opening}
+use Rattle.avr_desk.specs.declared.record.Opening.TheVariants.{Absent, Found}
+use Rattle.avr_desk.specs.declared.record.Reading.{Reading}
+use Rattle.avr_message.specs.Lines.{Bytes}
+use Rattle.avr_message.specs.Said.{Saying, Opens, Line, Creates, Writes, Outs, TellsLine, TellsFailure, after, after_all}
+use Rattle.avr_message.proofs.Saying.{after_append}
+use Rattle.avr_message.proofs.Telling.{failed_before}
+use Rattle.avr_plan.specs.Lines.{memory_line, not_opened_line}
+use Rattle.avr_plan.specs.Playing.{Went, Break, InLine, NotOpened, NotRead, NoMemory, NoMemoryFor, last_done, IsBreak, TellsBreak, BrokeOff, Goes, part_read}
+use Rattle.avr_plan.specs.Stage.{Stage, Made, Refused, Played, ◌>>=◌, judged, next_opening, file_stage}
+use Rattle.avr_plan.proofs.Played.{says_more}
+
+-- ---- where the desk did not fail
+
+-- a line told stands at the end of the messages
+told_last : (before after : Record) (said last : List Saying) (told line : Bytes) → told ≡ line
+    → ((r : Record) → (after_all last r).messages ≡ r.messages ++ told)
+    → ◌≡◌ {A = Option Record} (Some after) (Some (after_all (said ++ last) before)) → (front : Bytes) × (after.messages ≡ front ++ line)
+told_last before after said last told line whole ends kept =
+    let same : after ≡ after_all (said ++ last) before = cc in (
+      (after_all said before).messages,
+      ap (λ (x : Record). x.messages) (same ∙ after_append said last before) ∙ ends (after_all said before)
+          ∙ ap (λ (xs : Bytes). (after_all said before).messages ++ xs) whole,
+    )
+
+-- of a desk that did not fail a line was told whole
+whole_line : (line told : Bytes) (before now : ℕ) → (HasFailed before now → ⊥) → TellsLine line told before now → told ≡ line
+whole_line line told before now sound (inl whole) = whole
+whole_line line told before now sound (inr part) = absurd (sound part.1)
+
+-- and of the breaks only the want of memory is left
+broke_lacks : {A : Type 0} (stage : Stage A) (before after : Record) (k l : ℕ) → (HasFailed k l → ⊥) → (b : BrokeOff stage (Some before) (Some after) k l)
+    → (front : Bytes) × (after.messages ≡ front ++ memory_line)
+broke_lacks stage before after k l sound b = by_break b.break b.told b.tells b.kept
+  where
+    by_break : (break : Break) (told : Bytes) → TellsBreak break told k l
+        → ◌≡◌ {A = Option Record} (Some after) (option_map (after_all (b.whole ++ last_done break told)) (Some before))
+        → (front : Bytes) × (after.messages ≡ front ++ memory_line)
+    by_break (InLine line) told tells kept = absurd (sound tells.1)
+    by_break (NotOpened name) told tells kept = absurd (sound (failed_before k tells.count l tells.since tells.until tells.failed))
+    by_break (NotRead name bytes) told tells kept = absurd (sound (failed_before k tells.count l tells.since tells.until tells.failed))
+    by_break NoMemory told tells kept =
+        told_last before after b.whole (Line told ∷ []) told memory_line (whole_line memory_line told k l sound tells) (λ r. refl) kept
+    by_break (NoMemoryFor reading) told tells kept =
+        told_last before after b.whole (Opens (Found reading) ∷ Line told ∷ []) told memory_line (whole_line memory_line told k l sound tells)
+        (λ r. refl) kept
+
+-- So a status other than that of a plan is the refusal that the stage says.
+pub sound_refusal : {A : Type 0} (stage : Stage A) (before after : Record) (k l status : ℕ) → (HasFailed k l → ⊥)
+    → ((front : Bytes) → after.messages ≡ front ++ memory_line → ⊥) → Goes stage (Some before) (Some after) k l (Err status)
+    → Went stage (Some before) (Some after) Refused
+sound_refusal stage before after k l status sound has_memory (one, inl went) = went
+sound_refusal stage before after k l status sound has_memory (one, inr broke) =
+    let lacks = broke_lacks stage before after k l sound broke in absurd (has_memory lacks.0 lacks.1)
+
+-- ---- where the desk shows no file that was opened
+
+abbrev opened_in : List Saying → List Opening
+opened_in [] = []
+opened_in (Opens opening ∷ sayings) = opening ∷ opened_in sayings
+opened_in (Line bytes ∷ sayings) = opened_in sayings
+opened_in (Creates name ∷ sayings) = opened_in sayings
+opened_in (Writes bytes ∷ sayings) = opened_in sayings
+opened_in (Outs bytes ∷ sayings) = opened_in sayings
+
+written_openings : (bytes : Bytes) (o : Open) → opening_of (written_on bytes o) ≡ opening_of o
+written_openings bytes Closed = refl
+written_openings bytes (ToRead x) = refl
+written_openings bytes (ToWrite x) = refl
+
+-- one more, and those behind it
+one_more : (shown now more : List Opening) (next : Opening) (all : List Opening) → now ≡ shown ++ next ∷ [] → all ≡ now ++ more → all ≡ shown ++ next ∷ more
+one_more shown now more next all one is = is ∙ (ap (λ (os : List Opening). os ++ more) one ∙ append_assoc shown (next ∷ []) more)
+
+none_more : (shown now more all : List Opening) → now ≡ shown → all ≡ now ++ more → all ≡ shown ++ more
+none_more shown now more all same is = is ∙ ap (λ (os : List Opening). os ++ more) same
+
+-- each opening is shown
+openings_shown : (sayings : List Saying) (r : Record) → all_openings (after_all sayings r) ≡ all_openings r ++ opened_in sayings
+openings_shown [] r = sym (append-nil (all_openings r))
+openings_shown (Opens (Absent name) ∷ sayings) r =
+    let now = after (Opens (Absent name)) r in
+    one_more (all_openings r) (all_openings now) (opened_in sayings) (Absent name) (all_openings (after_all sayings now)) (append-nil _) (openings_shown sayings now)
+openings_shown (Opens (Found reading) ∷ sayings) r =
+    let now = after (Opens (Found reading)) r in
+    one_more (all_openings r) (all_openings now) (opened_in sayings) (Found reading) (all_openings (after_all sayings now)) refl (openings_shown sayings now)
+openings_shown (Line bytes ∷ sayings) r = openings_shown sayings (after (Line bytes) r)
+openings_shown (Creates name ∷ sayings) r =
+    let now = after (Creates name) r in
+    none_more (all_openings r) (all_openings now) (opened_in sayings) (all_openings (after_all sayings now)) (append-nil (all_openings r)) (openings_shown sayings now)
+openings_shown (Writes bytes ∷ sayings) r =
+    let now = after (Writes bytes) r in
+    none_more (all_openings r) (all_openings now) (opened_in sayings) (all_openings (after_all sayings now))
+    (ap (λ (os : List Opening). r.openings ++ os) (written_openings bytes r.current)) (openings_shown sayings now)
+openings_shown (Outs bytes ∷ sayings) r = openings_shown sayings (after (Outs bytes) r)
+
+-- so the same record shows the same openings
+same_openings : (first second : List Saying) (r : Record) → ◌≡◌ {A = Option Record} (Some (after_all first r)) (Some (after_all second r))
+    → opened_in first ≡ opened_in second
+same_openings first second r kept =
+    let same : after_all first r ≡ after_all second r = cc in
+    append_cancel_left (all_openings r) (opened_in first) (opened_in second)
+    (sym (openings_shown first r) ∙ (ap all_openings same ∙ openings_shown second r))
+
+-- ---- a stage that begins with the opening of a file
+
+-- whatever files give, the first that it says is the opening of the file of this name
+abbrev pub Begins : {A : Type 0} → Bytes → Stage A → Type 0
+Begins name stage = (openings : List Opening) → (extra : List Saying) × ((stage openings).says ≡ Opens (next_opening name openings) ∷ extra)
+
+pub begins_then : {A B : Type 0} (name : Bytes) (stage : Stage A) (go_on : A → Stage B) → Begins name stage → Begins name (stage >>= go_on)
+begins_then name stage go_on begins openings =
+    let p = stage openings in
+    let more = says_more p.says p.left go_on p.answer in
+    ((begins openings).0 ++ more.0, more.1 ∙ ap (λ (ss : List Saying). ss ++ more.0) (begins openings).1)
+
+pub begins_file : {A : Type 0} (name : Bytes) (limit : ℕ) (judge : Bytes → Result A Bytes) → Begins name (file_stage name limit judge)
+begins_file name limit judge openings = ((judged name limit judge (next_opening name openings) (drop 1 openings)).says, refl)
+
+-- the one that is behind them all has this name too
+same_name : (name other : Bytes) (passed : List Opening) → next_opening name (passed ++ []) ≡ Absent other → name ≡ other
+same_name name other [] is = cc
+same_name name other (Absent x ∷ passed) is = cc
+same_name name other (Found x ∷ passed) is = cc
+
+-- nothing but this line was told since
+only_told : (r : Record) (told line : Bytes) → ◌≡◌ {A = Option Record} (Some (after_err told r)) (Some (after_all (Line line ∷ []) r)) → told ≡ line
+only_told r told line kept =
+    let same : after_err told r ≡ after_err line r = cc in append_cancel_left r.messages told line (ap (λ (x : Record). x.messages) same)
+
+-- Of a stage that begins so, where the desk shows no opening: the file could not be opened, and that was told, or memory
+-- was refused, and that was.
+module _ {A : Type 0} (name told : Bytes) (stage : Stage A) (begins : Begins name stage) (r : Record) (k l : ℕ) where
+  abbrev pub Told : Type 0
+  Told = TellsFailure (not_opened_line name) told k l ⊎ TellsLine memory_line told k l
+
+  abbrev Leaves : List Saying → Type 0
+  Leaves sayings = ◌≡◌ {A = Option Record} (Some (after_err told r)) (Some (after_all sayings r))
+
+  abbrev Next : List Opening → List Saying
+  Next passed = Opens (next_opening name (passed ++ [])) ∷ (begins (passed ++ [])).0
+
+  first_is : (passed : List Opening) (other : Bytes) (extra : List Saying) → Next passed ≡ Opens (Absent other) ∷ extra → name ≡ other
+  first_is passed other extra is =
+      let opens : Opens (next_opening name (passed ++ [])) ≡ Opens (Absent other) = cc in
+      let opening : next_opening name (passed ++ []) ≡ Absent other = cc in
+      same_name name other passed opening
+
+  by_break : (passed : List Opening) (break : Break) (line : Bytes) → IsBreak break [] (Next passed) → TellsBreak break line k l → Leaves (last_done break line) → Told
+  by_break passed (InLine due) line is tells kept = let clash : Opens (next_opening name (passed ++ [])) ≡ Line due = let e = is.1 in cc in absurd (cc)
+  by_break passed (NotOpened other) line is tells kept =
+      let named = first_is passed other is.0 is.1 in
+      inl (subst (λ n. TellsFailure (not_opened_line n) told k l) (sym named) (subst (λ t. TellsFailure (not_opened_line other) t k l) (sym (only_told r told line kept)) tells))
+  by_break passed (NotRead other bytes) line is tells kept =
+      let none : ◌≡◌ {A = List Opening} [] (Found (record { name = other; bytes = bytes; ended = false }) ∷ []) =
+      same_openings (Line told ∷ []) (part_read other bytes ∷ Line line ∷ []) r kept in absurd (cc)
+  by_break passed NoMemory line is tells kept = inr (subst (λ t. TellsLine memory_line t k l) (sym (only_told r told line kept)) tells)
+  by_break passed (NoMemoryFor reading) line is tells kept =
+      let none : ◌≡◌ {A = List Opening} [] (Found reading ∷ []) = same_openings (Line told ∷ []) (Opens (Found reading) ∷ Line line ∷ []) r kept in absurd (cc)
+
+  by_whole : (passed : List Opening) (whole later : List Saying) (break : Break) (line : Bytes) → Next passed ≡ whole ++ later → IsBreak break [] later
+      → TellsBreak break line k l → Leaves (whole ++ last_done break line) → Told
+  by_whole passed [] later break line says is tells kept = by_break passed break line (subst (IsBreak break []) (sym says) is) tells kept
+  by_whole passed (first ∷ whole) later break line says is tells kept =
+      let opens : first ≡ Opens (next_opening name (passed ++ [])) = cc in
+      let none = same_openings (Line told ∷ []) (first ∷ (whole ++ last_done break line)) r kept in
+      let some : opened_in (first ∷ (whole ++ last_done break line)) ≡ next_opening name (passed ++ []) ∷ opened_in (whole ++ last_done break line) =
+      ap (λ (s : Saying). opened_in (s ∷ (whole ++ last_done break line))) opens in
+      let clash : [] ≡ next_opening name (passed ++ []) ∷ opened_in (whole ++ last_done break line) = none ∙ some in
+      absurd (cc)
+
+  pub unopened : (status : ℕ) → Goes stage (Some r) (Some (after_err told r)) k l (Err status) → Told
+  unopened status (one, inl went) =
+      let says : went.says ≡ Next went.passed = sym (ap (λ (p : Played A). p.says) (went.comes [])) ∙ (begins (went.passed ++ [])).1 in
+      let none = same_openings (Line told ∷ []) went.says r went.kept in
+      let clash : [] ≡ next_opening name (went.passed ++ []) ∷ opened_in (begins (went.passed ++ [])).0 = none ∙ ap opened_in says in
+      absurd (cc)
+  unopened status (one, inr b) =
+      let rest = b.rest [] in
+      by_whole b.passed b.whole rest.later b.break b.told (sym (begins (b.passed ++ [])).1 ∙ rest.says_are) rest.broken b.tells b.kept
+
+-- ---- a file that was opened and is good
+
+-- it was read to its end, and this is what it comes to
+module _ {A : Type 0} (name : Bytes) (limit : ℕ) (judge : Bytes → Result A Bytes) (bytes told : Bytes) (good : A) (given : judge bytes ≡ Ok good) (r : Record) (k l : ℕ) where
+  abbrev reading : Reading
+  reading = record { name = name; bytes = bytes; ended = true }
+
+  abbrev done : List Saying
+  done = Opens (Found reading) ∷ Line told ∷ []
+
+  abbrev Leaves_it : List Saying → Type 0
+  Leaves_it sayings = ◌≡◌ {A = Option Record} (Some (after_all done r)) (Some (after_all sayings r))
+
+  abbrev made : List Opening → Played A
+  made left = record { says = Opens (Found reading) ∷ []; answer = Made good; left = left }
+
+  -- where the next opening gives it, it is made
+  comes_to : (openings : List Opening) → next_opening name openings ≡ Found reading → file_stage name limit judge openings ≡ made (drop 1 openings)
+  comes_to openings is = rw (is, given) refl
+
+  told_is : (opening : Opening) (line : Bytes) → Leaves_it (Opens opening ∷ Line line ∷ []) → told ≡ line
+  told_is (Absent other) line kept =
+      let same : after_all done r ≡ after_all (Opens (Absent other) ∷ Line line ∷ []) r = cc in
+      append_cancel_left r.messages told line (ap (λ (x : Record). x.messages) same)
+  told_is (Found x) line kept =
+      let same : after_all done r ≡ after_all (Opens (Found x) ∷ Line line ∷ []) r = cc in
+      append_cancel_left r.messages told line (ap (λ (x : Record). x.messages) same)
+
+  -- a break before the file was opened
+  before_it : (break : Break) (line : Bytes) → TellsBreak break line k l → Leaves_it (last_done break line) → TellsLine memory_line told k l
+  before_it (InLine due) line tells kept =
+      let none : ◌≡◌ {A = List Opening} (Found reading ∷ []) [] = same_openings done (Line line ∷ []) r kept in absurd (cc)
+  before_it (NotOpened other) line tells kept =
+      let none : ◌≡◌ {A = List Opening} (Found reading ∷ []) [] = same_openings done (Line line ∷ []) r kept in absurd (cc)
+  before_it (NotRead other some) line tells kept =
+      let part : Reading = record { name = other; bytes = some; ended = false } in
+      let one : ◌≡◌ {A = List Opening} (Found reading ∷ []) (Found part ∷ []) = same_openings done (part_read other some ∷ Line line ∷ []) r kept in
+      let same : reading ≡ part = cc in
+      let ends : true ≡ false = ap (λ (x : Reading). x.ended) same in
+      absurd (cc)
+  before_it NoMemory line tells kept =
+      let none : ◌≡◌ {A = List Opening} (Found reading ∷ []) [] = same_openings done (Line line ∷ []) r kept in absurd (cc)
+  before_it (NoMemoryFor x) line tells kept = subst (λ t. TellsLine memory_line t k l) (sym (told_is (Found x) line kept)) tells
+
+  -- or behind it, where nothing more is said
+  behind_it : (break : Break) (line : Bytes) (opening : Opening) → IsBreak break [] [] → TellsBreak break line k l → Leaves_it (Opens opening ∷ last_done break line)
+      → TellsLine memory_line told k l
+  behind_it (InLine due) line opening is tells kept = let e : [] ≡ Line due ∷ is.0 = is.1 in absurd (cc)
+  behind_it (NotOpened other) line opening is tells kept = let e : [] ≡ Opens (next_opening other []) ∷ is.0 = is.1 in absurd (cc)
+  behind_it (NotRead other some) line opening is tells kept = let e : [] ≡ Opens (next_opening other []) ∷ is.0 = is.1 in absurd (cc)
+  behind_it NoMemory line opening is tells kept = subst (λ t. TellsLine memory_line t k l) (sym (told_is opening line kept)) tells
+  behind_it (NoMemoryFor x) line opening is tells kept = let e : [] ≡ Opens (next_opening x.name []) ∷ is.0 = is.1 in absurd (cc)
+
+  by_end : (first : Saying) (opening : Opening) (whole later : List Saying) (break : Break) (line : Bytes) → first ≡ Opens opening → whole ++ later ≡ []
+      → IsBreak break [] later → TellsBreak break line k l → Leaves_it (first ∷ (whole ++ last_done break line)) → TellsLine memory_line told k l
+  by_end first opening [] [] break line one none is tells kept =
+      behind_it break line opening is tells (subst (λ s. Leaves_it (s ∷ last_done break line)) one kept)
+  by_end first opening [] (x ∷ later) break line one none is tells kept = absurd (cc)
+  by_end first opening (x ∷ whole) later break line one none is tells kept = absurd (cc)
+
+  by_front : (openings : List Opening) (whole later : List Saying) (break : Break) (line : Bytes) → (file_stage name limit judge openings).says ≡ whole ++ later
+      → IsBreak break [] later → TellsBreak break line k l → Leaves_it (whole ++ last_done break line) → TellsLine memory_line told k l
+  by_front openings [] later break line says is tells kept = before_it break line tells kept
+  by_front openings (first ∷ whole) later break line says is tells kept =
+      let extra = (begins_file name limit judge openings).0 in
+      let both : first ∷ (whole ++ later) ≡ Opens (next_opening name openings) ∷ extra = sym says ∙ (begins_file name limit judge openings).1 in
+      let first_is : first ≡ Opens (next_opening name openings) = cc in
+      let shown : Found reading ∷ [] ≡ next_opening name openings ∷ opened_in (whole ++ last_done break line) =
+      same_openings done (first ∷ (whole ++ last_done break line)) r kept ∙ ap (λ (s : Saying). opened_in (s ∷ (whole ++ last_done break line))) first_is in
+      let opening : next_opening name openings ≡ Found reading = cc in
+      let all : first ∷ (whole ++ later) ≡ Opens (Found reading) ∷ [] = sym says ∙ ap (λ (p : Played A). p.says) (comes_to openings opening) in
+      let none : whole ++ later ≡ [] = cc in
+      by_end first (next_opening name openings) whole later break line first_is none is tells kept
+
+  -- So the desk was shown to open it, to its end, and what was told is the line of memory.
+  pub opened_is_told : (status : ℕ) → Goes (file_stage name limit judge) (Some r) (Some (after_all done r)) k l (Err status) → TellsLine memory_line told k l
+  opened_is_told status (one, inl went) =
+      let openings = went.passed ++ [] in
+      let begun = begins_file name limit judge openings in
+      let says : went.says ≡ Opens (next_opening name openings) ∷ begun.0 = sym (ap (λ (p : Played A). p.says) (went.comes [])) ∙ begun.1 in
+      let shown : Found reading ∷ [] ≡ next_opening name openings ∷ opened_in begun.0 = same_openings done went.says r went.kept ∙ ap opened_in says in
+      let opening : next_opening name openings ≡ Found reading = cc in
+      let answers : Made good ≡ Refused = sym (ap (λ (p : Played A). p.answer) (comes_to openings opening)) ∙ ap (λ (p : Played A). p.answer) (went.comes []) in
+      absurd (cc)
+  opened_is_told status (one, inr b) =
+      let rest = b.rest [] in by_front (b.passed ++ []) b.whole rest.later b.break b.told rest.says_are rest.broken b.tells b.kept
