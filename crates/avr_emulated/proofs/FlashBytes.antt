@@ -1,16 +1,15 @@
 -- A byte of flash, behind items.
-use Rattle.std.proofs.Common.{◌≡◌, ◌⊎◌, ◌<◌, ℕ, zero, suc, List, [], ◌∷◌, length, get_or, take, bit_and, refl, sym, ap, ◌∙◌, subst, inl, inr, arith, Bool, true, false, if◌then◌else◌, Option, Some, None, ⊤}
+use Rattle.std.proofs.Common.{◌≡◌, ◌⊎◌, ◌<◌, ℕ, zero, suc, List, [], ◌∷◌, length, get_or, take, bit_and, refl, sym, ap, ◌∙◌, subst, inl, inr, arith, Bool, true, false, if◌then◌else◌, Option, Some, None}
 use Rattle.std.proofs.lemmas.List.{length-replicate, get_or-replicate}
 use Rattle.avr_image.specs.Image.{byte_at}
 use Rattle.avr_part.specs.Part.{Part}
-use Rattle.avr_part.specs.Memory.{blank}
 use Rattle.avr_part.specs.declared.mem.Mem.TheVariants.{Flash, Eeprom, Lfuse, Hfuse, Efuse, Lock, Signature, Calibration}
 use Rattle.avr_plan.specs.Plan.{Plan}
 use Rattle.stk_emu.specs.Effect.{Image, Item, Erase, Write, Memories, and_with, and_in, locked, effect, effects}
 use Rattle.stk_emu.proofs.Images.{length-and_in, get_and_in}
 use Rattle.avr_emulated.specs.Items.{items}
 use Rattle.avr_emulated.specs.Outcome.{strokes, IsTouched, IsDone}
-use Rattle.avr_emulated.specs.Written.{Brings, IsThere, AreThere, and_all, IsMade}
+use Rattle.avr_emulated.specs.Written.{IsThere, AreThere, and_all, IsMade}
 
 are_later : (item : Item) (xs : List Item) (addr : ℕ) (bytes : List ℕ) → AreThere xs addr bytes → AreThere (item ∷ xs) addr bytes
 are_later item xs addr [] are = tt
