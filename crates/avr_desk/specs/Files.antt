@@ -5,7 +5,13 @@ use Rattle.avr_desk.specs.Fault.{HasFailed}
 use Rattle.avr_desk.specs.declared.record.Open.TheVariants.{ToRead}
 use Rattle.avr_desk.specs.declared.files.Contents.{Contents}
 use Rattle.avr_desk.specs.declared.files.FileFault.{FileFault}
-use Rattle.avr_desk.specs.declared.files.FileFault.TheVariants.{Absent, NotOpened, NotRead}
+use Rattle.avr_desk.specs.declared.files.FileFault.TheVariants.{Absent, NotOpened, NotRead, Memory}
+
+abbrev pub file_fault_number : FileFault → ℕ
+file_fault_number Absent = 1
+file_fault_number NotOpened = 2
+file_fault_number NotRead = 3
+file_fault_number Memory = 4
 
 -- the open file gave these bytes, and its end was seen or wasn't
 abbrev pub after_reading : Bytes → Bool → Record → Record

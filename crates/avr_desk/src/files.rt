@@ -1,6 +1,6 @@
 //! A whole file over a desk.
-ghost use Rattle.std.specs.Prelude.{IfOk};
-ghost use Rattle.avr_desk.specs.Files.{FaultCounts, IsWhole, ReadsOpen, ReadsFile};
+ghost use Rattle.std.specs.Prelude.{◌≡◌, IfOk};
+ghost use Rattle.avr_desk.specs.Files.{file_fault_number, FaultCounts, IsWhole, ReadsOpen, ReadsFile};
 
 use crate::bytes::Bytes;
 use crate::desk::Desk;
@@ -26,6 +26,20 @@ pub enum FileFault {
     /// There was no memory for the bytes.
     #[error("out of memory")]
     Memory,
+}
+
+impl FileFault {
+    /// The fault's number, from 1 on, which no later version changes.
+    pub fn number(&self) -> u8
+        ensures { result ≡ file_fault_number self.now }
+    {
+        match self {
+            FileFault::Absent => 1,
+            FileFault::NotOpened => 2,
+            FileFault::NotRead => 3,
+            FileFault::Memory => 4,
+        }
+    }
 }
 
 /// What was read of a file.

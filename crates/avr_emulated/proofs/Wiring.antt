@@ -122,7 +122,7 @@ module _ (plan : Plan) (w v : State) (fresh : IsFresh w) (stays : Stays ComesOf 
   wired_leaves old new StopsBy status runs = record {
     touched = subst (λ (q : Programmer). IsTouched plan before (memories_of q.chip)) (sym (on_line old new StopsBy status runs)) (leads.during count);
     done = is_done old new StopsBy status runs;
-    written = λ wet verified zero. run_written plan before after fitted wet verified (is_done old new StopsBy status runs zero) sizes;
+    written = λ wet verified zero. run_written plan before after fitted wet verified (is_done old new StopsBy status runs zero) sound sizes;
   }
 
   -- so many strokes, by the frames that went out

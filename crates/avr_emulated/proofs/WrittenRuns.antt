@@ -6,7 +6,7 @@ use Rattle.std.specs.List.{list_any}
 use Rattle.std.specs.Prelude.{◌&&◌, ◌||◌, not, if◌then◌else◌, All}
 use Rattle.avr_cli.specs.declared.chosen.Switches.{Switches}
 use Rattle.avr_part.specs.Memory.{blank}
-use Rattle.avr_part.specs.Part.{Part}
+use Rattle.avr_part.specs.Part.{Part, IsPart}
 use Rattle.avr_part.specs.declared.mem.Mem.{Mem}
 use Rattle.avr_part.specs.declared.mem.Mem.TheVariants.{Flash, Eeprom, Lfuse, Hfuse, Efuse, Lock}
 use Rattle.avr_plan.specs.Plan.{Plan, IsFitted}
@@ -17,9 +17,10 @@ use Rattle.stk_emu.specs.Settled.{FitsPart}
 use Rattle.stk_emu.proofs.PageStrokes.{effects_on}
 use Rattle.avr_emulated.specs.Agrees.{Shows, TasksAgree}
 use Rattle.avr_emulated.specs.Course.{course}
-use Rattle.avr_emulated.specs.Items.{erasing_items, tasks_items}
+use Rattle.avr_emulated.specs.Items.{items, erasing_items, tasks_items}
 use Rattle.avr_emulated.specs.Outcome.{IsDone}
 use Rattle.avr_emulated.specs.Written.{IsWritten, written_to}
+use Rattle.avr_emulated.proofs.AgainStrokes.{all_sizes}
 use Rattle.avr_emulated.proofs.WrittenCourse.{course_status}
 use Rattle.avr_emulated.proofs.WrittenImages.{Left, tasks_left}
 
@@ -71,12 +72,15 @@ module _ (plan : Plan) (before after : Memories) (all : All (IsFitted plan.part)
       subst (λ new. Left plan.part mem (written_to plan.part mem plan.tasks) erased new) is_after
       (tasks_left plan.part plan.switches wet verified mem plan.tasks erased all run.agrees)
 
-  pub run_written : FitsPart plan.part before → IsWritten plan before after
-  run_written fits =
+  pub run_written : IsPart plan.part → FitsPart plan.part before → IsWritten plan before after
+  run_written sound fits =
       let part = plan.part in
+      let sizes : FitsPart part after = subst (FitsPart part) (sym run.memories) (all_sizes part sound (items plan) before fits) in
       let dry = plan.switches.dry in
       let due = is_erase_due plan.switches plan.tasks in
       record {
+        flash_size = sizes.flash;
+        eeprom_size = sizes.eeprom;
         images = λ mem. (memory_left mem).shows;
         rest_of_flash = λ addr l none. (memory_left Flash).rest addr none ∙ flash_erased part dry due before addr wet (omega (arith, l, fits.flash));
         rest_of_eeprom = λ addr l none. (memory_left Eeprom).rest addr none ∙ eeprom_erased part dry due before addr wet (omega (arith, l, fits.eeprom));

@@ -1,5 +1,5 @@
 -- What the memories hold after a verified run of status 0, address by address.
-use Rattle.std.specs.Prelude.{ℕ, ◌≡◌, ◌==◌, ◌<◌, ◌&&◌, not, List, [], ◌∷◌, slice_index, None, if◌then◌else◌}
+use Rattle.std.specs.Prelude.{ℕ, ◌≡◌, ◌==◌, ◌<◌, ◌⊎◌, ◌&&◌, not, bit_and, List, [], ◌∷◌, length, slice_index, Some, None, if◌then◌else◌, ⊤}
 use Rattle.avr_image.specs.Image.{empty, byte_at, over}
 use Rattle.avr_part.specs.Part.{Part, size_of}
 use Rattle.avr_part.specs.declared.mem.Mem.{Mem}
@@ -8,7 +8,8 @@ use Rattle.avr_plan.specs.Plan.{Plan}
 use Rattle.avr_plan.specs.declared.task.Task.{Task}
 use Rattle.avr_plan.specs.declared.task.Task.TheVariants.{Write, Verify, Read}
 use Rattle.avr_session.specs.Session.{is_erase_due}
-use Rattle.stk_emu.specs.Effect.{Image, Memories, keeps_eeprom, memory_in}
+use Rattle.stk_emu.specs.Effect as effect
+use Rattle.stk_emu.specs.Effect.{Image, Item, Memories, keeps_eeprom, memory_in}
 use Rattle.avr_emulated.specs.Agrees.{Shows}
 
 abbrev pub number_of : Mem → ℕ
@@ -32,10 +33,12 @@ written_to part mem (Read other format file ∷ tasks) = written_to part mem tas
 abbrev pub byte_in : Part → Mem → ℕ → Memories → ℕ
 byte_in part mem addr m = slice_index (memory_in part mem m) addr
 
--- Each memory holds the images written to it. Elsewhere flash is FF where the chip was erased, and EEPROM too, unless
+-- Each memory has its size, and holds the images written to it. Elsewhere flash is FF where the chip was erased, and EEPROM too, unless
 -- its fuse keeps it; else they are as before. A fuse that wasn't written is as before, and a lock that wasn't is open
 -- after an erase.
 pub record IsWritten (plan : Plan) (before after : Memories) : Type 0 where
+  pub flash_size : length after.flash ≡ plan.part.flash_size
+  pub eeprom_size : length after.eeprom ≡ plan.part.eeprom_size
   pub images : (mem : Mem) → Shows plan.part mem (written_to plan.part mem plan.tasks) after
   pub rest_of_flash : (addr : ℕ) → addr < plan.part.flash_size
       → byte_at (written_to plan.part Flash plan.tasks) addr ≡ None
@@ -51,3 +54,30 @@ pub record IsWritten (plan : Plan) (before after : Memories) : Type 0 where
   pub efuse : byte_at (written_to plan.part Efuse plan.tasks) 0 ≡ None → after.efuse ≡ before.efuse
   pub lock : byte_at (written_to plan.part Lock plan.tasks) 0 ≡ None
       → after.lock ≡ (if is_erase_due plan.switches plan.tasks then 255 else before.lock)
+
+-- an item writes an image to flash that has this byte at an address
+abbrev pub Brings : Item → ℕ → ℕ → Type 0
+Brings (effect.Write Flash image) addr byte = byte_at image addr ≡ Some byte
+Brings item addr byte = ⊥
+
+-- one of some items does
+abbrev pub IsThere : List Item → ℕ → ℕ → Type 0
+IsThere [] addr byte = ⊥
+IsThere (item ∷ items) addr byte = Brings item addr byte ⊎ IsThere items addr byte
+
+abbrev pub AreThere : List Item → ℕ → List ℕ → Type 0
+AreThere items addr [] = ⊤
+AreThere items addr (byte ∷ bytes) = IsThere items addr byte × AreThere items addr bytes
+
+abbrev pub and_all : ℕ → List ℕ → ℕ
+and_all first [] = first
+and_all first (byte ∷ bytes) = and_all (bit_and first byte) bytes
+
+-- A byte of flash before some items and after them: it is the one before, or FF, AND the bytes that none, one or more
+-- of the images have there that are written to flash.
+pub record IsMade (items : List Item) (addr before after : ℕ) : Type 0 where
+  pub first : ℕ
+  pub bytes : List ℕ
+  pub first_is : (first ≡ before) ⊎ (first ≡ 255)
+  pub are_there : AreThere items addr bytes
+  pub is : after ≡ and_all first bytes

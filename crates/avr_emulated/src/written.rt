@@ -1,19 +1,20 @@
 //! What the memories hold after a verified run, address by address. No code.
 #![tactic(auto)]
 
-ghost use Rattle.std.specs.Prelude.{◌≡◌, ◌↔◌, false, List, All, map};
+ghost use Rattle.std.specs.Prelude.{◌≡◌, ◌↔◌, ◌<◌, ℕ, false, List, All, length, map};
 ghost use Rattle.avr_cli.specs.declared.chosen.Switches.{Switches};
-ghost use Rattle.avr_part.specs.Part.{IsPart};
+ghost use Rattle.avr_part.specs.Part.{Part, IsPart};
 ghost use Rattle.avr_part.specs.declared.mem.Mem.{Mem};
+ghost use Rattle.avr_part.specs.declared.mem.Mem.TheVariants.{Flash};
 ghost use Rattle.avr_plan.specs.Plan.{Plan, IsFitted};
 ghost use Rattle.avr_plan.specs.declared.task.Task.{Task};
-ghost use Rattle.stk_emu.specs.Effect.{Memories, effects};
+ghost use Rattle.stk_emu.specs.Effect.{Item, Memories, effects};
 ghost use Rattle.stk_emu.specs.Settled.{FitsPart};
 ghost use Rattle.avr_emulated.specs.Agrees.{Agrees};
 ghost use Rattle.avr_emulated.specs.Course.{course};
 ghost use Rattle.avr_emulated.specs.Items.{items};
-ghost use Rattle.avr_emulated.specs.Outcome.{IsDone};
-ghost use Rattle.avr_emulated.specs.Written.{IsWritten, written_to};
+ghost use Rattle.avr_emulated.specs.Outcome.{strokes, IsTouched, IsDone};
+ghost use Rattle.avr_emulated.specs.Written.{IsMade, IsWritten, byte_in, written_to};
 
 /// The status of a course is 0 exactly where its comparisons agree, and then it has done all that its plan writes.
 pub fn a_course_succeeds_where_it_agrees()
@@ -39,4 +40,18 @@ pub fn a_verified_run_leaves_its_images()
               mems;
           switches = s;
         }) after).status ≡ 0 }
+{}
+
+/// A byte of flash, whatever was done: the one before or the FF of an erase, AND the bytes that none, one or more of the
+/// images have there that are written to flash. After a run that did all of its plan these are the plan's images; after
+/// any other, those of its strokes, each a page.
+pub fn a_byte_of_flash_is_made_by_images()
+    ensures items { (part : Part) (items : List Item) (m : Memories) (addr : ℕ) → addr < length m.flash
+        → IsMade items addr (byte_in part Flash addr m) (byte_in part Flash addr (effects part items m)) }
+    ensures done { (plan : Plan) (before after : Memories) (addr : ℕ) → addr < length before.flash
+        → IsDone plan before after
+        → IsMade (items plan) addr (byte_in plan.part Flash addr before) (byte_in plan.part Flash addr after) }
+    ensures touched { (plan : Plan) (before after : Memories) (addr : ℕ) → addr < length before.flash
+        → IsTouched plan before after
+        → IsMade (strokes plan) addr (byte_in plan.part Flash addr before) (byte_in plan.part Flash addr after) }
 {}

@@ -1,4 +1,7 @@
 //! Why a file is no image.
+ghost use Rattle.std.specs.Prelude.{◌≡◌};
+ghost use Rattle.avr_plan.specs.Faults.{bad_file_number};
+
 use avr_image::ImageFault;
 use avr_records::RecordFault;
 use thiserror::Error;
@@ -18,4 +21,18 @@ pub enum BadFile {
     /// It has more than 4,194,304 bytes.
     #[error("too long")]
     TooLong,
+}
+
+impl BadFile {
+    /// The fault's number, from 1 on, which no later version changes.
+    pub fn number(&self) -> u8
+        ensures { result ≡ bad_file_number self.now }
+    {
+        match self {
+            BadFile::Record(_) => 1,
+            BadFile::Raw(_) => 2,
+            BadFile::Elf => 3,
+            BadFile::TooLong => 4,
+        }
+    }
 }

@@ -2,6 +2,7 @@
 ghost use Rattle.std.specs.Prelude.{◌≡◌, ◌+◌, ◌<◌, ◌≤◌, ◌^◌, ℕ, IfErr, length};
 ghost use Rattle.avr_message.specs.Lines.{Bytes};
 ghost use Rattle.avr_records.specs.declared.kind.Found.{Found as AnyFound};
+ghost use Rattle.avr_plan.specs.Faults.{read_fault_number};
 ghost use Rattle.avr_plan.specs.ImageFile.{kind_of, whole_file};
 ghost use Rattle.avr_plan.specs.ImageReading.{IsGiven, FrontIsRead, RestIsRead, OpenIsRead, ImageIsRead, IsCounted, IsCountedRead};
 ghost use Rattle.avr_plan.specs.Intake.{Takes, counted};
@@ -34,6 +35,18 @@ pub enum ReadFault {
     /// It was, and is no image.
     #[error("{0}")]
     Image(BadFile),
+}
+
+impl ReadFault {
+    /// The fault's number, from 1 on, which no later version changes.
+    pub fn number(&self) -> u8
+        ensures { result ≡ read_fault_number self.now }
+    {
+        match self {
+            ReadFault::File(_) => 1,
+            ReadFault::Image(_) => 2,
+        }
+    }
 }
 
 /// The front of a file: all that it has, or enough to show its format.

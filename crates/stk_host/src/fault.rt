@@ -1,6 +1,7 @@
 //! Why a host could not do what was asked.
 ghost use Rattle.std.specs.Prelude.{◌≡◌};
 ghost use Rattle.stk_host.specs.Calls.{host_fault_number};
+ghost use Rattle.stk_host.specs.Operations.{host_fault};
 
 use avr_part::Mem;
 use thiserror::Error;
@@ -19,6 +20,21 @@ pub enum StepFault {
     Refused(u8, u8),
     /// The command with this byte was answered by what is no answer to it.
     BadAnswer(u8),
+}
+
+impl StepFault {
+    /// The fault's number, which no later version changes: that of the [`HostFault`] that it is told as.
+    pub fn number(&self) -> u8
+        ensures { result ≡ host_fault_number (host_fault self.now) }
+    {
+        match self {
+            StepFault::NoAnswer => 1,
+            StepFault::LinkEnded => 2,
+            StepFault::Babble => 4,
+            StepFault::Refused(_, _) => 5,
+            StepFault::BadAnswer(_) => 6,
+        }
+    }
 }
 
 /// What the link could not do. It is public, as [`StepFault`] is, for definitions: of where a call breaks off.
