@@ -11,7 +11,8 @@ use Rattle.avr_records.specs.Lines.{lines, is_line_end}
 use Rattle.avr_records.specs.Progress.{Progress, fresh, Held, Done, Leaves, size_of}
 use Rattle.avr_records.specs.Reader.{kept, Reads}
 use Rattle.avr_records.specs.Reading.{Said, says, up_to_end, together, read}
-use Rattle.avr_records.specs.Record.{Nothing, longest}
+use Rattle.avr_records.specs.Meaning.{Nothing}
+use Rattle.avr_records.specs.Record.{longest}
 use Rattle.avr_records.specs.Steps.{grown, kept_says, line_step, step, counted, ending_of, HasBase, Begins}
 use Rattle.avr_records.specs.declared.kind.Kind.{Kind}
 use Rattle.avr_records.specs.declared.kind.Kind.TheVariants.{Ihex, Srec}
@@ -56,16 +57,21 @@ grown-kept line more =
       | inr f ↦ rw f refl
     ]
 
+kept-none : (line : List ℕ) → nat_lt longest (length line) ≡ true → kept line ≡ None
+kept-none line is = rw is refl
+
+kept-some : (line : List ℕ) → nat_lt longest (length line) ≡ false → kept line ≡ Some line
+kept-some line is = rw is refl
+
 says-too_long : (kind : Kind) (line : List ℕ) → nat_lt longest (length line) ≡ true → says kind line ≡ Err TooLong
-says-too_long Ihex line is = rw is refl
-says-too_long Srec line is = rw is refl
+says-too_long kind line is = rw is refl
 
 -- what is kept says what the line says
 pub kept_says-kept : (kind : Kind) (line : List ℕ) → kept_says kind (kept line) ≡ says kind line
 kept_says-kept kind line =
     elim (cases_Bool (nat_lt longest (length line))) [
-      | inl t ↦ rw t (sym (says-too_long kind line t))
-      | inr f ↦ rw f refl
+      | inl t ↦ ap (kept_says kind) (kept-none line t) ∙ sym (says-too_long kind line t)
+      | inr f ↦ ap (kept_says kind) (kept-some line f)
     ]
 
 -- ---- a reader
