@@ -64,7 +64,8 @@ kept-some : (line : List ℕ) → nat_lt longest (length line) ≡ false → kep
 kept-some line is = rw is refl
 
 says-too_long : (kind : Kind) (line : List ℕ) → nat_lt longest (length line) ≡ true → says kind line ≡ Err TooLong
-says-too_long kind line is = rw is refl
+says-too_long Ihex line is = rw is refl
+says-too_long Srec line is = rw is refl
 
 -- what is kept says what the line says
 pub kept_says-kept : (kind : Kind) (line : List ℕ) → kept_says kind (kept line) ≡ says kind line
