@@ -103,8 +103,8 @@ impl Progress {
         }
     }
 
-    /// Judges a line and takes in what it says.
-    fn judge(&mut self, kind: Kind, line: &[u8]) -> Result<(), LineFault>
+    /// Judges a line and takes in what it says. Its bytes are put into the room.
+    fn judge(&mut self, kind: Kind, line: &[u8], room: &mut [u8; ROOM]) -> Result<(), LineFault>
         requires base { HasBase kind self.old.base }
         requires few { self.old.data_records + 1 < 2 ^ 32 }
         ensures step { MatchResult result (λ _. (fault_behind (seen self.old) (says kind line.now) ≡ None)
@@ -115,8 +115,7 @@ impl Progress {
         ensures lines { self.new.lines ≡ self.old.lines }
         ensures few { self.new.data_records ≤ self.old.data_records + 1 }
     {
-        let mut room = [0; ROOM];
-        match line_says(kind, line, &mut room) {
+        match line_says(kind, line, room) {
             Ok(line) => self.take(kind, line),
             Err(fault) => Err(fault),
         }
@@ -131,8 +130,13 @@ impl Progress {
         fault.in_line(self.lines + 1)
     }
 
-    /// Takes in the next line.
-    pub(crate) fn take_line(&mut self, kind: Kind, line: &[u8]) -> Result<(), RecordFault>
+    /// Takes in the next line. Its bytes are put into the room.
+    pub(crate) fn take_line(
+        &mut self,
+        kind: Kind,
+        line: &[u8],
+        room: &mut [u8; ROOM],
+    ) -> Result<(), RecordFault>
         requires range { InRange kind (seen self.old) }
         requires few { self.old.lines + 1 < 2 ^ 32 }
         ensures step { MatchResult result (λ _. step (seen self.old) (says kind line.now) ≡ Ok (seen self.new))
@@ -142,7 +146,7 @@ impl Progress {
         ensures lines { OnOk result (self.new.lines ≡ self.old.lines + 1) }
         ensures line { IfErr result IsLineFault }
     {
-        match self.judge(kind, line) {
+        match self.judge(kind, line, room) {
             Ok(()) => {
                 self.lines += 1;
                 Ok(())
