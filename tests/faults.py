@@ -9,6 +9,7 @@ requests for memory also the nth and all after it. What was sent and said has to
 says, and then the line of that fault, with the name of the file that the call was for (a front of it where a message
 couldn't be written), with status 1; or all that the sound run sends and says, with its status, where what was refused
 wasn't needed. A read or a write that a signal breaks off, or that moves one byte alone, has to change nothing.
+The crates' own devices in memory meet refused growths in their tests, which may fail there, but have to end.
 """
 
 import os
@@ -55,6 +56,9 @@ LINES = {
 
 # what is refused
 FAULTS = [*((kind, "fail") for kind in LINES), ("growth", "onwards")]
+
+# the crates whose tests hold devices in memory: a desk, a tape of answers, and the wire to the emulated programmer
+DEVICES = ["avr_desk", "stk_host", "stk_emu"]
 
 # what has to change nothing
 HARMLESS = [("read", "interrupt"), ("read", "one"), ("write", "interrupt"), ("write", "one")]
@@ -172,6 +176,36 @@ class OverNet(Sweep):
         return super().is_told(kind, how, status, output, messages, None, None) and len(chip or b"") == CHIP_FILE
 
 
+class Tests:
+    """The tests of a crate, in the program that rt ci leaves: devices in memory, whose every growth is refused in turn."""
+
+    def __init__(self, room, shim, crate):
+        self.program, self.room, self.shim = TOP / f"crates/{crate}/out/{crate}_tests", room, shim
+        listed = subprocess.run([self.program, "--list"], capture_output=True, text=True, check=True).stdout
+        self.names = [name for name, _, kind in (line.partition(": ") for line in listed.splitlines()) if kind == "test"]
+
+    def through(self, how):
+        """How often memory was refused: a test that lacks it may fail, and says so, but none crashes or goes on for ever."""
+        refusals = 0
+        for name in self.names:
+            for number in range(1, 100_000):
+                ended, was_refused = self.done(name, f"growth {number} {how}")
+                if not was_refused:
+                    assert ended.returncode == 0, (name, ended)
+                    break
+                told = b"the test failed" in ended.stderr or b"assertion failed" in ended.stderr
+                assert ended.returncode == 0 or told, (name, how, number, ended)
+                refusals += 1
+        return refusals
+
+    def done(self, name, refused):
+        """One test with a refusal, and whether that came."""
+        self.room.clear()
+        environment = os.environ | {"LD_PRELOAD": str(self.shim), "REFUSE": refused, "REFUSED": "refused"}
+        how = {"stdin": subprocess.DEVNULL, "capture_output": True, "cwd": self.room.folder, "timeout": 60}
+        return subprocess.run([self.program, name], env=environment, **how), self.room.read("refused") is not None
+
+
 def swept(sweep, ways):
     """What became of all the refusals of a run, in these ways."""
     total = Counter()
@@ -200,6 +234,9 @@ def main():
     served = Serving(room, shim, "a session served at a port", ["-p", "m328p", "--chip", "chip.bin"], b"")
     assert served.sound[1] == ANSWERS, served.sound
     total += swept(served, [*FAULTS, *HARMLESS])
+    for crate in DEVICES:
+        for how in ["fail", "onwards"]:
+            print(f"{Tests(room, shim, crate).through(how):6} refused: growth, {how}: the tests of {crate}", flush=True)
     seconds = time.monotonic() - begun
     print(f"{total['told']} refusals told, {total['unneeded']} of no effect, 0 failed, in {seconds:.0f} s")
 

@@ -6,6 +6,7 @@ use Rattle.avr_desk.specs.Record.{Record}
 use Rattle.avr_desk.specs.declared.record.Opening.TheVariants.{Found}
 use Rattle.avr_desk.specs.declared.record.Reading.{Reading}
 use Rattle.avr_message.specs.Lines.{Bytes}
+use Rattle.avr_message.specs.Said.{Tells}
 use Rattle.avr_part.specs.ChipFile.{chip_file_size, chip_in, state_in}
 use Rattle.avr_part.specs.Part.{Part}
 use Rattle.avr_part.specs.PartFile.{GivesOrMemory}
@@ -14,7 +15,7 @@ use Rattle.avr_part.specs.declared.fault.PartFault.{PartFault}
 use Rattle.avr_part.specs.declared.fault.PartFault.TheVariants.{BadChipFile}
 use Rattle.avr_plan.proofs.Openings.{goes_opened, goes_judged}
 use Rattle.avr_plan.proofs.Played.{went_settled, goes_unsettled}
-use Rattle.avr_plan.specs.Lines.{IsTold, too_long_line}
+use Rattle.avr_plan.specs.Lines.{too_long_line}
 use Rattle.avr_plan.specs.Playing.{Goes, Went}
 use Rattle.avr_plan.specs.Stage.{Made, settled}
 use Rattle.avr_chip.specs.Lines.{length_line}
@@ -56,7 +57,7 @@ chip_of_part part bytes chip gives = ap (λ (c : State). c.part) (right_length p
 
 pub goes_wrong_length : (part : Part) (file bytes : Bytes) (n : ℕ) (old new : Option Record) (before now status : ℕ)
     → GivesOrMemory (chip_in part bytes) (Err (BadChipFile n)) → status ≡ 1
-    → IsTold old new (length_line file (length bytes) (chip_file_size part)) before now
+    → Tells old new (length_line file (length bytes) (chip_file_size part)) before now
     → Goes (settled (chip_or_line part file bytes)) old new before now (Err status)
 goes_wrong_length part file bytes n old new before now status (inl gives) one told =
     let wrong = none_is (length bytes == chip_file_size part) (state_in part bytes) (length bytes) (BadChipFile n) (sym gives) in
@@ -88,7 +89,7 @@ goes_ended part file bytes true old mid new before between now result kept whole
 -- or past the limit
 pub goes_past : (part : Part) (file bytes : Bytes) (ended : Bool) (old mid new : Option Record) (before between now status : ℕ)
     → mid ≡ option_map (with_read file bytes ended) old → IsWhole 4194304 (record { bytes = bytes; ended = ended }) → ended ≡ false → before ≤ between
-    → status ≡ 1 → IsTold mid new (too_long_line file 4194304) between now
+    → status ≡ 1 → Tells mid new (too_long_line file 4194304) between now
     → Goes (chip_stage part file) old new before now (Err status)
 goes_past part file bytes true old mid new before between now status kept whole is rose one told = cc
 goes_past part file bytes false old mid new before between now status kept whole is rose one told =

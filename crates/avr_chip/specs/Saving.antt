@@ -1,9 +1,8 @@
 -- A chip file that is saved: what was done at the desk, and what stood in the way.
-use Rattle.std.specs.Prelude.{◌≡◌, ◌≤◌, ℕ, List, [], ◌∷◌, Option, option_map, Result, Ok, Err, ⊤}
-use Rattle.avr_desk.specs.Fault.{HasFailed}
+use Rattle.std.specs.Prelude.{◌≡◌, ℕ, List, [], ◌∷◌, ◌++◌, Option, option_map, Result, Ok, Err, ⊤}
 use Rattle.avr_desk.specs.Record.{Record}
 use Rattle.avr_message.specs.Lines.{Bytes}
-use Rattle.avr_message.specs.Said.{Saying, Creates, Writes, IsPrefixOf, Tells, after_all}
+use Rattle.avr_message.specs.Said.{Saying, Line, Creates, Writes, IsPrefixOf, TellsLine, TellsFailure, after_all}
 use Rattle.avr_plan.specs.Lines.{memory_line}
 use Rattle.avr_chip.specs.Lines.{not_created_line, not_written_line}
 
@@ -25,26 +24,19 @@ abbrev pub IsFront : Bytes → Trouble → Type 0
 IsFront bytes (NotWritten front) = IsPrefixOf front bytes
 IsFront bytes _ = Unit {0}
 
--- the desk has failed, by its counts before and now, unless it was memory
-abbrev pub IsCounted : ℕ → ℕ → Trouble → Type 0
-IsCounted before now NoMemory = before ≤ now
-IsCounted before now _ = HasFailed before now
+-- The line of memory was told; or the desk failed at the file, and from then on the line of that was told.
+abbrev pub TellsTrouble : Bytes → Trouble → Bytes → ℕ → ℕ → Type 0
+TellsTrouble file NoMemory told before now = TellsLine memory_line told before now
+TellsTrouble file NotCreated told before now = TellsFailure (not_created_line file) told before now
+TellsTrouble file (NotWritten front) told before now = TellsFailure (not_written_line file) told before now
 
-abbrev pub trouble_line : Bytes → Trouble → Bytes
-trouble_line file NoMemory = memory_line
-trouble_line file NotCreated = not_created_line file
-trouble_line file (NotWritten front) = not_written_line file
-
--- Something stood in the way, and then the line that tells it was printed, or the desk failed once more in that.
+-- Something stood in the way, and that was told.
 pub record Unsaved (old new : Option Record) (file bytes : Bytes) (before now : ℕ) : Type 0 where
   pub trouble : Trouble
-  pub between : Option Record
-  pub failures : ℕ
+  pub told : Bytes
   pub front : IsFront bytes trouble
-  pub counted : IsCounted before failures trouble
-  pub done : between ≡ option_map (after_all (done_before file trouble)) old
-  pub told : Tells between new (trouble_line file trouble) failures now
-  pub rises : failures ≤ now
+  pub tells : TellsTrouble file trouble told before now
+  pub kept : new ≡ option_map (after_all (done_before file trouble ++ Line told ∷ [])) old
 
 -- The file was created and all its bytes were written; or the status is 1, and it was not saved.
 abbrev pub Saves : Option Record → Option Record → Bytes → Bytes → ℕ → ℕ → Result ⊤ ℕ → Type 0

@@ -1,7 +1,7 @@
 //! Why there is no chip, or no file of it, beside the lines that any file has. The status is 1.
 ghost use Rattle.std.specs.Prelude.{◌≡◌, ◌≤◌, ◌∷◌, []};
 ghost use Rattle.avr_message.specs.Lines.{error};
-ghost use Rattle.avr_plan.specs.Lines.{IsTold};
+ghost use Rattle.avr_message.specs.Said.{Tells};
 ghost use Rattle.avr_chip.specs.Lines.{length_line};
 
 use avr_desk::Desk;
@@ -11,7 +11,7 @@ use avr_plan::refuse;
 /// Tells what can't be done with a file.
 pub(crate) fn refuse_saving<'a, D: Desk>(desk: &mut D, file: &'a str, trouble: &'a str) -> u8
     ensures status { result ≡ 1 }
-    ensures told { IsTold (D.kept desk.old) (D.kept desk.new) (error (file.now ∷ trouble.now ∷ []))
+    ensures told { Tells (D.kept desk.old) (D.kept desk.new) (error (file.now ∷ trouble.now ∷ []))
         (D.failures desk.old) (D.failures desk.new) }
     ensures rises { D.failures desk.old ≤ D.failures desk.new }
 {
@@ -21,7 +21,7 @@ pub(crate) fn refuse_saving<'a, D: Desk>(desk: &mut D, file: &'a str, trouble: &
 /// Tells that a file has another number of bytes than is expected.
 pub(crate) fn refuse_length<D: Desk>(desk: &mut D, file: &str, found: u32, expected: u32) -> u8
     ensures status { result ≡ 1 }
-    ensures told { IsTold (D.kept desk.old) (D.kept desk.new) (length_line file.now found expected)
+    ensures told { Tells (D.kept desk.old) (D.kept desk.new) (length_line file.now found expected)
         (D.failures desk.old) (D.failures desk.new) }
     ensures rises { D.failures desk.old ≤ D.failures desk.new }
 {

@@ -1,13 +1,14 @@
 -- A run over the emulated programmer, from settings to status.
-use Rattle.std.specs.Prelude.{◌≡◌, ◌≤◌, ◌⊎◌, ℕ, List, [], ◌∷◌, Option, Some, Ok, Err}
+use Rattle.std.specs.Prelude.{◌≡◌, ◌≤◌, ◌⊎◌, ℕ, List, [], ◌∷◌, All, Option, Some, Ok, Err}
 use Rattle.avr_chip.specs.Loading.{chip_stage}
 use Rattle.avr_chip.specs.Saving.{Saves}
 use Rattle.avr_cli.specs.declared.chosen.Settings.{Settings}
 use Rattle.avr_desk.specs.Record.{Record}
 use Rattle.avr_message.specs.Lines.{Bytes}
 use Rattle.avr_part.specs.ChipFile.{chip_file}
+use Rattle.avr_part.specs.Sound.{IsSound}
 use Rattle.avr_part.specs.State as chips
-use Rattle.avr_plan.specs.Plan.{Plan}
+use Rattle.avr_plan.specs.Plan.{Plan, IsFitted}
 use Rattle.avr_plan.specs.Planning.{planned}
 use Rattle.avr_plan.specs.Playing.{Goes, Went}
 use Rattle.avr_plan.specs.Stage.{Made}
@@ -26,9 +27,10 @@ IsSaved (byte ∷ sent) old new file bytes before now ran status =
     (Saves old new file bytes before now (Ok tt) × (status ≡ ran))
     ⊎ ((fault : ℕ) × Saves old new file bytes before now (Err fault) × (status ≡ 1))
 
--- The plan was made and its chip was loaded; the session was played over a wire to it, whose fates are all good; and
--- the chip was saved. A failure of the desk that is told anywhere is counted between before and now; one of the link is
--- counted by the wire, from 0.
+-- The plan was made, whose images have the sizes of their memories, and its chip was loaded, whose memories have those
+-- of the plan's part; the session was played over a wire to it, whose fates are all good; and the chip was saved. A
+-- failure of the desk that is told anywhere is counted since the stage before it; one of the link is counted by the
+-- wire, from 0.
 pub record PlaysEmulated (settings : Settings) (file : Bytes) (old new : Option Record)
     (before now status : ℕ) : Type 0 where
   pub plan : Plan
@@ -40,7 +42,11 @@ pub record PlaysEmulated (settings : Settings) (file : Bytes) (old new : Option 
   pub played_failures : ℕ
   pub made : Went (planned settings) old planned_desk (Made plan)
   pub loaded : Went (chip_stage plan.part file) planned_desk loaded_desk (Made chip)
+  pub fitted : All (IsFitted plan.part) plan.tasks
+  pub part : chip.part ≡ plan.part
+  pub sound : IsSound chip
   pub rises : before ≤ loaded_failures
+  pub since_loaded : loaded_failures ≤ played_failures
   pub wire : State
   pub comes : Keeps (fresh_programmer chip) [] wire
   pub ran : ℕ

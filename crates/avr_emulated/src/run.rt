@@ -45,6 +45,9 @@ pub fn run_emulated<D: Desk>(alloc: Global, settings: &Settings, file: &str, des
         Ok(chip) => chip,
         Err(status) => return status,
     };
+    // What the clause rests on: each image has the size of its memory, and the chip's memories those of its part.
+    let _tasks = plan.tasks();
+    let _part = chip.part();
     let mut wire = Wired::new(alloc, chip, Vec::new(alloc));
     let status = drive_wired(alloc, &plan, desk, &mut wire);
     save_if_sent(alloc, &wire, file, desk, status)

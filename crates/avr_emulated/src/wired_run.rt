@@ -1,5 +1,5 @@
 //! A run over a wire to the emulated programmer.
-ghost use Rattle.std.specs.Prelude.{◌≡◌, true, false, Some, length};
+ghost use Rattle.std.specs.Prelude.{◌≡◌, ◌≤◌, true, false, Some, length};
 ghost use Rattle.avr_session.specs.Runs.{RunsTo, Stops};
 ghost use Rattle.avr_session.specs.Session.{session, is_erase_due, takes_memory};
 ghost use Rattle.stk_emu.specs.Effect.{memories_of};
@@ -30,6 +30,8 @@ pub fn drive_wired<D: Desk>(alloc: Global, plan: &Plan, desk: &mut D, wire: &mut
         (D.kept desk.new)
         (Stops (takes_memory plan.now) wire.old.failures wire.new.failures (D.failures desk.old) (D.failures desk.new))
         result }
+    // The count of the desk's failures never falls.
+    ensures rises { D.failures desk.old ≤ D.failures desk.new }
     // Whatever the wire began as, it is still one that did.
     ensures comes { Stays ComesOf wire.old wire.new }
     // Whatever the line loses, delays and spoils, this is what the run leaves in the chip.

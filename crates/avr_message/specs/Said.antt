@@ -1,5 +1,5 @@
 -- What a run does at the desk: files that are read, lines that are printed, files and output that are written.
-use Rattle.std.specs.Prelude.{◌≡◌, ◌⊎◌, ℕ, List, [], ◌∷◌, ◌++◌, Option, option_map, Result, Ok, Err}
+use Rattle.std.specs.Prelude.{◌≡◌, ◌≤◌, ◌⊎◌, ℕ, List, [], ◌∷◌, ◌++◌, Option, option_map, Result, Ok, Err}
 use Rattle.avr_desk.specs.Record.{Record, with_open, with_absent, after_write, after_out, after_err}
 use Rattle.avr_desk.specs.Fault.{HasFailed}
 use Rattle.avr_desk.specs.Stream.{SendsPart}
@@ -48,18 +48,25 @@ SaidPart (Writes part) (Writes whole) = IsPrefixOf part whole
 SaidPart (Outs part) (Outs whole) = IsPrefixOf part whole
 SaidPart _ _ = ⊥
 
--- nothing, or a part of the first of the sayings
-abbrev pub IsBegun : List Saying → List Saying → Type 0
-IsBegun [] sayings = Unit {0}
-IsBegun (part ∷ []) (saying ∷ sayings) = SaidPart part saying
-IsBegun _ _ = ⊥
-
 -- The line was printed, or where the desk failed a front of it.
 abbrev pub IsPrinted : {T Fault : Type 0} → Option Record → Option Record → Bytes → Result T Fault → Type 0
 IsPrinted old new bytes (Ok done) = new ≡ option_map (after_err bytes) old
 IsPrinted old new bytes (Err fault) = SendsPart Messages old new bytes
 
--- The line was printed; or the desk has failed, and a front of it was.
-abbrev pub Tells : Option Record → Option Record → Bytes → ℕ → ℕ → Type 0
-Tells old new line before now =
-    (new ≡ option_map (after_err line) old) ⊎ (SendsPart Messages old new line × HasFailed before now)
+-- The line was told whole; or the desk has failed, by the counts of its failures before and now, and a front of it was.
+abbrev pub TellsLine : Bytes → Bytes → ℕ → ℕ → Type 0
+TellsLine line told before now = (told ≡ line) ⊎ (IsPrefixOf told line × HasFailed before now)
+
+-- So much of the line was told, and nothing else happened.
+pub record Tells (old new : Option Record) (line : Bytes) (before now : ℕ) : Type 0 where
+  pub told : Bytes
+  pub tells : TellsLine line told before now
+  pub kept : new ≡ option_map (after_err told) old
+
+-- The desk failed, by some count of its failures between before and now, and from then on the line of that was told.
+pub record TellsFailure (line told : Bytes) (before now : ℕ) : Type 0 where
+  pub count : ℕ
+  pub failed : HasFailed before count
+  pub tells : TellsLine line told count now
+  pub since : before ≤ count
+  pub until : count ≤ now

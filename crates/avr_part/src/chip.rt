@@ -144,6 +144,7 @@ impl Chip {
     }
 
     /// Both buffers are emptied, and the extended address is 0.
+    #[inline(never)]
     fn enable(&mut self)
         ensures { self.new ≡ with_empty_buffers self.old }
     {
@@ -159,6 +160,7 @@ impl Chip {
         (self.hfuse >> self.part.eesave_bit()) % 2 == 0
     }
 
+    #[inline(never)]
     fn erase(&mut self)
         ensures { self.new ≡ with_erased self.old }
     {
@@ -204,6 +206,7 @@ impl Chip {
         self.lock % 2 == 0
     }
 
+    #[inline(never)]
     fn write_flash_page(&mut self, word: u16)
         ensures { self.new ≡ with_flash_page word self.old }
     {
@@ -247,6 +250,7 @@ impl Chip {
         self.eeprom_buffer.load(place, byte);
     }
 
+    #[inline(never)]
     fn write_eeprom_page(&mut self, address: u16)
         ensures { self.new ≡ with_eeprom_page address self.old }
     {
@@ -300,6 +304,7 @@ impl Chip {
     }
 
     /// The byte that an instruction reads; one that reads none gives its third byte back.
+    #[inline(always)]
     fn answer(&self, instruction: Instruction, third: u8) -> u8
         ensures { result ≡ answer_of instruction third self.now }
     {
@@ -316,6 +321,7 @@ impl Chip {
     }
 
     /// What an instruction changes.
+    #[inline(always)]
     fn obey(&mut self, instruction: Instruction)
         ensures { self.new ≡ after instruction self.old }
     {
@@ -344,6 +350,7 @@ impl Chip {
     /// let mut chip = Chip::fresh(alloc, Parts::none().find("m328p")?)?;
     /// assert_eq!(rt; chip.spi([0x30, 0, 1, 0]), [0, 0x30, 0, 0x95]); // signature byte 1
     /// ```
+    #[inline(always)]
     pub fn spi(&mut self, bytes: [u8; 4]) -> [u8; 4]
         ensures { (result, self.new) ≡ spi_of bytes self.old }
     {

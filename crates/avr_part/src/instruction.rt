@@ -69,6 +69,7 @@ impl Instruction {
     /// assert_eq!(rt; Instruction::of([0xA0, 0x01, 0x02, 0]), Instruction::ReadEeprom { address: 0x0102 });
     /// assert_eq!(rt; Instruction::of([0xFF; 4]), Instruction::Nothing);
     /// ```
+    #[inline(always)]
     pub fn of(bytes: [u8; 4]) -> Instruction
         ensures { result ≡ instruction_of bytes }
     {

@@ -7,10 +7,11 @@ use Rattle.avr_desk.specs.declared.files.FileFault.TheVariants as file_fault
 use Rattle.avr_desk.specs.declared.record.Opening.TheVariants.{Absent, Found}
 use Rattle.avr_desk.specs.declared.record.Reading.{Reading}
 use Rattle.avr_message.specs.Lines.{Bytes}
+use Rattle.avr_message.specs.Said.{Tells}
 use Rattle.avr_plan.proofs.Openings.{goes_opened, goes_judged, goes_broken}
 use Rattle.avr_plan.proofs.Played.{goes_refused}
 use Rattle.avr_plan.specs.ImageReading.{FileBreaks, IsCounted}
-use Rattle.avr_plan.specs.Lines.{IsTold, file_fault_line, not_opened_line}
+use Rattle.avr_plan.specs.Lines.{file_fault_line, not_opened_line}
 use Rattle.avr_plan.specs.Playing.{Goes, Went}
 use Rattle.avr_plan.specs.Stage.{Made, settled, judged, file_stage}
 
@@ -35,7 +36,7 @@ went_whole name limit judge bytes ended old mid a kept whole went =
 pub goes_file_fault : {A : Type 0} (name : Bytes) (limit : ℕ) (judge : Bytes → Result A Bytes) (fault : FileFault) (old mid new : Option Record)
     (before between now status : ℕ)
     → FileBreaks name old mid fault → before ≤ between → IsCounted before between fault → between ≤ now → status ≡ 1
-    → IsTold mid new (file_fault_line name fault) between now
+    → Tells mid new (file_fault_line name fault) between now
     → Goes (file_stage name limit judge) old new before now (Err status)
 goes_file_fault {A} name limit judge file_fault.Absent old mid new before between now status breaks rose counted rises one told =
     goes_opened name (judged name limit judge) (Absent name) old mid new before between now (Err status) refl breaks rose

@@ -4,11 +4,12 @@ use Rattle.avr_cli.specs.declared.chosen.Switches.{Switches}
 use Rattle.avr_cli.specs.declared.update.Format.{Format}
 use Rattle.avr_desk.specs.Record.{Record}
 use Rattle.avr_message.specs.Lines.{Bytes}
+use Rattle.avr_message.specs.Said.{Tells}
 use Rattle.avr_records.specs.declared.kind.Ending.{Ending}
 use Rattle.avr_plan.proofs.FileStages.{goes_whole, went_whole, goes_file_fault}
 use Rattle.avr_plan.proofs.Played.{goes_on, goes_no_further, goes_unsettled, went_went, went_nowhere, went_settled}
 use Rattle.avr_plan.specs.ImageReading.{ReadsImage, ImageIsRead, IsCountedRead}
-use Rattle.avr_plan.specs.Lines.{IsTold, bad_file_line, read_fault_line}
+use Rattle.avr_plan.specs.Lines.{bad_file_line, read_fault_line}
 use Rattle.avr_plan.specs.Planning.{file_image_stage, judged_image, image_or_line, warned}
 use Rattle.avr_plan.specs.Playing.{Goes, Went}
 use Rattle.avr_plan.specs.Stage.{Stage, Made, ◌>>=◌, settled, said, file_stage}
@@ -56,7 +57,7 @@ goes_unwarned switches file format size old mid new before between now image end
 -- a file that is none
 goes_bad : (switches : Switches) (file : Bytes) (format : Format) (size : ℕ) (old mid new : Option Record) (before between now : ℕ)
     (bad : BadFile) (status : ℕ)
-    → ReadsImage 4194304 format size file old mid (Err bad) → before ≤ between → status ≡ 1 → IsTold mid new (bad_file_line file bad) between now
+    → ReadsImage 4194304 format size file old mid (Err bad) → before ≤ between → status ≡ 1 → Tells mid new (bad_file_line file bad) between now
     → Goes (file_image_stage switches file format size) old new before now (Err status)
 goes_bad switches file format size old mid new before between now bad status reads rises one told =
     let judge = judged_image file format size in
@@ -76,7 +77,7 @@ goes_unread switches file format size old new before now status goes =
 pub goes_without_image : (switches : Switches) (file : Bytes) (format : Format) (size : ℕ) (old mid new : Option Record) (before between now : ℕ)
     (fault : ReadFault) (status : ℕ)
     → ImageIsRead 4194304 format size file old mid (Err fault) → before ≤ between → IsCountedRead before between fault → between ≤ now → status ≡ 1
-    → IsTold mid new (read_fault_line file fault) between now → Goes (file_image_stage switches file format size) old new before now (Err status)
+    → Tells mid new (read_fault_line file fault) between now → Goes (file_image_stage switches file format size) old new before now (Err status)
 goes_without_image switches file format size old mid new before between now (fault_of.File fault) status reads rose counted rises one told =
     goes_unread switches file format size old new before now status
     (goes_file_fault file 4194304 (judged_image file format size) fault old mid new before between now status reads rose counted rises one told)

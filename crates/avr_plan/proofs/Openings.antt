@@ -1,8 +1,6 @@
 -- Stages that begin with the opening of a file.
-use Rattle.std.proofs.Common.{◌≡◌, refl, sym, subst, ap, arith, ℕ, ◌≤◌, ◌⊎◌, inl, inr, List, [], ◌∷◌, take, drop, append-nil, Bool, true, false, nat_lt, ◌||◌, length, Option, option_map, Result, Err}
-use Rattle.std.proofs.lemmas.Bool.{cases_lt}
+use Rattle.std.proofs.Common.{◌≡◌, refl, subst, ap, arith, ℕ, ◌≤◌, inr, List, [], ◌∷◌, Bool, true, false, nat_lt, ◌||◌, length, Option, option_map, Result, Err}
 use Rattle.std.proofs.lemmas.Bool.Decides.{nat_tests}
-use Rattle.std.proofs.lemmas.List.{take-append-drop}
 use Rattle.avr_desk.specs.Fault.{HasFailed}
 use Rattle.avr_desk.specs.Files.{FaultCounts, IsWhole, ReadsFile, with_read}
 use Rattle.avr_desk.specs.Record.{Record}
@@ -12,12 +10,13 @@ use Rattle.avr_desk.specs.declared.record.Opening.{Opening}
 use Rattle.avr_desk.specs.declared.record.Opening.TheVariants.{Found}
 use Rattle.avr_desk.specs.declared.record.Reading.{Reading}
 use Rattle.avr_message.proofs.Saying.{kept_append}
+use Rattle.avr_message.proofs.Telling.{tells_since}
 use Rattle.avr_message.specs.Lines.{Bytes}
-use Rattle.avr_message.specs.Said.{Opens, Line, IsPrefixOf, Tells, after_all}
-use Rattle.avr_plan.proofs.Played.{goes_on, goes_no_further, failed_since}
+use Rattle.avr_message.specs.Said.{Opens, Line, Tells, TellsFailure, after_all}
+use Rattle.avr_plan.proofs.Played.{goes_on, goes_no_further}
 use Rattle.avr_plan.specs.ImageReading.{FileBreaks, IsCounted}
-use Rattle.avr_plan.specs.Lines.{IsTold, file_fault_line, memory_line, not_opened_line, not_read_line}
-use Rattle.avr_plan.specs.Playing.{Break, NotOpened, NotRead, NoMemoryFor, last_done, OpensNext, IsBreak, HasCause, BrokeOff, Goes, part_read}
+use Rattle.avr_plan.specs.Lines.{file_fault_line, memory_line, not_opened_line, not_read_line}
+use Rattle.avr_plan.specs.Playing.{Break, NotOpened, NotRead, NoMemoryFor, last_done, IsBreak, TellsBreak, Goes, part_read}
 use Rattle.avr_plan.specs.Stage.{Stage, Made, Played, ◌>>=◌, settled, opened, named, judged, next_opening}
 
 -- ---- the opening passed
@@ -49,80 +48,67 @@ goes_judged name limit judge reading old new before now result whole goes =
 
 -- ---- the opening broke off
 
-broke_opening : (name : Bytes) (break : Break) (old new : Option Record) (before now : ℕ)
-    → ((more : List Opening) → IsBreak break more (Opens (next_opening name more) ∷ []))
-    → HasCause break before now → new ≡ option_map (after_all (last_done break)) old → BrokeOff (opened name) old new before now
-broke_opening name break old new before now is cause kept = record {
-  passed = [];
-  whole = [];
-  break = break;
-  rest = λ more. record { later = (opened name more).says; says_are = refl; broken = is more };
-  cause = cause;
-  kept = kept;
-}
+broke_opening : {A : Type 0} (name : Bytes) (next : Opening → Stage A) (break : Break) (told : Bytes) (old new : Option Record) (before now status : ℕ)
+    → status ≡ 1 → ((more : List Opening) → IsBreak break more (Opens (next_opening name more) ∷ [])) → TellsBreak break told before now
+    → new ≡ option_map (after_all (last_done break told)) old → Goes (opened name >>= next) old new before now (Err status)
+broke_opening name next break told old new before now status one is tells kept =
+    goes_no_further (opened name) next old new before now status (
+      one,
+      inr (record {
+        passed = [];
+        whole = [];
+        break = break;
+        told = told;
+        rest = λ more. record { later = (opened name more).says; says_are = refl; broken = is more };
+        tells = tells;
+        kept = kept;
+      }),
+    )
 
-opens_next : (name : Bytes) (more : List Opening) → OpensNext name more (Opens (next_opening name more) ∷ [])
-opens_next name more = ([], refl)
-
--- a line of which this front was told
-front_told : (old new : Option Record) (line : Bytes) (before now : ℕ) → Tells old new line before now
-    → (front : Bytes) × IsPrefixOf front line × ((front ≡ line) ⊎ HasFailed before now) × (new ≡ option_map (after_all (Line front ∷ [])) old)
-front_told old new line before now (inl whole) = (line, ([], append-nil line), inl refl, whole)
-front_told old new line before now (inr part) = (take part.0.0 line, (drop part.0.0 line, take-append-drop part.0.0 line), inr part.1, part.0.2)
-
-failed_before : (before between now : ℕ) → before ≤ between → between ≤ now → HasFailed before between → HasFailed before now
-failed_before before between now rose rises (inl l) = inl (omega arith)
-failed_before before between now rose rises (inr end) = elim (cases_lt before now) [ inl l ↦ inl l | inr none ↦ inr (omega arith) ]
+-- the desk failed, and from then on that was told
+failure_told : (old new : Option Record) (line : Bytes) (before between now : ℕ) → before ≤ between → HasFailed before between → between ≤ now
+    → (told : Tells old new line between now) → TellsFailure line told.told before now
+failure_told old new line before between now rose failed rises told =
+    record { count = between; failed = failed; tells = told.tells; since = rose; until = rises }
 
 -- the file could not be opened
 goes_unopened : {A : Type 0} (name : Bytes) (next : Opening → Stage A) (old new : Option Record) (before between now status : ℕ)
-    → before ≤ between → HasFailed before between → between ≤ now → status ≡ 1 → IsTold old new (not_opened_line name) between now
+    → before ≤ between → HasFailed before between → between ≤ now → status ≡ 1 → Tells old new (not_opened_line name) between now
     → Goes (opened name >>= next) old new before now (Err status)
 goes_unopened name next old new before between now status rose failed rises one told =
-    let front = front_told old new (not_opened_line name) between now told.tells in
-    let cause = failed_before before between now rose rises failed in
-    goes_no_further (opened name) next old new before now status
-    (one, inr (broke_opening name (NotOpened name front.0) old new before now (λ more. (opens_next name more, front.1)) cause front.3))
+    broke_opening name next (NotOpened name) told.told old new before now status one (λ more. ([], refl))
+    (failure_told old new (not_opened_line name) before between now rose failed rises told) told.kept
 
 -- or not be read on
 goes_unread : {A : Type 0} (name bytes : Bytes) (next : Opening → Stage A) (old mid new : Option Record) (before between now status : ℕ)
     → mid ≡ option_map (with_read name bytes false) old → before ≤ between → HasFailed before between → between ≤ now → status ≡ 1
-    → IsTold mid new (not_read_line name) between now → Goes (opened name >>= next) old new before now (Err status)
+    → Tells mid new (not_read_line name) between now → Goes (opened name >>= next) old new before now (Err status)
 goes_unread name bytes next old mid new before between now status kept rose failed rises one told =
-    let front = front_told mid new (not_read_line name) between now told.tells in
-    let cause = failed_before before between now rose rises failed in
-    let done = kept_append (part_read name bytes ∷ []) (Line front.0 ∷ []) old mid new kept front.3 in
-    goes_no_further (opened name) next old new before now status
-    (one, inr (broke_opening name (NotRead name bytes front.0) old new before now (λ more. (opens_next name more, front.1)) cause done))
-
-memory_cause : (front : Bytes) (before between now : ℕ) → before ≤ between → (front ≡ memory_line) ⊎ HasFailed between now
-    → (front ≡ memory_line) ⊎ HasFailed before now
-memory_cause front before between now rose (inl whole) = inl whole
-memory_cause front before between now rose (inr failed) = inr (failed_since before between now rose failed)
+    broke_opening name next (NotRead name bytes) told.told old new before now status one (λ more. ([], refl))
+    (failure_told mid new (not_read_line name) before between now rose failed rises told)
+    (kept_append (part_read name bytes ∷ []) (Line told.told ∷ []) old mid new kept told.kept)
 
 -- or there was no memory for it
 goes_unheld : {A : Type 0} (name bytes : Bytes) (ended : Bool) (next : Opening → Stage A) (old mid new : Option Record)
     (before between now status : ℕ)
-    → mid ≡ option_map (with_read name bytes ended) old → before ≤ between → status ≡ 1 → IsTold mid new memory_line between now
+    → mid ≡ option_map (with_read name bytes ended) old → before ≤ between → status ≡ 1 → Tells mid new memory_line between now
     → Goes (opened name >>= next) old new before now (Err status)
 goes_unheld name bytes ended next old mid new before between now status kept rose one told =
-    let front = front_told mid new memory_line between now told.tells in
-    let cause = memory_cause front.0 before between now rose front.2 in
     let reading : Reading = record { name = name; bytes = bytes; ended = ended } in
-    let done = kept_append (Opens (Found reading) ∷ []) (Line front.0 ∷ []) old mid new kept front.3 in
-    goes_no_further (opened name) next old new before now status
-    (one, inr (broke_opening name (NoMemoryFor reading front.0) old new before now (λ more. (opens_next name more, front.1)) cause done))
+    broke_opening name next (NoMemoryFor reading) told.told old new before now status one (λ more. ([], refl))
+    (tells_since memory_line told.told before between now rose told.tells)
+    (kept_append (Opens (Found reading) ∷ []) (Line told.told ∷ []) old mid new kept told.kept)
 
 -- any fault of the file but that it is not there
 pub goes_broken : {A : Type 0} (name : Bytes) (next : Opening → Stage A) (fault : FileFault) (old mid new : Option Record)
     (before between now status : ℕ)
     → (fault ≡ file_fault.Absent → ⊥) → FileBreaks name old mid fault → before ≤ between → IsCounted before between fault → between ≤ now
-    → status ≡ 1 → IsTold mid new (file_fault_line name fault) between now
+    → status ≡ 1 → Tells mid new (file_fault_line name fault) between now
     → Goes (opened name >>= next) old new before now (Err status)
 goes_broken name next file_fault.Absent old mid new before between now status there breaks rose counted rises one told = absurd (there refl)
 goes_broken name next file_fault.NotOpened old mid new before between now status there breaks rose counted rises one told =
     goes_unopened name next old new before between now status rose counted rises one
-    (record { tells = subst (λ d. Tells d new (not_opened_line name) between now) breaks told.tells })
+    (subst (λ d. Tells d new (not_opened_line name) between now) breaks told)
 goes_broken name next file_fault.NotRead old mid new before between now status there breaks rose counted rises one told =
     goes_unread name breaks.0 next old mid new before between now status breaks.1 rose counted rises one told
 goes_broken name next file_fault.Memory old mid new before between now status there breaks rose counted rises one told =

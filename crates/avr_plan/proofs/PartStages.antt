@@ -4,13 +4,14 @@ use Rattle.std.proofs.lemmas.Bool.Decides.{nat_tests}
 use Rattle.avr_desk.specs.Files.{IsWhole, with_read}
 use Rattle.avr_desk.specs.Record.{Record}
 use Rattle.avr_message.specs.Lines.{Bytes}
+use Rattle.avr_message.specs.Said.{Tells}
 use Rattle.avr_part.specs.Part.{Part}
 use Rattle.avr_part.specs.PartFile.{GivesOrMemory, parts_of}
 use Rattle.avr_part.specs.declared.fault.PartFault.{PartFault}
 use Rattle.avr_part.specs.declared.fault.PartFault.TheVariants.{Memory}
 use Rattle.avr_plan.proofs.FileStages.{goes_whole, went_whole}
 use Rattle.avr_plan.proofs.Played.{went_settled, goes_unsettled, goes_without_memory}
-use Rattle.avr_plan.specs.Lines.{IsTold, part_file_line, too_long_line}
+use Rattle.avr_plan.specs.Lines.{part_file_line, too_long_line}
 use Rattle.avr_plan.specs.Planning.{judged_parts, parts_or_line}
 use Rattle.avr_plan.specs.Playing.{Goes, Went}
 use Rattle.avr_plan.specs.Stage.{Made, settled, file_stage}
@@ -23,7 +24,7 @@ judged-within file bytes whole = let fits : nat_le (length bytes) 65536 ≡ true
 pub goes_long_parts : (file bytes : Bytes) (ended : Bool) (old mid new : Option Record) (before between now status : ℕ)
     → mid ≡ option_map (with_read file bytes ended) old
     → IsWhole 65536 (record { bytes = bytes; ended = ended }) → ended ≡ false → before ≤ between → status ≡ 1
-    → IsTold mid new (too_long_line file 65536) between now
+    → Tells mid new (too_long_line file 65536) between now
     → Goes (file_stage file 65536 (judged_parts file)) old new before now (Err status)
 goes_long_parts file bytes true old mid new before between now status kept whole is rises one told = cc
 goes_long_parts file bytes false old mid new before between now status kept whole is rises one told =
@@ -46,7 +47,7 @@ went_parts file bytes true old mid parts kept whole is (inr memory) = cc
 
 pub goes_bad_parts : (file bytes : Bytes) (ended : Bool) (old mid new : Option Record) (before between now status : ℕ) (fault : PartFault)
     → mid ≡ option_map (with_read file bytes ended) old → IsWhole 65536 (record { bytes = bytes; ended = ended }) → ended ≡ true → before ≤ between
-    → GivesOrMemory (parts_of bytes) (Err fault) → status ≡ 1 → IsTold mid new (part_file_line file fault) between now
+    → GivesOrMemory (parts_of bytes) (Err fault) → status ≡ 1 → Tells mid new (part_file_line file fault) between now
     → Goes (file_stage file 65536 (judged_parts file)) old new before now (Err status)
 goes_bad_parts file bytes false old mid new before between now status fault kept whole is rises gives one told = cc
 goes_bad_parts file bytes true old mid new before between now status fault kept whole is rises (inl gives) one told =
@@ -56,7 +57,7 @@ goes_bad_parts file bytes true old mid new before between now status fault kept 
     (goes_unsettled (judged_parts file bytes) (part_file_line file fault) mid new between now status given one told)
 goes_bad_parts file bytes true old mid new before between now status fault kept whole is rises (inr memory) one told =
     let same : fault ≡ Memory = cc in
-    let refused = subst (λ f. IsTold mid new (part_file_line file f) between now) same told in
+    let refused = subst (λ f. Tells mid new (part_file_line file f) between now) same told in
     goes_whole file 65536 (judged_parts file) bytes true old mid new before between now (Err status)
     kept whole rises
     (goes_without_memory (settled (judged_parts file bytes)) mid new between now status one refused)

@@ -1,5 +1,5 @@
 -- Stages of planning that were played, one after the other.
-use Rattle.std.proofs.Common.{◌≡◌, ◌∙◌, sym, subst, option_map, inl, inr, ap, List, [], ◌∷◌, ◌++◌, ℕ, ◌≤◌, take, drop, refl, arith, Option, Ok, Err, Result, append_assoc, append-nil, ◌⊎◌}
+use Rattle.std.proofs.Common.{◌≡◌, ◌∙◌, sym, subst, option_map, inl, inr, ap, List, [], ◌∷◌, ◌++◌, ℕ, ◌≤◌, take, drop, refl, arith, Option, Ok, Err, Result, append_assoc, append-nil}
 use Rattle.std.proofs.lemmas.List.{take-append-drop}
 use Rattle.avr_desk.specs.Record.{Record}
 use Rattle.avr_desk.specs.Fault.{HasFailed, Counts}
@@ -8,42 +8,33 @@ use Rattle.avr_desk.specs.declared.fault.DeskFault.TheVariants.{NotFound, Failed
 use Rattle.avr_desk.specs.Stream.{SendsPart}
 use Rattle.avr_desk.specs.declared.stream.Stream.TheVariants.{Messages}
 use Rattle.avr_desk.specs.declared.record.Opening.{Opening}
-use Rattle.avr_message.specs.Said.{Saying, Line, IsBegun, IsPrefixOf, after_all}
+use Rattle.avr_message.specs.Said.{Saying, Line, Opens, TellsLine, Tells, after_all}
 use Rattle.avr_message.proofs.Saying.{kept_none, kept_append}
-use Rattle.avr_plan.specs.Lines.{memory_line, IsTold}
-use Rattle.avr_plan.specs.Playing.{Went, Break, InLine, NotOpened, NotRead, NoMemory, NoMemoryFor, last_done, OpensNext, IsBreak, HasCause, Rest, BrokeOff, Goes}
-use Rattle.avr_plan.specs.Stage.{Stage, Answer, Made, Refused, Unread, Played, behind, going_on, ◌>>=◌, settled, said}
+use Rattle.avr_message.proofs.Telling.{failed_later, tells_since, failure_in}
+use Rattle.avr_plan.specs.Lines.{memory_line, not_opened_line, not_read_line}
+use Rattle.avr_plan.specs.Playing.{Went, Break, InLine, NotOpened, NotRead, NoMemory, NoMemoryFor, last_done, IsNext, IsBreak, TellsBreak, Rest, BrokeOff, Goes}
+use Rattle.avr_plan.specs.Stage.{Stage, Answer, Made, Refused, Unread, Played, behind, going_on, ◌>>=◌, settled, said, next_opening}
 
 -- ---- counts
 
-pub failed_since : (first before now : ℕ) → first ≤ before → HasFailed before now → HasFailed first now
-failed_since first before now rises (inl l) = inl (omega arith)
-failed_since first before now rises (inr e) = inr e
-
-cause_since : (break : Break) (first before now : ℕ) → first ≤ before → HasCause break before now → HasCause break first now
-cause_since (InLine front) first before now rises cause = failed_since first before now rises cause
-cause_since (NotOpened name front) first before now rises cause = failed_since first before now rises cause
-cause_since (NotRead name bytes front) first before now rises cause = failed_since first before now rises cause
-cause_since (NoMemory front) first before now rises (inl whole) = inl whole
-cause_since (NoMemory front) first before now rises (inr failed) = inr (failed_since first before now rises failed)
-cause_since (NoMemoryFor reading front) first before now rises (inl whole) = inl whole
-cause_since (NoMemoryFor reading front) first before now rises (inr failed) = inr (failed_since first before now rises failed)
+break_since : (break : Break) (told : List ℕ) (first before now : ℕ) → first ≤ before → TellsBreak break told before now → TellsBreak break told first now
+break_since (InLine line) told first before now rises tells = (tells.0, failed_later first before now rises tells.1)
+break_since (NotOpened name) told first before now rises tells = failure_in (not_opened_line name) told first before now now rises (omega arith) tells
+break_since (NotRead name bytes) told first before now rises tells = failure_in (not_read_line name) told first before now now rises (omega arith) tells
+break_since NoMemory told first before now rises tells = tells_since memory_line told first before now rises tells
+break_since (NoMemoryFor reading) told first before now rises tells = tells_since memory_line told first before now rises tells
 
 -- ---- a stage behind another one
 
-opens_more : (name : List ℕ) (more : List Opening) (later extra : List Saying) → OpensNext name more later → OpensNext name more (later ++ extra)
-opens_more name more later extra next = (next.0 ++ extra, ap (λ (ss : List Saying). ss ++ extra) next.1)
-
-begun_more : (front : List ℕ) (later extra : List Saying) → IsBegun (Line front ∷ []) later → IsBegun (Line front ∷ []) (later ++ extra)
-begun_more front [] extra is = absurd is
-begun_more front (saying ∷ later) extra is = is
+next_more : (next : Saying) (later extra : List Saying) → IsNext next later → IsNext next (later ++ extra)
+next_more next later extra is = (is.0 ++ extra, ap (λ (ss : List Saying). ss ++ extra) is.1)
 
 break_more : (break : Break) (more : List Opening) (later extra : List Saying) → IsBreak break more later → IsBreak break more (later ++ extra)
-break_more (InLine front) more later extra is = begun_more front later extra is
-break_more (NotOpened name front) more later extra is = (opens_more name more later extra is.0, is.1)
-break_more (NotRead name bytes front) more later extra is = (opens_more name more later extra is.0, is.1)
-break_more (NoMemory front) more later extra is = is
-break_more (NoMemoryFor reading front) more later extra is = (opens_more reading.name more later extra is.0, is.1)
+break_more (InLine line) more later extra is = next_more (Line line) later extra is
+break_more (NotOpened name) more later extra is = next_more (Opens (next_opening name more)) later extra is
+break_more (NotRead name bytes) more later extra is = next_more (Opens (next_opening name more)) later extra is
+break_more NoMemory more later extra is = is
+break_more (NoMemoryFor reading) more later extra is = next_more (Opens (next_opening reading.name more)) later extra is
 
 -- what a stage says, the stage behind it says after that
 says_more : {A B : Type 0} (says : List Saying) (left : List Opening) (go_on : A → Stage B) (answer : Answer A)
@@ -101,9 +92,10 @@ went_broke stage go_on old mid new a before now first then = record {
       let is = ap (stage >>= go_on) (append_assoc first.passed then.passed more) ∙ made_then stage go_on old mid a first (then.passed ++ more) in
       subst (λ p. Rest p (first.says ++ then.whole) then.break more) (sym is)
       (rest_behind first.says then.whole _ then.break more (then.rest more));
-  cause = then.cause;
-  kept = subst (λ ss. new ≡ option_map (after_all ss) old) (sym (append_assoc first.says then.whole (last_done then.break)))
-      (kept_append first.says (then.whole ++ last_done then.break) old mid new first.kept then.kept);
+  told = then.told;
+  tells = then.tells;
+  kept = subst (λ ss. new ≡ option_map (after_all ss) old) (sym (append_assoc first.says then.whole (last_done then.break then.told)))
+      (kept_append first.says (then.whole ++ last_done then.break then.told) old mid new first.kept then.kept);
 }
 
 refused_then : {A B : Type 0} (stage : Stage A) (go_on : A → Stage B) (old new : Option Record) → Went stage old new Refused
@@ -122,7 +114,8 @@ broke_then stage go_on old new before now first = record {
   whole = first.whole;
   break = first.break;
   rest = λ more. rest_more (stage (first.passed ++ more)) go_on first.whole first.break more (first.rest more);
-  cause = first.cause;
+  told = first.told;
+  tells = first.tells;
   kept = first.kept;
 }
 
@@ -133,7 +126,8 @@ broke_since stage old new first before now rises b = record {
   whole = b.whole;
   break = b.break;
   rest = b.rest;
-  cause = cause_since b.break first before now rises b.cause;
+  told = b.told;
+  tells = break_since b.break b.told first before now rises b.tells;
   kept = b.kept;
 }
 
@@ -165,58 +159,39 @@ told_whole : {A : Type 0} (old new : Option Record) (line : List ℕ) → new �
     → Went {A = A} (settled (Err line)) old new Refused
 told_whole old new line kept = record { passed = []; says = Line line ∷ []; comes = λ more. refl; kept = kept }
 
--- or in part
-pub told_part : {A : Type 0} (stage : Stage A) (old new : Option Record) (line : List ℕ) (before now : ℕ)
-    → ((more : List Opening) → (behind : List Saying) × ((stage more).says ≡ Line line ∷ behind))
-    → SendsPart Messages old new line → HasFailed before now → BrokeOff stage old new before now
-told_part stage old new line before now tells part failed = record {
+-- or it broke off there
+broke_here : {A : Type 0} (stage : Stage A) (old new : Option Record) (break : Break) (told : List ℕ) (before now : ℕ)
+    → ((more : List Opening) → IsBreak break more (stage more).says) → TellsBreak break told before now
+    → new ≡ option_map (after_all (last_done break told)) old → BrokeOff stage old new before now
+broke_here stage old new break told before now is tells kept = record {
   passed = [];
   whole = [];
-  break = InLine (take part.0 line);
-  rest = λ more. record {
-    later = Line line ∷ (tells more).0;
-    says_are = (tells more).1;
-    broken = (drop part.0 line, take-append-drop part.0 line);
-  };
-  cause = failed;
-  kept = part.2;
-}
-
--- a refusal that was told
-pub goes_refused : {A : Type 0} (old new : Option Record) (line : List ℕ) (before now status : ℕ) → status ≡ 1 → IsTold old new line before now
-    → Goes {A = A} (settled (Err line)) old new before now (Err status)
-goes_refused {A} old new line before now status one told =
-    elim (told.tells) [
-      | inl whole ↦ (one, inl (told_whole {A = A} old new line whole))
-      | inr part ↦ (one, inr (told_part (settled {A = A} (Err line)) old new line before now (λ more. ([], refl)) part.0 part.1))
-    ]
-
-no_memory : {A : Type 0} (stage : Stage A) (old new : Option Record) (front : List ℕ) (before now : ℕ) → IsPrefixOf front memory_line
-    → (front ≡ memory_line) ⊎ HasFailed before now
-    → new ≡ option_map (after_all (Line front ∷ [])) old → BrokeOff stage old new before now
-no_memory stage old new front before now is cause kept = record {
-  passed = [];
-  whole = [];
-  break = NoMemory front;
-  rest = λ more. record { later = (stage more).says; says_are = refl; broken = is };
-  cause = cause;
+  break = break;
+  told = told;
+  rest = λ more. record { later = (stage more).says; says_are = refl; broken = is more };
+  tells = tells;
   kept = kept;
 }
 
+-- a refusal that was told, or a front of its line
+refused_by : {A : Type 0} (old new : Option Record) (line told : List ℕ) (before now : ℕ) → TellsLine line told before now
+    → new ≡ option_map (after_all (Line told ∷ [])) old → Goes {A = A} (settled (Err line)) old new before now (Err 1)
+refused_by {A} old new line told before now (inl whole) kept =
+    (refl, inl (told_whole {A = A} old new line (subst (λ bytes. new ≡ option_map (after_all (Line bytes ∷ [])) old) whole kept)))
+refused_by {A} old new line told before now (inr part) kept =
+    (refl, inr (broke_here (settled {A = A} (Err line)) old new (InLine line) told before now (λ more. ([], refl)) part kept))
+
+pub goes_refused : {A : Type 0} (old new : Option Record) (line : List ℕ) (before now status : ℕ) → status ≡ 1 → Tells old new line before now
+    → Goes {A = A} (settled (Err line)) old new before now (Err status)
+goes_refused {A} old new line before now status one told =
+    (one, (refused_by {A = A} old new line told.told before now told.tells told.kept).1)
+
 -- memory that was refused
 pub goes_without_memory : {A : Type 0} (stage : Stage A) (old new : Option Record) (before now status : ℕ) → status ≡ 1
-    → IsTold old new memory_line before now
+    → Tells old new memory_line before now
     → Goes stage old new before now (Err status)
 goes_without_memory stage old new before now status one told =
-    elim (told.tells) [
-      | inl whole ↦ (one, inr (no_memory stage old new memory_line before now ([], append-nil memory_line) (inl refl) whole))
-      | inr part ↦
-          let front = take part.0.0 memory_line in (
-            one,
-            inr (no_memory stage old new front before now (drop part.0.0 memory_line, take-append-drop part.0.0 memory_line) (inr part.1)
-                part.0.2),
-          )
-    ]
+    (one, inr (broke_here stage old new NoMemory told.told before now (λ more. tt) told.tells told.kept))
 
 -- ---- judgments, and what is said
 
@@ -224,7 +199,7 @@ pub went_settled : {A : Type 0} (r : Result A (List ℕ)) (a : A) (d : Option Re
 went_settled r a d is = subst (λ x. Went (settled x) d d (Made a)) (sym is) (went_nowhere d a)
 
 pub goes_unsettled : {A : Type 0} (r : Result A (List ℕ)) (line : List ℕ) (old new : Option Record) (before now status : ℕ) → r ≡ Err line
-    → status ≡ 1 → IsTold old new line before now
+    → status ≡ 1 → Tells old new line before now
     → Goes (settled r) old new before now (Err status)
 goes_unsettled r line old new before now status is one told =
     subst (λ x. Goes (settled x) old new before now (Err status)) (sym is) (goes_refused old new line before now status one told)
@@ -238,8 +213,11 @@ went_saying old new line kept = record { passed = []; says = Line line ∷ []; c
 
 pub goes_saying_part : (old new : Option Record) (line : List ℕ) (before now : ℕ) → SendsPart Messages old new line → HasFailed before now
     → Goes (said (Line line ∷ [])) old new before now (Err 1)
-goes_saying_part old new line before now part failed =
-    (refl, inr (told_part (said (Line line ∷ [])) old new line before now (λ more. ([], refl)) part failed))
+goes_saying_part old new line before now part failed = (
+  refl,
+  inr (broke_here (said (Line line ∷ [])) old new (InLine line) (take part.0 line) before now (λ more. ([], refl))
+      ((drop part.0 line, take-append-drop part.0 line), failed) part.2),
+)
 
 -- what was made, made into something else
 pub went_into : {A B : Type 0} (stage : Stage A) (f : A → B) (old new : Option Record) (a : A) → Went stage old new (Made a)

@@ -6,11 +6,12 @@ use Rattle.avr_cli.specs.declared.update.Format.TheVariants.{Auto, Ihex, Srec, R
 use Rattle.avr_cli.specs.declared.update.Update.{Update}
 use Rattle.avr_desk.specs.Record.{Record}
 use Rattle.avr_message.specs.Lines.{Bytes}
+use Rattle.avr_message.specs.Said.{Tells}
 use Rattle.avr_part.specs.Mem.{is_writable}
 use Rattle.avr_part.specs.Part.{Part}
 use Rattle.avr_part.specs.declared.mem.Mem.{Mem}
 use Rattle.avr_plan.proofs.Played.{goes_refused, goes_on, goes_no_further}
-use Rattle.avr_plan.specs.Lines.{IsTold, read_only_line}
+use Rattle.avr_plan.specs.Lines.{read_only_line}
 use Rattle.avr_plan.specs.Planning.{file_image_stage, image_stage, update_image, write_stage, task_stage, tasks_stage}
 use Rattle.avr_plan.specs.Playing.{Goes, Went}
 use Rattle.avr_plan.specs.Stage.{Stage, Made, ◌>>=◌, settled}
@@ -59,7 +60,7 @@ goes_writable switches part u old new before now result is goes =
 
 pub goes_read_only : (switches : Switches) (part : Part) (u : Update) (old new : Option Record) (before now status : ℕ)
     → false ≡ is_writable u.memory
-    → status ≡ 1 → IsTold old new (read_only_line u.memory) before now → Goes (write_stage switches part u) old new before now (Err status)
+    → status ≡ 1 → Tells old new (read_only_line u.memory) before now → Goes (write_stage switches part u) old new before now (Err status)
 goes_read_only switches part u old new before now status is one told =
     subst (λ b. Goes (if b then writes switches part u else settled (Err (read_only_line u.memory))) old new before now (Err status)) is
     (goes_refused old new (read_only_line u.memory) before now status one told)

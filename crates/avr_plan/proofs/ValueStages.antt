@@ -8,9 +8,10 @@ use Rattle.avr_image.specs.Values.{values}
 use Rattle.avr_image.specs.declared.fault.ImageFault.{ImageFault}
 use Rattle.avr_image.specs.declared.fault.ImageFault.TheVariants.{Memory}
 use Rattle.avr_message.specs.Lines.{Bytes}
+use Rattle.avr_message.specs.Said.{Tells}
 use Rattle.avr_part.specs.declared.mem.Mem.{Mem}
 use Rattle.avr_plan.proofs.Played.{went_settled, goes_unsettled, goes_without_memory}
-use Rattle.avr_plan.specs.Lines.{IsTold, values_line}
+use Rattle.avr_plan.specs.Lines.{values_line}
 use Rattle.avr_plan.specs.Planning.{image_stage, values_or_line}
 use Rattle.avr_plan.specs.Playing.{Goes, Went}
 use Rattle.avr_plan.specs.Stage.{Made, settled}
@@ -30,7 +31,7 @@ went_values switches memory size text d image gives =
 
 pub goes_bad_values : (switches : Switches) (memory : Mem) (size : ℕ) (text : Bytes) (old new : Option Record) (before now status : ℕ)
     (fault : ImageFault)
-    → OrMemory (Err fault) (values text size) → status ≡ 1 → IsTold old new (values_line memory fault) before now
+    → OrMemory (Err fault) (values text size) → status ≡ 1 → Tells old new (values_line memory fault) before now
     → Goes (image_stage switches memory size text Immediate) old new before now (Err status)
 goes_bad_values switches memory size text old new before now status fault (inl is) one told =
     goes_unsettled (values_or_line memory (values text size)) (values_line memory fault) old new before now status
@@ -38,4 +39,4 @@ goes_bad_values switches memory size text old new before now status fault (inl i
 goes_bad_values switches memory size text old new before now status fault (inr refused) one told =
     let same : fault ≡ Memory = cc in
     goes_without_memory (settled (values_or_line memory (values text size))) old new before now status one
-    (subst (λ f. IsTold old new (values_line memory f) before now) same told)
+    (subst (λ f. Tells old new (values_line memory f) before now) same told)

@@ -1,13 +1,11 @@
 -- The lines of a plan's warnings and refusals.
-use Rattle.std.specs.Prelude.{ℕ, [], ◌∷◌, Option, codes, decimal}
+use Rattle.std.specs.Prelude.{ℕ, [], ◌∷◌, codes, decimal}
 use Rattle.byteorder.specs.Endian.{big_bytes}
 use Rattle.avr_desk.specs.declared.files.FileFault.{FileFault}
 use Rattle.avr_desk.specs.declared.files.FileFault.TheVariants as file_fault
 use Rattle.avr_image.specs.declared.fault.ImageFault.{ImageFault}
 use Rattle.avr_image.specs.declared.fault.ImageFault.TheVariants as image_fault
-use Rattle.avr_desk.specs.Record.{Record}
 use Rattle.avr_message.specs.Lines.{Bytes, digits, warning, error}
-use Rattle.avr_message.specs.Said.{Tells}
 use Rattle.avr_part.specs.Fault.{field_name}
 use Rattle.avr_part.specs.Mem.{name_of}
 use Rattle.avr_part.specs.declared.fault.PartFault.{PartFault}
@@ -19,10 +17,6 @@ use Rattle.avr_plan.specs.declared.bad_file.BadFile.{BadFile}
 use Rattle.avr_plan.specs.declared.bad_file.BadFile.TheVariants as bad_file
 use Rattle.avr_plan.specs.declared.image_file.ReadFault.{ReadFault}
 use Rattle.avr_plan.specs.declared.image_file.ReadFault.TheVariants as read_fault
-
--- The line was printed; or the desk has failed, and a front of it was.
-pub record IsTold (old new : Option Record) (line : Bytes) (before now : ℕ) : Type 0 where
-  pub tells : Tells old new line before now
 
 -- ---- files
 

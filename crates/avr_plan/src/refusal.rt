@@ -3,7 +3,8 @@ ghost use Rattle.std.specs.Prelude.{◌≡◌, ◌≤◌, ◌∷◌, [], codes, 
 ghost use Rattle.avr_part.specs.Fault.{field_name};
 ghost use Rattle.avr_part.specs.Mem.{name_of};
 ghost use Rattle.avr_message.specs.Lines.{error, text_of};
-ghost use Rattle.avr_plan.specs.Lines.{memory_line, not_opened_line, file_fault_line, too_long_line, part_file_line, no_part_line, record_line, record_fault_line, record_range_line, range_line, raw_fault_line, bad_file_line, read_fault_line, values_line, read_only_line, IsTold};
+ghost use Rattle.avr_message.specs.Said.{Tells};
+ghost use Rattle.avr_plan.specs.Lines.{memory_line, not_opened_line, file_fault_line, too_long_line, part_file_line, no_part_line, record_line, record_fault_line, record_range_line, range_line, raw_fault_line, bad_file_line, read_fault_line, values_line, read_only_line};
 
 use crate::bad_file::BadFile;
 use crate::image_file::{LIMIT, ReadFault};
@@ -16,7 +17,7 @@ use avr_records::RecordFault;
 /// Prints a line `avrstk: error: ..` of these pieces, as far as the desk takes it, and answers the status, 1.
 pub fn refuse<D: Desk>(desk: &mut D, pieces: &[Piece<'_>]) -> u8
     ensures status { result ≡ 1 }
-    ensures told { IsTold (D.kept desk.old) (D.kept desk.new) (error (map text_of pieces.now)) (D.failures desk.old)
+    ensures told { Tells (D.kept desk.old) (D.kept desk.new) (error (map text_of pieces.now)) (D.failures desk.old)
         (D.failures desk.new) }
     ensures rises { D.failures desk.old ≤ D.failures desk.new }
 {
@@ -27,7 +28,7 @@ pub fn refuse<D: Desk>(desk: &mut D, pieces: &[Piece<'_>]) -> u8
 /// Tells that memory was refused, `out of memory`, and answers 1.
 pub fn refuse_memory<D: Desk>(desk: &mut D) -> u8
     ensures status { result ≡ 1 }
-    ensures told { IsTold (D.kept desk.old) (D.kept desk.new) memory_line (D.failures desk.old) (D.failures desk.new) }
+    ensures told { Tells (D.kept desk.old) (D.kept desk.new) memory_line (D.failures desk.old) (D.failures desk.new) }
     ensures rises { D.failures desk.old ≤ D.failures desk.new }
 {
     refuse(desk, &[Piece::Text("out of memory")])
@@ -36,7 +37,7 @@ pub fn refuse_memory<D: Desk>(desk: &mut D) -> u8
 /// Tells that a file could not be opened.
 fn refuse_unopened<D: Desk>(desk: &mut D, file: &str) -> u8
     ensures status { result ≡ 1 }
-    ensures told { IsTold (D.kept desk.old) (D.kept desk.new) (not_opened_line file.now) (D.failures desk.old)
+    ensures told { Tells (D.kept desk.old) (D.kept desk.new) (not_opened_line file.now) (D.failures desk.old)
         (D.failures desk.new) }
     ensures rises { D.failures desk.old ≤ D.failures desk.new }
 {
@@ -50,7 +51,7 @@ fn refuse_unopened<D: Desk>(desk: &mut D, file: &str) -> u8
 /// read` or `out of memory`.
 pub fn refuse_file<D: Desk>(desk: &mut D, file: &str, fault: FileFault) -> u8
     ensures status { result ≡ 1 }
-    ensures told { IsTold (D.kept desk.old) (D.kept desk.new) (file_fault_line file.now fault) (D.failures desk.old)
+    ensures told { Tells (D.kept desk.old) (D.kept desk.new) (file_fault_line file.now fault) (D.failures desk.old)
         (D.failures desk.new) }
     ensures rises { D.failures desk.old ≤ D.failures desk.new }
 {
@@ -65,7 +66,7 @@ pub fn refuse_file<D: Desk>(desk: &mut D, file: &str, fault: FileFault) -> u8
 /// Tells that a file has more bytes than `limit`, `FILE: longer than 65536 bytes`, and answers 1.
 pub fn refuse_too_long<D: Desk>(desk: &mut D, file: &str, limit: u32) -> u8
     ensures status { result ≡ 1 }
-    ensures told { IsTold (D.kept desk.old) (D.kept desk.new) (too_long_line file.now limit) (D.failures desk.old)
+    ensures told { Tells (D.kept desk.old) (D.kept desk.new) (too_long_line file.now limit) (D.failures desk.old)
         (D.failures desk.new) }
     ensures rises { D.failures desk.old ≤ D.failures desk.new }
 {
@@ -83,7 +84,7 @@ pub fn refuse_too_long<D: Desk>(desk: &mut D, file: &str, limit: u32) -> u8
 /// Tells what is wrong with a field of a part file.
 fn refuse_field<'a, D: Desk>(desk: &mut D, file: &'a str, field: Field, wrong: &'a str) -> u8
     ensures status { result ≡ 1 }
-    ensures told { IsTold
+    ensures told { Tells
         (D.kept desk.old) (D.kept desk.new) (error (file.now ∷ codes ": " ∷ field_name field ∷ wrong.now ∷ []))
         (D.failures desk.old) (D.failures desk.new) }
     ensures rises { D.failures desk.old ≤ D.failures desk.new }
@@ -102,7 +103,7 @@ fn refuse_field<'a, D: Desk>(desk: &mut D, file: &'a str, field: Field, wrong: &
 /// Tells what is wrong with a part file.
 pub(crate) fn refuse_part_file<D: Desk>(desk: &mut D, file: &str, fault: PartFault) -> u8
     ensures status { result ≡ 1 }
-    ensures told { IsTold (D.kept desk.old) (D.kept desk.new) (part_file_line file.now fault) (D.failures desk.old)
+    ensures told { Tells (D.kept desk.old) (D.kept desk.new) (part_file_line file.now fault) (D.failures desk.old)
         (D.failures desk.new) }
     ensures rises { D.failures desk.old ≤ D.failures desk.new }
 {
@@ -122,7 +123,7 @@ pub(crate) fn refuse_part_file<D: Desk>(desk: &mut D, file: &str, fault: PartFau
 /// Tells that there is no part of this id.
 pub(crate) fn refuse_part<D: Desk>(desk: &mut D, id: &str) -> u8
     ensures status { result ≡ 1 }
-    ensures told { IsTold (D.kept desk.old) (D.kept desk.new) (no_part_line id.now) (D.failures desk.old)
+    ensures told { Tells (D.kept desk.old) (D.kept desk.new) (no_part_line id.now) (D.failures desk.old)
         (D.failures desk.new) }
     ensures rises { D.failures desk.old ≤ D.failures desk.new }
 {
@@ -132,7 +133,7 @@ pub(crate) fn refuse_part<D: Desk>(desk: &mut D, id: &str) -> u8
 /// Tells what is wrong with a line of a file.
 fn refuse_line<'a, D: Desk>(desk: &mut D, file: &'a str, line: u32, wrong: &'a str) -> u8
     ensures status { result ≡ 1 }
-    ensures told { IsTold (D.kept desk.old) (D.kept desk.new) (record_line file.now line wrong.now)
+    ensures told { Tells (D.kept desk.old) (D.kept desk.new) (record_line file.now line wrong.now)
         (D.failures desk.old) (D.failures desk.new) }
     ensures rises { D.failures desk.old ≤ D.failures desk.new }
 {
@@ -150,7 +151,7 @@ fn refuse_line<'a, D: Desk>(desk: &mut D, file: &'a str, line: u32, wrong: &'a s
 /// Tells that a line of a file goes past the memory.
 fn refuse_line_range<D: Desk>(desk: &mut D, file: &str, line: u32, address: u32) -> u8
     ensures status { result ≡ 1 }
-    ensures told { IsTold (D.kept desk.old) (D.kept desk.new) (record_range_line file.now line address)
+    ensures told { Tells (D.kept desk.old) (D.kept desk.new) (record_range_line file.now line address)
         (D.failures desk.old) (D.failures desk.new) }
     ensures rises { D.failures desk.old ≤ D.failures desk.new }
 {
@@ -170,7 +171,7 @@ fn refuse_line_range<D: Desk>(desk: &mut D, file: &str, line: u32, address: u32)
 /// Tells what is wrong with a record file.
 fn refuse_record<D: Desk>(desk: &mut D, file: &str, fault: RecordFault) -> u8
     ensures status { result ≡ 1 }
-    ensures told { IsTold (D.kept desk.old) (D.kept desk.new) (record_fault_line file.now fault) (D.failures desk.old)
+    ensures told { Tells (D.kept desk.old) (D.kept desk.new) (record_fault_line file.now fault) (D.failures desk.old)
         (D.failures desk.new) }
     ensures rises { D.failures desk.old ≤ D.failures desk.new }
 {
@@ -191,7 +192,7 @@ fn refuse_record<D: Desk>(desk: &mut D, file: &str, fault: RecordFault) -> u8
 /// Tells that an address lies outside a memory.
 fn refuse_range<D: Desk>(desk: &mut D, name: &str, address: u32) -> u8
     ensures status { result ≡ 1 }
-    ensures told { IsTold (D.kept desk.old) (D.kept desk.new) (range_line name.now address) (D.failures desk.old)
+    ensures told { Tells (D.kept desk.old) (D.kept desk.new) (range_line name.now address) (D.failures desk.old)
         (D.failures desk.new) }
     ensures rises { D.failures desk.old ≤ D.failures desk.new }
 {
@@ -209,7 +210,7 @@ fn refuse_range<D: Desk>(desk: &mut D, name: &str, address: u32) -> u8
 /// Tells what is wrong with raw bytes.
 fn refuse_raw<D: Desk>(desk: &mut D, file: &str, fault: ImageFault) -> u8
     ensures status { result ≡ 1 }
-    ensures told { IsTold (D.kept desk.old) (D.kept desk.new) (raw_fault_line file.now fault) (D.failures desk.old)
+    ensures told { Tells (D.kept desk.old) (D.kept desk.new) (raw_fault_line file.now fault) (D.failures desk.old)
         (D.failures desk.new) }
     ensures rises { D.failures desk.old ≤ D.failures desk.new }
 {
@@ -223,7 +224,7 @@ fn refuse_raw<D: Desk>(desk: &mut D, file: &str, fault: ImageFault) -> u8
 /// Tells why a file is no image.
 fn refuse_bad_file<D: Desk>(desk: &mut D, file: &str, fault: BadFile) -> u8
     ensures status { result ≡ 1 }
-    ensures told { IsTold (D.kept desk.old) (D.kept desk.new) (bad_file_line file.now fault) (D.failures desk.old)
+    ensures told { Tells (D.kept desk.old) (D.kept desk.new) (bad_file_line file.now fault) (D.failures desk.old)
         (D.failures desk.new) }
     ensures rises { D.failures desk.old ≤ D.failures desk.new }
 {
@@ -238,7 +239,7 @@ fn refuse_bad_file<D: Desk>(desk: &mut D, file: &str, fault: BadFile) -> u8
 /// Tells why no image came of a file.
 pub(crate) fn refuse_image<D: Desk>(desk: &mut D, file: &str, fault: ReadFault) -> u8
     ensures status { result ≡ 1 }
-    ensures told { IsTold (D.kept desk.old) (D.kept desk.new) (read_fault_line file.now fault) (D.failures desk.old)
+    ensures told { Tells (D.kept desk.old) (D.kept desk.new) (read_fault_line file.now fault) (D.failures desk.old)
         (D.failures desk.new) }
     ensures rises { D.failures desk.old ≤ D.failures desk.new }
 {
@@ -251,7 +252,7 @@ pub(crate) fn refuse_image<D: Desk>(desk: &mut D, file: &str, fault: ReadFault) 
 /// Tells what is wrong with the value at this place.
 fn refuse_value<D: Desk>(desk: &mut D, memory: Mem, place: u32, wrong: &str) -> u8
     ensures status { result ≡ 1 }
-    ensures told { IsTold
+    ensures told { Tells
         (D.kept desk.old) (D.kept desk.new) (error (name_of memory ∷ codes ": value " ∷ decimal place ∷ wrong.now ∷ []))
         (D.failures desk.old) (D.failures desk.new) }
     ensures rises { D.failures desk.old ≤ D.failures desk.new }
@@ -270,7 +271,7 @@ fn refuse_value<D: Desk>(desk: &mut D, memory: Mem, place: u32, wrong: &str) -> 
 /// Tells what is wrong with the values for a memory.
 pub(crate) fn refuse_values<D: Desk>(desk: &mut D, memory: Mem, fault: ImageFault) -> u8
     ensures status { result ≡ 1 }
-    ensures told { IsTold (D.kept desk.old) (D.kept desk.new) (values_line memory fault) (D.failures desk.old)
+    ensures told { Tells (D.kept desk.old) (D.kept desk.new) (values_line memory fault) (D.failures desk.old)
         (D.failures desk.new) }
     ensures rises { D.failures desk.old ≤ D.failures desk.new }
 {
@@ -286,7 +287,7 @@ pub(crate) fn refuse_values<D: Desk>(desk: &mut D, memory: Mem, fault: ImageFaul
 /// Tells that a memory can't be written.
 pub(crate) fn refuse_write<D: Desk>(desk: &mut D, memory: Mem) -> u8
     ensures status { result ≡ 1 }
-    ensures told { IsTold (D.kept desk.old) (D.kept desk.new) (read_only_line memory) (D.failures desk.old)
+    ensures told { Tells (D.kept desk.old) (D.kept desk.new) (read_only_line memory) (D.failures desk.old)
         (D.failures desk.new) }
     ensures rises { D.failures desk.old ≤ D.failures desk.new }
 {

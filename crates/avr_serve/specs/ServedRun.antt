@@ -5,10 +5,10 @@ use Rattle.avr_chip.specs.Saving.{Saves}
 use Rattle.avr_cli.specs.declared.chosen.Settings.{Settings}
 use Rattle.avr_desk.specs.Record.{Record}
 use Rattle.avr_message.specs.Lines.{Bytes, error}
+use Rattle.avr_message.specs.Said.{Tells}
 use Rattle.avr_part.specs.ChipFile.{chip_file}
 use Rattle.avr_part.specs.Part.{Part}
 use Rattle.avr_part.specs.State as chips
-use Rattle.avr_plan.specs.Lines.{IsTold}
 use Rattle.avr_plan.specs.Planning.{parts_stage, part_stage}
 use Rattle.avr_plan.specs.Playing.{Goes, Went}
 use Rattle.avr_plan.specs.Stage.{Stage, Made, ◌>>=◌}
@@ -35,9 +35,9 @@ fresh_machine chip = record { held = []; programmer = fresh_programmer chip }
 -- was.
 abbrev pub TellsEnd : Served → Option Record → Option Record → ℕ → ℕ → Type 0
 TellsEnd Ended old new before now = (new ≡ old) × (now ≡ before)
-TellsEnd RecvFailed old new before now = IsTold old new (error (codes "link cannot be read" ∷ [])) before now
-TellsEnd SendFailed old new before now = IsTold old new (error (codes "link cannot be written" ∷ [])) before now
-TellsEnd TooManyReads old new before now = IsTold old new (error (codes "too many reads" ∷ [])) before now
+TellsEnd RecvFailed old new before now = Tells old new (error (codes "link cannot be read" ∷ [])) before now
+TellsEnd SendFailed old new before now = Tells old new (error (codes "link cannot be written" ∷ [])) before now
+TellsEnd TooManyReads old new before now = Tells old new (error (codes "too many reads" ∷ [])) before now
 
 -- the status, where the chip was saved
 abbrev pub status_of : Served → ℕ

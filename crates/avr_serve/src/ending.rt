@@ -1,8 +1,8 @@
 //! How serving ended is told, and the chip is saved.
 ghost use Rattle.std.specs.Prelude.{◌≡◌, ◌≤◌, ◌∷◌, []};
 ghost use Rattle.avr_message.specs.Lines.{error};
+ghost use Rattle.avr_message.specs.Said.{Tells};
 ghost use Rattle.avr_part.specs.ChipFile.{chip_file};
-ghost use Rattle.avr_plan.specs.Lines.{IsTold};
 ghost use Rattle.avr_serve.specs.ServedRun.{TellsEnd, IsSaved, status_of as status_of_end};
 
 use crate::serving::Served;
@@ -14,7 +14,7 @@ use std::alloc::Global;
 
 /// Prints an error, as far as the desk takes it.
 fn tell<D: Desk>(desk: &mut D, text: &str)
-    ensures told { IsTold (D.kept desk.old) (D.kept desk.new) (error (text.now ∷ [])) (D.failures desk.old)
+    ensures told { Tells (D.kept desk.old) (D.kept desk.new) (error (text.now ∷ [])) (D.failures desk.old)
         (D.failures desk.new) }
     ensures rises { D.failures desk.old ≤ D.failures desk.new }
 {

@@ -22,12 +22,12 @@ use Rattle.stk_host.specs.declared.fault.Broken.TheVariants.{Send, Recv}
 use Rattle.stk_host.specs.Play.{PlaysOver, FailsOver}
 use Rattle.stk_host.specs.Calls.{EndsCall, EndsOrLacks, IsBroken}
 use Rattle.stk_host.proofs.Leading.{continued, played_bind}
-use Rattle.avr_message.specs.Said.{Saying}
+use Rattle.avr_message.specs.Said.{Saying, Tells}
 use Rattle.avr_session.specs.declared.standing.Stopped.{Stopped}
 use Rattle.avr_session.specs.Concluding.{after_outcome, concluded}
 use Rattle.avr_session.specs.Lines.{fault_line}
 use Rattle.avr_session.specs.Session.{says, standing, reported, fault_or}
-use Rattle.avr_session.specs.Runs.{Cause, OfSending, OfListening, OfMemory, cause_line, HasCome, PrintStops, PrintsSome, SaysFront, Reports, BrokeOff, Runs}
+use Rattle.avr_session.specs.Runs.{Cause, OfSending, OfListening, OfMemory, cause_line, HasCome, PrintStops, SaysFront, Reports, BrokeOff, Runs}
 use Rattle.avr_session.proofs.Reporting.{told_some}
 use Rattle.avr_session.proofs.Running.{came_lifted, came_said, came_on, ran_from, broke_lifted, broke_saying, broke_operation, broke_lacking, broken_cause, ToldBy}
 
@@ -229,7 +229,7 @@ stop_goes (Err RecvFailed) (Err stopped) stop = refl
 
 -- the line of a fault that stops the run tells why it does
 pub told_of : {A : Type 0} (old new : Option Record) (part : Part) (good : A → List Saying) (a b : ℕ) (outcome : Result A HostFault) (told : Result (Unit {0}) Stopped) → Reports old new (fault_or part good outcome) (PrintStops a b) told
-    → IsStop outcome → PrintsSome old new (cause_line (cause_of outcome)) a b
+    → IsStop outcome → Tells old new (cause_line (cause_of outcome)) a b
 unfolding cause_line fault_line
 told_of old new part good a b (Ok x) told reports stop = absurd stop
 told_of old new part good a b (Err NoAnswer) told reports stop = absurd stop

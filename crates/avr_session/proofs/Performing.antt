@@ -15,7 +15,7 @@ use Rattle.stk_host.specs.Talk as link
 use Rattle.stk_host.specs.Talk.{Talk}
 use Rattle.stk_host.specs.Calls.{IsBroken, given}
 use Rattle.stk_host.specs.Dialog.{Dialog, Done, ◌>>=◌, sayings}
-use Rattle.avr_message.specs.Said.{Saying, Line}
+use Rattle.avr_message.specs.Said.{Saying, Line, Tells}
 use Rattle.avr_plan.specs.Plan.{Plan}
 use Rattle.avr_plan.specs.declared.task.Task.{Task}
 use Rattle.avr_session.specs.declared.standing.Standing.{Standing}
@@ -24,10 +24,11 @@ use Rattle.avr_session.specs.declared.standing.Stopped.{Stopped}
 use Rattle.avr_session.specs.Concluding.{Serves, after_outcome, concluded, fine_if_said}
 use Rattle.avr_session.specs.Lines.{fault_line}
 use Rattle.avr_session.specs.Session.{says, standing, reported, unless_fault, fault_or, read_says, opening_says, playing, session, status_of, takes_memory}
-use Rattle.avr_session.specs.Runs.{Cause, OfSending, OfListening, OfFile, OfPrinting, OfMemory, cause_line, is_error, tells_fault, HasCome, TellsCause, StopsBehind, Stops, DeskStops, PrintStops, ReadStops, PrintsSome, SaysFront, Reports, BrokeOff, Ran, Runs, RunsTo}
+use Rattle.avr_session.specs.Runs.{Cause, OfSending, OfListening, OfFile, OfPrinting, OfMemory, cause_line, is_error, tells_fault, HasCome, TellsCause, StopsBehind, Stops, DeskStops, PrintStops, ReadStops, SaysFront, Reports, BrokeOff, Ran, Runs, RunsTo}
 use Rattle.avr_session.specs.Parts.{is_told, PerformsBehind, Performs, LeavesOut}
-use Rattle.avr_session.proofs.Reporting.{failed_later, failed_before, tells_longer, told_some, kept_nothing}
+use Rattle.avr_session.proofs.Reporting.{told_some, kept_nothing}
 use Rattle.avr_message.proofs.Saying.{kept_none}
+use Rattle.avr_message.proofs.Telling.{failed_later, failed_before, tells_longer}
 use Rattle.avr_session.proofs.Running.{came_here, came_said, came_part, ran_from, ran_on, broke_after, broke_part, broke_saying, ToldBy}
 use Rattle.avr_session.proofs.Foretelling.{Foretells, foretold, front_tells_none, read_none}
 use Rattle.avr_session.proofs.Operations.{IsStop, IsMemory, cause_of, Ended, lacks_where, only_broken, operation_runs, stop_is, told_of}
@@ -102,7 +103,7 @@ desk_stops_report takes k l a b d sayings le none mid cause front told stops = d
 
 -- the line of another fault than a signature's stands alone
 pub opening_told : (old new : Option Record) (quiet : ℕ) (part : Part) (a b : ℕ) (outcome : Result (List ℕ) HostFault) (told : Result (Unit {0}) Stopped) → Reports old new (opening_says quiet part outcome) (PrintStops a b) told
-    → IsStop outcome → PrintsSome old new (cause_line (cause_of outcome)) a b
+    → IsStop outcome → Tells old new (cause_line (cause_of outcome)) a b
 unfolding cause_line fault_line
 opening_told old new quiet part a b (Ok x) told reports stop = absurd stop
 opening_told old new quiet part a b (Err NoAnswer) told reports stop = absurd stop
@@ -134,14 +135,14 @@ serves_after (Err RecvFailed) (Ok ok) broken is = tt
 serves_after outcome (Err stopped) broken is = tt
 
 -- a cause that was told
-told_by : {A : Type 0} (takes : Bool) (outcome : Result A HostFault) {k l a b : ℕ} (d e : Option Record) → a ≤ b → (IsBroken outcome → link.HasFailed k l) → (IsMemory outcome → takes ≡ true) → IsStop outcome → PrintsSome d e (cause_line (cause_of outcome)) a b
+told_by : {A : Type 0} (takes : Bool) (outcome : Result A HostFault) {k l a b : ℕ} (d e : Option Record) → a ≤ b → (IsBroken outcome → link.HasFailed k l) → (IsMemory outcome → takes ≡ true) → IsStop outcome → Tells d e (cause_line (cause_of outcome)) a b
     → ToldBy (Stops takes k l a b) (cause_of outcome) d e
-told_by takes outcome {k = k} {l = l} {a = a} {b = b} d e le failed lacks stop some = (some.0, record { count = a; has_come = stop_is outcome takes k l a a failed lacks stop; tells = some.1; since = omega arith; until = le }, some.2)
+told_by takes outcome {k = k} {l = l} {a = a} {b = b} d e le failed lacks stop some = (some.told, record { count = a; has_come = stop_is outcome takes k l a a failed lacks stop; tells = some.tells; since = omega arith; until = le }, some.kept)
 
 -- an operation of the host and its report
 pub operation_performs : {A : Type 0} {operation : Dialog ⊥ (Result A HostFault)} (takes : Bool) (outcome_says : Result A HostFault → List Saying) {old new : HostState} {o p : Option Talk} {k l a b : ℕ} {d e : Option Record} (outcome : Result A HostFault) (told : Result (Unit {0}) Stopped) (result : Result Standing Stopped)
     (T : Cause → List ℕ → Type 0) → StopsReport takes k l a b d (outcome_says outcome) T
-    → result ≡ concluded outcome told → Ended takes operation old.next old.unread o p outcome new.next new.unread → length new.unread ≤ 281 → Reports d e (outcome_says outcome) T told → (IsStop outcome → PrintsSome d e (cause_line (cause_of outcome)) a b)
+    → result ≡ concluded outcome told → Ended takes operation old.next old.unread o p outcome new.next new.unread → length new.unread ≤ 281 → Reports d e (outcome_says outcome) T told → (IsStop outcome → Tells d e (cause_line (cause_of outcome)) a b)
     → (IsBroken outcome → link.HasFailed k l) → new.broken ≡ left_by outcome → new.part ≡ old.part → k ≤ l → a ≤ b
     → Performs takes (reported operation outcome_says) old new o p k l d e a b result
 operation_performs {operation = operation} takes outcome_says {old = old} {new = new} {o = o} {p = p} {k = k} {l = l} {a = a} {b = b} {d = d} {e = e} outcome told result T why is ended few reports some failed lasts part link_counted desk_counted =
@@ -295,7 +296,7 @@ given_broken a (Err RecvFailed) broken = broken
 
 -- a fault alone tells why a run stops
 pub given_told : {A : Type 0} (a : A) (good : A → List Saying) (old new : Option Record) (part : Part) (k l : ℕ) (outcome : Result (Unit {0}) HostFault) (told : Result (Unit {0}) Stopped)
-    → Reports old new (fault_or part good (given a outcome)) (ReadStops outcome k l) told → IsStop (given a outcome) → PrintsSome old new (cause_line (cause_of (given a outcome))) k l
+    → Reports old new (fault_or part good (given a outcome)) (ReadStops outcome k l) told → IsStop (given a outcome) → Tells old new (cause_line (cause_of (given a outcome))) k l
 given_told a good old new part k l (Ok ok) told reports stop = absurd stop
 given_told a good old new part k l (Err fault) told reports stop = told_of old new part good k l (Err fault) told reports stop
 

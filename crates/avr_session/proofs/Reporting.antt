@@ -1,28 +1,18 @@
 -- What is reported, one thing after another.
 use Rattle.std.proofs.Common.{◌≡◌, ◌≤◌, ℕ, arith, List, [], ◌∷◌, ◌++◌, Option, option_map, Result, Ok, Err, refl, sym, ap, ◌∙◌, subst, inl, inr, IfErr, append-nil, Some, None, nat_lt, false}
-use Rattle.std.proofs.lemmas.Bool.{cases_lt}
 use Rattle.std.proofs.lemmas.Bool.Decides.{nat_tests}
 use Rattle.avr_desk.specs.Record.{Record, after_err}
 use Rattle.avr_desk.specs.Fault.{Counts, HasFailed}
 use Rattle.avr_desk.specs.declared.fault.DeskFault.{DeskFault}
 use Rattle.avr_desk.specs.declared.fault.DeskFault.TheVariants.{NotFound, Failed}
 use Rattle.stk_host.specs.Dialog.{sayings}
-use Rattle.avr_message.specs.Said.{Saying, Line, IsPrefixOf, IsPrinted, after_all}
+use Rattle.avr_message.specs.Said.{Saying, Line, IsPrefixOf, IsPrinted, Tells, after_all}
 use Rattle.avr_message.proofs.Saying.{kept_append, kept_none}
-use Rattle.avr_session.specs.Runs.{cause_line, Cause, OfSending, OfListening, OfFile, OfPrinting, OfMemory, Trouble, TellsLine, SaysFront, SaidSome, Reports, PrintStops, FileStops, DeskStops, PrintsSome}
+use Rattle.avr_message.proofs.Telling.{failed_later, failure_in}
+use Rattle.avr_session.specs.Runs.{cause_line, Cause, OfSending, OfListening, OfFile, OfPrinting, OfMemory, Trouble, SaysFront, SaidSome, Reports, PrintStops, FileStops, DeskStops}
 use Rattle.avr_session.specs.declared.standing.Stopped.{Stopped}
 use Rattle.avr_session.specs.Concluding.{stopped_of}
 use Rattle.avr_session.proofs.Places.{sayings_by, line_part, front_behind, front_of}
-
--- a failure later is a failure
-pub failed_later : (a b c : ℕ) → a ≤ b → HasFailed b c → HasFailed a c
-failed_later a b c le (inl lt) = inl (omega arith)
-failed_later a b c le (inr end) = inr end
-
--- and a failure before is one
-pub failed_before : (a b c : ℕ) → a ≤ b → b ≤ c → HasFailed a b → HasFailed a c
-failed_before a b c first then (inl lt) = inl (omega arith)
-failed_before a b c first then (inr end) = elim (cases_lt a c) [ inl lt ↦ inl lt | inr le ↦ inr (omega arith) ]
 
 pub print_stops_later : (a b c : ℕ) → a ≤ b → (cause : Cause) (told : List ℕ) → PrintStops b c cause told → PrintStops a c cause told
 print_stops_later a b c le OfSending told stops = absurd stops
@@ -38,19 +28,8 @@ print_is_desk a b (OfFile file trouble) told stops = absurd stops
 print_is_desk a b OfPrinting told stops = stops
 print_is_desk a b OfMemory told stops = stops
 
--- what was told of a line is told of it still
-pub tells_longer : (line told : List ℕ) (a b c : ℕ) → a ≤ b → b ≤ c → TellsLine line told a b → TellsLine line told a c
-tells_longer line told a b c first then (inl whole) = inl whole
-tells_longer line told a b c first then (inr part) = inr (part.0, failed_before a b c first then part.1)
-
 pub file_stops_in : (a b c d : ℕ) (file : List ℕ) (trouble : Trouble) (told : List ℕ) → a ≤ b → c ≤ d → FileStops b c file trouble told → FileStops a d file trouble told
-file_stops_in a b c d file trouble told first last stops = record {
-  count = stops.count;
-  failed = failed_later a b stops.count first stops.failed;
-  tells = tells_longer (cause_line (OfFile file trouble)) told stops.count c d stops.until last stops.tells;
-  since = omega (arith, first, stops.since);
-  until = omega (arith, last, stops.until);
-}
+file_stops_in a b c d file trouble told first last stops = failure_in (cause_line (OfFile file trouble)) told a b c d first last stops
 
 pub nothing_printed : (r : Record) → after_err [] r ≡ r
 nothing_printed r = ap (λ bytes. record r { messages = bytes }) (append-nil r.messages)
@@ -133,31 +112,31 @@ one_line {d = d} {e = e} l front =
     let one = one_only l p.bytes front.whole (sayings p.more) (front.sayings_are ∙ ap (λ ss. front.whole ++ ss) later) in
     (p.done, subst (IsPrefixOf p.done) one.1 p.front, subst (λ ss. e ≡ option_map (after_all ss) d) (ap (λ ss. ss ++ front.begun) one.0 ∙ begun) front.kept)
 
-told_line : (cause : Cause) (told l : List ℕ) (old between new : Option Record) (a b : ℕ) → SaysFront cause old between (Line l ∷ []) → PrintStops a b cause told → new ≡ option_map (after_err told) between → PrintsSome old new l a b
+told_line : (cause : Cause) (told l : List ℕ) (old between new : Option Record) (a b : ℕ) → SaysFront cause old between (Line l ∷ []) → PrintStops a b cause told → new ≡ option_map (after_err told) between → Tells old new l a b
 told_line OfPrinting told l old between new a b front stops kept =
     let same : new ≡ between = kept ∙ (ap (λ told. option_map (after_err told) between) stops.1 ∙ sym (kept_nothing between)) in
     let some = one_line l front in
-    (some.0, inr (some.1, stops.0), same ∙ some.2)
+    record { told = some.0; tells = inr (some.1, stops.0); kept = same ∙ some.2 }
 told_line OfSending told l old between new a b front stops kept = absurd stops
 told_line OfListening told l old between new a b front stops kept = absurd stops
 told_line (OfFile file trouble) told l old between new a b front stops kept = absurd stops
 told_line OfMemory told l old between new a b front stops kept = absurd stops
 
 -- what was printed of a line that was told
-pub told_some : (old new : Option Record) (l : List ℕ) (a b : ℕ) (result : Result (Unit {0}) Stopped) → Reports old new (Line l ∷ []) (PrintStops a b) result → PrintsSome old new l a b
-told_some old new l a b (Ok done) kept = (l, inl refl, kept)
+pub told_some : (old new : Option Record) (l : List ℕ) (a b : ℕ) (result : Result (Unit {0}) Stopped) → Reports old new (Line l ∷ []) (PrintStops a b) result → Tells old new l a b
+told_some old new l a b (Ok done) kept = record { told = l; tells = inl refl; kept = kept }
 told_some old new l a b (Err stopped) some = told_line some.cause some.told l old some.between new a b some.front some.stops some.kept
 
 -- a file's trouble is told behind what was done
 pub file_stops : (old mid new : Option Record) (sayings : List Saying) (file : List ℕ) (trouble : Trouble) (a b c : ℕ) (S : Cause → List ℕ → Type 0) → SaysFront (OfFile file trouble) old mid sayings → HasFailed a b → a ≤ b → b ≤ c
-    → ((told : List ℕ) → FileStops a c file trouble told → S (OfFile file trouble) told) → PrintsSome mid new (cause_line (OfFile file trouble)) b c → SaidSome old new sayings S
+    → ((told : List ℕ) → FileStops a c file trouble told → S (OfFile file trouble) told) → Tells mid new (cause_line (OfFile file trouble)) b c → SaidSome old new sayings S
 file_stops old mid new sayings file trouble a b c S front failed first then why some = record {
   between = mid;
   cause = OfFile file trouble;
   front = front;
-  told = some.0;
-  stops = why some.0 (record { count = b; failed = failed; tells = some.1; since = first; until = then });
-  kept = some.2;
+  told = some.told;
+  stops = why some.told (record { count = b; failed = failed; tells = some.tells; since = first; until = then });
+  kept = some.kept;
 }
 
 pub not_lt : (a b : ℕ) → b ≤ a → nat_lt a b ≡ false

@@ -1,29 +1,21 @@
 -- Files that are created and written.
-use Rattle.std.proofs.Common.{◌≡◌, ◌≤◌, ℕ, true, List, [], ◌∷◌, ◌++◌, map, bytes_eq, codes, Option, option_map, Result, Ok, Err, IfErr, ◌∙◌, sym, refl, arith, Some, None, inl, inr, take, drop}
-use Rattle.std.proofs.lemmas.List.{take-append-drop}
+use Rattle.std.proofs.Common.{◌≡◌, ◌≤◌, ℕ, true, List, [], ◌∷◌, ◌++◌, map, bytes_eq, codes, Option, option_map, Result, Ok, Err, ◌∙◌, refl, arith, Some, None}
 use Rattle.std.proofs.lemmas.Slice.Eq.{bytes_eq-Decides}
 use Rattle.avr_desk.specs.Record.{Record, after_create}
-use Rattle.avr_desk.specs.Fault.{Counts, HasFailed}
+use Rattle.avr_desk.specs.Fault.{HasFailed}
 use Rattle.avr_desk.specs.Stream.{SendsPart}
 use Rattle.avr_desk.specs.declared.stream.Stream.{Stream}
 use Rattle.avr_desk.specs.declared.stream.Stream.TheVariants.{File, Output}
 use Rattle.avr_desk.specs.declared.fault.DeskFault.{DeskFault}
-use Rattle.avr_desk.specs.declared.fault.DeskFault.TheVariants.{NotFound, Failed}
 use Rattle.stk_host.specs.Dialog.{Said}
-use Rattle.avr_message.specs.Said.{Saying, Creates, Writes, Outs, IsPrinted, Tells, after_all}
+use Rattle.avr_message.specs.Said.{Saying, Creates, Writes, Outs, Tells, after_all}
 use Rattle.avr_message.proofs.Saying.{kept_append, kept_none}
-use Rattle.avr_session.specs.Runs.{Cause, OfSending, OfListening, OfFile, OfPrinting, OfMemory, NotCreated, NotWritten, SaysFront, Reports, PrintStops, FileStops, DeskStops, PrintsSome, cause_line}
+use Rattle.avr_session.specs.Runs.{Cause, OfSending, OfListening, OfFile, OfPrinting, OfMemory, NotCreated, NotWritten, SaysFront, Reports, PrintStops, DeskStops, cause_line}
 use Rattle.avr_session.specs.Session.{saved}
 use Rattle.avr_session.specs.Saving.{SaveStops, WritesSome, WritesAll}
 use Rattle.avr_session.specs.declared.standing.Stopped.{Stopped}
 use Rattle.avr_session.proofs.Places.{front_behind, front_of, file_part, output_part}
 use Rattle.avr_session.proofs.Reporting.{file_stops_in, print_stops_later, print_is_desk}
-
--- a failure of the desk is counted
-pub failed_by : (before now : ℕ) (result : Result (Unit {0}) DeskFault) (fault : DeskFault) → result ≡ Err fault → IfErr result (λ e. e ≡ Failed) → Counts before now result → HasFailed before now
-failed_by before now (Ok done) fault is only counts = cc
-failed_by before now (Err NotFound) fault is only counts = cc
-failed_by before now (Err Failed) fault is only counts = counts.1
 
 same_record : (r : Option Record) (file : List ℕ) (fault : DeskFault) → option_map (after_create file (Err fault)) r ≡ r
 same_record None file fault = refl
@@ -41,16 +33,6 @@ not_created old new file (Err other) fault more is kept = record {
   by_desk = tt;
   kept = kept ∙ (same_record old file other ∙ kept_none old);
 }
-
--- a line that was told, or a front of it
-pub tells_line : (old new : Option Record) (line : List ℕ) (before now : ℕ) (printed : Result (Unit {0}) DeskFault) → IsPrinted old new line printed → Counts before now printed → IfErr printed (λ e. e ≡ Failed) → Tells old new line before now
-tells_line old new line before now (Ok done) is counts only = inl is
-tells_line old new line before now (Err NotFound) is counts only = cc
-tells_line old new line before now (Err Failed) is counts only = inr (is, counts.1)
-
-pub tells_some : (old new : Option Record) (line : List ℕ) (before now : ℕ) → Tells old new line before now → PrintsSome old new line before now
-tells_some old new line before now (inl whole) = (line, inl refl, whole)
-tells_some old new line before now (inr part) = (take part.0.0 line, inr ((drop part.0.0 line, take-append-drop part.0.0 line), part.1), part.0.2)
 
 -- where a file can't be saved the desk has failed
 pub save_is_desk : (file : List ℕ) (before now : ℕ) (cause : Cause) (told : List ℕ) → SaveStops file before now cause told → DeskStops before now cause told
@@ -91,14 +73,14 @@ pub saved_out : (old new : Option Record) (file text : List ℕ) (a b : ℕ) (re
 saved_out old new file text a b result same writes = rw same (put_out old new file text a b result ((bytes_eq-Decides file (codes "-")).0 same) writes)
 
 -- what was told of a file behind a front of its bytes
-pub writes_some : (stream : Stream) (file text : List ℕ) (old mid new : Option Record) (a b c : ℕ) → SendsPart stream old mid text → HasFailed a b → a ≤ b → b ≤ c → PrintsSome mid new (cause_line (OfFile file NotWritten)) b c
+pub writes_some : (stream : Stream) (file text : List ℕ) (old mid new : Option Record) (a b c : ℕ) → SendsPart stream old mid text → HasFailed a b → a ≤ b → b ≤ c → Tells mid new (cause_line (OfFile file NotWritten)) b c
     → WritesSome stream file old new text a c
 writes_some stream file text old mid new a b c part failed first then some = record {
   between = mid;
   part = part;
-  told = some.0;
-  stops = record { count = b; failed = failed; tells = some.1; since = first; until = then };
-  kept = some.2;
+  told = some.told;
+  stops = record { count = b; failed = failed; tells = some.tells; since = first; until = then };
+  kept = some.kept;
 }
 
 -- a file is saved, and then a line is printed

@@ -17,7 +17,7 @@ use Rattle.avr_message.specs.Said.{Saying, Line, Creates, Writes, Outs, after_al
 use Rattle.avr_session.specs.Runs.{Cause, OfSending, OfListening, OfFile, OfPrinting, OfMemory, NotCreated, NotWritten, cause_line, tells_fault, TellsCause, StopsAt, Stops, BrokeOff, RunsTo}
 use Rattle.avr_session.specs.Session.{session, takes_memory, task_takes_memory}
 use Rattle.avr_session.specs.Stopping.{IsSound, LacksMemory, IsPlayed}
-use Rattle.avr_session.proofs.Reporting.{failed_later, failed_before}
+use Rattle.avr_message.proofs.Telling.{failed_later, failed_before}
 
 -- of sound devices only memory is left, and its line was told whole
 told_of_memory : (flag : Bool) (told : Bytes) (a count b : ℕ) → a ≤ count → (HasFailed a b → ⊥) → TellsCause flag OfMemory told count b → told ≡ cause_line OfMemory

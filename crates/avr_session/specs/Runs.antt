@@ -9,7 +9,7 @@ use Rattle.stk_host.specs.Talk.{Talk, heard, Grows}
 use Rattle.stk_host.specs.Dialog.{Dialog, Event, Frame, Said, played, sayings}
 use Rattle.stk_host.specs.Play.{Plays, Breaks}
 use Rattle.avr_message.specs.Lines.{Bytes, error}
-use Rattle.avr_message.specs.Said.{Saying, Line, Creates, Writes, Outs, SaidPart, IsPrefixOf, after_all}
+use Rattle.avr_message.specs.Said.{Saying, Line, Creates, Writes, Outs, SaidPart, IsPrefixOf, TellsLine, TellsFailure, after_all}
 use Rattle.avr_session.specs.declared.standing.Stopped.{Stopped}
 
 -- what a desk can't do with a file of a session
@@ -121,10 +121,6 @@ HasCome takes link_before link_then desk_before desk_then OfListening = link.Has
 HasCome takes link_before link_then desk_before desk_then OfMemory = takes ≡ true
 HasCome takes link_before link_then desk_before desk_then cause = desk.HasFailed desk_before desk_then
 
--- The line was told whole; or the desk has failed, and a front of it was.
-abbrev pub TellsLine : Bytes → Bytes → ℕ → ℕ → Type 0
-TellsLine line told before now = (told ≡ line) ⊎ (IsPrefixOf told line × desk.HasFailed before now)
-
 -- The cause's line was told. But behind the line of a fault only the link or the printing fails, and nothing more is
 -- told.
 abbrev pub TellsCause : Bool → Cause → Bytes → ℕ → ℕ → Type 0
@@ -217,13 +213,9 @@ abbrev pub PrintStops : ℕ → ℕ → Cause → Bytes → Type 0
 PrintStops before now OfPrinting told = desk.HasFailed before now × (told ≡ [])
 PrintStops before now cause told = ⊥
 
--- the desk failed at a file, by some count, and from then on that was told
-pub record FileStops (before now : ℕ) (file : Bytes) (trouble : Trouble) (told : Bytes) : Type 0 where
-  pub count : ℕ
-  pub failed : desk.HasFailed before count
-  pub tells : TellsLine (cause_line (OfFile file trouble)) told count now
-  pub since : before ≤ count
-  pub until : count ≤ now
+-- the desk failed at a file, and from then on that was told
+abbrev pub FileStops : ℕ → ℕ → Bytes → Trouble → Bytes → Type 0
+FileStops before now file trouble told = TellsFailure (cause_line (OfFile file trouble)) told before now
 
 -- the desk failed, at a file or as it printed
 abbrev pub DeskStops : ℕ → ℕ → Cause → Bytes → Type 0
@@ -234,8 +226,3 @@ DeskStops before now cause told = PrintStops before now cause told
 abbrev pub ReadStops : {A Fault : Type 0} → Result A Fault → ℕ → ℕ → Cause → Bytes → Type 0
 ReadStops (Ok read) before now = DeskStops before now
 ReadStops (Err fault) before now = PrintStops before now
-
--- a line was printed, or a front of it, and then the desk has failed
-abbrev pub PrintsSome : Option Record → Option Record → Bytes → ℕ → ℕ → Type 0
-PrintsSome old new line before now =
-    (told : Bytes) × TellsLine line told before now × (new ≡ option_map (after_err told) old)

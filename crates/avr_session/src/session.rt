@@ -1,5 +1,5 @@
 //! The session of a plan: what it asks of a programmer, and what it reports at the desk.
-ghost use Rattle.std.specs.Prelude.{◌≡◌, ◌∷◌, [], None, Ok, codes, true, false};
+ghost use Rattle.std.specs.Prelude.{◌≡◌, ◌≤◌, ◌∷◌, [], None, Ok, codes, true, false};
 ghost use Rattle.avr_session.specs.declared.standing.Standing.TheVariants.{Fine, Faulty};
 ghost use Rattle.avr_session.specs.Concluding.{Serves};
 ghost use Rattle.avr_session.specs.Parts.{is_told, Performs, PerformsBehind};
@@ -144,6 +144,7 @@ pub fn drive<D: Desk, L: Link>(alloc: Global, plan: &Plan, desk: &mut D, link: &
     ensures runs { RunsTo (session plan.now) (L.talk link.old) (L.talk link.new) (D.kept desk.old) (D.kept desk.new)
         (Stops (takes_memory plan.now) (L.failures link.old) (L.failures link.new) (D.failures desk.old)
         (D.failures desk.new)) result }
+    ensures rises { D.failures desk.old ≤ D.failures desk.new }
     ensures comes { Stays L.comes_of link.old link.new }
 {
     let mut host = Host::new(plan.part());

@@ -6,3 +6,5 @@ pub mod FramesWeighed
 pub mod OverWire
 pub mod Refusing
 pub mod OverTalk
+pub mod Further
+pub mod OverEmulator

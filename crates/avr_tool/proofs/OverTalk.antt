@@ -1,5 +1,5 @@
 -- A session over any link that behaves as a line with fates does.
-use Rattle.std.proofs.Common.{◌≡◌, ◌≤◌, ◌*◌, ℕ, List, [], ◌++◌, All, length, refl, sym, ap, ◌∙◌, subst, inl, Option, Some}
+use Rattle.std.proofs.Common.{◌≡◌, ◌*◌, ℕ, List, [], ◌++◌, All, length, refl, sym, ap, ◌∙◌, subst, inl, Some}
 use Rattle.std.proofs.lemmas.List.{append-nil}
 use Rattle.avr_message.specs.Said.{Saying}
 use Rattle.avr_part.specs.Part.{IsPart}
@@ -13,7 +13,7 @@ use Rattle.stk_host.specs.Tape.{Tape}
 use Rattle.stk_emu.specs.declared.fate.Fate.{Fate}
 use Rattle.stk_emu.specs.Along.{along, said_along, AsksBodies, Fused}
 use Rattle.stk_emu.specs.Device.{device}
-use Rattle.stk_emu.specs.Effect.{Memories, memories_of}
+use Rattle.stk_emu.specs.Effect.{memories_of}
 use Rattle.stk_emu.specs.Programmer.{Programmer, fresh_programmer}
 use Rattle.stk_emu.specs.Settled.{Idle, FitsPart}
 use Rattle.stk_emu.specs.Wire as wire

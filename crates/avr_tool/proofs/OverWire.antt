@@ -1,5 +1,5 @@
 -- A run over a wire to the emulated programmer, by the page's words.
-use Rattle.std.proofs.Common.{◌≡◌, ◌≤◌, ◌*◌, ◌⊎◌, ℕ, List, [], ◌++◌, All, length, refl, sym, ap, ◌∙◌, subst, inl, inr, Option, Some, option_map}
+use Rattle.std.proofs.Common.{◌≡◌, ◌≤◌, ◌*◌, ◌⊎◌, ℕ, List, [], ◌++◌, All, length, refl, sym, ap, ◌∙◌, subst, inl, inr, true, false, Option, Some, option_map}
 use Rattle.std.proofs.lemmas.List.{append-nil}
 use Rattle.avr_cli.specs.declared.chosen.Settings.{Settings}
 use Rattle.avr_desk.specs.Record.{Record}
@@ -12,7 +12,7 @@ use Rattle.avr_plan.specs.Playing as planning
 use Rattle.avr_plan.specs.Playing.{Went}
 use Rattle.avr_plan.specs.Stage.{Made, Refused}
 use Rattle.avr_session.specs.Runs.{Cause, Stops, Ran, BrokeOff, RunsTo}
-use Rattle.avr_session.specs.Session.{session, takes_memory}
+use Rattle.avr_session.specs.Session.{session, is_erase_due, takes_memory}
 use Rattle.stk_frame.specs.Cut.{frames}
 use Rattle.stk_host.specs.Dialog.{played, bytes_sent}
 use Rattle.stk_host.specs.Play.{Plays, Breaks, IsPrefixOf}
@@ -20,6 +20,7 @@ use Rattle.stk_host.specs.Talk.{Talk, Stays, sent, heard}
 use Rattle.stk_emu.specs.Along.{AsksBodies}
 use Rattle.stk_emu.specs.Device.{device}
 use Rattle.stk_emu.specs.Effect.{memories_of}
+use Rattle.stk_emu.specs.Few.{AreFew}
 use Rattle.stk_emu.specs.Leads.{GoesAlong}
 use Rattle.stk_emu.specs.Programmer.{Programmer, fresh_programmer}
 use Rattle.stk_emu.specs.Settled.{Idle, FitsPart}
@@ -31,10 +32,12 @@ use Rattle.stk_emu.proofs.Beginning.{fresh_idle, fresh_fits}
 use Rattle.stk_emu.proofs.SaidAlong.{whole_said}
 use Rattle.stk_emu.proofs.Turning.{whole_along}
 use Rattle.avr_emulated.specs.Bound.{run_steps}
-use Rattle.avr_emulated.specs.Outcome.{Leaves}
+use Rattle.avr_emulated.specs.Again.{AgreesAnyway}
+use Rattle.avr_emulated.specs.Outcome.{Leaves, IsCourse}
+use Rattle.avr_emulated.specs.Told.{RunsTruly}
 use Rattle.avr_emulated.proofs.AnyLineAsks.{session_asks}
-use Rattle.avr_emulated.proofs.Wiring.{wired_leaves, wired_makes}
-use Rattle.avr_tool.specs.Headline.{IsRun, StoppedPlaying, StoppedPlanning, weighed, bodies_in, memories, frames_over, IsItsCourse, OverAnyLine, IsNew, RunsOverWire, RunsNowhere}
+use Rattle.avr_emulated.proofs.Wiring.{wired_leaves, wired_makes, wired_goes_well, wired_succeeds, wired_tells}
+use Rattle.avr_tool.specs.Headline.{IsRun, StoppedPlaying, StoppedPlanning, weighed, bodies_in, memories, frames_over, Stopped, OverAnyLine, IsNew, RunsOverWire, RunsNowhere}
 use Rattle.avr_tool.proofs.FramesWeighed.{shown_front, front_weighs}
 use Rattle.avr_tool.proofs.Joining.{ran_whole, ran_openings, refused_whole}
 use Rattle.avr_tool.proofs.Success.{session_succeeds}
@@ -67,11 +70,14 @@ is_fresh w new = record {
     as_begun x p l = ap (λ q. record x { programmer = q }) p ∙ ap (λ late. record { programmer = fresh_programmer x.programmer.chip; fates = x.fates; late = late }) l
 
 module _ (plan : Plan) (w v : State) (fresh : IsFresh w) (stays : Stays ComesOf w v) (is_sound : IsSound w.wire.programmer.chip)
-    (fitted : All (IsFitted plan.part) plan.tasks) (old new : Option Record) (StopsBy : List Saying → Cause → Bytes → Type 0) (status : ℕ)
-    (runs : RunsTo (session plan) (Some w.talk) (Some v.talk) old new StopsBy status)
+    (fitted : All (IsFitted plan.part) plan.tasks) (old new : Option Record) (failed fails status : ℕ)
+    (runs : RunsTo (session plan) (Some w.talk) (Some v.talk) old new (Stops (takes_memory plan) w.failures v.failures failed fails) status)
     (part_is : w.wire.programmer.chip.part ≡ plan.part) where
   abbrev begun : Programmer
   begun = fresh_programmer w.wire.programmer.chip
+
+  abbrev StopsBy : List Saying → Cause → Bytes → Type 0
+  StopsBy = Stops (takes_memory plan) w.failures v.failures failed fails
 
   sound : IsPart plan.part
   sound = subst IsPart part_is is_sound.part
@@ -93,14 +99,14 @@ module _ (plan : Plan) (w v : State) (fresh : IsFresh w) (stays : Stays ComesOf 
     plays : Plays (session plan) 1 [] v.talk ran.events status next left
     plays = subst (λ talk. Plays (session plan) 1 [] talk ran.events status next left) (all_passed w.talk v.talk ran.during fresh.silent ran.grows) ran.plays
 
-    ran_course : status ≡ 0 → IsItsCourse plan (memories w) (memories v) old new
+    ran_course : status ≡ 0 → IsCourse plan (memories w) (memories v) old new status
     ran_course zero =
         let goes : GoesAlong (session plan) begun w.wire.fates v status left =
         whole_along (session plan) 1 begun w.wire.fates v asks fresh.lawful keeps plays.in_turn ran.events status next left plays in
         let c = (session_succeeds plan sound fitted (memories w) begun w.wire.fates sizes idle).comes (length (frames_over v)) status goes.result zero in
         let says = whole_said (session plan) 1 begun w.wire.fates v ran.events status next left asks fresh.lawful keeps plays in
         record {
-          agrees = sym c.result ∙ zero;
+          status_is = c.result;
           said = ran.kept ∙ ap (λ said. option_map (after_all said) old) (says ∙ c.sayings);
           memories = ap (λ (q : Programmer). memories_of q.chip) goes.programmer ∙ c.after;
         }
@@ -124,11 +130,26 @@ module _ (plan : Plan) (w v : State) (fresh : IsFresh w) (stays : Stays ComesOf 
   is_front (inl ran) = ran_front ran.0 ran.1 ran.2
   is_front (inr broke) = broke_front broke.0
 
-  has_course : RunsTo (session plan) (Some w.talk) (Some v.talk) old new StopsBy status → status ≡ 0 → IsItsCourse plan (memories w) (memories v) old new
+  has_course : RunsTo (session plan) (Some w.talk) (Some v.talk) old new StopsBy status → status ≡ 0 → IsCourse plan (memories w) (memories v) old new status
   has_course (inl ran) zero = ran_course ran.0 ran.1 ran.2 zero
   has_course (inr broke) zero = absurd (one_no (sym broke.1 ∙ zero))
 
-  pub over_any_line : OverAnyLine plan w v old new status
+  -- the wire as it was when it began
+  as_begun : wire.fresh begun w.wire.fates ≡ w.wire
+  as_begun = sym (fresh.begins.stands ∙ ap (λ talk. wire_after device (frames (sent talk)) (wire.fresh begun w.wire.fates)) fresh.silent)
+
+  -- the stop of a session over a wire over which nothing had passed
+  stopped : BrokeOff (session plan) 1 [] (Some []) (Some v.talk) old new StopsBy → Stopped plan w v old new failed fails
+  stopped broke = subst (λ talk. BrokeOff (session plan) 1 [] (Some talk) (Some v.talk) old new StopsBy) (sym fresh.silent) broke
+
+  goes_well : AreFew w.wire.fates → IsCourse plan (memories w) (memories v) old new status ⊎ Stopped plan w v old new failed fails
+  goes_well few = elim (wired_goes_well plan w v fresh stays is_sound part_is fitted old new StopsBy status runs few) [ inl is ↦ inl is | inr broke ↦ inr (stopped broke) ]
+
+  succeeds_again : AreFew w.wire.fates → plan.switches.dry ≡ false → is_erase_due plan.switches plan.tasks ≡ true → AgreesAnyway plan → (status ≡ 0) ⊎ Stopped plan w v old new failed fails
+  succeeds_again few wet due both =
+      elim (wired_succeeds plan w v fresh stays is_sound part_is fitted old new StopsBy status runs few wet due both) [ inl did ↦ inl did.0 | inr broke ↦ inr (stopped broke) ]
+
+  pub over_any_line : OverAnyLine plan w v old new failed fails status
   over_any_line =
       let leaves : Leaves plan (memories w) (memories v) status =
       wired_leaves plan w v fresh stays is_sound part_is fitted old new StopsBy status runs in
@@ -139,11 +160,15 @@ module _ (plan : Plan) (w v : State) (fresh : IsFresh w) (stays : Stays ComesOf 
         strokes = wired_makes plan w v fresh stays is_sound part_is fitted old new StopsBy status runs;
         untouched = λ none. ap (λ x. memories_of x.programmer.chip) (keeps.stands ∙ ap (λ fs. wire_after device fs (wire.fresh begun w.wire.fates)) none);
         four = λ weight. front_weighs weight (4 * weighed weight (bodies_in (run_steps plan))) (session plan) 1 (heard v.talk) (sent v.talk) asks (session_weighs weight plan) (is_front runs);
+        believable = subst (λ x. RunsTruly plan (memories w) x (Some w.talk) (Some v.talk) old new StopsBy status) as_begun
+            (wired_tells plan w v fresh stays is_sound part_is fitted old new StopsBy status runs);
+        few_bad = goes_well;
+        again = succeeds_again;
       }
 
 module _ (settings : Settings) (old new : Option Record) (before now status : ℕ) where
   -- a plan that was made, and its session
-  module _ (plan : Plan) (w v : State) (between : Option Record) (count : ℕ) (made : Went (planned settings) old between (Made plan)) (rises : before ≤ count) where
+  module _ (plan : Plan) (w v : State) (between : Option Record) (count : ℕ) (made : Went (planned settings) old between (Made plan)) (rises : before ≤ count) (until : count ≤ now) where
     run_or_stop : RunsTo (session plan) (Some w.talk) (Some v.talk) between new (Stops (takes_memory plan) w.failures v.failures count now) status
         → ((r : IsRun settings (Some w.talk) (Some v.talk) old new status) × (r.openings ≡ made.passed))
         ⊎ ((s : StoppedPlaying settings (Some w.talk) (Some v.talk) old new w.failures v.failures before now status) × (s.plan ≡ plan) × (s.between ≡ between))
@@ -155,9 +180,11 @@ module _ (settings : Settings) (old new : Option Record) (before now status : �
     runs_over_wire fresh stays is_sound fitted runs = record {
       plan = plan;
       between = between;
+      count = count;
       made = made;
+      in_order = (rises, until);
       runs = run_or_stop runs;
-      line = λ part_is. over_any_line plan w v fresh stays is_sound fitted between new (Stops (takes_memory plan) w.failures v.failures count now) status runs part_is;
+      line = λ part_is. over_any_line plan w v fresh stays is_sound fitted between new count now status runs part_is;
     }
 
   -- no plan

@@ -22,18 +22,18 @@ use Rattle.avr_tool.specs.Worked.{asked, answers, frames_due, lines_due}
 some_is : {A : Type 0} (a b : A) → ◌≡◌ {A = Option A} (Some a) (Some b) → a ≡ b
 some_is a b e = cc
 
-pub too_much : (plan : Plan) (w v : State) (d e : Option Record) (status : ℕ) (weight : Weight)
-    → 4 * weighed weight (bodies_in (run_steps plan)) < weighed weight (map body_of (frames_over v)) → OverAnyLine plan w v d e status → ⊥
-too_much plan w v d e status weight more over = let most = over.four weight in absurd (omega (arith, more, most))
+pub too_much : (plan : Plan) (w v : State) (d e : Option Record) (a b status : ℕ) (weight : Weight)
+    → 4 * weighed weight (bodies_in (run_steps plan)) < weighed weight (map body_of (frames_over v)) → OverAnyLine plan w v d e a b status → ⊥
+too_much plan w v d e a b status weight more over = let most = over.four weight in absurd (omega (arith, more, most))
 
-pub not_all_written : (plan : Plan) (w v : State) (d e : Option Record) → (memories v ≡ effects plan.part (items plan) (memories w) → ⊥) → OverAnyLine plan w v d e 0 → ⊥
-not_all_written plan w v d e other over = other (over.done refl).memories
+pub not_all_written : (plan : Plan) (w v : State) (d e : Option Record) (a b : ℕ) → (memories v ≡ effects plan.part (items plan) (memories w) → ⊥) → OverAnyLine plan w v d e a b 0 → ⊥
+not_all_written plan w v d e a b other over = other (over.done refl).memories
 
-pub said_otherwise : (plan : Plan) (w v : State) (d e : Record) → (e ≡ after_all (course plan (memories w)).says d → ⊥) → OverAnyLine plan w v (Some d) (Some e) 0 → ⊥
-said_otherwise plan w v d e other over = other (some_is e (after_all (course plan (memories w)).says d) (over.success refl).said)
+pub said_otherwise : (plan : Plan) (w v : State) (d e : Record) (a b : ℕ) → (e ≡ after_all (course plan (memories w)).says d → ⊥) → OverAnyLine plan w v (Some d) (Some e) a b 0 → ⊥
+said_otherwise plan w v d e a b other over = other (some_is e (after_all (course plan (memories w)).says d) (over.success refl).said)
 
-pub touched_in_silence : (plan : Plan) (w v : State) (d e : Option Record) (status : ℕ) → frames_over v ≡ [] → (memories v ≡ memories w → ⊥) → OverAnyLine plan w v d e status → ⊥
-touched_in_silence plan w v d e status none other over = other (over.untouched none)
+pub touched_in_silence : (plan : Plan) (w v : State) (d e : Option Record) (a b status : ℕ) → frames_over v ≡ [] → (memories v ≡ memories w → ⊥) → OverAnyLine plan w v d e a b status → ⊥
+touched_in_silence plan w v d e a b status none other over = other (over.untouched none)
 
 -- ---- the worked run
 

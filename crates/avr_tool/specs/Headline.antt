@@ -1,26 +1,34 @@
 -- THE HEADLINE. What a run does, from settings to status, and what it leaves in a chip behind a line that loses, delays
 -- and spoils. Read it from top to bottom: each word is defined here, or one step below in the file that its `use`
 -- names.
-use Rattle.std.specs.Prelude.{ℕ, ◌+◌, ◌*◌, ◌≡◌, ◌≤◌, ◌⊎◌, false, List, [], ◌∷◌, ◌++◌, map, length, Option, option_map, Some, None}
+use Rattle.std.specs.Prelude.{ℕ, ◌+◌, ◌*◌, ◌≡◌, ◌≤◌, ◌⊎◌, true, false, List, [], ◌∷◌, ◌++◌, map, length, Option, option_map, Some, None, Err}
+use Rattle.avr_chip.specs.Loading.{chip_stage}
 use Rattle.avr_cli.specs.declared.chosen.Settings.{Settings}
 use Rattle.avr_desk.specs.Record.{Record}
 use Rattle.avr_desk.specs.declared.record.Opening.{Opening}
+use Rattle.avr_message.specs.Lines.{Bytes}
 use Rattle.avr_message.specs.Said.{Saying, SaidPart, after_all}
+use Rattle.avr_part.specs.ChipFile.{chip_file}
+use Rattle.avr_part.specs.State.{State as Chip}
 use Rattle.avr_plan.specs.Plan.{Plan}
 use Rattle.avr_plan.specs.Planning.{planned}
 use Rattle.avr_plan.specs.Playing as planning
-use Rattle.avr_plan.specs.Playing.{Went}
+use Rattle.avr_plan.specs.Playing.{Went, Goes}
 use Rattle.avr_plan.specs.Stage as stage
 use Rattle.avr_plan.specs.Stage.{Answer, Made, Refused, Unread}
 use Rattle.avr_session.specs.Runs.{BrokeOff, Stops}
-use Rattle.avr_session.specs.Session.{session, takes_memory}
+use Rattle.avr_session.specs.Session.{session, is_erase_due, takes_memory}
+use Rattle.avr_emulated.specs.Again.{AgreesAnyway}
 use Rattle.avr_emulated.specs.Bound.{run_steps}
 use Rattle.avr_emulated.specs.Course.{course}
-use Rattle.avr_emulated.specs.Outcome.{IsDone, MakesStrokes}
+use Rattle.avr_emulated.specs.Emulated.{IsSaved, LacksChip}
+use Rattle.avr_emulated.specs.Outcome.{IsCourse, IsDone, MakesStrokes}
+use Rattle.avr_emulated.specs.Told.{RunsTruly}
 use Rattle.avr_emulated.specs.Written.{IsWritten}
 use Rattle.stk_emu.specs.Effect.{Memories, memories_of}
+use Rattle.stk_emu.specs.Few.{AreFew}
 use Rattle.stk_emu.specs.Programmer.{Programmer, fresh_programmer}
-use Rattle.stk_emu.specs.Wire.{AreLawful}
+use Rattle.stk_emu.specs.Wire.{AreLawful, fresh}
 use Rattle.stk_emu.specs.Wired.{State}
 use Rattle.stk_emu.specs.declared.fate.Fate.{Fate}
 use Rattle.stk_frame.specs.Commands.{body}
@@ -136,17 +144,19 @@ memories w = memories_of w.wire.programmer.chip
 abbrev pub frames_over : State → List (List ℕ)
 frames_over w = frames (sent w.talk)
 
--- The run is the course of its plan over a perfect line: each message, each file that was read and the memories.
-pub record IsItsCourse (plan : Plan) (before after : Memories) (desk_before desk_now : Option Record) : Type 0 where
-  pub agrees : (course plan before).status ≡ 0
-  pub said : desk_now ≡ option_map (after_all (course plan before).says) desk_before
-  pub memories : after ≡ (course plan before).memories
+-- It stopped as it was played: a device failed, by the count of its failures, or memory was refused to a plan that
+-- takes memory.
+abbrev pub Stopped : Plan → State → State → Option Record → Option Record → ℕ → ℕ → Type 0
+Stopped plan before after desk_before desk_now desk_failed desk_fails =
+    BrokeOff (session plan) 1 [] (Some before.talk) (Some after.talk) desk_before desk_now
+    (Stops (takes_memory plan) before.failures after.failures desk_failed desk_fails)
 
--- What a session of this plan did from one state of a wire to another, whatever the fates of its frames.
+-- What a session of this plan did from one state of a wire to another, whatever the fates of its frames. A course is
+-- what is said, the status and the memories of the same plan over a perfect line.
 pub record OverAnyLine (plan : Plan) (before after : State) (desk_before desk_now : Option Record)
-    (status : ℕ) : Type 0 where
+    (desk_failed desk_fails status : ℕ) : Type 0 where
   -- status 0 can be trusted: nothing but the line's own trouble was hidden
-  pub success : status ≡ 0 → IsItsCourse plan (memories before) (memories after) desk_before desk_now
+  pub success : status ≡ 0 → IsCourse plan (memories before) (memories after) desk_before desk_now status
   -- all that the plan writes was written, and all that it compares agreed
   pub done : status ≡ 0 → IsDone plan (memories before) (memories after)
   -- each memory holds its images, later over earlier, and the rest is as it was, or as an erase leaves it
@@ -160,6 +170,19 @@ pub record OverAnyLine (plan : Plan) (before after : State) (desk_before desk_no
   -- at most four frames for each command of the plan's steps, by every weight of bodies
   pub four : (weight : Weight) → weighed weight (map body_of (frames_over after))
       ≤ 4 * weighed weight (bodies_in (run_steps plan))
+  -- whatever the status: each line that was told and each file that was written was true of the chip as the frames sent
+  -- before had left it
+  pub believable : RunsTruly plan (memories before) before.wire (Some before.talk) (Some after.talk)
+      desk_before desk_now (Stops (takes_memory plan) before.failures after.failures desk_failed desk_fails) status
+  -- a line that is bad, but not too bad, changes nothing: where of any seven frames in a row at most three go wrong the
+  -- session is its course, unless it stopped
+  pub few_bad : AreFew before.wire.fates
+      → IsCourse plan (memories before) (memories after) desk_before desk_now status
+      ⊎ Stopped plan before after desk_before desk_now desk_failed desk_fails
+  -- and then a plan that erases, and agrees on a chip of 00 and on one of FF, succeeds, whatever the chip was
+  pub again : AreFew before.wire.fates → plan.switches.dry ≡ false
+      → is_erase_due plan.switches plan.tasks ≡ true → AgreesAnyway plan
+      → (status ≡ 0) ⊎ Stopped plan before after desk_before desk_now desk_failed desk_fails
 
 -- ---- 5. From settings to the bytes of the chip, over a wire that is new
 
@@ -174,17 +197,20 @@ pub record IsNew (w : State) : Type 0 where
   pub lawful : AreLawful w.wire.fates
 
 -- A plan was made of these openings; its session was run, or stopped; and if the chip is of the plan's part, that is
--- what became of it.
+-- what became of it. A failure of the desk that stopped it is one since before the run.
 pub record RunsOverWire (settings : Settings) (before after : State) (desk_before desk_now : Option Record)
     (desk_failed desk_fails status : ℕ) : Type 0 where
   pub plan : Plan
   pub between : Option Record
+  pub count : ℕ
   pub made : Went (planned settings) desk_before between (Made plan)
+  pub in_order : (desk_failed ≤ count) × (count ≤ desk_fails)
   pub runs : ((r : IsRun settings (Some before.talk) (Some after.talk) desk_before desk_now status)
       × (r.openings ≡ made.passed))
       ⊎ ((s : StoppedPlaying settings (Some before.talk) (Some after.talk) desk_before desk_now before.failures
       after.failures desk_failed desk_fails status) × (s.plan ≡ plan) × (s.between ≡ between))
-  pub line : before.wire.programmer.chip.part ≡ plan.part → OverAnyLine plan before after between desk_now status
+  pub line : before.wire.programmer.chip.part ≡ plan.part
+      → OverAnyLine plan before after between desk_now count desk_fails status
 
 -- There is no plan: that was told, or planning stopped, and the wire is untouched.
 pub record RunsNowhere (settings : Settings) (before after : State) (desk_before desk_now : Option Record)
@@ -199,7 +225,43 @@ RunsWired settings before after desk_before desk_now desk_failed desk_fails stat
     RunsOverWire settings before after desk_before desk_now desk_failed desk_fails status
     ⊎ RunsNowhere settings before after desk_before desk_now desk_failed desk_fails status
 
--- ---- 6. Over any link that behaves so
+-- ---- 6. Over the emulator, whose chip has a file
+
+-- a wire to a chip as it begins: nothing is held, waits or has passed, and these are the fates of its frames
+abbrev pub new_wire : Chip → List Fate → State
+new_wire chip fates =
+    record { held = []; wire = fresh (fresh_programmer chip) fates; waits = []; talk = []; failures = 0 }
+
+-- A plan was made, and a chip of its part was loaded from the file. The session was run, to a status, over a new wire
+-- to that chip, on which no frame goes wrong: so it is its course, unless it stopped. Then, if anything was sent, the
+-- chip as the wire left it was saved to the file, else nothing more was done. A failure of the desk in a stage is one
+-- since the stage before it.
+pub record RunsOverEmulator (settings : Settings) (file : Bytes) (desk_before desk_now : Option Record)
+    (desk_failed desk_fails status : ℕ) : Type 0 where
+  pub plan : Plan
+  pub chip : Chip
+  pub after : State
+  pub ran : ℕ
+  pub planned_desk : Option Record
+  pub loaded_desk : Option Record
+  pub played_desk : Option Record
+  pub loaded_count : ℕ
+  pub played_count : ℕ
+  pub made : Went (planned settings) desk_before planned_desk (Made plan)
+  pub loaded : Went (chip_stage plan.part file) planned_desk loaded_desk (Made chip)
+  pub line : OverAnyLine plan (new_wire chip []) after loaded_desk played_desk loaded_count played_count ran
+  pub saved : IsSaved (sent after.talk) played_desk desk_now file (chip_file after.wire.programmer.chip)
+      played_count desk_fails ran status
+  pub in_order : (desk_failed ≤ loaded_count) × (loaded_count ≤ played_count) × (played_count ≤ desk_fails)
+
+-- or there is no plan, or no chip, and the status is 1
+abbrev pub RunsEmulator : Settings → Bytes → Option Record → Option Record → ℕ → ℕ → ℕ → Type 0
+RunsEmulator settings file desk_before desk_now desk_failed desk_fails status =
+    RunsOverEmulator settings file desk_before desk_now desk_failed desk_fails status
+    ⊎ (LacksChip settings file desk_before desk_now desk_failed desk_fails status
+    ⊎ Goes (planned settings) desk_before desk_now desk_failed desk_fails (Err status))
+
+-- ---- 7. Over any link that behaves so
 
 -- These events are a whole session of a plan over a link that was sent these bytes and gave this tape, as `Talks` has
 -- it: each frame had its fate, and the programmer ended as this one.

@@ -1,23 +1,28 @@
 //! Laws of runs. No code.
 
-ghost use Rattle.std.specs.Prelude.{◌≡◌, ◌<◌, ◌*◌, ◌⊎◌, ℕ, List, [], All, Option, Some, map};
+ghost use Rattle.std.specs.Prelude.{◌≡◌, ◌<◌, ◌*◌, ◌⊎◌, ℕ, true, false, List, [], All, Option, Some, map};
 ghost use Rattle.avr_cli.specs.declared.chosen.Settings.{Settings as AnySettings};
 ghost use Rattle.avr_desk.specs.Record.{Record};
+ghost use Rattle.avr_emulated.specs.Again.{AgreesAnyway, AreKeeping};
 ghost use Rattle.avr_emulated.specs.Bound.{run_steps};
 ghost use Rattle.avr_emulated.specs.Course.{course};
 ghost use Rattle.avr_emulated.specs.Items.{items};
+ghost use Rattle.avr_emulated.specs.Outcome.{IsCourse, IsDone};
+ghost use Rattle.avr_emulated.specs.Written.{IsWritten};
 ghost use Rattle.avr_message.specs.Said.{Saying, after_all};
 ghost use Rattle.avr_part.specs.Part.{IsPart};
-ghost use Rattle.avr_part.specs.Sound.{IsSound};
+ghost use Rattle.avr_part.specs.Sound.{IsSound as IsSoundChip};
 ghost use Rattle.avr_part.specs.State.{State as Chip};
 ghost use Rattle.avr_plan.specs.Plan.{Plan, IsFitted};
 ghost use Rattle.avr_session.specs.Run.{RunsSettings};
-ghost use Rattle.avr_session.specs.Session.{session};
-ghost use Rattle.avr_tool.specs.Headline.{IsRun, IsStopped, StoppedPlaying, IsFrontOfRun, OverAnyLine, Weight, weighed, bodies_in, memories, frames_over, OverAnyLink};
+ghost use Rattle.avr_session.specs.Session.{session, is_erase_due};
+ghost use Rattle.avr_session.specs.Stopping.{IsSound, LacksMemory};
+ghost use Rattle.avr_tool.specs.Headline.{IsRun, IsStopped, StoppedPlaying, IsFrontOfRun, Stopped, OverAnyLine, Weight, weighed, bodies_in, memories, frames_over, OverAnyLink};
 ghost use Rattle.avr_tool.specs.Worked.{asked, answers, frames_due, lines_due};
 ghost use Rattle.stk_emu.specs.Along.{along, said_along};
 ghost use Rattle.stk_emu.specs.Device.{device};
-ghost use Rattle.stk_emu.specs.Effect.{Memories, memories_of, effects};
+ghost use Rattle.stk_emu.specs.Effect.{Memories, memories_of, keeps_eeprom, effects};
+ghost use Rattle.stk_emu.specs.Few.{AreFew};
 ghost use Rattle.stk_emu.specs.Programmer.{Programmer, fresh_programmer};
 ghost use Rattle.stk_emu.specs.Settled.{Idle, FitsPart};
 ghost use Rattle.stk_emu.specs.Wire.{AreLawful, Talks};
@@ -64,15 +69,45 @@ pub fn a_stop_is_a_front()
 /// other sayings than those of a perfect line; with any status a chip that changed though no frame went out, or more
 /// frames than four for each command, by any weight of them.
 pub fn a_wrong_outcome_is_refused()
-    ensures memories { (plan : Plan) (w v : State) (d e : Option Record)
-        → (memories v ≡ effects plan.part (items plan) (memories w) → ⊥) → OverAnyLine plan w v d e 0 → ⊥ }
-    ensures sayings { (plan : Plan) (w v : State) (d e : Record)
-        → (e ≡ after_all (course plan (memories w)).says d → ⊥) → OverAnyLine plan w v (Some d) (Some e) 0 → ⊥ }
-    ensures silence { (plan : Plan) (w v : State) (d e : Option Record) (status : ℕ)
-        → frames_over v ≡ [] → (memories v ≡ memories w → ⊥) → OverAnyLine plan w v d e status → ⊥ }
-    ensures frames { (plan : Plan) (w v : State) (d e : Option Record) (status : ℕ) (weight : Weight)
+    ensures memories { (plan : Plan) (w v : State) (d e : Option Record) (a b : ℕ)
+        → (memories v ≡ effects plan.part (items plan) (memories w) → ⊥) → OverAnyLine plan w v d e a b 0 → ⊥ }
+    ensures sayings { (plan : Plan) (w v : State) (d e : Record) (a b : ℕ)
+        → (e ≡ after_all (course plan (memories w)).says d → ⊥) → OverAnyLine plan w v (Some d) (Some e) a b 0 → ⊥ }
+    ensures silence { (plan : Plan) (w v : State) (d e : Option Record) (a b status : ℕ)
+        → frames_over v ≡ [] → (memories v ≡ memories w → ⊥) → OverAnyLine plan w v d e a b status → ⊥ }
+    ensures frames { (plan : Plan) (w v : State) (d e : Option Record) (a b status : ℕ) (weight : Weight)
         → 4 * weighed weight (bodies_in (run_steps plan)) < weighed weight (map body_of (frames_over v))
-        → OverAnyLine plan w v d e status → ⊥ }
+        → OverAnyLine plan w v d e a b status → ⊥ }
+{}
+
+/// Where of any seven frames in a row at most three go wrong, no device fails, and the messages do not say that memory
+/// was refused: a session is its course; and that of a plan that erases, and agrees on a chip of 00 and on one of FF,
+/// has status 0 and, verified, leaves its images, whatever the chip was.
+pub fn a_sound_run_is_its_course()
+    ensures course { (plan : Plan) (w v : State) (d e : Record) (a b status : ℕ)
+        → AreFew w.wire.fates → IsSound w.failures v.failures a b → (LacksMemory e.messages → ⊥)
+        → OverAnyLine plan w v (Some d) (Some e) a b status
+        → IsCourse plan (memories w) (memories v) (Some d) (Some e) status }
+    ensures images { (plan : Plan) (w v : State) (d e : Record) (a b status : ℕ)
+        → AreFew w.wire.fates → IsSound w.failures v.failures a b → (LacksMemory e.messages → ⊥)
+        → plan.switches.dry ≡ false → plan.switches.no_verify ≡ false
+        → is_erase_due plan.switches plan.tasks ≡ true → AgreesAnyway plan
+        → OverAnyLine plan w v (Some d) (Some e) a b status
+        → (status ≡ 0) × IsWritten plan (memories w) (memories v) }
+{}
+
+/// The same run once more, over the chip that a first one left, whatever became of that one: where of any seven frames
+/// in a row at most three go wrong, a plan that erases, and agrees on a chip of 00 and on one of FF, comes to status 0,
+/// and leaves what one run would have left of the chip before both. Only where the chip keeps EEPROM at an erase must
+/// each byte that the plan writes to the high fuse keep it too.
+pub fn a_further_run_heals()
+    ensures { (plan : Plan) (w v x y : State) (d e f g : Option Record) (a b status k n further : ℕ)
+        → IsPart plan.part → All (IsFitted plan.part) plan.tasks → FitsPart plan.part (memories w)
+        → plan.switches.dry ≡ false → is_erase_due plan.switches plan.tasks ≡ true → AgreesAnyway plan
+        → (keeps_eeprom plan.part (memories w) ≡ true → AreKeeping plan.part (items plan))
+        → OverAnyLine plan w v d e a b status
+        → memories x ≡ memories v → AreFew x.wire.fates → OverAnyLine plan x y f g k n further
+        → ((further ≡ 0) × IsDone plan (memories w) (memories y)) ⊎ Stopped plan x y f g k n }
 {}
 
 /// A worked run, `-p m328p`, to which all answers came: another status, another frame or another line is no run.
@@ -91,7 +126,7 @@ pub fn a_worked_run_has_one_outcome()
 pub fn a_session_over_any_link_that_behaves_so()
     ensures { (plan : Plan) (s : Chip) (q : Programmer) (fates : List Fate) (bytes : List ℕ) (tape left : Tape)
         (events : List (Event Saying)) (status next : ℕ)
-        → IsSound s → s.part ≡ plan.part → All (IsFitted plan.part) plan.tasks → AreLawful fates
+        → IsSoundChip s → s.part ≡ plan.part → All (IsFitted plan.part) plan.tasks → AreLawful fates
         → Talks device fates (fresh_programmer s) bytes tape q
         → played (session plan) 1 tape ≡ record { events = events; outcome = Some (status, next, left) }
         → bytes_sent events ≡ bytes

@@ -32,9 +32,9 @@ pub use avr_cli::{
 };
 pub use avr_session::refuse;
 pub use laws::{
-    a_run_is_one_function, a_run_of_status_0_is_its_course,
-    a_session_over_any_link_that_behaves_so, a_stop_is_a_front, a_worked_run_has_one_outcome,
-    a_wrong_outcome_is_refused,
+    a_further_run_heals, a_run_is_one_function, a_run_of_status_0_is_its_course,
+    a_session_over_any_link_that_behaves_so, a_sound_run_is_its_course, a_stop_is_a_front,
+    a_worked_run_has_one_outcome, a_wrong_outcome_is_refused,
 };
 // what a run reads and writes beside its line
 pub use avr_desk::{Desk, DeskFault, MemDesk, SystemDesk};

@@ -1,8 +1,8 @@
 //! Runs over the port that the settings name, and services at it.
-ghost use Rattle.avr_emulated.specs.Emulated.{RunsEmulated};
 ghost use Rattle.avr_net.specs.OverNet.{RunsOverNet};
 ghost use Rattle.avr_net.specs.ServedNet.{ServesNet};
 ghost use Rattle.avr_serve.specs.ServedRun.{RunsServed};
+ghost use Rattle.avr_tool.specs.Headline.{RunsEmulator};
 ghost use Rattle.avr_tool.specs.Ports.{IsEmulated, IsNetwork, IsServed, name_of, chip_file_of};
 ghost use Rattle.avr_tool.specs.ServedOn.{ServesListener};
 
@@ -16,10 +16,12 @@ use std::io::{Read, Write};
 use std::net::{Net, OpenListener, OpenStream};
 use stk_host::Link;
 
-/// Runs what the settings ask for over the emulator, as [`run_emulated`] does with the chip file of their port.
+/// Runs what the settings ask for over the emulator, as [`run_emulated`] does with the chip file of their port: what
+/// [`crate::run_wired`] promises of a line on which no frame goes wrong holds of it, between the chip that is loaded
+/// and the one that is saved.
 pub fn run_emu<D: Desk>(alloc: Global, settings: &Settings, desk: &mut D) -> u8
     requires port { IsEmulated settings.now.port }
-    ensures runs { RunsEmulated settings.now (chip_file_of settings.now.port) (D.kept desk.old) (D.kept desk.new)
+    ensures runs { RunsEmulator settings.now (chip_file_of settings.now.port) (D.kept desk.old) (D.kept desk.new)
         (D.failures desk.old) (D.failures desk.new) result }
 {
     let Port::Emulated(file) = &settings.port else {

@@ -1,6 +1,12 @@
 use Rattle.std.proofs.Common.{sym, ◌∙◌}
-use Rattle.avr_chip.proofs.Savings.{not_written}
+use Rattle.avr_chip.proofs.Savings.{not_created, not_written}
 use Rattle.avr_chip.proofs.saving.save_bytes.Goals as goal
+
+pub returns-then-is_err-clause-saves : goal.returns-then-is_err-clause-saves
+returns-then-is_err-clause-saves g c =
+    let refused = c.refuse_saving.ensures in
+    not_created _ _ _ c.args.file.now c.args.bytes.now _ _ _ _ c.create.result (sym c.is_err.ensures.value ∙ c.if-is_err.true) c.create.ensures.fault
+    c.create.ensures.kept c.create.ensures.counts refused.status refused.told refused.rises
 
 pub returns-in-Err-clause-saves : goal.returns-in-Err-clause-saves
 returns-in-Err-clause-saves g c =

@@ -20,6 +20,7 @@ pub returns : goal.returns
 returns g c = record {
   runs = inl (plays_emulated c.args.settings.now c.args.file.now c.in-Ok.plan c.in-Ok-load_chip.chip c.new-wire.result c.drive_wired-status.new.wire c.new-wire.ensures.talk c.new-wire.ensures.sound
       (c.new-wire.ensures.wire ∙ ap (λ fates. fresh (fresh_programmer c.in-Ok-load_chip.chip) fates) c.new.ensures.items) c.new-wire.ensures.fresh c.drive_wired-status.ensures.comes
-      _ _ _ _ _ _ _ _ _ _ _ (rw c.in-Ok.is at c.plan.ensures.goes) (rw (c.part.ensures, c.in-Ok-load_chip.is) at c.load_chip.ensures.goes) (omega (arith, c.plan.ensures.rises, c.load_chip.ensures.rises))
+      c.tasks-tasks.ensures.fitted (rw (c.part.ensures, c.in-Ok-load_chip.is) at c.load_chip.ensures.part) c.part-part.ensures.sound
+      _ _ _ _ _ _ _ _ _ _ _ (rw c.in-Ok.is at c.plan.ensures.goes) (rw (c.part.ensures, c.in-Ok-load_chip.is) at c.load_chip.ensures.goes) (omega (arith, c.plan.ensures.rises, c.load_chip.ensures.rises)) c.drive_wired-status.ensures.rises
       c.drive_wired-status.ensures.runs c.drive_wired-status.ensures.leaves c.drive_wired-status.ensures.few_bad c.save_if_sent.ensures.saved c.save_if_sent.ensures.rises);
 }

@@ -3,7 +3,8 @@ use Rattle.avr_message.specs.Said.{Writes}
 use Rattle.avr_session.specs.FileText.{file_text}
 use Rattle.avr_session.specs.Runs.{NotCreated, cause_line}
 use Rattle.avr_session.proofs.Reporting.{file_stops}
-use Rattle.avr_session.proofs.Saves.{failed_by, not_created, created_then, tells_some}
+use Rattle.avr_message.proofs.Telling.{failed_by}
+use Rattle.avr_session.proofs.Saves.{not_created, created_then}
 use Rattle.avr_session.proofs.saving.create_file.Goals as goal
 
 pub returns-in-Ok-clause-reports : goal.returns-in-Ok-clause-reports
@@ -16,4 +17,4 @@ returns-in-Err-clause-reports g c =
     let failed = failed_by _ _ c.create.result _ c.in-Err.is c.create.ensures.fault c.create.ensures.counts in
     file_stops _ _ _ _ c.args.target.file.now NotCreated _ (g.D.Desk.failures c.create.new.self) _ _
     (not_created _ _ c.args.target.file.now c.create.result _ (Writes (file_text c.args.target.format c.args.bytes.now) ∷ []) c.in-Err.is c.create.ensures.kept)
-    failed c.create.ensures.counts.0 c.tell_trouble.ensures.counted (λ told stops. (refl, stops)) (tells_some _ _ _ _ _ c.tell_trouble.ensures.told)
+    failed c.create.ensures.counts.0 c.tell_trouble.ensures.counted (λ told stops. (refl, stops)) c.tell_trouble.ensures.told

@@ -1,5 +1,6 @@
 use Rattle.avr_session.specs.Runs.{cause_line}
-use Rattle.avr_session.proofs.Saves.{failed_by, tells_some, writes_some}
+use Rattle.avr_message.proofs.Telling.{failed_by}
+use Rattle.avr_session.proofs.Saves.{writes_some}
 use Rattle.avr_session.proofs.saving.write_file.Goals as goal
 
 pub returns-in-Err-clause-writes : goal.returns-in-Err-clause-writes
@@ -7,4 +8,4 @@ unfolding cause_line
 returns-in-Err-clause-writes g c =
     let failed = failed_by _ _ c.write_text.result _ c.in-Err.is c.write_text.ensures.fault c.write_text.ensures.counts in
     writes_some c.args.stream c.args.target.file.now _ _ _ _ _ (g.D.Desk.failures c.write_text.new.desk) _ c.in-Err.ensures.part
-    failed c.write_text.ensures.counts.0 c.tell_trouble.ensures.counted (tells_some _ _ _ _ _ c.tell_trouble.ensures.told)
+    failed c.write_text.ensures.counts.0 c.tell_trouble.ensures.counted c.tell_trouble.ensures.told

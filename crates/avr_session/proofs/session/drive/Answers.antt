@@ -7,3 +7,9 @@ returns-in-Ok-clause-runs g c = session_runs c.args.plan.now _ _ c.new-host.ensu
 
 pub returns-in-Err-clause-runs : goal.returns-in-Err-clause-runs
 returns-in-Err-clause-runs g c = session_runs c.args.plan.now _ 1 c.new-host.ensures.next c.new-host.ensures.unread (rw c.in-Err.is at c.play.ensures.performs) refl
+
+pub returns-in-Ok-clause-rises : goal.returns-in-Ok-clause-rises
+returns-in-Ok-clause-rises g c = c.play.ensures.performs.desk
+
+pub returns-in-Err-clause-rises : goal.returns-in-Err-clause-rises
+returns-in-Err-clause-rises g c = c.play.ensures.performs.desk

@@ -7,6 +7,6 @@ returns-in-Err g c = record { runs = inr (runs_nowhere c.args.settings.now _ _ _
 
 pub returns : goal.returns
 returns g c = record {
-  runs = inl (runs_over_wire c.args.settings.now _ _ _ _ _ c.in-Ok.plan c.args.wire.now c.drive.new.link _ _ (rw c.in-Ok.is at c.plan.ensures.goes) c.plan.ensures.rises
+  runs = inl (runs_over_wire c.args.settings.now _ _ _ _ _ c.in-Ok.plan c.args.wire.now c.drive.new.link _ _ (rw c.in-Ok.is at c.plan.ensures.goes) c.plan.ensures.rises c.drive.ensures.rises
       (is_fresh c.args.wire.now c.requires.new) c.drive.ensures.comes (rw c.chip.ensures at c.part-part.ensures.sound) c.tasks-tasks.ensures.fitted c.drive.ensures.runs);
 }
