@@ -1,5 +1,6 @@
 #!/usr/bin/env bash
-# Puts the built program, its page of manual and its completions for bash under a folder, or takes them away again.
+# Puts the built program, its page of manual and its completions for bash under a folder, and beside them the library for
+# C with its header, where there are `rt` and `ar` to make it; or takes them all away again.
 #
 #     ./install.sh [PREFIX]             PREFIX is /usr/local where it isn't given
 #     ./install.sh --remove [PREFIX]
@@ -14,10 +15,12 @@ prefix=${1:-/usr/local}
 program=$prefix/bin/avrstk
 manual=$prefix/share/man/man1/avrstk.1
 completions=$prefix/share/bash-completion/completions/avrstk
+archive=$prefix/lib/libavr_records.a
+header=$prefix/include/avr_records.h
 
 if [ -n "$remove" ]; then
-    rm -f "$program" "$manual" "$completions"
-    echo "removed $program, $manual and $completions"
+    rm -f "$program" "$manual" "$completions" "$archive" "$header"
+    echo "removed $program, $manual, $completions, $archive and $header"
     exit
 fi
 # builds the program where there is none, or the sources have changed
@@ -26,3 +29,11 @@ install -D -m 755 "$top/crates/avrstk/out/avrstk" "$program"
 install -D -m 644 "$top/docs/avrstk.1" "$manual"
 install -D -m 644 "$top/completions/avrstk.bash" "$completions"
 echo "installed $program, $manual and $completions"
+if ! command -v rt >/dev/null || ! command -v ar >/dev/null; then
+    echo "left out $archive and $header: they need rt of Rattle's kit, and ar"
+    exit
+fi
+"$top/examples/c/build.sh" "$top/out/c" >/dev/null
+install -D -m 644 "$top/out/c/libavr_records.a" "$archive"
+install -D -m 644 "$top/include/avr_records.h" "$header"
+echo "installed $archive and $header"

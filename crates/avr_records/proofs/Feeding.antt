@@ -11,7 +11,8 @@ use Rattle.avr_records.specs.Lines.{lines, is_line_end}
 use Rattle.avr_records.specs.Progress.{Progress, fresh, Held, Done, Leaves, size_of}
 use Rattle.avr_records.specs.Reader.{kept, Reads}
 use Rattle.avr_records.specs.Reading.{Said, says, up_to_end, together, read}
-use Rattle.avr_records.specs.Record.{Nothing, longest}
+use Rattle.avr_records.specs.Meaning.{Nothing}
+use Rattle.avr_records.specs.Record.{longest}
 use Rattle.avr_records.specs.Steps.{grown, kept_says, line_step, step, counted, ending_of, HasBase, Begins}
 use Rattle.avr_records.specs.declared.kind.Kind.{Kind}
 use Rattle.avr_records.specs.declared.kind.Kind.TheVariants.{Ihex, Srec}
@@ -39,6 +40,10 @@ closed-front [] first more = refl
 closed-front (line ∷ []) first more = refl
 closed-front (line ∷ next ∷ front) first more = ap (λ (zs : List (List ℕ)). line ∷ zs) (closed-front (next ∷ front) first more)
 
+pub but_last : (first : List ℕ) (more : List (List ℕ)) → (last : List ℕ) × (first ∷ more ≡ all_but_last (first ∷ more) ++ last ∷ [])
+but_last first [] = (first, refl)
+but_last first (next ∷ more) = let rest = but_last next more in (rest.0, ap (λ (ls : List (List ℕ)). first ∷ ls) rest.1)
+
 pub map-append : {A B : Type 0} (f : A → B) (xs ys : List A) → map f (xs ++ ys) ≡ map f xs ++ map f ys
 map-append f [] ys = refl
 map-append {A} {B} f (x ∷ xs) ys = ap (λ (zs : List B). f x ∷ zs) (map-append f xs ys)
@@ -56,6 +61,12 @@ grown-kept line more =
       | inr f ↦ rw f refl
     ]
 
+kept-none : (line : List ℕ) → nat_lt longest (length line) ≡ true → kept line ≡ None
+kept-none line is = rw is refl
+
+kept-some : (line : List ℕ) → nat_lt longest (length line) ≡ false → kept line ≡ Some line
+kept-some line is = rw is refl
+
 says-too_long : (kind : Kind) (line : List ℕ) → nat_lt longest (length line) ≡ true → says kind line ≡ Err TooLong
 says-too_long Ihex line is = rw is refl
 says-too_long Srec line is = rw is refl
@@ -64,8 +75,8 @@ says-too_long Srec line is = rw is refl
 pub kept_says-kept : (kind : Kind) (line : List ℕ) → kept_says kind (kept line) ≡ says kind line
 kept_says-kept kind line =
     elim (cases_Bool (nat_lt longest (length line))) [
-      | inl t ↦ rw t (sym (says-too_long kind line t))
-      | inr f ↦ rw f refl
+      | inl t ↦ ap (kept_says kind) (kept-none line t) ∙ sym (says-too_long kind line t)
+      | inr f ↦ ap (kept_says kind) (kept-some line f)
     ]
 
 -- ---- a reader
@@ -92,14 +103,22 @@ keeps kind p part text more one open' r =
     }
 
 -- nothing counts behind an end record
-pub keeps-done : (kind : Kind) (p : Progress) (part new : Option (List ℕ)) (text more : List ℕ) → lines more ≡ more ∷ [] → p.ended ≡ true
+pub keeps-done : (kind : Kind) (p : Progress) (part new : Option (List ℕ)) (text more : List ℕ) → p.ended ≡ true
     → Reads kind p part text → Reads kind p new (text ++ more)
-keeps-done kind p part new text more one ended r = record {
-  front = r.front;
-  last = r.last ++ more;
-  cut = goes-on text more r.front r.last more [] r.cut one;
-  follows = subst (Follows kind p new r.front (r.last ++ more)) (sym ended) (follows-done ended r);
-}
+keeps-done kind p part new text more ended r =
+    let some = parts-some is_line_end more in
+    let cut = but_last (r.last ++ some.0) some.1 in
+    let closed : List (List ℕ) = all_but_last ((r.last ++ some.0) ∷ some.1) in
+    let done = done-more p (map (says kind) r.front) (map (says kind) closed) (follows-done ended r) in
+    record {
+      front = r.front ++ closed;
+      last = cut.0;
+      cut =
+          goes-on text more r.front r.last some.0 some.1 r.cut some.2
+          ∙ ap (λ (zs : List (List ℕ)). r.front ++ zs) cut.1
+          ∙ sym (append-assoc r.front closed (cut.0 ∷ []));
+      follows = subst (Follows kind p new (r.front ++ closed) cut.0) (sym ended) (rw (map-append (says kind) r.front closed) done);
+    }
 
 -- the lines once the last one has ended
 ends : (text rest more : List ℕ) (front : List (List ℕ)) (last : List ℕ) → lines rest ≡ rest ∷ [] → lines text ≡ front ++ last ∷ []
@@ -333,14 +352,14 @@ carries-fault kind p part now kept piece left line more fault carries one end is
     rw (parts, ← same) (ends-bad kind now kept (text ++ carries.used) line more fault one is (carries.reads text r))
 
 pub carries-last : (kind : Kind) (p : Progress) (part : Option (List ℕ)) (now : Progress) (kept : Option (List ℕ)) (new : Progress) (next : Option (List ℕ)) (piece left : List ℕ)
-    → Carries kind p part now kept piece left → lines left ≡ left ∷ [] → new ≡ now → (now.ended ≡ false → next ≡ grown kept left)
+    → Carries kind p part now kept piece left → (now.ended ≡ false → lines left ≡ left ∷ []) → new ≡ now → (now.ended ≡ false → next ≡ grown kept left)
     → (text : List ℕ) → Reads kind p part text → Reads kind new next (text ++ piece)
 carries-last kind p part now kept new next piece left carries one is goes text r =
     let parts : text ++ piece ≡ (text ++ carries.used) ++ left =
     ap (λ (zs : List ℕ). text ++ zs) carries.cut ∙ sym (append-assoc text carries.used left) in
     rw (is, parts) (elim (cases_Bool now.ended) [
-      | inl t ↦ keeps-done kind now kept next (text ++ carries.used) left one t (carries.reads text r)
-      | inr f ↦ rw (goes f) (keeps kind now kept (text ++ carries.used) left one f (carries.reads text r))
+      | inl t ↦ keeps-done kind now kept next (text ++ carries.used) left t (carries.reads text r)
+      | inr f ↦ rw (goes f) (keeps kind now kept (text ++ carries.used) left (one f) f (carries.reads text r))
     ])
 
 -- ---- the beginning

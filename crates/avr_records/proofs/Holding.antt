@@ -8,7 +8,7 @@ use Rattle.avr_image.specs.Image.{laid, laid_over, with_byte, empty}
 use Rattle.avr_records.specs.Reading.{Said, is_end, is_data, up_to_end, in_place, first_fault, fault_in, or_later, in_line, places, placed, rebased, base_after}
 use Rattle.avr_records.specs.Closed.{fault_among}
 use Rattle.avr_records.specs.Progress.{Progress, Held, Done, Leaves, size_of}
-use Rattle.avr_records.specs.Record.{Nothing, Data, Rebase, Counted, End}
+use Rattle.avr_records.specs.Meaning.{Nothing, Data, Rebase, Counted, End}
 use Rattle.avr_records.specs.Steps.{fault_behind, with_line, counted, unless, step}
 use Rattle.avr_records.specs.declared.fault.LineFault.{LineFault}
 use Rattle.avr_records.specs.declared.fault.RecordFault.{RecordFault}

@@ -8,7 +8,7 @@ use Rattle.avr_image.specs.Runs.{onto_runs, runs, places_of}
 use Rattle.avr_image.proofs.RunWalk.{held_places, laid-image, runs-hold}
 use Rattle.hex.specs.Hex.{IsBytes}
 use Rattle.avr_image.specs.Image.{HoldsBytes}
-use Rattle.avr_records.specs.Record.{Nothing}
+use Rattle.avr_records.specs.Meaning.{Nothing}
 use Rattle.avr_records.specs.Reading.{beyond, together}
 use Rattle.avr_records.specs.Text.{rows, ihex_row_size, address_size}
 use Rattle.avr_records.specs.Sparse.{rows_of, last_held, ihex_image_text, srec_image_text, ImageReadsBack}

@@ -9,9 +9,10 @@ use Rattle.avr_image.specs.Runs.{places_of}
 use Rattle.hex.specs.Hex.{IsBytes, encode_upper, upper_digits}
 use Rattle.hex.proofs.HexLemmas.{length-encode_with}
 use Rattle.avr_records.specs.Lines.{lines}
-use Rattle.avr_records.specs.Record.{Data, Rebase, End, Nothing, ◌and_then◌}
-use Rattle.avr_records.specs.Ihex.{ihex_line, fields, checked, typed}
-use Rattle.avr_records.specs.Reading.{Said, says, together}
+use Rattle.avr_records.specs.Meaning.{Data, Rebase, End, Nothing}
+use Rattle.avr_records.specs.Record.{◌and_then◌}
+use Rattle.avr_records.specs.Ihex.{fields, checked, typed}
+use Rattle.avr_records.specs.Reading.{Said, says, meant, together}
 use Rattle.avr_records.specs.Text.{two, summed, ihex_record, ihex_row_size, upper_record, ihex_rows, ihex_text, rows}
 use Rattle.avr_records.specs.RoundTrip.{ReadsBack}
 use Rattle.avr_records.specs.declared.kind.Kind.TheVariants.{Ihex}
@@ -60,18 +61,18 @@ fields-summed type offset bytes below =
     ∙ ap (λ (o : ℕ). typed type o bytes) place
 
 says-line : (type offset : ℕ) (bytes : List ℕ) → type < 256 → offset < 65536 → length bytes ≤ 32 → IsBytes bytes
-    → says Ihex (line_of type offset bytes) ≡ typed type offset bytes
+    → says Ihex (line_of type offset bytes) ≡ meant Ihex (typed type offset bytes)
 says-line type offset bytes known below short all =
     let front : List ℕ = unsummed type offset bytes in
     let check : ℕ = (256 - sum front % 256) % 256 in
     let width : length (line_of type offset bytes) ≤ 600 =
     omega (arith, length-encode_with upper_digits (summed front), length-append bytes (check ∷ [])) in
-    says-plain ihex_line 58 (encode_upper (summed front)) (plain-line type offset bytes known short all) width
-    ∙ ap (λ (bytes : Result (List ℕ) LineFault). bytes and_then fields) (bytes_of-encode (summed front) (IsBytes-summed type offset bytes known short all))
-    ∙ fields-summed type offset bytes below
+    says-plain Ihex 58 (encode_upper (summed front)) (plain-line type offset bytes known short all) width
+    ∙ ap (λ (bytes : Result (List ℕ) LineFault). meant Ihex (bytes and_then fields)) (bytes_of-encode (summed front) (IsBytes-summed type offset bytes known short all))
+    ∙ ap (meant Ihex) (fields-summed type offset bytes below)
 
 -- a record that sets the upper half of the address
-typed-upper : (upper : ℕ) → upper < 65536 → typed 4 0 (two upper) ≡ Ok (Rebase (Linear upper))
+typed-upper : (upper : ℕ) → upper < 65536 → meant Ihex (typed 4 0 (two upper)) ≡ Ok (Rebase (Linear upper))
 typed-upper upper below = ap (λ (n : ℕ). Ok (Rebase (Linear n))) (omega arith)
 
 -- what the record says that stands before a row, if there is one

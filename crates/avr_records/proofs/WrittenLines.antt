@@ -11,8 +11,11 @@ use Rattle.hex.specs.Hex.{IsBytes, is_hex_digit, decode_of, encode_upper}
 use Rattle.hex.proofs.HexLemmas.{decode_of-encode_upper, decode_of-ok}
 use Rattle.avr_records.specs.Lines.{lines, is_line_end, is_blank, trimmed}
 use Rattle.avr_records.specs.Text.{IsLine}
-use Rattle.avr_records.specs.Record.{Record, bytes_of, decoded, line_says, longest, unless_empty}
-use Rattle.avr_records.specs.declared.fault.LineFault.{LineFault}
+use Rattle.avr_records.specs.Record.{bytes_of, decoded, longest, unless_long}
+use Rattle.avr_records.specs.Line.{bare_record}
+use Rattle.avr_records.specs.Reading.{says, bare_says, meant}
+use Rattle.avr_records.specs.declared.kind.Kind.{Kind}
+use Rattle.avr_records.specs.declared.kind.Kind.TheVariants.{Ihex, Srec}
 use Rattle.avr_records.specs.declared.fault.LineFault.TheVariants.{Digit, TooLong}
 
 -- neither a line end nor a blank
@@ -65,13 +68,19 @@ trimmed-plain line plain =
     suffix_len_is is_blank line (length line) 0 (omega arith) (λ k from below. absurd (omega arith)) (λ some. not-blank (get_or line (length line - 1) 0) (all (length line - 1) 0 (omega arith))) in
     take_all (length line - suffix_len is_blank line) line (omega (arith, none))
 
--- a line that isn't too long says what its marks and digits do
-pub says-plain : (says : List ℕ → Result Record LineFault) (c : ℕ) (cs : List ℕ) → list_all is_plain (c ∷ cs) ≡ true
-    → length (c ∷ cs) ≤ 600 → line_says says (c ∷ cs) ≡ says (c ∷ cs)
-says-plain says c cs plain short =
+says-bare : (kind : Kind) (line : List ℕ) → says kind line ≡ unless_long (bare_says kind) line
+says-bare Ihex line = refl
+says-bare Srec line = refl
+
+-- a line that isn't too long says what its record means
+pub says-plain : (kind : Kind) (c : ℕ) (cs : List ℕ) → list_all is_plain (c ∷ cs) ≡ true
+    → length (c ∷ cs) ≤ 600 → says kind (c ∷ cs) ≡ meant kind (bare_record kind (c ∷ cs))
+says-plain kind c cs plain short =
+    let bare : says kind (c ∷ cs) ≡ unless_long (bare_says kind) (c ∷ cs) = says-bare kind (c ∷ cs) in
     let test : nat_lt longest (length (c ∷ cs)) ≡ false = grind (arith, nat_tests) in
-    ap (λ (long : Bool). if long then Err TooLong else unless_empty says (trimmed (c ∷ cs))) test
-    ∙ ap (unless_empty says) (trimmed-plain (c ∷ cs) plain)
+    bare
+    ∙ ap (λ (long : Bool). if long then Err TooLong else bare_says kind (trimmed (c ∷ cs))) test
+    ∙ ap (bare_says kind) (trimmed-plain (c ∷ cs) plain)
 
 -- a written line is the first of the lines
 pub lines-plain : (line rest : List ℕ) → list_all is_plain line ≡ true → lines (line ++ 10 ∷ rest) ≡ line ∷ lines rest

@@ -13,9 +13,10 @@ use Rattle.avr_image.specs.Runs.{places_of}
 use Rattle.hex.specs.Hex.{IsBytes, encode_upper, upper_digits}
 use Rattle.hex.proofs.HexLemmas.{length-encode_with}
 use Rattle.avr_records.specs.Lines.{lines}
-use Rattle.avr_records.specs.Record.{Data, End, Nothing, number, bytes_of, ◌and_then◌}
-use Rattle.avr_records.specs.Srec.{srec_line, fields, checked, typed, data_behind}
-use Rattle.avr_records.specs.Reading.{Said, says, read, together}
+use Rattle.avr_records.specs.Meaning.{Data, End, Nothing}
+use Rattle.avr_records.specs.Record.{Record, number, bytes_of, ◌and_then◌}
+use Rattle.avr_records.specs.Srec.{fields, checked, typed, addressed}
+use Rattle.avr_records.specs.Reading.{Said, says, meant, read, together}
 use Rattle.avr_records.specs.Text.{low_bytes, counted, srec_record, srec_rows, srec_text, address_size, rows}
 use Rattle.avr_records.specs.RoundTrip.{ReadsBack, Holds, standing}
 use Rattle.avr_records.specs.declared.kind.Ending.TheVariants.{Ended}
@@ -70,16 +71,16 @@ fields-counted type body =
     sum-push body (0 + (length body + 1)) check in
     checked-good type (length body + 1) (sum ((length body + 1) ∷ (body ++ check ∷ [])) % 256) (body ++ check ∷ []) body (omega arith) (length-append body (check ∷ [])) (omega (arith, before)) (take_at body (check ∷ []) (length body + 1 - 1) (omega arith))
 
-says-line : (type : ℕ) (body : List ℕ) → type ≤ 9 → length body ≤ 36 → IsBytes body → says Srec (line_of type body) ≡ typed (48 + type) body
+says-line : (type : ℕ) (body : List ℕ) → type ≤ 9 → length body ≤ 36 → IsBytes body → says Srec (line_of type body) ≡ meant Srec (typed (48 + type) body)
 says-line type body digit short all =
     let width : length (line_of type body) ≤ 600 = omega (arith, length-encode_with upper_digits (counted body), length-append body ((255 - sum ((length body + 1) ∷ body) % 256) ∷ [])) in
     let mark : is_ascii_digit (48 + type) ≡ true = grind (arith, nat_tests) in
-    says-plain srec_line 83 ((48 + type) ∷ encode_upper (counted body)) (plain-line type body digit short all) width
-    ∙ ap (λ (good : Bool). if good then bytes_of (encode_upper (counted body)) and_then fields (48 + type) else Err Mark) mark
-    ∙ ap (λ (bytes : Result (List ℕ) LineFault). bytes and_then fields (48 + type)) (bytes_of-encode (counted body) (IsBytes-counted body short all))
-    ∙ fields-counted (48 + type) body
+    says-plain Srec 83 ((48 + type) ∷ encode_upper (counted body)) (plain-line type body digit short all) width
+    ∙ ap (λ (good : Bool). meant Srec (if good then bytes_of (encode_upper (counted body)) and_then fields (48 + type) else Err Mark)) mark
+    ∙ ap (λ (bytes : Result (List ℕ) LineFault). meant Srec (bytes and_then fields (48 + type))) (bytes_of-encode (counted body) (IsBytes-counted body short all))
+    ∙ ap (meant Srec) (fields-counted (48 + type) body)
 
-typed-data : (size : ℕ) (body : List ℕ) → 2 ≤ size → size ≤ 4 → typed (48 + (size - 1)) body ≡ data_behind size body
+typed-data : (size : ℕ) (body : List ℕ) → 2 ≤ size → size ≤ 4 → typed (48 + (size - 1)) body ≡ addressed (size - 1) size body
 typed-data size body least most =
     elim (cases_lt size 3) [
       | inl two ↦ let is : size ≡ 2 = omega arith in rw is refl
@@ -90,7 +91,7 @@ typed-data size body least most =
           ]
     ]
 
-typed-end : (size : ℕ) → 2 ≤ size → size ≤ 4 → typed (48 + (11 - size)) (low_bytes size 0) ≡ Ok End
+typed-end : (size : ℕ) → 2 ≤ size → size ≤ 4 → meant Srec (typed (48 + (11 - size)) (low_bytes size 0)) ≡ Ok End
 typed-end size least most =
     elim (cases_lt size 3) [
       | inl two ↦ let is : size ≡ 2 = omega arith in rw is refl
@@ -101,14 +102,23 @@ typed-end size least most =
           ]
     ]
 
-data_behind-low : (size addr : ℕ) (row : List ℕ) → addr < 256 ^ size → data_behind size (low_bytes size addr ++ row) ≡ Ok (Data addr row)
-data_behind-low size addr row fits =
+abbrev record_with : ℕ → ℕ → List ℕ → Result Record LineFault
+record_with type addr row = Ok (record { type = type; address = addr; bytes = row })
+
+addressed-low : (type size addr : ℕ) (row : List ℕ) → addr < 256 ^ size → addressed type size (low_bytes size addr ++ row) ≡ record_with type addr row
+addressed-low type size addr row fits =
     let len = length_low_bytes size addr in
     let enough : nat_le size (length (low_bytes size addr ++ row)) ≡ true = grind (arith, nat_tests, len, length-append (low_bytes size addr) row) in
-    ap (λ (b : Bool). if b then Ok (Data (number (take size (low_bytes size addr ++ row))) (drop size (low_bytes size addr ++ row))) else Err Length) enough
-    ∙ ap (λ (front : List ℕ). Ok (Data (number front) (drop size (low_bytes size addr ++ row)))) (take_at (low_bytes size addr) row size len)
-    ∙ ap (λ (back : List ℕ). Ok (Data (number (low_bytes size addr)) back)) (drop_at (low_bytes size addr) row size len)
-    ∙ ap (λ (n : ℕ). Ok (Data n row)) (number-low_bytes size addr fits)
+    ap (λ (b : Bool). if b then record_with type (number (take size (low_bytes size addr ++ row))) (drop size (low_bytes size addr ++ row)) else Err Length) enough
+    ∙ ap (λ (front : List ℕ). record_with type (number front) (drop size (low_bytes size addr ++ row))) (take_at (low_bytes size addr) row size len)
+    ∙ ap (λ (back : List ℕ). record_with type (number (low_bytes size addr)) back) (drop_at (low_bytes size addr) row size len)
+    ∙ ap (λ (n : ℕ). record_with type n row) (number-low_bytes size addr fits)
+
+meant-data : (size addr : ℕ) (row : List ℕ) → 2 ≤ size → size ≤ 4 → meant Srec (record_with (size - 1) addr row) ≡ Ok (Data addr row)
+meant-data size addr row least most =
+    let typed_0 : (size - 1 == 0) ≡ false = grind (arith, nat_tests) in
+    let typed_3 : nat_le (size - 1) 3 ≡ true = grind (arith, nat_tests) in
+    rw (typed_0, typed_3) refl
 
 -- what a row of data says
 abbrev pub said_of : ℕ × List ℕ → Said
@@ -134,7 +144,8 @@ lines-said size end (row ∷ rows) least most fits all =
     let low : row.0 < 256 ^ size = omega (arith, fits, is.some, is.below) in
     let plain = plain-line (size - 1) body (omega arith) short bytes in
     let said : says Srec (line_of (size - 1) body) ≡ said_of row =
-    says-line (size - 1) body (omega arith) short bytes ∙ typed-data size body least most ∙ data_behind-low size row.0 row.1 low in
+    says-line (size - 1) body (omega arith) short bytes
+    ∙ ap (meant Srec) (typed-data size body least most ∙ addressed-low (size - 1) size row.0 row.1 low) ∙ meant-data size row.0 row.1 least most in
     ap (λ (text : List ℕ). map (says Srec) (lines text))
     (append_assoc (srec_record (size - 1) body) (flat_map (λ r. srec_record (size - 1) (low_bytes size r.0 ++ r.1)) rows) (srec_record (11 - size) (low_bytes size 0)))
     ∙ ap (map (says Srec)) (lines-written (line_of (size - 1) body) (srec_rows size rows) plain)

@@ -1,18 +1,29 @@
 -- What the code finds in a line.
 use Rattle.std.specs.Prelude.{ℕ, ◌+◌, ◌%◌, ◌<◌, ◌≤◌, List, length, fold}
 use Rattle.avr_records.specs.Record.{Record}
-use Rattle.avr_records.specs.Record as said
+use Rattle.avr_records.specs.Meaning.{Meaning}
+use Rattle.avr_records.specs.Meaning as said
 use Rattle.avr_records.specs.declared.kind.Kind.{Kind}
 use Rattle.avr_records.specs.declared.kind.Kind.TheVariants.{Ihex, Srec}
+use Rattle.avr_records.specs.declared.record.LineRecord.{LineRecord}
 use Rattle.avr_records.specs.declared.line.Line.{Line}
 use Rattle.avr_records.specs.declared.line.Line.TheVariants as line
 
-abbrev pub record_of : Line → Record
-record_of line.Nothing = said.Nothing
-record_of (line.Data offset bytes) = said.Data offset bytes.now
-record_of (line.Rebase base) = said.Rebase base
-record_of (line.Counted n) = said.Counted n
-record_of line.End = said.End
+-- the fields of a record
+abbrev pub record_of : LineRecord → Record
+record_of r = record { type = r.record_type; address = r.address; bytes = r.bytes.now }
+
+-- What bounds the fields: a line has at most 255 data bytes, and the offsets of Intel HEX have 16 bits.
+abbrev pub IsNarrow : Kind → LineRecord → Type 0
+IsNarrow Ihex r = (r.address < 65536) × (length r.bytes.now ≤ 255)
+IsNarrow Srec r = length r.bytes.now ≤ 255
+
+abbrev pub meaning_of : Line → Meaning
+meaning_of line.Nothing = said.Nothing
+meaning_of (line.Data offset bytes) = said.Data offset bytes.now
+meaning_of (line.Rebase base) = said.Rebase base
+meaning_of (line.Counted n) = said.Counted n
+meaning_of line.End = said.End
 
 -- What bounds the addresses of a file of this kind: Intel HEX has small offsets, S-records have no base.
 abbrev pub Fits : Kind → Line → Type 0

@@ -5,7 +5,8 @@ use Rattle.avr_image.specs.Image.{laid_over}
 use Rattle.avr_records.specs.Progress.{Progress, size_of}
 use Rattle.avr_records.specs.Reader.{kept, Reads}
 use Rattle.avr_records.specs.Reading.{Said, places, beyond, in_line, says}
-use Rattle.avr_records.specs.Record.{Record, Nothing, Data, Rebase, Counted, End, longest}
+use Rattle.avr_records.specs.Meaning.{Meaning, Nothing, Data, Rebase, Counted, End}
+use Rattle.avr_records.specs.Record.{longest}
 use Rattle.avr_records.specs.declared.kind.Kind.{Kind}
 use Rattle.avr_records.specs.declared.kind.Kind.TheVariants.{Ihex, Srec}
 use Rattle.avr_records.specs.declared.kind.Ending.{Ending}
@@ -21,20 +22,20 @@ use Rattle.avr_records.specs.declared.progress.Progress as declared
 abbrev pub seen : declared.Progress → Progress
 seen p = record { image = p.image; base = p.base; data_records = p.data_records; lines = p.lines; ended = p.ended }
 
--- the fault of a record behind such lines
-abbrev pub fault_at : Progress → Record → Option LineFault
+-- the fault of what a line means behind such lines
+abbrev pub fault_at : Progress → Meaning → Option LineFault
 fault_at p (Data offset bytes) = option_map Range (beyond (size_of p) (places p.base offset bytes))
 fault_at p (Counted n) = if n == p.data_records then None else Some Count
 fault_at p line = None
 
--- what the record leaves, behind such lines
-abbrev pub with_record : Progress → Record → Progress
-with_record p Nothing = p
-with_record p (Data offset bytes) =
+-- what it leaves
+abbrev pub with_meaning : Progress → Meaning → Progress
+with_meaning p Nothing = p
+with_meaning p (Data offset bytes) =
     record p { image = laid_over p.image (places p.base offset bytes); data_records = p.data_records + 1 }
-with_record p (Rebase base) = record p { base = base }
-with_record p (Counted n) = p
-with_record p End = record p { ended = true }
+with_meaning p (Rebase base) = record p { base = base }
+with_meaning p (Counted n) = p
+with_meaning p End = record p { ended = true }
 
 -- the fault of a line
 abbrev pub fault_behind : Progress → Said → Option LineFault
@@ -44,7 +45,7 @@ fault_behind p (Ok line) = fault_at p line
 -- what the line leaves
 abbrev pub with_line : Progress → Said → Progress
 with_line p (Err fault) = p
-with_line p (Ok line) = with_record p line
+with_line p (Ok line) = with_meaning p line
 
 -- with one more line counted
 abbrev pub counted : Progress → Progress

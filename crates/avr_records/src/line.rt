@@ -1,18 +1,21 @@
 //! One line of a record file, alone.
 
-ghost use Rattle.std.specs.Prelude.{◌≡◌, ◌+◌, ◌≤◌, length, Ok, Err, IfOk, MatchResult};
+ghost use Rattle.std.specs.Prelude.{◌≡◌, ◌+◌, ◌≤◌, length, nat_lt, Ok, Err, IfOk, MatchResult};
 ghost use Rattle.std.specs.List.{suffix_len};
-ghost use Rattle.avr_records.specs.Record.{with_size as spec_with_size};
+ghost use Rattle.avr_records.specs.Record.{longest};
 ghost use Rattle.avr_records.specs.Ihex.{ihex_line};
 ghost use Rattle.avr_records.specs.Srec.{srec_line};
 ghost use Rattle.avr_records.specs.Lines.{trimmed, is_blank};
-ghost use Rattle.avr_records.specs.Reading.{says};
-ghost use Rattle.avr_records.specs.Judging.{record_of, Fits};
+ghost use Rattle.avr_records.specs.Line.{bare_record as spec_bare_record, line_record};
+ghost use Rattle.avr_records.specs.Reading.{says, bare_says};
+ghost use Rattle.avr_records.specs.Judging.{record_of, meaning_of, Fits, IsNarrow};
 
 use crate::digits::{ROOM, decode_digits};
 use crate::fault::LineFault;
 use crate::ihex::ihex_fields;
 use crate::kind::{Base, Kind};
+use crate::meaning::meaning;
+use crate::record::LineRecord;
 use crate::srec::srec_fields;
 
 /// The most bytes of a line, without its end.
@@ -29,18 +32,6 @@ pub enum Line<'a> {
     /// So many data records came before.
     Counted(u32),
     End,
-}
-
-/// A record that has so many bytes.
-pub(crate) fn with_size<'a>(n: usize, bytes: &[u8], good: Line<'a>) -> Result<Line<'a>, LineFault>
-    ensures { MatchResult result (λ line. spec_with_size n bytes.now (record_of good.entry) ≡ Ok (record_of line))
-        (λ fault. spec_with_size n bytes.now (record_of good.entry) ≡ Err fault) }
-{
-    if bytes.len() == n {
-        Ok(good)
-    } else {
-        Err(LineFault::Length)
-    }
 }
 
 /// Whether a byte is a space, a tab or a carriage return.
@@ -70,12 +61,19 @@ fn trim(line: &[u8]) -> &[u8]
     &line[..trimmed_len(line)]
 }
 
-/// What a line of Intel HEX says, without blanks at its end.
-fn ihex_says<'b>(line: &[u8], room: &'b mut [u8; ROOM]) -> Result<Line<'b>, LineFault>
+/// Whether a line has more than 600 bytes.
+fn is_too_long(line: &[u8]) -> bool
+    ensures { result ≡ nat_lt longest (length line.now) }
+{
+    line.len() > LONGEST
+}
+
+/// The record of a line of Intel HEX without blanks at its end.
+fn ihex_record<'b>(line: &[u8], room: &'b mut [u8; ROOM]) -> Result<LineRecord<'b>, LineFault>
     requires { length line.now ≤ LONGEST }
-    ensures says { MatchResult result (λ found. ihex_line line.now ≡ Ok (record_of found))
+    ensures is { MatchResult result (λ found. ihex_line line.now ≡ Ok (record_of found))
         (λ fault. ihex_line line.now ≡ Err fault) }
-    ensures fits { IfOk result (Fits Kind.Ihex) }
+    ensures narrow { IfOk result (IsNarrow Kind.Ihex) }
 {
     match line {
         [b':', digits @ ..] => match decode_digits(digits, room) {
@@ -86,40 +84,72 @@ fn ihex_says<'b>(line: &[u8], room: &'b mut [u8; ROOM]) -> Result<Line<'b>, Line
     }
 }
 
-/// What an S-record says, without blanks at its end.
-fn srec_says<'b>(line: &[u8], room: &'b mut [u8; ROOM]) -> Result<Line<'b>, LineFault>
+/// The record of a line of S-records without blanks at its end.
+fn srec_record<'b>(line: &[u8], room: &'b mut [u8; ROOM]) -> Result<LineRecord<'b>, LineFault>
     requires { length line.now ≤ LONGEST }
-    ensures says { MatchResult result (λ found. srec_line line.now ≡ Ok (record_of found))
+    ensures is { MatchResult result (λ found. srec_line line.now ≡ Ok (record_of found))
         (λ fault. srec_line line.now ≡ Err fault) }
-    ensures fits { IfOk result (Fits Kind.Srec) }
+    ensures narrow { IfOk result (IsNarrow Kind.Srec) }
 {
     match line {
-        [b'S', kind, digits @ ..] if kind.is_ascii_digit() => match decode_digits(digits, room) {
-            Ok(bytes) => srec_fields(*kind, bytes),
+        [b'S', digit, digits @ ..] if digit.is_ascii_digit() => match decode_digits(digits, room) {
+            Ok(bytes) => srec_fields(*digit, bytes),
             Err(fault) => Err(fault),
         },
         _ => Err(LineFault::Mark),
     }
 }
 
-/// What a line says that isn't too long, with the blanks at its end.
-fn short_line_says<'b>(
+/// The record of a line without blanks at its end.
+fn bare_record<'b>(
+    kind: Kind,
+    line: &[u8],
+    room: &'b mut [u8; ROOM],
+) -> Result<LineRecord<'b>, LineFault>
+    requires { length line.now ≤ LONGEST }
+    ensures is { MatchResult result (λ found. spec_bare_record kind line.now ≡ Ok (record_of found))
+        (λ fault. spec_bare_record kind line.now ≡ Err fault) }
+    ensures narrow { IfOk result (IsNarrow kind) }
+{
+    match kind {
+        Kind::Ihex => ihex_record(line, room),
+        Kind::Srec => srec_record(line, room),
+    }
+}
+
+/// The record of a line with the blanks at its end. Its bytes are put into the room.
+pub(crate) fn record_in<'b>(
+    kind: Kind,
+    line: &[u8],
+    room: &'b mut [u8; ROOM],
+) -> Result<LineRecord<'b>, LineFault>
+    ensures is { MatchResult result (λ found. line_record kind line.now ≡ Ok (record_of found))
+        (λ fault. line_record kind line.now ≡ Err fault) }
+    ensures narrow { IfOk result (IsNarrow kind) }
+{
+    if is_too_long(line) {
+        return Err(LineFault::TooLong);
+    }
+    bare_record(kind, trim(line), room)
+}
+
+/// What a line without blanks at its end says.
+fn bare_line_says<'b>(
     kind: Kind,
     line: &[u8],
     room: &'b mut [u8; ROOM],
 ) -> Result<Line<'b>, LineFault>
     requires { length line.now ≤ LONGEST }
-    ensures says { MatchResult result (λ found. says kind line.now ≡ Ok (record_of found))
-        (λ fault. says kind line.now ≡ Err fault) }
+    ensures says { MatchResult result (λ found. bare_says kind line.now ≡ Ok (meaning_of found))
+        (λ fault. bare_says kind line.now ≡ Err fault) }
     ensures fits { IfOk result (Fits kind) }
 {
-    let line = trim(line);
     if line.is_empty() {
         return Ok(Line::Nothing);
     }
-    match kind {
-        Kind::Ihex => ihex_says(line, room),
-        Kind::Srec => srec_says(line, room),
+    match bare_record(kind, line, room) {
+        Ok(found) => Ok(meaning(kind, found)),
+        Err(fault) => Err(fault),
     }
 }
 
@@ -129,12 +159,12 @@ pub(crate) fn line_says<'b>(
     line: &[u8],
     room: &'b mut [u8; ROOM],
 ) -> Result<Line<'b>, LineFault>
-    ensures says { MatchResult result (λ found. says kind line.now ≡ Ok (record_of found))
+    ensures says { MatchResult result (λ found. says kind line.now ≡ Ok (meaning_of found))
         (λ fault. says kind line.now ≡ Err fault) }
     ensures fits { IfOk result (Fits kind) }
 {
-    if line.len() > LONGEST {
+    if is_too_long(line) {
         return Err(LineFault::TooLong);
     }
-    short_line_says(kind, line, room)
+    bare_line_says(kind, trim(line), room)
 }

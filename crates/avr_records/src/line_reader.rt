@@ -1,12 +1,14 @@
 //! The lines of a text that comes in pieces.
 
-ghost use Rattle.std.specs.Prelude.{◌≡◌, ◌+◌, ◌<◌, ◌≤◌, ◌^◌, ◌++◌, ℕ, List, false, Some, Ok, Err, [], length, MatchResult, OnOk, IfErr};
+ghost use Rattle.std.specs.Prelude.{◌≡◌, ◌+◌, ◌<◌, ◌≤◌, ◌^◌, ◌++◌, ℕ, List, false, Some, Ok, Err, [], ◌∷◌, length, MatchOption, MatchResult, OnOk, IfErr};
 ghost use Rattle.avr_records.specs.Closed.{closed_fault};
+ghost use Rattle.avr_records.specs.Lines.{lines};
 ghost use Rattle.avr_records.specs.Progress.{size_of};
 ghost use Rattle.avr_records.specs.Reader.{Reads};
 ghost use Rattle.avr_records.specs.Reading.{read};
 ghost use Rattle.avr_records.specs.Steps.{seen, step, kept_says, grown, line_step, least_length, ending_of, Begins, InRange, IsLineFault};
 
+use crate::digits::ROOM;
 use crate::fault::{LineFault, RecordFault};
 use crate::kind::{Ending, Kind};
 use crate::lines::split_line;
@@ -21,6 +23,8 @@ pub struct LineReader {
     pub(crate) kind: Kind,
     pub(crate) progress: Progress,
     pub(crate) part: PartLine,
+    /// Where the bytes of a line are put. It is made once, since a line has only to write what it reads.
+    pub(crate) room: [u8; ROOM],
 }
 
 impl LineReader {
@@ -34,6 +38,7 @@ impl LineReader {
                 kind,
                 progress,
                 part: PartLine::new(),
+                room: [0; ROOM],
             }),
             Err(fault) => Err(fault),
         }
@@ -54,7 +59,7 @@ impl LineReader {
         ensures line { IfErr result IsLineFault }
     {
         let taken = match self.part.line() {
-            Some(line) => self.progress.take_line(self.kind, line),
+            Some(line) => self.progress.take_line(self.kind, line, &mut self.room),
             None => Err(self.progress.next_fault(LineFault::TooLong)),
         };
         self.part.clear();
@@ -81,7 +86,7 @@ impl LineReader {
             return Ok(());
         }
         if self.part.is_empty() {
-            return self.progress.take_line(self.kind, rest);
+            return self.progress.take_line(self.kind, rest, &mut self.room);
         }
         self.part.extend(rest);
         self.take_part()
@@ -96,6 +101,19 @@ impl LineReader {
     {
         if !self.progress.ended {
             self.part.extend(piece);
+        }
+    }
+
+    /// The next line that has ended in what is left of a piece, and what follows it. Behind an end record, where nothing
+    /// counts, none is looked for.
+    fn next_line<'a>(&self, rest: &'a [u8]) -> Option<(&'a [u8], &'a [u8])>
+        ensures { MatchOption result (self.now.progress.ended ≡ false → lines rest.now ≡ rest.now ∷ [])
+            (λ parts. (lines parts.0.now ≡ parts.0.now ∷ []) × (rest.now ≡ parts.0.now ++ 10 ∷ parts.1.now)) }
+    {
+        if !self.progress.ended {
+            split_line(rest)
+        } else {
+            None
         }
     }
 
@@ -116,7 +134,7 @@ impl LineReader {
         ensures line { IfErr result IsLineFault }
     {
         let mut rest = piece;
-        while let Some((line, more)) = split_line(rest) {
+        while let Some((line, more)) = self.next_line(rest) {
             self.end_line(line)?;
             rest = more;
         }

@@ -1,12 +1,12 @@
 //! What the lines of a record file leave that have ended.
 
 ghost use Rattle.std.specs.Prelude.{◌≡◌, ◌+◌, ◌<◌, ◌≤◌, ◌^◌, Some, None, Ok, Err, length, MatchResult, OnOk, IfErr};
-ghost use Rattle.avr_records.specs.Judging.{record_of, Fits};
+ghost use Rattle.avr_records.specs.Judging.{meaning_of, Fits};
 ghost use Rattle.avr_records.specs.Laying.{Near};
-ghost use Rattle.avr_records.specs.Record as said;
+ghost use Rattle.avr_records.specs.Meaning as said;
 ghost use Rattle.avr_records.specs.Progress.{fresh};
 ghost use Rattle.avr_records.specs.Reading.{in_line, says};
-ghost use Rattle.avr_records.specs.Steps.{seen, fault_at, with_record, fault_behind, with_line, step, HasBase, InRange, IsLineFault, ending_of};
+ghost use Rattle.avr_records.specs.Steps.{seen, fault_at, with_meaning, fault_behind, with_line, step, HasBase, InRange, IsLineFault, ending_of};
 
 use crate::digits::ROOM;
 use crate::fault::{LineFault, RecordFault};
@@ -52,7 +52,7 @@ impl Progress {
         requires near { Near self.old.base offset }
         requires few { self.old.data_records + 1 < 2 ^ 32 }
         ensures step { MatchResult result (λ _. (fault_at (seen self.old) (said.Data offset bytes.now) ≡ None)
-            × (seen self.new ≡ with_record (seen self.old) (said.Data offset bytes.now)))
+            × (seen self.new ≡ with_meaning (seen self.old) (said.Data offset bytes.now)))
             (λ fault. fault_at (seen self.old) (said.Data offset bytes.now) ≡ Some fault) }
         ensures base { self.new.base ≡ self.old.base }
         ensures lines { self.new.lines ≡ self.old.lines }
@@ -74,9 +74,9 @@ impl Progress {
         requires fits { Fits kind line }
         requires base { HasBase kind self.old.base }
         requires few { self.old.data_records + 1 < 2 ^ 32 }
-        ensures step { MatchResult result (λ _. (fault_at (seen self.old) (record_of line.entry) ≡ None)
-            × (seen self.new ≡ with_record (seen self.old) (record_of line.entry)))
-            (λ fault. fault_at (seen self.old) (record_of line.entry) ≡ Some fault) }
+        ensures step { MatchResult result (λ _. (fault_at (seen self.old) (meaning_of line.entry) ≡ None)
+            × (seen self.new ≡ with_meaning (seen self.old) (meaning_of line.entry)))
+            (λ fault. fault_at (seen self.old) (meaning_of line.entry) ≡ Some fault) }
         ensures size { length self.new.image ≡ length self.old.image }
         ensures base { OnOk result (HasBase kind self.new.base) }
         ensures lines { self.new.lines ≡ self.old.lines }
@@ -103,8 +103,8 @@ impl Progress {
         }
     }
 
-    /// Judges a line and takes in what it says.
-    fn judge(&mut self, kind: Kind, line: &[u8]) -> Result<(), LineFault>
+    /// Judges a line and takes in what it says. Its bytes are put into the room.
+    fn judge(&mut self, kind: Kind, line: &[u8], room: &mut [u8; ROOM]) -> Result<(), LineFault>
         requires base { HasBase kind self.old.base }
         requires few { self.old.data_records + 1 < 2 ^ 32 }
         ensures step { MatchResult result (λ _. (fault_behind (seen self.old) (says kind line.now) ≡ None)
@@ -115,8 +115,7 @@ impl Progress {
         ensures lines { self.new.lines ≡ self.old.lines }
         ensures few { self.new.data_records ≤ self.old.data_records + 1 }
     {
-        let mut room = [0; ROOM];
-        match line_says(kind, line, &mut room) {
+        match line_says(kind, line, room) {
             Ok(line) => self.take(kind, line),
             Err(fault) => Err(fault),
         }
@@ -131,8 +130,13 @@ impl Progress {
         fault.in_line(self.lines + 1)
     }
 
-    /// Takes in the next line.
-    pub(crate) fn take_line(&mut self, kind: Kind, line: &[u8]) -> Result<(), RecordFault>
+    /// Takes in the next line. Its bytes are put into the room.
+    pub(crate) fn take_line(
+        &mut self,
+        kind: Kind,
+        line: &[u8],
+        room: &mut [u8; ROOM],
+    ) -> Result<(), RecordFault>
         requires range { InRange kind (seen self.old) }
         requires few { self.old.lines + 1 < 2 ^ 32 }
         ensures step { MatchResult result (λ _. step (seen self.old) (says kind line.now) ≡ Ok (seen self.new))
@@ -142,7 +146,7 @@ impl Progress {
         ensures lines { OnOk result (self.new.lines ≡ self.old.lines + 1) }
         ensures line { IfErr result IsLineFault }
     {
-        match self.judge(kind, line) {
+        match self.judge(kind, line, room) {
             Ok(()) => {
                 self.lines += 1;
                 Ok(())

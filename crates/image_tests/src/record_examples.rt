@@ -4,7 +4,7 @@ use arrayvec::ArrayVec;
 use avr_image::{Image, Pieces};
 use avr_records::{
     Ending, Found, IhexImageWriter, IhexWriter, Kind, RecordFault, RecordReader, SrecImageWriter,
-    SrecWriter, detect, read_records,
+    SrecWriter, detect, read_record, read_records,
 };
 use std::test::Fail;
 
@@ -30,6 +30,33 @@ fn ihex_is_read_in_pieces(rt: HostRuntime) -> Result<(), Fail> {
     let (image, ending) = reader.finish()?;
     assert_eq!(rt; image.get(3), Some(0x04));
     assert_eq!(rt; ending, Ending::Ended);
+    Ok(())
+}
+
+#[test]
+fn one_line_is_read(rt: HostRuntime) -> Result<(), Fail> {
+    let record = read_record(Kind::Ihex, b":0400100001020304E2\r")?;
+    assert_eq!(rt; (record.record_type(), record.address()), (0, 0x10));
+    assert_eq!(rt; record.bytes(), [1, 2, 3, 4].as_slice());
+    let record = read_record(Kind::Ihex, b":00000001FF")?;
+    assert_eq!(rt; record.record_type(), 1);
+    let record = read_record(Kind::Ihex, b":020000040001F9")?;
+    assert_eq!(rt; record.bytes(), [0x00, 0x01].as_slice());
+    let record = read_record(Kind::Srec, b"S107000001020304EE")?;
+    assert_eq!(rt; record.record_type(), 1);
+    assert_eq!(rt; record.address(), 0);
+    assert_eq!(rt; record.bytes(), [1, 2, 3, 4].as_slice());
+    let record = read_record(Kind::Srec, b"S5030001FB")?;
+    assert_eq!(rt; record.address(), 1);
+    let record = read_record(Kind::Srec, b"S00600004844521B")?;
+    assert_eq!(rt;
+        (record.record_type(), record.bytes()),
+        (0, b"HDR".as_slice())
+    );
+    let fault = read_record(Kind::Srec, b"S107000001020304EF").err();
+    assert_eq!(rt; fault, Some(RecordFault::BadSum(1)));
+    let fault = read_record(Kind::Ihex, b"\r").err();
+    assert_eq!(rt; fault, Some(RecordFault::BadMark(1)));
     Ok(())
 }
 

@@ -1,0 +1,100 @@
+#!/usr/bin/env python3
+"""Times the reader of record files alone, through its library for C, beside a plain reader in C and python3-intelhex.
+
+    bench/reader.py [ROUNDS]      megabytes of text a second, the best of so many rounds of each file
+    bench/reader.py --count       instructions a byte of text (needs valgrind)
+
+The library is made by examples/c/build.sh. Nothing is run where there is no C compiler; what else is missing is told.
+"""
+
+import io
+import os
+import re
+import shutil
+import subprocess
+import sys
+import tempfile
+import time
+from pathlib import Path
+
+from run import KILO, TOP, ihex, image_of, srec
+
+try:
+    from intelhex import IntelHex
+except ImportError:
+    IntelHex = None
+
+SIZE = 256 * KILO
+FILES = {"ihex": ihex, "srec": srec}
+NAMES = {"own": "this project's reader", "plain": "a plain reader in C"}
+
+
+def built(folder):
+    """The program of bench/reader.c, with the library."""
+    subprocess.run([TOP / "examples/c/build.sh", folder], check=True, stdout=subprocess.DEVNULL)
+    words = [os.environ.get("CC", "cc"), "-std=c99", "-O2", "-D_POSIX_C_SOURCE=199309L", f"-I{TOP / 'include'}"]
+    program = folder / "reader"
+    subprocess.run([*words, TOP / "bench/reader.c", folder / "libavr_records.a", "-o", program], check=True)
+    return program
+
+
+def run(program, who, kind, file, rounds, front=()):
+    words = [*front, program, who, kind, file, str(SIZE), str(rounds)]
+    return subprocess.run(words, check=True, capture_output=True, text=True)
+
+
+def time_all(program, texts, rounds):
+    for kind, (file, length) in texts.items():
+        seen = set()
+        for who, name in NAMES.items():
+            taken, memory = run(program, who, kind, file, rounds).stdout.split()
+            seen.add(memory)
+            print(f"{length / float(taken):8.1f} MB/s  {kind}: {name}")
+        if len(seen) > 1:
+            sys.exit(f"{kind}: the readers gave different memories")
+    if IntelHex is None:
+        print("python3-intelhex is not installed")
+        return
+    file, length = texts["ihex"]
+    times = []
+    for _ in range(3):
+        begin = time.perf_counter()
+        IntelHex(io.StringIO(file.read_text()))
+        times.append(time.perf_counter() - begin)
+    print(f"{length / min(times) / 1e6:8.1f} MB/s  ihex: python3-intelhex")
+
+
+def count_all(program, texts, folder):
+    """What a file costs beyond one that has the end record alone, which is what making and filling a memory costs."""
+    if not shutil.which("valgrind"):
+        sys.exit("valgrind is not installed")
+    front = ["valgrind", "--tool=callgrind", "--callgrind-out-file=/dev/null"]
+    for kind, (file, length) in texts.items():
+        empty = folder / f"none.{kind}"
+        empty.write_text(FILES[kind](b""))
+        for who, name in NAMES.items():
+            counts = [run(program, who, kind, it, 1, front).stderr for it in (file, empty)]
+            whole, none = (int(re.search(r"Collected : (\d+)", it)[1]) for it in counts)
+            print(f"{(whole - none) / length:8.1f} instructions a byte  {kind}: {name}")
+
+
+def main():
+    if not shutil.which(os.environ.get("CC", "cc")):
+        print("there is no C compiler: nothing was timed")
+        return
+    with tempfile.TemporaryDirectory() as folder:
+        folder = Path(folder)
+        program = built(folder)
+        texts = {}
+        for kind, made in FILES.items():
+            file = folder / f"256.{kind}"
+            file.write_text(made(image_of(SIZE)))
+            texts[kind] = (file, file.stat().st_size)
+        if "--count" in sys.argv:
+            count_all(program, texts, folder)
+        else:
+            time_all(program, texts, int(sys.argv[1]) if len(sys.argv) > 1 else 50)
+
+
+if __name__ == "__main__":
+    main()

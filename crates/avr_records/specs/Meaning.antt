@@ -1,0 +1,40 @@
+-- What a record means for the file that it stands in.
+use Rattle.std.specs.Prelude.{ℕ, ◌+◌, ◌*◌, ◌==◌, nat_le, List, [], ◌∷◌, if◌then◌else◌}
+use Rattle.avr_records.specs.Record.{Record}
+use Rattle.avr_records.specs.declared.kind.Kind.{Kind}
+use Rattle.avr_records.specs.declared.kind.Kind.TheVariants.{Ihex, Srec}
+use Rattle.avr_records.specs.declared.kind.Base.{Base}
+use Rattle.avr_records.specs.declared.kind.Base.TheVariants.{Linear, Segment}
+
+-- Nothing that counts (a header, a start address); bytes at an offset; a new base; how many data records came before;
+-- the end.
+pub data Meaning : Type 0 where
+  Nothing : Meaning
+  Data : ℕ → List ℕ → Meaning
+  Rebase : Base → Meaning
+  Counted : ℕ → Meaning
+  End : Meaning
+
+-- a base from the two bytes that its record has, the high one first
+abbrev pub rebase : (ℕ → Base) → List ℕ → Meaning
+rebase base (high ∷ low ∷ []) = Rebase (base (high * 256 + low))
+rebase base bytes = Nothing
+
+abbrev pub ihex_means : Record → Meaning
+ihex_means r =
+    if r.type == 0 then Data r.address r.bytes
+    else if r.type == 1 then End
+    else if r.type == 2 then rebase Segment r.bytes
+    else if r.type == 4 then rebase Linear r.bytes
+    else Nothing
+
+abbrev pub srec_means : Record → Meaning
+srec_means r =
+    if r.type == 0 then Nothing
+    else if nat_le r.type 3 then Data r.address r.bytes
+    else if nat_le r.type 6 then Counted r.address
+    else End
+
+abbrev pub means : Kind → Record → Meaning
+means Ihex = ihex_means
+means Srec = srec_means

@@ -1,0 +1,141 @@
+//! The record of one line, as its fields.
+#![tactic(auto)]
+
+ghost use Rattle.std.specs.Prelude.{◌≡◌, ◌≤◌, length, Ok, Err, MatchResult};
+ghost use Rattle.avr_records.specs.Judging.{record_of};
+ghost use Rattle.avr_records.specs.Line.{line_record};
+ghost use Rattle.avr_records.specs.Reading.{alone};
+ghost use Rattle.avr_records.specs.Record.{with_size as spec_with_size};
+
+use crate::digits::ROOM;
+use crate::fault::{LineFault, RecordFault};
+use crate::kind::Kind;
+use crate::line::record_in;
+use arrayvec::ArrayVec;
+use std::marker::Model;
+
+/// The fields of a record, whose data bytes stand elsewhere.
+#[derive(Clone, Copy, Debug)]
+pub struct LineRecord<'a> {
+    pub(crate) record_type: u8,
+    pub(crate) address: u32,
+    pub(crate) bytes: &'a [u8],
+}
+
+/// A record whose type wants so many data bytes.
+pub(crate) fn with_size(n: usize, good: LineRecord<'_>) -> Result<LineRecord<'_>, LineFault>
+    ensures is { MatchResult result (λ found. (found ≡ good.entry)
+        × (spec_with_size n good.entry.bytes.now (Ok (record_of good.entry)) ≡ Ok (record_of good.entry)))
+        (λ fault. spec_with_size n good.entry.bytes.now (Ok (record_of good.entry)) ≡ Err fault) }
+{
+    if good.bytes.len() == n {
+        Ok(good)
+    } else {
+        Err(LineFault::Length)
+    }
+}
+
+/// A record: its type, what stands in its address field, and its data bytes, which it keeps itself. Its checksum was
+/// right.
+///
+/// ```text
+/// let record = read_record(Kind::Srec, b"S107000001020304EE")?;
+/// assert_eq!(rt; record.record_type(), 1);
+/// assert_eq!(rt; record.address(), 0);
+/// assert_eq!(rt; record.bytes(), [1, 2, 3, 4].as_slice());
+/// ```
+#[derive(Drop)]
+pub struct Record {
+    record_type: u8,
+    address: u32,
+    bytes: ArrayVec<u8, 255>,
+}
+
+impl Model for Record {
+    ghost use Rattle.avr_records.specs.Record.{Record as Fields};
+
+    ghost Value = { Fields };
+
+    ghost view = { λ r. record { type = r.record_type; address = r.address; bytes = r.bytes.items } };
+}
+
+impl Record {
+    /// The same with its bytes copied.
+    fn copied(found: LineRecord<'_>) -> Record
+        requires { length found.bytes.now ≤ 255 }
+        ensures { result ≡ record_of found.entry }
+    {
+        let mut bytes = ArrayVec::new();
+        let _ = bytes.try_extend_from_slice(found.bytes);
+        Record {
+            record_type: found.record_type,
+            address: found.address,
+            bytes,
+        }
+    }
+
+    /// The number of the record's type.
+    ///
+    /// Of Intel HEX: 0 data, 1 end of the file, 2 extended segment address, 3 start segment address, 4 extended linear
+    /// address, 5 start linear address. Of S-records the digit behind the `S`: 0 header, 1 to 3 data, 5 and 6 a count
+    /// of data records, 7 to 9 end of the file.
+    ///
+    /// ```text
+    /// let record = read_record(Kind::Ihex, b":00000001FF")?;
+    /// assert_eq!(rt; record.record_type(), 1);
+    /// ```
+    pub fn record_type(&self) -> u8
+        ensures { result ≡ self.now.type }
+    {
+        self.record_type
+    }
+
+    /// What stands in the address field: of Intel HEX an offset of 16 bits; of S-records an address, of the types 5 and
+    /// 6 the count, of the types 7 to 9 the start address.
+    ///
+    /// ```text
+    /// let record = read_record(Kind::Srec, b"S5030001FB")?;
+    /// assert_eq!(rt; record.address(), 1);
+    /// ```
+    pub fn address(&self) -> u32
+        ensures { result ≡ self.now.address }
+    {
+        self.address
+    }
+
+    /// The data bytes, at most 255. Those of the types 2 and 4 of Intel HEX are the upper part of the addresses behind
+    /// the record, the high byte first.
+    ///
+    /// ```text
+    /// let record = read_record(Kind::Ihex, b":020000040001F9")?;
+    /// assert_eq!(rt; record.bytes(), [0x00, 0x01].as_slice());
+    /// ```
+    pub fn bytes(&self) -> &[u8]
+        ensures { result.now ≡ self.now.bytes }
+    {
+        self.bytes.as_slice()
+    }
+}
+
+/// The record of one line of a file of this kind, without the line's end; blanks at the end of the line are left out.
+/// It takes no memory.
+///
+/// The faults are those that the reader answers of a line alone, and the number of the line in them is 1. An empty
+/// line, which a file may have, is no record: `BadMark`.
+///
+/// ```text
+/// let record = read_record(Kind::Ihex, b":0400100001020304E2\r")?;
+/// assert_eq!(rt; (record.record_type(), record.address()), (0, 0x10));
+/// assert_eq!(rt; record.bytes(), [1, 2, 3, 4].as_slice());
+/// let fault = read_record(Kind::Srec, b"S107000001020304EF").err();
+/// assert_eq!(rt; fault, Some(RecordFault::BadSum(1)));
+/// ```
+pub fn read_record(kind: Kind, line: &[u8]) -> Result<Record, RecordFault>
+    ensures { result ≡ alone (line_record kind line.now) }
+{
+    let mut room = [0; ROOM];
+    match record_in(kind, line, &mut room) {
+        Ok(found) => Ok(Record::copied(found)),
+        Err(fault) => Err(fault.in_line(1)),
+    }
+}
