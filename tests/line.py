@@ -25,6 +25,11 @@ def frames_of(stream):
         held += piece
 
 
+def spoiled(frame):
+    """The frame with another XOR."""
+    return frame[:-1] + bytes([frame[-1] ^ 1])
+
+
 class Peer:
     """Serves one caller at a port, in a thread of its own."""
 
@@ -72,12 +77,13 @@ class FrontOfAnswers(Peer):
 
 class BadLine(Peer):
     """A line to an emulated programmer, which the tool serves itself. The nth frame from 1 has its fate, and is good without one:
-    `lost command` never arrives, the answer of `lost answer` is dropped, and that of `late answer` comes in front of the next."""
+    `lost command` never arrives, the answer of `lost answer` is dropped, and that of `late answer` comes in front of the next.
+    `spoiled command` and `spoiled answer` come with another last byte, which is the XOR."""
 
-    def __init__(self, room, fates, server_port=None):
+    def __init__(self, room, fates, server_port=None, part="m328p"):
         self.fates = fates
         self.server_port = server_port or free_port()
-        words = ["-p", "m328p", "--serve", str(self.server_port), "--chip", "served.bin"]
+        words = ["-p", part, "--serve", str(self.server_port), "--chip", "served.bin"]
         self.server = room.start(words)
         super().__init__()
 
@@ -98,12 +104,12 @@ class BadLine(Peer):
                 fate = self.fates.get(len(self.heard), "good")
                 if fate == "lost command":
                     continue
-                programmer.sendall(frame)
+                programmer.sendall(spoiled(frame) if fate == "spoiled command" else frame)
                 answer = next(answers)
                 if fate == "late answer":
                     late += answer
-                elif fate == "good":
-                    caller.sendall(late + answer)
+                elif fate != "lost answer":
+                    caller.sendall(late + (spoiled(answer) if fate == "spoiled answer" else answer))
                     late = b""
 
     def end(self):

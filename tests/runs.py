@@ -1,25 +1,30 @@
 #!/usr/bin/env python3
 """Worked runs of the built program over an emulated part: what is printed, written and answered, the frames that are sent,
 and the chip that is left. Each run is made over the port `emu:`, and again over a TCP line to the emulator that the program
-serves, where its frames are seen.
+serves, where its frames are seen. Then runs over bad lines, at once: each silence takes a second.
 
     tests/runs.py        needs crates/avrstk/out/avrstk, as rt ci leaves it
 """
 
+import itertools
 import sys
+from concurrent.futures import ThreadPoolExecutor
 from dataclasses import dataclass, field
 
 from line import BadLine
 from program import CHIP_FILE, FRAMES, Room, frame, lines
 
 # where the memories of an ATmega328P begin in its chip file
-EEPROM, LFUSE, HFUSE, LOCK = 32_768, 33_792, 33_793, 33_795
+EEPROM, LFUSE, HFUSE, EFUSE, LOCK = 32_768, 33_792, 33_793, 33_794, 33_795
 
 # the length of the chip file of an ATmega2560
 LARGE_CHIP_FILE = 266_244
 
 SIGNATURE = "device signature = 1E 95 0F"
 OPENING = FRAMES[:5]
+
+# of the emulated programmers of bad lines: below the ports that the system gives out
+FIRST_PORT = 24_000
 
 room = Room()
 passed = 0
@@ -101,7 +106,7 @@ def size_of(part):
     return {"m328p": CHIP_FILE, "m2560": LARGE_CHIP_FILE}.get(part, CHIP_FILE)
 
 
-def prepare(run, chip_file):
+def prepare(room, run, chip_file):
     room.clear()
     for name, content in run.files.items():
         room.put(name, content)
@@ -109,7 +114,7 @@ def prepare(run, chip_file):
         room.put(chip_file, chip_with(run.before, size_of(run.part)))
 
 
-def look(label, run, found, chip_file):
+def look(room, label, run, found, chip_file):
     see(label, found, (run.status, run.output, lines(*run.said)))
     wanted = None if run.after is None else chip_with(run.after, size_of(run.part))
     see(f"{label}: the chip", room.read(chip_file) == wanted, True)
@@ -118,23 +123,42 @@ def look(label, run, found, chip_file):
 
 
 def over_emulator(label, run):
-    prepare(run, "chip.bin")
-    look(label, run, room.run(["-P", "emu:chip.bin", "-p", run.part, *run.words]), "chip.bin")
+    prepare(room, run, "chip.bin")
+    look(room, label, run, room.run(["-P", "emu:chip.bin", "-p", run.part, *run.words]), "chip.bin")
 
 
-def over_line(label, run):
-    """The same over a line; without a frame the served emulator has saved its chip as it was."""
-    prepare(run, "served.bin")
-    peer = BadLine(room, run.fates)
+def played_over_line(room, run, server_port=None):
+    """What a run over a line answers, and the frames that it sent."""
+    prepare(room, run, "served.bin")
+    peer = BadLine(room, run.fates, server_port, run.part)
     found = room.run(["-P", f"net:127.0.0.1:{peer.port}", "-p", run.part, *run.words])
-    sent = peer.end()
+    return found, peer.end()
+
+
+def look_over_line(room, label, run, found, sent):
+    """Without a frame the served emulator has saved its chip as it was."""
     if run.after is None:
         see(f"{label}: nothing is sent", sent, [])
         return
-    look(f"{label}, over a line", run, found, "served.bin")
+    look(room, f"{label}, over a line", run, found, "served.bin")
     if run.sent is not None:
         see(f"{label}: the number of frames", len(sent), len(run.sent))
         see(f"{label}: frames", sent, run.sent)
+
+
+def over_line(label, run):
+    look_over_line(room, label, run, *played_over_line(room, run))
+
+
+def over_bad_lines(runs):
+    """Makes runs at once, each in a room of its own, and looks at them; gives how many frames each sent."""
+    rooms = [Room() for _ in runs]
+    with ThreadPoolExecutor(len(runs)) as pool:
+        ports = range(FIRST_PORT, FIRST_PORT + len(runs))
+        played = [*pool.map(played_over_line, rooms, runs.values(), ports)]
+    for its_room, (label, run), over in zip(rooms, runs.items(), played):
+        look_over_line(its_room, label, run, *over)
+    return {label: len(sent) for label, (_, sent) in zip(runs, played)}
 
 
 def session(*said):
@@ -211,7 +235,42 @@ RECORDS = {
     "gaps.hex": b":0100000011EE\n:0100020033CA\n:00000001FF\n",
 }
 
+FEW = b"\x0c\x94\x34\x00\xff\x12"
+FUSE_VALUES = {"lfuse": (LFUSE, 0xE2), "hfuse": (HFUSE, 0xD9), "efuse": (EFUSE, 0xFD), "lock": (LOCK, 0xFE)}
+
 MEMORIES = {
+    "every memory is written, read back and read": Run(
+        [
+            *["-U", "flash:w:few.bin:r", "-U", "eeprom:w:few.bin:r"],
+            *[word for name, (_, value) in FUSE_VALUES.items() for word in ["-U", f"{name}:w:{value}:m"]],
+            *["-U", "flash:r:f.bin:r", "-U", "eeprom:r:e.bin:r"],
+            *[word for name in FUSE_VALUES for word in ["-U", f"{name}:r:-:h"]],
+        ],
+        erased(
+            *[f"{name}: 6 bytes {done}" for name in ["flash", "eeprom"] for done in ["written", "verified"]],
+            *[f"{name}: 1 bytes {done}" for name in FUSE_VALUES for done in ["written", "verified"]],
+            *["flash: 6 bytes read", "eeprom: 1024 bytes read"],
+            *[f"{name}: 1 bytes read" for name in FUSE_VALUES],
+        ),
+        output=b"0xe2\n0xd9\n0xfd\n0xfe\n",
+        files={"few.bin": FEW},
+        after={0: FEW, EEPROM: FEW, **dict(FUSE_VALUES.values())},
+        written={"f.bin": FEW, "e.bin": FEW + b"\xff" * 1018},
+    ),
+    "flash above 128 KiB has an extended address": Run(
+        ["-V", "-U", "flash:w:high.hex:i"],
+        ["device signature = 1E 98 01", "chip erased", "flash: 1 bytes written", "done"],
+        part="m2560",
+        files={"high.hex": b":020000040002F8\n:0100000055AA\n:00000001FF\n"},
+        after={0x20000: 0x55},
+        sent=[
+            *OPENING,
+            erase(6),
+            bytes.fromhex("1B0700050E068001000090"),
+            frame(8, bytes.fromhex("130100C10A404C20FFFF"), 0x55, b"\xff" * 255),
+            bytes.fromhex("1B0900030E1101010E"),
+        ],
+    ),
     "an empty file as flash: the chip is erased and read back": Run(
         ["-U", "flash:w:empty.bin"],
         erased("flash: 0 bytes written", "flash: 0 bytes verified"),
@@ -359,6 +418,55 @@ PATTERN = bytes(place % 256 for place in range(1024))
 
 
 BAD_LINES = {
+    "SIGN_ON comes spoiled, and goes out again with the next number": Run(
+        [],
+        session(),
+        fates={1: "spoiled command"},
+        sent=[
+            bytes.fromhex(digits)
+            for digits in [
+                "1B0100010E0114",
+                "1B0200010E0117",
+                "1B03000C0E10C8641920005303AC53000030",
+                "1B0400060E1B043000000038",
+                "1B0500060E1B043000010038",
+                "1B0600060E1B043000020038",
+                "1B0700030E11010100",
+            ]
+        ],
+    ),
+    "the answer to a fuse comes spoiled: it is written again": Run(
+        ["-V", "-U", "lfuse:w:0xE2:m"],
+        session("lfuse: 1 bytes written"),
+        after={LFUSE: 0xE2},
+        fates={6: "spoiled answer"},
+        sent=[
+            *OPENING,
+            bytes.fromhex("1B0600050E17ACA000E2EF"),
+            bytes.fromhex("1B0700050E17ACA000E2EE"),
+            bytes.fromhex("1B0800030E1101010F"),
+        ],
+    ),
+    "no answer to any of four attempts to erase: nothing is written": Run(
+        ["-V", "-U", "flash:w:0x12:m"],
+        [SIGNATURE, "error: no answer"],
+        status=1,
+        before={0: 0x0F},
+        fates=dict.fromkeys(range(6, 10), "lost answer"),
+        sent=[*OPENING, *map(erase, range(6, 10)), bytes.fromhex("1B0A00030E1101010D")],
+    ),
+    "nothing comes through before LEAVE": Run(
+        ["-e"],
+        ["error: no answer"],
+        status=1,
+        before={0: 0x0F},
+        after={0: 0x0F},
+        fates=dict.fromkeys(range(1, 5), "lost command"),
+        sent=[
+            bytes.fromhex(digits)
+            for digits in ["1B0100010E0114", "1B0200010E0117", "1B0300010E0116", "1B0400010E0111", "1B0500030E11010102"]
+        ],
+    ),
     "the answer to a page is lost: its step is made again": Run(
         ["-V", "-U", "flash:w:0x12:m"],
         erased("flash: 1 bytes written"),
@@ -390,6 +498,44 @@ BAD_LINES = {
 }
 
 
+# ---- lines at the edge: of any seven frames in a row at most three go wrong, or one more
+
+WAYS = ["lost command", "lost answer", "late answer", "spoiled command", "spoiled answer"]
+IMAGE = bytes.fromhex("102132435465768798A9BACBDCEDFE0F")
+PLAIN = "no frame goes wrong"
+
+
+def fates_at(places, count):
+    """Of each so many frames those at these places go wrong, each way in turn."""
+    return {n + 1: WAYS[n // 3 % len(WAYS)] for n in range(96) if n % count in places}
+
+
+def at_edge(fates, said=None, status=0, after=None):
+    return Run(
+        ["-V", "-U", "eeprom:w:some.bin:r", "-U", "lfuse:w:0x62:m", "-U", "lfuse:v:0x62:m"],
+        said or session("eeprom: 16 bytes written", "lfuse: 1 bytes written", "lfuse: 1 bytes verified"),
+        status,
+        files={"some.bin": IMAGE},
+        after={EEPROM: IMAGE, LFUSE: 0x62} if after is None else after,
+        fates=fates,
+    )
+
+
+FEW_BAD = {f"frames {places} of seven go wrong": at_edge(fates_at(places, 7)) for places in itertools.combinations(range(7), 3)}
+
+MANY_BAD = {
+    "frames (0, 1, 2, 3) of seven go wrong": at_edge(fates_at([0, 1, 2, 3], 7), ["error: no answer"], 1, {}),
+    "each second frame goes wrong": at_edge(fates_at([1, 3, 5, 7], 8), [SIGNATURE, "error: no answer"], 1, {EEPROM: IMAGE[:4]}),
+}
+
+
+def bad_lines():
+    """With few bad frames all goes as with none, but for the frames that go out again."""
+    frames = over_bad_lines({PLAIN: at_edge({}), **BAD_LINES, **FEW_BAD, **MANY_BAD})
+    for label in FEW_BAD:
+        see(f"{label}: more frames", frames[label] > frames[PLAIN], True)
+
+
 def record_ends():
     """The files of a large flash end as they should."""
     over_emulator("large flash is read as records", MEMORIES["large flash is read as records"])
@@ -402,11 +548,10 @@ def main():
     for runs in [FUSES, MEMORIES, REFUSALS, PARTS]:
         for label, run in runs.items():
             over_emulator(label, run)
-            if run.part == "m328p":
+            if run.part == "m328p" or run.sent:
                 over_line(label, run)
-    for label, run in BAD_LINES.items():
-        over_line(label, run)
     record_ends()
+    bad_lines()
     print(f"{passed} passed, 0 failed")
 
 

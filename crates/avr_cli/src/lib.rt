@@ -39,8 +39,3 @@ pub use text::Text;
 pub use update::{Format, Op, Update, UpdateFault};
 pub use update_text::parse_update;
 pub use updates::Updates;
-
-#[cfg(test)]
-mod examples;
-#[cfg(test)]
-mod tests;

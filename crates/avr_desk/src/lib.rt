@@ -32,6 +32,3 @@ pub use mem_desk::MemDesk;
 pub use record::{Open, Opening, Reading, Writing};
 pub use stream::{Stream, write_all};
 pub use system::SystemDesk;
-
-#[cfg(test)]
-mod tests;

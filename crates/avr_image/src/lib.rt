@@ -32,8 +32,3 @@ pub use pieces::Pieces;
 pub use raw::RawReader;
 pub use runs::Runs;
 pub use values::parse_immediate;
-
-#[cfg(test)]
-mod examples;
-#[cfg(test)]
-mod tests;

@@ -12,6 +12,3 @@ mod piece;
 
 pub use line::{print_error, print_information, print_warning};
 pub use piece::Piece;
-
-#[cfg(test)]
-mod tests;

@@ -37,8 +37,3 @@ pub use mem::Mem;
 pub use part::Part;
 pub use part_file::parse_parts;
 pub use parts::{PartIter, Parts};
-
-#[cfg(test)]
-mod examples;
-#[cfg(test)]
-mod tests;

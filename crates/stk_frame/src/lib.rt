@@ -18,8 +18,6 @@ mod frame;
 mod host_command;
 pub mod protocol;
 mod reader;
-#[cfg(test)]
-mod tests;
 
 ghost use Rattle.std.specs.Prelude.{◌≡◌, ◌<◌, ◌≤◌, List, ℕ, true, length, slice_index};
 ghost use Rattle.stk_frame.specs.Frame.{frame};

@@ -1,0 +1,325 @@
+//! Files whose meaning is known from outside, and each public call on its happy path.
+
+mod slow;
+
+use avr_image::Image;
+use avr_records::{Ending, Found, Kind, RecordFault, RecordReader, detect};
+use slow::slow_read;
+use std::alloc::Global;
+use std::process::Abort;
+use std::test::Fail;
+
+/// The lengths of pieces into which the files are cut.
+const CUTS: [usize; 6] = [1, 2, 3, 5, 280, 281];
+
+/// The bytes of a file at their addresses, and whether its end record came; or its fault.
+type Says<'a> = Result<(&'a [(u32, u8)], Ending), RecordFault>;
+
+/// What a file says that comes in pieces of this length.
+fn read_cut(
+    alloc: Global,
+    kind: Kind,
+    size: u32,
+    text: &[u8],
+    cut: usize,
+) -> Result<(Image, Ending), RecordFault> {
+    let mut reader = RecordReader::new(alloc, kind, size)?;
+    let mut rest = text;
+    for _ in 0..text.len() {
+        let piece = &rest[..rest.len().min(cut)];
+        rest = &rest[piece.len()..];
+        if reader.fed() < 1_000_000 && piece.len() < 1_000 {
+            reader.feed(piece)?;
+        }
+    }
+    reader.finish()
+}
+
+/// Sees that a file says this, however it is cut.
+fn says(rt: &impl Abort, alloc: Global, kind: Kind, size: u32, text: &[u8], want: Says<'_>) {
+    for cut in CUTS {
+        match (read_cut(alloc, kind, size, text, cut), want) {
+            (Ok((image, ending)), Ok((bytes, want_ending))) => {
+                assert_eq!(rt; ending, want_ending, "in pieces of {cut}");
+                assert_eq!(rt; image.len() as usize, bytes.len(), "in pieces of {cut}");
+                for (addr, byte) in bytes {
+                    assert_eq!(rt; image.get(*addr), Some(*byte), "at {addr}");
+                }
+            }
+            (Err(fault), Err(want_fault)) => {
+                assert_eq!(rt; fault, want_fault, "in pieces of {cut}");
+            }
+            _ => assert!(rt; false, "another outcome in pieces of {cut}"),
+        }
+    }
+}
+
+#[test]
+fn reads_ihex(rt: HostRuntime) {
+    let alloc = rt.alloc();
+    let four: &[(u32, u8)] = &[(0, 1), (1, 2), (2, 3), (3, 4)];
+    let wrapped: &[(u32, u8)] = &[(0x1FFFF, 0xAA), (0x10000, 0xBB)];
+    let two: &[(u32, u8)] = &[(0, 0xAA), (1, 0xBB)];
+    let high: &[(u32, u8)] = &[(0x20000, 0x55)];
+    let later: &[(u32, u8)] = &[(0, 2), (1, 1)];
+    let rows: [(u32, &[u8], Says<'_>); 14] = [
+        (
+            4,
+            b":0400000001020304F2\n:00000001FF",
+            Ok((four, Ending::Ended)),
+        ),
+        (
+            4,
+            b":0400000001020304F3\n:00000001FF\n",
+            Err(RecordFault::BadSum(1)),
+        ),
+        (
+            131_072,
+            b":020000021000EC\n:02FFFF00AABB9B\n:00000001FF\n",
+            Ok((wrapped, Ending::Ended)),
+        ),
+        (
+            131_072,
+            b":020000040001F9\n:02FFFF00AABB9B\n",
+            Err(RecordFault::OutOfRange(2, 0x20000)),
+        ),
+        (
+            32_768,
+            b":020000040001F9\n:0100000055AA\n",
+            Err(RecordFault::OutOfRange(2, 0x10000)),
+        ),
+        (4, b":0400000001020304F2\n", Ok((four, Ending::NoEnd))),
+        (
+            4,
+            b":0400000001020304F2\n:00000001FF\nrubbish",
+            Ok((four, Ending::Ended)),
+        ),
+        (2, b"\r\n:02000000aabb99  \r\n", Ok((two, Ending::NoEnd))),
+        (2, b"\n\n:0100000011EF\n", Err(RecordFault::BadSum(3))),
+        (
+            262_144,
+            b":020000040002F8\n:0100000055AA\n:00000001FF\n",
+            Ok((high, Ending::Ended)),
+        ),
+        (
+            32_768,
+            b":020000040002F8\n:0100000055AA\n",
+            Err(RecordFault::OutOfRange(2, 0x20000)),
+        ),
+        (
+            4,
+            b":0400000300003800C1\n:0400000001020304F2\n:04000005000038FFC0\n",
+            Ok((four, Ending::NoEnd)),
+        ),
+        (4, b":00000006FA\n", Err(RecordFault::BadType(1))),
+        (
+            2,
+            b":020000000101FC\n:0100000002FD\n:00000001FF",
+            Ok((later, Ending::Ended)),
+        ),
+    ];
+    for (size, text, want) in rows {
+        says(&rt, alloc, Kind::Ihex, size, text, want);
+    }
+}
+
+#[test]
+fn reads_srec(rt: HostRuntime) {
+    let alloc = rt.alloc();
+    let four: &[(u32, u8)] = &[(0, 1), (1, 2), (2, 3), (3, 4)];
+    let high: &[(u32, u8)] = &[(0x10000, 0xAA)];
+    let rows: [(u32, &[u8], Says<'_>); 10] = [
+        (
+            4,
+            b"S107000001020304EE\nS9030000FC\n",
+            Ok((four, Ending::Ended)),
+        ),
+        (
+            4,
+            b"S107000001020304EE\nS5030002FA\n",
+            Err(RecordFault::BadCount(2)),
+        ),
+        (
+            4,
+            b"S00600004844521B\nS107000001020304EE\nS5030001FB\n",
+            Ok((four, Ending::NoEnd)),
+        ),
+        (
+            4,
+            b"S107000001020304EE\nS604000001FA\nS9030000FC",
+            Ok((four, Ending::Ended)),
+        ),
+        (
+            131_072,
+            b"S205010000AA4F\nS804000000FB\n",
+            Ok((high, Ending::Ended)),
+        ),
+        (
+            131_072,
+            b"S30600010000AA4E\nS70500000000FA\n",
+            Ok((high, Ending::Ended)),
+        ),
+        (
+            4,
+            b"S107000001020304EE\nS7030000FC\n",
+            Err(RecordFault::BadLength(2)),
+        ),
+        (
+            3,
+            b"S107000001020304EE\n",
+            Err(RecordFault::OutOfRange(1, 3)),
+        ),
+        (4, b"S4030000FC\n", Err(RecordFault::BadType(1))),
+        (
+            4,
+            b"S107000001020304EF\nS9030000FC\n",
+            Err(RecordFault::BadSum(1)),
+        ),
+    ];
+    for (size, text, want) in rows {
+        says(&rt, alloc, Kind::Srec, size, text, want);
+    }
+}
+
+/// The first bytes of a small file.
+#[test]
+fn reads_what_is_cut_short(rt: HostRuntime) {
+    let alloc = rt.alloc();
+    let text = b":0400000001020304F2\n:00000001FF\n";
+    let four: &[(u32, u8)] = &[(0, 1), (1, 2), (2, 3), (3, 4)];
+    for k in 0..text.len() + 1 {
+        let want: Says<'_> = match k {
+            0 => Ok((&[], Ending::NoEnd)),
+            1..=18 => Err(RecordFault::BadLength(1)),
+            19 | 20 => Ok((four, Ending::NoEnd)),
+            21..=30 => Err(RecordFault::BadLength(2)),
+            _ => Ok((four, Ending::Ended)),
+        };
+        says(&rt, alloc, Kind::Ihex, 4, &text[..k], want);
+    }
+}
+
+/// A line may have 600 bytes, blanks at its end among them.
+#[test]
+fn reads_long_lines(rt: HostRuntime) -> Result<(), Fail> {
+    let alloc = rt.alloc();
+    let record = b":0400000001020304F2";
+    let four: &[(u32, u8)] = &[(0, 1), (1, 2), (2, 3), (3, 4)];
+    for (len, want) in [
+        (600, Ok((four, Ending::NoEnd))),
+        (601, Err(RecordFault::LineTooLong(1))),
+    ] {
+        let mut text = record.to_vec(alloc)?;
+        for _ in record.len()..len {
+            text.push(b' ')?;
+        }
+        text.push(b'\n')?;
+        says(&rt, alloc, Kind::Ihex, 4, text.as_slice(), want);
+    }
+    Ok(())
+}
+
+#[test]
+fn answers_line_by_line(rt: HostRuntime) -> Result<(), Fail> {
+    let mut reader = RecordReader::new(rt.alloc(), Kind::Ihex, 4)?;
+    assert_eq!(rt; reader.feed(b":0400000001020304F3"), Ok(()));
+    assert_eq!(rt; reader.fed(), 19);
+    if reader.fed() < 100 {
+        let fault = reader.feed(b"\nx\ny\n");
+        assert_eq!(rt; fault, Err(RecordFault::BadSum(1)));
+        assert_eq!(rt; RecordFault::BadSum(1).number(), 4);
+        assert_eq!(rt; RecordFault::BadSum(1).line(), Some(1));
+        assert_eq!(rt; reader.fed(), 19);
+    }
+    if reader.fed() < 100 {
+        assert_eq!(rt; reader.feed(b""), Err(RecordFault::Failed));
+    }
+    assert_eq!(rt; reader.finish().err(), Some(RecordFault::Failed));
+    Ok(())
+}
+
+#[test]
+fn prints_faults(rt: HostRuntime) -> Result<(), Fail> {
+    for (fault, want) in [
+        (RecordFault::BadMark(1), "line 1: no record mark"),
+        (RecordFault::BadDigit(2), "line 2: bad digit"),
+        (RecordFault::BadLength(3), "line 3: bad length"),
+        (RecordFault::BadSum(4), "line 4: bad checksum"),
+        (RecordFault::BadType(5), "line 5: bad record type"),
+        (
+            RecordFault::OutOfRange(2, 0x10000),
+            "line 2: address 00010000 out of range",
+        ),
+        (RecordFault::LineTooLong(7), "line 7: line too long"),
+        (RecordFault::BadCount(8), "line 8: bad record count"),
+        (RecordFault::Failed, "the reader met a fault before"),
+        (RecordFault::Memory, "out of memory"),
+    ] {
+        let text = format!(in rt.alloc(); "{fault}")?;
+        assert_eq!(rt; text.as_str(), want);
+    }
+    Ok(())
+}
+
+#[test]
+fn detects(rt: HostRuntime) {
+    let rows: [(&[u8], Found); 8] = [
+        (b"  \t\r\n\n:0400000001020304F2\n", Found::Ihex),
+        (b":04", Found::Raw),
+        (b":0400000G01", Found::Raw),
+        (b" :0400000001020304F2", Found::Raw),
+        (b"S10700000102", Found::Srec),
+        (b"S1070000010", Found::Srec),
+        (b"\x7fELF", Found::Elf),
+        (b"", Found::Raw),
+    ];
+    for (front, want) in rows {
+        assert_eq!(rt; detect(front), want);
+    }
+}
+
+/// The plain reader of a whole text and the real one agree.
+#[test]
+fn agrees_with_the_plain_reader(rt: HostRuntime) -> Result<(), Fail> {
+    let alloc = rt.alloc();
+    let texts: [(Kind, &[u8]); 11] = [
+        (Kind::Ihex, b""),
+        (Kind::Ihex, b" \t\n:0100000011EE\x0c\n"),
+        (Kind::Ihex, b"\n\r\n \n"),
+        (
+            Kind::Ihex,
+            b":020000021000EC\r\n:02FFFF00AABB9B\r\n:00000001FF\r\nx\n",
+        ),
+        (
+            Kind::Ihex,
+            b":0100000011EE\n:0100000022DD\n:01000500 11E9\n",
+        ),
+        (
+            Kind::Ihex,
+            b":0100000011EE\n:020000040001F9\n:01FFFF0033CD\n:0100000044BB",
+        ),
+        (Kind::Ihex, b":0200040001020304F2\n"),
+        (
+            Kind::Srec,
+            b"S00600004844521B\n\nS107000001020304EE\nS10500020A0BE3\nS5030002FA\nS9030000FC\n",
+        ),
+        (Kind::Srec, b"S107000001020304EE\nS10500020A0BE4\n"),
+        (Kind::Srec, b"s107000001020304EE\n"),
+        (Kind::Srec, b"S107000001020304EE\nS503FFFFFE\n"),
+    ];
+    for (kind, text) in texts {
+        for k in 0..text.len() + 1 {
+            for size in [3, 300] {
+                let want = slow_read(alloc, kind, size, &text[..k])?;
+                for cut in CUTS {
+                    let outcome = read_cut(alloc, kind, size, &text[..k], cut);
+                    assert!(rt;
+                        want.is_same(&outcome),
+                        "{k} bytes of {kind:?} in pieces of {cut}"
+                    );
+                }
+            }
+        }
+    }
+    Ok(())
+}

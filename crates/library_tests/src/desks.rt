@@ -1,0 +1,168 @@
+//! Calls on their happy path, and the desk of a program over real files.
+use avr_desk::{
+    Bytes, Desk, DeskFault, FailingDesk, FileFault, MemDesk, Stream, SystemDesk, read_file,
+    write_all,
+};
+use std::alloc::Global;
+use std::io::{self, ErrorKind, Write};
+use std::test::Fail;
+use std::{env, fs, process};
+
+/// Whether the file is read to its end within the limit and has these bytes.
+fn holds<D: Desk>(alloc: Global, desk: &mut D, name: &str, limit: usize, want: &[u8]) -> bool {
+    match read_file(alloc, desk, name, limit) {
+        Ok(got) => got.ended && got.bytes.as_slice() == want,
+        Err(_) => false,
+    }
+}
+
+/// Whether the next read of two bytes gives these.
+fn gives<D: Desk>(desk: &mut D, want: &[u8]) -> bool {
+    let mut buf = [0u8; 2];
+    match desk.read(&mut buf) {
+        Ok(count) => &buf[..count] == want,
+        Err(_) => false,
+    }
+}
+
+#[test]
+fn a_desk_gives_its_files(rt: HostRuntime) -> Result<(), Fail> {
+    let alloc = rt.alloc();
+    let mut desk = MemDesk::new(alloc, Bytes::copied(alloc, b"in")?);
+    desk.put("a.hex", b"one two three")?;
+    assert!(rt; holds(alloc, &mut desk, "a.hex", 13, b"one two three"));
+    assert!(rt; !holds(alloc, &mut desk, "a.hex", 12, b"one two three"));
+    assert!(rt; holds(alloc, &mut desk, "-", 4096, b"in"));
+    let absent = read_file(alloc, &mut desk, "b.hex", 1);
+    assert!(rt; absent.err() == Some(FileFault::Absent));
+    assert!(rt; desk.openings().len() == 4);
+    Ok(())
+}
+
+#[test]
+fn a_created_file_is_new(rt: HostRuntime) -> Result<(), Fail> {
+    let mut desk = MemDesk::new(rt.alloc(), Bytes::new(rt.alloc()));
+    desk.put("a.hex", b"one two three")?;
+    desk.create("a.hex")?;
+    write_all(&mut desk, Stream::File, b"new")?;
+    assert!(rt; desk.file("a.hex") == Some(b"new".as_slice()));
+    desk.open("a.hex")?;
+    assert!(rt; gives(&mut desk, b"ne"));
+    assert!(rt; gives(&mut desk, b"w"));
+    assert!(rt; gives(&mut desk, b""));
+    Ok(())
+}
+
+#[test]
+fn output_and_messages(rt: HostRuntime) -> Result<(), Fail> {
+    let mut desk = MemDesk::new(rt.alloc(), Bytes::new(rt.alloc()));
+    write_all(&mut desk, Stream::Output, b"0xe2\n")?;
+    write_all(&mut desk, Stream::Messages, b"avrstk: ")?;
+    write_all(&mut desk, Stream::Messages, b"done\n")?;
+    assert!(rt; desk.output() == b"0xe2\n".as_slice());
+    assert!(rt; desk.messages() == b"avrstk: done\n".as_slice());
+    Ok(())
+}
+
+#[test]
+fn nothing_is_open(rt: HostRuntime) {
+    let mut desk = MemDesk::new(rt.alloc(), Bytes::new(rt.alloc()));
+    assert!(rt; desk.open("none") == Err(DeskFault::NotFound));
+    assert!(rt; !gives(&mut desk, b""));
+    assert!(rt; desk.write(b"x") == Err(DeskFault::Failed));
+}
+
+#[test]
+fn the_third_call_fails(rt: HostRuntime) -> Result<(), Fail> {
+    let mut desk = FailingDesk::new(MemDesk::new(rt.alloc(), Bytes::new(rt.alloc())), 3);
+    desk.create("x")?;
+    write_all(&mut desk, Stream::Output, b"first")?;
+    assert!(rt; write_all(&mut desk, Stream::Output, b"second") == Err(DeskFault::Failed));
+    write_all(&mut desk, Stream::File, b"third")?;
+    assert!(rt; desk.inner().output() == b"first".as_slice());
+    assert!(rt; desk.inner().file("x") == Some(b"third".as_slice()));
+    Ok(())
+}
+
+#[test]
+fn files_of_the_system(rt: HostRuntime) -> Result<(), Fail> {
+    let alloc = rt.alloc();
+    let folder = env::temp_dir(&rt)?;
+    let id = process::id(rt.process());
+    let name = format!(in alloc; "{}/avr_desk_{id}.bin", folder.display())?;
+    let mut desk = SystemDesk::new(&rt, rt.stdout(), rt.stderr());
+    assert!(rt; desk.open(name.as_str()) == Err(DeskFault::NotFound));
+    assert!(rt; !gives(&mut desk, b""));
+    desk.create(name.as_str())?;
+    write_all(&mut desk, Stream::File, b"abc")?;
+    assert!(rt; holds(alloc, &mut desk, name.as_str(), 3, b"abc"));
+    fs::remove_file(&rt, name.as_str())?;
+    assert!(rt; !holds(alloc, &mut desk, ".", 3, b""));
+    assert!(rt; desk.create("/no/such/folder/x") == Err(DeskFault::Failed));
+    write_all(&mut desk, Stream::Messages, b"a message\n")?;
+    Ok(())
+}
+
+/// Prints with a desk over these two writers.
+fn print_both<'a>(
+    rt: &'a HostRuntime,
+    output: &'a mut Vec<u8>,
+    messages: &'a mut Vec<u8>,
+) -> Result<(), Fail> {
+    let mut desk = SystemDesk::new(rt, output, messages);
+    write_all(&mut desk, Stream::Output, b"out")?;
+    write_all(&mut desk, Stream::Messages, b"a message\n")?;
+    desk.create("-")?;
+    write_all(&mut desk, Stream::File, b"put")?;
+    Ok(())
+}
+
+#[test]
+fn each_stream_has_its_writer(rt: HostRuntime) -> Result<(), Fail> {
+    let mut output = Vec::new(rt.alloc());
+    let mut messages = Vec::new(rt.alloc());
+    print_both(&rt, &mut output, &mut messages)?;
+    assert!(rt; output.as_slice() == b"output".as_slice());
+    assert!(rt; messages.as_slice() == b"a message\n".as_slice());
+    Ok(())
+}
+
+/// A writer whose first call is interrupted, that takes one byte at a time, and whose second flush
+/// fails.
+#[derive(Drop)]
+struct Stubborn {
+    calls: u8,
+    flushes: u8,
+}
+
+impl Write for Stubborn {
+    fn write(&mut self, bytes: &[u8]) -> io::Result<usize> {
+        self.calls = self.calls.saturating_add(1);
+        if self.calls == 1 {
+            return Err(io::Error::from(ErrorKind::Interrupted));
+        }
+        Ok(bytes.len().min(1))
+    }
+
+    fn flush(&mut self) -> io::Result<()> {
+        self.flushes = self.flushes.saturating_add(1);
+        match self.flushes {
+            2 => Err(io::Error::from(ErrorKind::WriteZero)),
+            _ => Ok(()),
+        }
+    }
+}
+
+#[test]
+fn a_writer_is_flushed(rt: HostRuntime) -> Result<(), Fail> {
+    let output = Stubborn {
+        calls: 0,
+        flushes: 0,
+    };
+    let mut desk = SystemDesk::new(&rt, output, rt.stderr());
+    assert!(rt; write_all(&mut desk, Stream::Output, b"a") == Ok(()));
+    assert!(rt; write_all(&mut desk, Stream::Output, b"b") == Err(DeskFault::Failed));
+    desk.create("-")?;
+    assert!(rt; write_all(&mut desk, Stream::File, b"cd") == Ok(()));
+    Ok(())
+}

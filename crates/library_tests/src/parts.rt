@@ -1,0 +1,271 @@
+//! What no contract says: texts, and that calls succeed.
+
+use avr_part::{Chip, Field, Mem, Part, PartFault, Parts, parse_parts};
+use std::alloc::Global;
+use std::process::Abort;
+use std::test::Fail;
+
+/// How a part's table begins.
+const HEAD: &str = "[parts.x1]\nsignature = \"1e950F\"\n";
+
+fn built_in(rt: &impl Abort, id: &str) -> Part {
+    Parts::none().find(id).expect(rt, "a built-in part")
+}
+
+/// The chip's bytes out for these bytes in, one instruction after another.
+fn obeys(rt: &impl Abort, chip: &mut Chip, rows: &[([u8; 4], [u8; 4])]) {
+    for (bytes, out) in rows {
+        assert_eq!(rt; chip.spi(*bytes), *out, "at {bytes:?}");
+    }
+}
+
+/// The fault of a part file.
+fn fault_of(alloc: Global, text: &str) -> Option<PartFault> {
+    parse_parts(alloc, text.as_bytes()).err()
+}
+
+#[test]
+fn a_part_file_is_read(rt: HostRuntime) -> Result<(), Fail> {
+    let text =
+        "title = \"mine\"\n[parts.x1]\nsignature = \"1E950f\"\nflash_size = 32768\nflash_page = 128\n\
+        eeprom_size = 1024\neeprom_page = 4\neesave_bit = 3\n\
+        [parts.t85]\nsignature = \"000001\"\nflash_size = 2\nflash_page = 2\neeprom_size = 1\neeprom_page = 1\neesave_bit = 0\n";
+    let parts = parse_parts(rt.alloc(), text.as_bytes())?;
+    let part = parts.find("x1")?;
+    assert_eq!(rt; part.signature(), [0x1E, 0x95, 0x0F]);
+    assert_eq!(rt; part.size_of(Mem::Flash), 32_768);
+    assert_eq!(rt;
+        parts.find("t85")?.size_of(Mem::Flash),
+        2,
+        "the file's part comes first"
+    );
+    assert_eq!(rt; parts.find("m328p")?.size_of(Mem::Eeprom), 1024);
+    Ok(())
+}
+
+#[test]
+fn damaged_part_files(rt: HostRuntime) -> Result<(), Fail> {
+    let whole = "flash_page = 128\neeprom_size = 1024\neeprom_page = 4\neesave_bit = 3\n";
+    for (text, fault) in [
+        ("", PartFault::Missing(Field::Parts)),
+        ("[part.x1]\n", PartFault::Missing(Field::Parts)),
+        ("parts = 3", PartFault::BadValue(Field::Parts)),
+        ("parts = [", PartFault::NotToml),
+        ("[parts]\nx1 = 1\n", PartFault::BadValue(Field::Parts)),
+        ("[[parts.x1]]\n", PartFault::BadValue(Field::Parts)),
+        ("[[parts]]\n", PartFault::BadValue(Field::Parts)),
+        ("[parts.\"x 1\"]\n", PartFault::BadValue(Field::Id)),
+        ("[parts.\"\"]\n", PartFault::BadValue(Field::Id)),
+        (
+            "[parts.abcdefghijklmnopqrstuvwxyz012345]\n",
+            PartFault::BadValue(Field::Id),
+        ),
+        (
+            "[parts.x1]\nflash_size = 0\n",
+            PartFault::Missing(Field::Signature),
+        ),
+        (
+            "[parts.x1]\nsignature = \"1E95\"\n",
+            PartFault::BadValue(Field::Signature),
+        ),
+        (
+            "[parts.x1]\nsignature = \"1E950\"\n",
+            PartFault::BadValue(Field::Signature),
+        ),
+        (
+            "[parts.x1]\nsignature = \"1E95 F\"\n",
+            PartFault::BadValue(Field::Signature),
+        ),
+        (
+            "[parts.x1]\nsignature = 19507\n",
+            PartFault::BadValue(Field::Signature),
+        ),
+        (
+            "[parts.x1]\nsignature = \"1E950F\"\nsignature = \"1E950F\"\n",
+            PartFault::NotToml,
+        ),
+    ] {
+        assert_eq!(rt; fault_of(rt.alloc(), text), Some(fault), "at {text}");
+    }
+    for (value, fault) in [
+        ("\"32768\"", PartFault::BadValue(Field::FlashSize)),
+        ("32768.0", PartFault::BadValue(Field::FlashSize)),
+        ("true", PartFault::BadValue(Field::FlashSize)),
+        ("-2", PartFault::BadValue(Field::FlashSize)),
+        ("1", PartFault::BadValue(Field::FlashSize)),
+        ("262145", PartFault::BadValue(Field::FlashSize)),
+        ("4294967298", PartFault::BadValue(Field::FlashSize)),
+        ("9223372036854775808", PartFault::NotToml),
+        ("1000", PartFault::BadSizes),
+    ] {
+        let text = format!(in rt.alloc(); "{HEAD}flash_size = {value}\n{whole}")?;
+        assert_eq!(rt;
+            fault_of(rt.alloc(), text.as_str()),
+            Some(fault),
+            "at {value}"
+        );
+    }
+    for (fields, fault) in [
+        (
+            "flash_size = 262400\nflash_page = 256\n",
+            PartFault::BadValue(Field::FlashSize),
+        ),
+        ("flash_size = 1000\n", PartFault::Missing(Field::FlashPage)),
+        (
+            "flash_size = 1000\nflash_page = 1\n",
+            PartFault::BadValue(Field::FlashPage),
+        ),
+        (
+            "flash_size = 1000\nflash_page = 100\n",
+            PartFault::BadValue(Field::FlashPage),
+        ),
+        (
+            "flash_size = 1000\nflash_page = 512\n",
+            PartFault::BadValue(Field::FlashPage),
+        ),
+        (
+            "flash_size = 2\nflash_page = 2\neeprom_size = 4097\n",
+            PartFault::BadValue(Field::EepromSize),
+        ),
+        (
+            "flash_size = 2\nflash_page = 2\neeprom_size = 4\n",
+            PartFault::Missing(Field::EepromPage),
+        ),
+        (
+            "flash_size = 2\nflash_page = 2\neeprom_size = 4\neeprom_page = 0\n",
+            PartFault::BadValue(Field::EepromPage),
+        ),
+        (
+            "flash_size = 2\nflash_page = 2\neeprom_size = 4\neeprom_page = 4\neesave_bit = 8\n",
+            PartFault::BadValue(Field::EesaveBit),
+        ),
+        (
+            "flash_size = 2\nflash_page = 2\neeprom_size = 6\neeprom_page = 4\neesave_bit = 7\n",
+            PartFault::BadSizes,
+        ),
+    ] {
+        let text = format!(in rt.alloc(); "{HEAD}{fields}")?;
+        assert_eq!(rt;
+            fault_of(rt.alloc(), text.as_str()),
+            Some(fault),
+            "at {fields}"
+        );
+    }
+    let no_text: &[u8] = &[b'a', b'=', b'"', 0xFF, b'"'];
+    assert_eq!(rt;
+        parse_parts(rt.alloc(), no_text).err(),
+        Some(PartFault::NotToml)
+    );
+    Ok(())
+}
+
+#[test]
+fn faults_have_numbers_and_texts(rt: HostRuntime) -> Result<(), Fail> {
+    for (fault, number, text) in [
+        (PartFault::NotToml, 1, "the part file is not TOML"),
+        (
+            PartFault::Missing(Field::EepromPage),
+            2,
+            "eeprom_page is missing",
+        ),
+        (
+            PartFault::BadValue(Field::Signature),
+            3,
+            "signature has a bad value",
+        ),
+        (PartFault::BadSizes, 4, "a size is no multiple of its page"),
+        (PartFault::NoSuchPart, 5, "there is no such part"),
+        (
+            PartFault::BadChipFile(100),
+            6,
+            "a chip file of 100 bytes does not fit the part",
+        ),
+        (PartFault::Memory, 7, "out of memory"),
+    ] {
+        assert_eq!(rt; fault.number(), number);
+        let told = format!(in rt.alloc(); "{fault}")?;
+        assert_eq!(rt; told.as_str(), text);
+    }
+    Ok(())
+}
+
+#[test]
+fn a_chip_obeys(rt: HostRuntime) -> Result<(), Fail> {
+    let mut chip = Chip::fresh(rt.alloc(), built_in(&rt, "m328p"))?;
+    let rows = [
+        ([0xAC, 0x53, 0, 0], [0, 0xAC, 0x53, 0]),
+        ([0x30, 0, 1, 0], [0, 0x30, 0, 0x95]),
+        ([0x30, 0, 7, 0], [0, 0x30, 0, 0xFF]),
+        ([0x38, 0, 0, 0], [0, 0x38, 0, 0xFF]),
+        ([0xF0, 0, 1, 0], [0, 0xF0, 0, 0]),
+        ([0x40, 0, 0, 0x12], [0, 0x40, 0, 0]),
+        ([0x4C, 0, 0, 0], [0, 0x4C, 0, 0]),
+        ([0x20, 0, 0, 0], [0, 0x20, 0, 0x12]),
+        ([0x28, 0, 0, 0], [0, 0x28, 0, 0xFF]),
+        ([0xC1, 0, 1, 0x33], [0, 0xC1, 0, 1]),
+        ([0xC2, 0, 0, 0], [0, 0xC2, 0, 0]),
+        ([0xA0, 0, 1, 0], [0, 0xA0, 0, 0x33]),
+        ([0xA0, 0, 0, 0], [0, 0xA0, 0, 0xFF]),
+        ([0xAC, 0xA8, 0, 0xF7], [0, 0xAC, 0xA8, 0]),
+        ([0xAC, 0x80, 0, 0], [0, 0xAC, 0x80, 0]),
+        ([0xA0, 0, 1, 0], [0, 0xA0, 0, 0x33]),
+        ([0xAC, 0xA8, 0, 0xFF], [0, 0xAC, 0xA8, 0]),
+        ([0xAC, 0x80, 0, 0], [0, 0xAC, 0x80, 0]),
+        ([0xA0, 0, 1, 0], [0, 0xA0, 0, 0xFF]),
+        ([0xAC, 0xE0, 0, 0xFC], [0, 0xAC, 0xE0, 0]),
+        ([0xAC, 0xE0, 0, 0xFF], [0, 0xAC, 0xE0, 0]),
+        ([0x58, 0, 0, 0], [0, 0x58, 0, 0xFC]),
+        ([0xC0, 0, 0, 0x11], [0, 0xC0, 0, 0]),
+        ([0xA0, 0, 0, 0], [0, 0xA0, 0, 0xFF]),
+        ([0xAC, 0x80, 0, 0], [0, 0xAC, 0x80, 0]),
+        ([0x58, 0, 0, 0], [0, 0x58, 0, 0xFF]),
+        ([0xC0, 0, 0, 0x11], [0, 0xC0, 0, 0]),
+        ([0xA0, 0, 0, 0], [0, 0xA0, 0, 0x11]),
+    ];
+    obeys(&rt, &mut chip, &rows);
+    Ok(())
+}
+
+#[test]
+fn the_second_half_of_a_large_flash(rt: HostRuntime) -> Result<(), Fail> {
+    let mut chip = Chip::fresh(rt.alloc(), built_in(&rt, "m2560"))?;
+    let rows = [
+        ([0x4D, 0, 1, 0], [0, 0x4D, 0, 1]),
+        ([0x40, 0, 0, 0x55], [0, 0x40, 0, 0]),
+        ([0x4C, 0, 0, 0], [0, 0x4C, 0, 0]),
+        ([0x20, 0, 0, 0], [0, 0x20, 0, 0x55]),
+        ([0xAC, 0x53, 0, 0], [0, 0xAC, 0x53, 0]),
+        ([0x20, 0, 0, 0], [0, 0x20, 0, 0xFF]),
+    ];
+    obeys(&rt, &mut chip, &rows);
+    assert_eq!(rt; chip.byte(Mem::Flash, 0x2_0000), Some(0x55));
+    assert_eq!(rt; chip.byte(Mem::Flash, 0), Some(0xFF));
+    assert_eq!(rt; chip.byte(Mem::Flash, 0x4_0000), None);
+    Ok(())
+}
+
+#[test]
+fn chip_files(rt: HostRuntime) -> Result<(), Fail> {
+    let mut chip = Chip::fresh(rt.alloc(), built_in(&rt, "m328p"))?;
+    let rows = [
+        ([0xC0, 0, 2, 0x33], [0, 0xC0, 0, 2]),
+        ([0xAC, 0xA0, 0, 0x62], [0, 0xAC, 0xA0, 0]),
+        ([0xAC, 0xE0, 0, 0xFC], [0, 0xAC, 0xE0, 0]),
+    ];
+    obeys(&rt, &mut chip, &rows);
+    let bytes = chip.to_bytes(rt.alloc())?;
+    assert_eq!(rt; bytes.len(), 33_796);
+    assert_eq!(rt; bytes[32_770], 0x33);
+    assert_eq!(rt;
+        &bytes.as_slice()[33_792..],
+        [0x62, 0xFF, 0xFF, 0xFC].as_slice()
+    );
+    let again = Chip::from_bytes(rt.alloc(), built_in(&rt, "m328p"), bytes.as_slice())?;
+    assert_eq!(rt; again.part().id(), "m328p");
+    assert_eq!(rt; again.byte(Mem::Eeprom, 2), Some(0x33));
+    assert_eq!(rt; again.byte(Mem::Lfuse, 0), Some(0x62));
+    assert_eq!(rt; again.byte(Mem::Lock, 1), None);
+    let short = Chip::from_bytes(rt.alloc(), built_in(&rt, "m328p"), &[0xFF; 100]);
+    assert_eq!(rt; short.err(), Some(PartFault::BadChipFile(100)));
+    Ok(())
+}
