@@ -26,12 +26,13 @@ TEST = re.compile(r"/src/(?:.*/)?(?:\w*tests?|examples)(?:/|\.rt)")
 
 
 def known_files():
-    """The files of each crate, by its name."""
+    """The files of each crate that isn't one of tests, by its name."""
     listed = subprocess.run(["git", "-C", TOP, "ls-files", "crates"], capture_output=True, text=True, check=True)
     crates = defaultdict(list)
     for name in listed.stdout.splitlines():
-        if name.endswith((".rt", ".antt")) and (TOP / name).exists():
-            crates[name.split("/")[1]].append(name)
+        crate = name.split("/")[1]
+        if name.endswith((".rt", ".antt")) and (TOP / name).exists() and not crate.endswith(("_tests", "acceptance")):
+            crates[crate].append(name)
     return crates
 
 
