@@ -1,10 +1,7 @@
 //! Worked operations: what a host sends to write, read and verify the memories of an ATmega328P.
-#![tactic(auto)]
-
 ghost use Rattle.std.specs.Prelude.{◌≡◌, length, IfOk};
 ghost use Rattle.avr_part.specs.Part.{size_of};
 
-use crate::{Host, HostFault, Item, TapeLink};
 use arrayvec::ArrayVec;
 use avr_image::{Image, ImageFault};
 use avr_part::{Mem, Part, PartFault, Parts};
@@ -12,6 +9,7 @@ use std::alloc::{AllocError, Global};
 use std::process::Abort;
 use std::test::Fail;
 use stk_frame::put_frame;
+use stk_host::{Host, HostFault, Item, TapeLink};
 
 fn part() -> Result<Part, PartFault> {
     Parts::none().find("m328p")
