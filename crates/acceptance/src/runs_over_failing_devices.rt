@@ -1,7 +1,6 @@
 //! Runs over devices that fail, each at every one of its calls in turn, and over links that pass little at once.
 ghost use Rattle.std.specs.Prelude.{◌<◌};
 
-use crate::runs_over_bad_lines::WHOLE_EEPROM;
 use crate::support::{
     OPENING, Over, Row, desk_with, fates, holds, joined, pattern, printed, run_on, run_row, shows,
     wire_to,
@@ -94,7 +93,16 @@ const FUSE: SoundRun = SoundRun {
 
 /// The whole EEPROM, over a wire whose frame 255 is answered late.
 const EEPROM: SoundRun = SoundRun {
-    row: WHOLE_EEPROM,
+    row: Row {
+        words: &["-p", "m328p", "-V", "-U", "eeprom:w:e.bin:r"],
+        output: "",
+        messages: &[
+            "device signature = 1E 95 0F",
+            "eeprom: 1024 bytes written",
+            "done",
+        ],
+        status: 0,
+    },
     size: 1_024,
     is_late: true,
     link_calls: 2 * 520,

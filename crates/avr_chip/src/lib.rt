@@ -17,6 +17,3 @@ mod saving;
 
 pub use loading::load_chip;
 pub use saving::save_chip;
-
-#[cfg(test)]
-mod tests;

@@ -20,8 +20,3 @@ mod serving;
 pub use ports::{accept, listen};
 pub use run::run_net;
 pub use serving::{serve_net, serve_on};
-
-#[cfg(test)]
-mod loopback;
-#[cfg(test)]
-mod tests;

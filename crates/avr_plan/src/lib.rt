@@ -38,6 +38,3 @@ pub use planned::Plan;
 pub use planning::plan;
 pub use refusal::{refuse, refuse_file, refuse_memory, refuse_too_long};
 pub use task::Task;
-
-#[cfg(test)]
-mod tests;

@@ -16,10 +16,6 @@ mod serving;
 // from settings to status
 mod ending;
 mod run;
-#[cfg(test)]
-mod run_tests;
-#[cfg(test)]
-mod tests;
 
 pub use run::{READS, find_chip, serve, serve_chip, serve_for};
 pub use serving::{Served, answer_all};

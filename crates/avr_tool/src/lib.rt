@@ -48,6 +48,3 @@ pub use running::{run, run_wired};
 // lines
 pub use stk_emu::{Fate, Wired, noise_is_lawful};
 pub use stk_host::{Heard, Item, Link, LinkFault, StreamLink, TapeLink};
-
-#[cfg(test)]
-mod tests;

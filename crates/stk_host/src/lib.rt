@@ -31,11 +31,7 @@ mod comparing;
 mod erasing;
 mod host;
 mod opening;
-#[cfg(test)]
-mod operation_tests;
 mod reading;
-#[cfg(test)]
-mod tests;
 mod writing;
 // laws
 mod laws;

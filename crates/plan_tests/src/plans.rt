@@ -1,8 +1,8 @@
 //! Every line of a plan brought about once, and what a plan holds.
-use crate::{Task, plan};
 use avr_cli::{Format, Op, Port, Settings, Switches, Text, Update, Updates};
 use avr_desk::{Bytes, FailingDesk, MemDesk};
 use avr_part::Mem;
+use avr_plan::{Task, plan};
 use std::alloc::{AllocError, Global};
 use std::test::Fail;
 

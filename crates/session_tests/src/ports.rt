@@ -1,7 +1,7 @@
 //! Both ends of a port of this machine, in one thread.
-use crate::{accept, listen, run_net, serve_net, serve_on};
 use avr_cli::{Settings, read_words, settings};
 use avr_desk::{Bytes, MemDesk};
+use avr_net::{accept, listen, run_net, serve_net, serve_on};
 use avr_part::{Chip, Parts};
 use std::alloc::Global;
 use std::io;

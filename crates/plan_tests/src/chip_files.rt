@@ -1,5 +1,5 @@
 //! Chip files that are missing, whole, of another length, and at a desk that fails.
-use crate::{load_chip, save_chip};
+use avr_chip::{load_chip, save_chip};
 use avr_desk::{Bytes, FailingDesk, MemDesk};
 use avr_part::{Chip, Mem, Part, PartFault, Parts};
 use std::alloc::{AllocError, Global};

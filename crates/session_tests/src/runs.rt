@@ -1,8 +1,8 @@
 //! Worked runs: what is sent, what is printed, and the status. The frames are those of the STK500 protocol, version 2
 //! (AVR068), written out by hand.
-use crate::run;
 use avr_cli::{Settings, read_words, settings};
 use avr_desk::{Bytes, FailingDesk, MemDesk};
+use avr_session::run;
 use std::alloc::Global;
 use std::ops::Range;
 use std::process::Abort;

@@ -1,14 +1,12 @@
 //! Talks with the programmer, in pieces of every size and over a bad wire; and what real AVRDUDE asks of a programmer.
-#![tactic(auto)]
-
 ghost use Rattle.std.specs.Prelude.{◌<◌, ◌≤◌, length, IfOk, OnOk};
 ghost use Rattle.stk_emu.specs.Wire.{AreLawful, IsLawfulFate};
 
-use super::*;
 use arrayvec::ArrayVec;
 use avr_part::{Chip, Mem, Parts};
 use std::alloc::{AllocError, Global};
 use std::test::Fail;
+use stk_emu::{Emulator, Fate, Wired, noise_is_lawful};
 use stk_frame::{Command, put_frame};
 use stk_host::{Heard, Host, HostFault, Link};
 

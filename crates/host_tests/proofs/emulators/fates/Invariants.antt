@@ -1,5 +1,5 @@
 use Rattle.stk_emu.specs.Wire.{AreLawful, IsLawfulFate}
-use Rattle.stk_emu.proofs.tests.fates.Given as goal
+use Rattle.host_tests.proofs.emulators.fates.Given as goal
 
 abbrev pub invariant-loop-good : goal.invariant-loop-good
 invariant-loop-good l = record { fates : AreLawful l.fates.items; last : IsLawfulFate l.last }

@@ -1,7 +1,7 @@
 //! From settings to status: how serving ends, what is told of it, and the chip file.
-use super::*;
 use avr_cli::{Settings, read_words, settings};
 use avr_desk::{Bytes, MemDesk};
+use avr_serve::{serve, serve_for};
 use std::alloc::{AllocError, Global};
 use std::test::Fail;
 use stk_host::{FailingLink, Item, TapeLink};

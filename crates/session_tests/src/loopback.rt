@@ -1,9 +1,9 @@
 //! Whole runs over one connection, with the tool at one end of it and the emulator at the other, in one thread.
 ghost use Rattle.std.specs.Prelude.{None};
 
-use crate::{accept, listen};
 use avr_cli::{Settings, read_words, settings};
 use avr_desk::{Bytes, MemDesk};
+use avr_net::{accept, listen};
 use avr_part::{Chip, Mem, Parts};
 use avr_serve::answer_all;
 use avr_session::run;

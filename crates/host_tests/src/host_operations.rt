@@ -2,7 +2,6 @@
 ghost use Rattle.std.specs.Prelude.{◌≡◌, length, IfOk};
 ghost use Rattle.avr_part.specs.Part.{size_of};
 
-use crate::{Host, HostFault, Item, TapeLink};
 use arrayvec::ArrayVec;
 use avr_image::{Image, ImageFault};
 use avr_part::{Mem, Part, PartFault, Parts};
@@ -10,6 +9,7 @@ use std::alloc::{AllocError, Global};
 use std::process::Abort;
 use std::test::Fail;
 use stk_frame::put_frame;
+use stk_host::{Host, HostFault, Item, TapeLink};
 
 fn part() -> Result<Part, PartFault> {
     Parts::none().find("m328p")

@@ -1,7 +1,7 @@
 //! A caller of the headline's calls: that its conditions can be met.
-use crate::{Fate, MemDesk, Settings, Wired, read_words, run_wired, settings};
 use avr_desk::Bytes;
 use avr_part::{Chip, Parts};
+use avr_tool::{Fate, MemDesk, Settings, Wired, read_words, run_wired, settings};
 use std::alloc::Global;
 use std::test::Fail;
 

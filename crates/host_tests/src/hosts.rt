@@ -1,11 +1,11 @@
 //! Worked sessions: the frames are those of the STK500 protocol, version 2 (AVR068), for an ATmega328P.
-use crate::{FailingLink, Heard, Host, HostFault, Item, Link, LinkFault, StreamLink, TapeLink};
 use avr_part::{PartFault, Parts};
 use std::alloc::{AllocError, Global};
 use std::io;
 use std::io::{ErrorKind, Read, Write};
 use std::process::Abort;
 use std::test::Fail;
+use stk_host::{FailingLink, Heard, Host, HostFault, Item, Link, LinkFault, StreamLink, TapeLink};
 
 /// SIGN_ON, ENTER_PROGMODE_ISP, three of READ_SIGNATURE_ISP and LEAVE_PROGMODE_ISP, numbered from 1.
 const FRAMES: [u8; 70] = [

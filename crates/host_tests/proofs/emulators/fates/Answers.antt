@@ -1,4 +1,4 @@
-use Rattle.stk_emu.proofs.tests.fates.Goals as goal
+use Rattle.host_tests.proofs.emulators.fates.Goals as goal
 
 pub add-requires-2-clause-lawful : goal.add-requires-2-clause-lawful
 add-requires-2-clause-lawful c = c.loop-lost.invariant.last

@@ -1,2 +1,0 @@
-//! What no contract says: whole runs, byte for byte.
-mod runs;
