@@ -14,11 +14,11 @@ use Rattle.stk_frame.proofs.Cut.{refused}
 use Rattle.stk_host.proofs.Pages.{page_most}
 use Rattle.stk_host.specs.declared.fault.StepFault.{StepFault}
 use Rattle.stk_host.specs.declared.fault.StepFault.TheVariants.{Refused}
-use Rattle.stk_host.specs.Places.{flash_address, load_flash, load_eeprom}
+use Rattle.stk_host.specs.Places.{flash_address}
 use Rattle.stk_host.specs.Steps.{Reply, Data, Again, Stop, replied}
 use Rattle.stk_host.specs.Tape.{Answered}
 use Rattle.stk_emu.specs.Programmer.{Programmer, Done, fail, obey, obey_command}
-use Rattle.stk_emu.specs.Device.{Device, device}
+use Rattle.stk_emu.specs.Device.{device}
 use Rattle.stk_emu.specs.Effect.{Memories}
 use Rattle.stk_emu.specs.Settled.{Settled, Ready}
 use Rattle.stk_emu.specs.Fits.{obeyed, Fits}

@@ -17,7 +17,7 @@ use Rattle.stk_emu.specs.declared.fate.Fate.TheVariants.{Good, LostCommand, Lost
 use Rattle.stk_emu.specs.Device.{Device, refusal, answer_body}
 use Rattle.stk_emu.specs.Wire.{IsLawfulFate, first_fate, after_fate, back, let_go, late_of, Wire, segment, passed}
 use Rattle.stk_emu.specs.Along.{reading_of}
-use Rattle.stk_emu.specs.Lawful.{IsLawful, IsBody, Late, none_late, behind_late, waiting, later, IsLate, IsPast, IsClear}
+use Rattle.stk_emu.specs.Lawful.{IsLawful, IsBody, Late, none_late, behind_late, waiting, later, IsPast, IsClear}
 
 further_zero : (o : Option (List ℕ × ℕ)) → o ≡ further 0 o
 further_zero None = refl

@@ -1,4 +1,4 @@
-use Rattle.std.proofs.Common.{◌++◌, ◌∙◌, sym, ap}
+use Rattle.std.proofs.Common.{◌++◌, ◌∙◌, ap}
 use Rattle.stk_host.specs.Tape.{on_tape}
 use Rattle.stk_emu.specs.Waiting.{tape_in}
 use Rattle.stk_emu.proofs.Waits.{three_put}
