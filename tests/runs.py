@@ -17,6 +17,8 @@ from program import CHIP_FILE, FRAMES, Room, frame, lines
 # where the memories of an ATmega328P begin in its chip file
 EEPROM, LFUSE, HFUSE, EFUSE, LOCK = 32_768, 33_792, 33_793, 33_794, 33_795
 
+FUSE_NAMES = ["lfuse", "hfuse", "efuse", "lock"]
+
 # the length of the chip file of an ATmega2560
 LARGE_CHIP_FILE = 266_244
 
@@ -197,6 +199,36 @@ FUSES = {
     ),
     "an erase takes the EEPROM where the high fuse lets it": Run(
         ["-e"], erased(), before={0: 0x0F, EEPROM: 0x55, HFUSE: 0xD9}, after={HFUSE: 0xD9}
+    ),
+    "an erase comes before the high fuse that would keep the EEPROM": Run(
+        ["-U", "hfuse:w:0xD1:m", "-e"],
+        erased("hfuse: 1 bytes written", "hfuse: 1 bytes verified"),
+        before={0: 0x0F, EEPROM: 0x55, HFUSE: 0xD9},
+        after={HFUSE: 0xD1},
+        sent=[*OPENING, erase(6), frame(7, bytes.fromhex("17ACA800D1")), frame(8, bytes.fromhex("180458080000")), leave(9)],
+    ),
+    "and before the one that would let it go": Run(
+        ["-e", "-U", "hfuse:w:0xD9:m"],
+        erased("hfuse: 1 bytes written", "hfuse: 1 bytes verified"),
+        before={0: 0x0F, EEPROM: 0x55, HFUSE: 0xD1},
+        after={EEPROM: 0x55, HFUSE: 0xD9},
+    ),
+    "all fuses and the lock, each written and read back in turn": Run(
+        [*["-U", "lfuse:w:0x62:m", "-U", "hfuse:w:0xD9:m"], *["-U", "efuse:w:0xFD:m", "-U", "lock:w:0xFC:m"]],
+        session(*[f"{name}: 1 bytes {did}" for name in FUSE_NAMES for did in ["written", "verified"]]),
+        after={LFUSE: 0x62, HFUSE: 0xD9, EFUSE: 0xFD, LOCK: 0xFC},
+        sent=[
+            *OPENING,
+            frame(6, bytes.fromhex("17ACA00062")),
+            frame(7, bytes.fromhex("180450000000")),
+            frame(8, bytes.fromhex("17ACA800D9")),
+            frame(9, bytes.fromhex("180458080000")),
+            frame(10, bytes.fromhex("17ACA400FD")),
+            frame(11, bytes.fromhex("180450080000")),
+            frame(12, bytes.fromhex("19ACE000FC")),
+            frame(13, bytes.fromhex("1A0458000000")),
+            leave(14),
+        ],
     ),
     "a lock keeps the fuses, and without a read back nobody sees it": Run(
         ["-V", "-U", "lock:w:0xFE:m", "-U", "lfuse:w:0x62:m"],

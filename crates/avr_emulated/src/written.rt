@@ -42,9 +42,9 @@ pub fn a_verified_run_leaves_its_images()
         }) after).status ≡ 0 }
 {}
 
-/// A byte of flash, whatever was done: the one before or the FF of an erase, AND the bytes that none, one or more of the
-/// images have there that are written to flash. After a run that did all of its plan these are the plan's images; after
-/// any other, those of its strokes, each a page.
+/// A byte of flash, whatever was done: the one before or the FF of an erase, AND the bytes that none, one or more of
+/// the images have there that are written to flash. After a run that did all of its plan these are the plan's images;
+/// after any other, those of its strokes, each a page.
 pub fn a_byte_of_flash_is_made_by_images()
     ensures items { (part : Part) (items : List Item) (m : Memories) (addr : ℕ) → addr < length m.flash
         → IsMade items addr (byte_in part Flash addr m) (byte_in part Flash addr (effects part items m)) }

@@ -2,11 +2,11 @@
 -- and spoils. Read it from top to bottom: each word is defined here, or one step below in the file that its `use`
 -- names.
 --
--- What it does not say. A desk or a link that shows no record (`None`, as the real files and streams do) is one of which
--- the clauses on what passed claim nothing: there the same generic code stands in their place. A talk and a desk's
--- record are two, so nothing says which of a frame and a line came first, but where what is told is true. That a run
--- succeeds is said only of a line on which few frames go wrong. Whether memory was refused nothing counts. Nothing is
--- said of time, nor of a chip that loses its power in the middle of a write.
+-- What it does not say. Of a desk or a link that shows no record (`None`, as the real files and streams do) the clauses
+-- on what passed claim nothing: there the same generic code stands in their place. A talk and a desk's record are two,
+-- so no clause orders a line and a frame, but as events of the run. That a run succeeds is said only of a line on which
+-- few frames go wrong. Whether memory was refused nothing counts. Nothing is said of time, nor of a chip that loses its
+-- power in the middle of a write.
 use Rattle.std.specs.Prelude.{ℕ, ◌+◌, ◌*◌, ◌≡◌, ◌≤◌, ◌⊎◌, true, false, List, [], ◌∷◌, ◌++◌, map, length, Option, option_map, Some, None, Err}
 use Rattle.avr_chip.specs.Loading.{chip_stage}
 use Rattle.avr_cli.specs.declared.chosen.Settings.{Settings}
