@@ -1,35 +1,143 @@
--- Comparing from the lowest address up.
-use Rattle.std.proofs.Common.{◌≡◌, ◌∙◌, ap, refl, ℕ, ◌+◌, ◌<◌, List, [], ◌∷◌, length, get_or, drop, drop-cons, add-one, Bool, Option, Some, None}
+-- Comparing from the lowest address up, run by run.
+use Rattle.std.proofs.Common.{◌≡◌, ◌≤◌, ◌∙◌, ap, sym, refl, arith, ℕ, suc, ◌+◌, ◌-◌, ◌<◌, List, [], ◌∷◌, length, get_or, map, take, drop, drop-cons, add-one, Bool, true, false, Option, Some, None, inl, inr}
 use Rattle.std.specs.Prelude.{◌==◌, if◌then◌else◌}
-use Rattle.stk_host.specs.Operations.{Difference, difference_from}
+use Rattle.std.proofs.lemmas.Bool.{cases_eq}
+use Rattle.std.proofs.lemmas.Bool.Decides.{nat_tests}
+use Rattle.std.proofs.lemmas.List.{length-drop, length-take-le, take_all}
+use Rattle.std.specs.Prelude.{⊤, Result, Ok, Err}
+use Rattle.avr_image.specs.Runs.{onto_runs, runs}
+use Rattle.avr_image.proofs.RunWalk.{EndBy}
+use Rattle.avr_part.specs.declared.mem.Mem.{Mem}
+use Rattle.stk_host.specs.declared.fault.HostFault.{HostFault}
+use Rattle.stk_host.specs.Operations.{Difference, difference_from, differs}
 
 -- at one address more
 abbrev decided : Bool → ℕ → ℕ → ℕ → Option Difference → Option Difference
 decided same addr want found later = if same then later else Some (record { addr = addr; want = want; found = found })
 
-opened_at : (image : List (Option ℕ)) (bytes : List ℕ) (addr : ℕ) → addr < length image → addr < length bytes
-    → difference_from addr (drop addr image) (drop addr bytes) ≡ difference_from addr (get_or image addr None ∷ drop (addr + 1) image) (get_or bytes addr 0 ∷ drop (addr + 1) bytes)
-opened_at image bytes addr within there =
-    let of_image : drop addr image ≡ get_or image addr None ∷ drop (addr + 1) image = rw add-one (drop-cons image addr None within) in
-    let of_bytes : drop addr bytes ≡ get_or bytes addr 0 ∷ drop (addr + 1) bytes = rw add-one (drop-cons bytes addr 0 there) in
-    ap (λ (i : List (Option ℕ)). difference_from addr i (drop addr bytes)) of_image
-    ∙ ap (λ (bs : List ℕ). difference_from addr (get_or image addr None ∷ drop (addr + 1) image) bs) of_bytes
+-- the bytes of a run, as an image holds them
+abbrev pub held_as : List ℕ → List (Option ℕ)
+held_as run = map (λ byte. Some byte) run
 
--- no byte of the image is here
-pub passes_gap : (image : List (Option ℕ)) (bytes : List ℕ) (addr : ℕ) → addr < length image → addr < length bytes → get_or image addr None ≡ None
-    → difference_from addr (drop addr image) (drop addr bytes) ≡ difference_from (addr + 1) (drop (addr + 1) image) (drop (addr + 1) bytes)
-passes_gap image bytes addr within there gap =
-    opened_at image bytes addr within there ∙ ap (λ (b : Option ℕ). difference_from addr (b ∷ drop (addr + 1) image) (get_or bytes addr 0 ∷ drop (addr + 1) bytes)) gap
+-- ---- a run
 
--- the bytes here
-pub passes_byte : (image : List (Option ℕ)) (bytes : List ℕ) (addr want found : ℕ) (same : Bool) → addr < length image → addr < length bytes → get_or image addr None ≡ Some want → get_or bytes addr 0 ≡ found → (found == want) ≡ same
-    → difference_from addr (drop addr image) (drop addr bytes) ≡ decided same addr want found (difference_from (addr + 1) (drop (addr + 1) image) (drop (addr + 1) bytes))
-passes_byte image bytes addr want found same within there held is test =
-    opened_at image bytes addr within there
-    ∙ ap (λ (b : Option ℕ). difference_from addr (b ∷ drop (addr + 1) image) (get_or bytes addr 0 ∷ drop (addr + 1) bytes)) held
-    ∙ ap (λ (f : ℕ). decided (f == want) addr want f (difference_from (addr + 1) (drop (addr + 1) image) (drop (addr + 1) bytes))) is
-    ∙ ap (λ (s : Bool). decided s addr want found (difference_from (addr + 1) (drop (addr + 1) image) (drop (addr + 1) bytes))) test
+first_byte : (addr b : ℕ) (run bytes : List ℕ) (at : ℕ) → at < length bytes
+    → difference_from addr (held_as (b ∷ run)) (drop at bytes) ≡ decided (get_or bytes at 0 == b) addr b (get_or bytes at 0) (difference_from (addr + 1) (held_as run) (drop (at + 1) bytes))
+first_byte addr b run bytes at there =
+    let of_bytes : drop at bytes ≡ get_or bytes at 0 ∷ drop (at + 1) bytes = rw add-one (drop-cons bytes at 0 there) in
+    ap (λ (bs : List ℕ). difference_from addr (held_as (b ∷ run)) bs) of_bytes
 
--- behind the image nothing differs
-pub at_the_end : (addr : ℕ) (image : List (Option ℕ)) (bytes : List ℕ) → image ≡ [] → difference_from addr image bytes ≡ None
-at_the_end addr image bytes is = rw is refl
+-- the byte i of a run
+pub run_byte : (addr i : ℕ) (run found : List ℕ) → i < length run → i < length found
+    → difference_from (addr + i) (held_as (drop i run)) (drop i found)
+    ≡ decided (get_or found i 0 == get_or run i 0) (addr + i) (get_or run i 0) (get_or found i 0) (difference_from (addr + (i + 1)) (held_as (drop (i + 1) run)) (drop (i + 1) found))
+run_byte addr i run found within there =
+    let of_run : drop i run ≡ get_or run i 0 ∷ drop (i + 1) run = rw add-one (drop-cons run i 0 within) in
+    let next : addr + i + 1 ≡ addr + (i + 1) = omega arith in
+    ap (λ (bs : List ℕ). difference_from (addr + i) (held_as bs) (drop i found)) of_run
+    ∙ first_byte (addr + i) (get_or run i 0) (drop (i + 1) run) found i there
+    ∙ ap (λ (n : ℕ). decided (get_or found i 0 == get_or run i 0) (addr + i) (get_or run i 0) (get_or found i 0) (difference_from n (held_as (drop (i + 1) run)) (drop (i + 1) found))) next
+
+pub run_goes_on : (addr i : ℕ) (run found : List ℕ) → i < length run → i < length found → (get_or found i 0 == get_or run i 0) ≡ true
+    → difference_from (addr + i) (held_as (drop i run)) (drop i found) ≡ difference_from (addr + (i + 1)) (held_as (drop (i + 1) run)) (drop (i + 1) found)
+run_goes_on addr i run found within there same = run_byte addr i run found within there ∙ rw same refl
+
+pub run_differs : (addr i : ℕ) (run found : List ℕ) → i < length run → i < length found → (get_or found i 0 == get_or run i 0) ≡ false
+    → difference_from (addr + i) (held_as (drop i run)) (drop i found) ≡ Some (record { addr = addr + i; want = get_or run i 0; found = get_or found i 0 })
+run_differs addr i run found within there other = run_byte addr i run found within there ∙ rw other refl
+
+-- behind the run nothing differs
+pub run_ends : (addr : ℕ) (run found : List ℕ) → run ≡ [] → difference_from addr (held_as run) found ≡ None
+run_ends addr run found is = rw is refl
+
+-- ---- the runs of an image
+
+abbrev pub earlier : Option Difference → Option Difference → Option Difference
+earlier None later = later
+earlier (Some d) later = Some d
+
+-- the first difference in runs
+abbrev pub among : List (ℕ × List ℕ) → List ℕ → Option Difference
+among [] bytes = None
+among ((addr, run) ∷ more) bytes = earlier (difference_from addr (held_as run) (drop addr bytes)) (among more bytes)
+
+earlier_decided : (same : Bool) (addr want found : ℕ) (x y : Option Difference) → earlier (decided same addr want found x) y ≡ decided same addr want found (earlier x y)
+earlier_decided true addr want found x y = refl
+earlier_decided false addr want found x y = refl
+
+among-onto : (addr b : ℕ) (cut : List (ℕ × List ℕ)) (bytes : List ℕ) → addr < length bytes
+    → among (onto_runs addr b cut) bytes ≡ decided (get_or bytes addr 0 == b) addr b (get_or bytes addr 0) (among cut bytes)
+among-onto addr b [] bytes there =
+    ap (λ (d : Option Difference). earlier d None) (first_byte addr b [] bytes addr there)
+    ∙ earlier_decided (get_or bytes addr 0 == b) addr b (get_or bytes addr 0) None None
+among-onto addr b ((next, run) ∷ more) bytes there =
+    let found = get_or bytes addr 0 in
+    elim (cases_eq next (addr + 1)) [
+      | inl same ↦
+          let test : (next == addr + 1) ≡ true = grind (arith, nat_tests) in
+          let here : earlier (difference_from addr (held_as (b ∷ run)) (drop addr bytes)) (among more bytes)
+          ≡ decided (found == b) addr b found (earlier (difference_from (addr + 1) (held_as run) (drop (addr + 1) bytes)) (among more bytes)) =
+          ap (λ (d : Option Difference). earlier d (among more bytes)) (first_byte addr b run bytes addr there)
+          ∙ earlier_decided (found == b) addr b found (difference_from (addr + 1) (held_as run) (drop (addr + 1) bytes)) (among more bytes) in
+          rw test (here ∙ ap (λ (n : ℕ). decided (found == b) addr b found (earlier (difference_from n (held_as run) (drop n bytes)) (among more bytes))) (sym same))
+      | inr other ↦
+          let test : (next == addr + 1) ≡ false = grind (arith, nat_tests) in
+          rw test (ap (λ (d : Option Difference). earlier d (among ((next, run) ∷ more) bytes)) (first_byte addr b [] bytes addr there)
+          ∙ earlier_decided (found == b) addr b found None (among ((next, run) ∷ more) bytes))
+    ]
+
+pub among-runs : (addr : ℕ) (image : List (Option ℕ)) (bytes : List ℕ) → addr + length image ≤ length bytes
+    → among (runs addr image) bytes ≡ difference_from addr image (drop addr bytes)
+among-runs addr [] bytes there = refl
+among-runs addr (None ∷ image) bytes there =
+    let of_bytes : drop addr bytes ≡ get_or bytes addr 0 ∷ drop (addr + 1) bytes = rw add-one (drop-cons bytes addr 0 (omega (arith, there))) in
+    among-runs (addr + 1) image bytes (omega (arith, there)) ∙ sym (ap (λ (bs : List ℕ). difference_from addr (None ∷ image) bs) of_bytes)
+among-runs addr (Some b ∷ image) bytes there =
+    let found = get_or bytes addr 0 in
+    let of_bytes : drop addr bytes ≡ found ∷ drop (addr + 1) bytes = rw add-one (drop-cons bytes addr 0 (omega (arith, there))) in
+    among-onto addr b (runs (addr + 1) image) bytes (omega (arith, there))
+    ∙ ap (decided (found == b) addr b found) (among-runs (addr + 1) image bytes (omega (arith, there)))
+    ∙ sym (ap (λ (bs : List ℕ). difference_from addr (Some b ∷ image) bs) of_bytes)
+
+-- what lies behind the image is not compared
+pub within_image : (addr : ℕ) (image : List (Option ℕ)) (bytes : List ℕ) → difference_from addr image (take (length image) bytes) ≡ difference_from addr image bytes
+within_image addr [] bytes = refl
+within_image addr (byte ∷ image) [] = refl
+within_image addr (None ∷ image) (found ∷ bytes) = within_image (addr + 1) image bytes
+within_image addr (Some want ∷ image) (found ∷ bytes) = ap (decided (found == want) addr want found) (within_image (addr + 1) image bytes)
+
+earlier_none : (d later : Option Difference) → d ≡ None → earlier d later ≡ later
+earlier_none d later none = rw none refl
+
+-- ---- a walk over the runs
+
+-- from a place up to the end
+pub rest_is : (at : ℕ) (bytes : List ℕ) → take (length bytes - at) (drop at bytes) ≡ drop at bytes
+rest_is at bytes = take_all (length bytes - at) (drop at bytes) (omega (arith, length-drop at bytes))
+
+pub none_differs : (mem : Mem) (d : Option Difference) (r : Result ⊤ HostFault) (x : ⊤) → r ≡ differs mem d → r ≡ Ok x → d ≡ None
+none_differs mem None r x is ok = refl
+none_differs mem (Some d) r x is ok = absurd (cc (is, ok))
+
+pub passes_run : (left more : List (ℕ × List ℕ)) (addr : ℕ) (run bytes : List ℕ) → left ≡ (addr, run) ∷ more → difference_from addr (held_as run) (drop addr bytes) ≡ None
+    → among left bytes ≡ among more bytes
+passes_run left more addr run bytes is none = rw is (earlier_none (difference_from addr (held_as run) (drop addr bytes)) (among more bytes) none)
+
+pub ends_behind : (size : ℕ) (left more : List (ℕ × List ℕ)) (run : ℕ × List ℕ) → left ≡ run ∷ more → EndBy size left → EndBy size more
+ends_behind size left more run is ends = let all : EndBy size (run ∷ more) = rw is at ends in all.1
+
+error_first : (mem : Mem) (d later : Option Difference) (r : Result ⊤ HostFault) (e : HostFault) → r ≡ differs mem d → r ≡ Err e → r ≡ differs mem (earlier d later)
+error_first mem None later r e is err = absurd (cc (is, err))
+error_first mem (Some d) later r e is err = is
+
+pub error_differs : (mem : Mem) (left more : List (ℕ × List ℕ)) (addr : ℕ) (run bytes : List ℕ) (r : Result ⊤ HostFault) (e : HostFault)
+    → left ≡ (addr, run) ∷ more → r ≡ differs mem (difference_from addr (held_as run) (drop addr bytes)) → r ≡ Err e → r ≡ differs mem (among left bytes)
+error_differs mem left more addr run bytes r e left_is is err =
+    rw left_is (error_first mem (difference_from addr (held_as run) (drop addr bytes)) (among more bytes) r e is err)
+
+pub whole_is : (image : List (Option ℕ)) (bytes : List ℕ) (size : ℕ) → size ≡ length image → length image ≤ length bytes
+    → among (runs 0 image) (take size bytes) ≡ difference_from 0 image bytes
+whole_is image bytes size is there =
+    among-runs 0 image (take size bytes) (omega (arith, is, there, length-take-le size bytes (omega (arith, is, there))))
+    ∙ ap (λ (n : ℕ). difference_from 0 image (take n bytes)) is
+    ∙ within_image 0 image bytes

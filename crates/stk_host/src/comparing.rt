@@ -1,26 +1,35 @@
 //! The comparison of a memory with an image.
-ghost use Rattle.std.specs.Prelude.{◌≡◌, ◌≤◌, length};
-ghost use Rattle.stk_host.specs.Operations.{compared};
+ghost use Rattle.std.specs.Prelude.{◌≡◌, ◌+◌, ◌≤◌, ◌^◌, length, map, Some};
+ghost use Rattle.stk_host.specs.Operations.{compared, differs, difference_from};
 
 use crate::fault::HostFault;
 use avr_image::Image;
 use avr_part::Mem;
+
+/// Compares the bytes of a memory from an address on with the run of an image that begins there.
+fn compare_run(mem: Mem, addr: u32, run: &[u8], bytes: &[u8]) -> Result<(), HostFault>
+    requires there { length run.now ≤ length bytes.now }
+    requires short { addr + length run.now ≤ 2 ^ 32 }
+    ensures { result ≡ differs mem (difference_from addr (map (λ byte. Some byte) run.now) bytes.now) }
+{
+    for (i, want) in run.iter().enumerate() {
+        let found = bytes[i];
+        if found != *want {
+            return Err(HostFault::Differs(mem, addr + i as u32, *want, found));
+        }
+    }
+    Ok(())
+}
 
 /// Compares the bytes of a memory with the image, from the lowest address up.
 pub(crate) fn compare(mem: Mem, image: &Image, bytes: &[u8]) -> Result<(), HostFault>
     requires { length image.now ≤ length bytes.now }
     ensures { result ≡ compared mem image.now bytes.now }
 {
-    for addr in 0..image.size() {
-        match image.get(addr) {
-            Some(want) => {
-                let found = bytes[addr as usize];
-                if found != want {
-                    return Err(HostFault::Differs(mem, addr, want, found));
-                }
-            }
-            None => {}
-        }
+    // The memory may go on behind the image.
+    let found = &bytes[..image.size() as usize];
+    for (addr, run) in image.runs() {
+        compare_run(mem, addr, run, &found[addr as usize..])?;
     }
     Ok(())
 }

@@ -1,6 +1,10 @@
-use Rattle.std.proofs.Common.{◌≡◌, drop}
-use Rattle.stk_host.specs.Operations.{difference_from}
+use Rattle.std.proofs.Common.{◌≡◌, length}
+use Rattle.avr_image.proofs.RunWalk.{EndBy}
+use Rattle.stk_host.proofs.Differences.{among}
 use Rattle.stk_host.proofs.comparing.compare.Given as goal
 
 abbrev pub invariant-loop-addr : goal.invariant-loop-addr
-invariant-loop-addr l = difference_from 0 l.image l.bytes ≡ difference_from l.addr (drop l.addr l.image) (drop l.addr l.bytes)
+invariant-loop-addr l = record {
+  whole : among l.addr-iterator l.found ≡ among l.initial.addr-iterator l.found;
+  inside : EndBy (length l.found) l.addr-iterator;
+}
