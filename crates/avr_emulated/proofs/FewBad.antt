@@ -24,7 +24,7 @@ use Rattle.stk_emu.specs.Effect.{Image, Memories, memories_of, effect, memory_in
 use Rattle.stk_emu.specs.Settled.{Idle, FitsPart}
 use Rattle.stk_emu.specs.Few.{AreFew}
 use Rattle.stk_emu.proofs.FewFates.{done_within}
-use Rattle.stk_emu.proofs.Obeying.{settled_idle}
+use Rattle.stk_emu.proofs.Obeying.{ready_idle}
 use Rattle.avr_session.specs.declared.standing.Standing.{Standing}
 use Rattle.avr_session.specs.declared.standing.Standing.TheVariants.{Fine, Faulty, Over}
 use Rattle.avr_session.specs.Session as session
@@ -186,7 +186,7 @@ module _ (plan : Plan) (sound : IsPart plan.part) (fitted : All (IsFitted plan.p
       ends_bind (session.ending plan.part plan.switches) c.standing (at_end c.standing) c.says (ending_says plan c.standing) (Stands plan.part c.memories) rest
       (session.working plan) p fates good
       (working_follows m p fates sizes idle good)
-      (λ q fs g t. ending_ends c.standing c.memories q fs (settled_idle plan.part c.memories q t.settled) g) in
+      (λ q fs g t. ending_ends c.standing c.memories q fs (ready_idle plan.part c.memories q t.ready) g) in
       let told : Ends (session.session plan) (status_of (at_end c.standing)) (said ++ []) rest p fates =
       ends_bind (λ at. Done (status_of at)) (at_end c.standing) (status_of (at_end c.standing)) said [] rest rest (session.playing plan) p fates good played
       (λ q fs g i. ends_done (status_of (at_end c.standing)) rest q fs i) in

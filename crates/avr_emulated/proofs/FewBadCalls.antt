@@ -25,22 +25,21 @@ use Rattle.stk_emu.specs.Programmer.{Programmer}
 use Rattle.stk_emu.specs.Device.{device}
 use Rattle.stk_emu.specs.Along.{said_along}
 use Rattle.stk_emu.specs.Effect.{Image, Memories, Erase, Write, effect, effects, memory_in}
-use Rattle.stk_emu.specs.Settled.{Idle, Settled, FitsPart}
+use Rattle.stk_emu.specs.Settled.{Idle, Ready, FitsPart}
 use Rattle.stk_emu.specs.Fits.{Fits}
 use Rattle.stk_emu.specs.Strokes.{AreSteps, strokes_of, struck_by}
 use Rattle.stk_emu.specs.Given.{gathered, all_given}
 use Rattle.stk_emu.specs.Few.{AreFew}
-use Rattle.stk_emu.proofs.Attempts.{step_stands}
-use Rattle.stk_emu.proofs.FewFates.{step_few, play_few}
+use Rattle.stk_emu.proofs.FewFates.{step_steady, play_few, play_ready}
 use Rattle.stk_emu.proofs.ItemStrokes.{struck_all, item_does, item_are_steps, read_are_steps, effect_sizes}
-use Rattle.stk_emu.proofs.LeadsOn.{leads_play}
+use Rattle.stk_emu.proofs.Obeying.{steady}
 use Rattle.stk_emu.proofs.PlayGiven.{read_gives}
-use Rattle.stk_emu.proofs.Striking.{sign_on_fits, enter_fits, leave_fits}
+use Rattle.stk_emu.proofs.Striking.{sign_on_steady, enter_ready, leave_steady}
 use Rattle.avr_emulated.proofs.FewBadEnds.{Ends, ends_done, ends_wider, ends_bind}
 
 -- the programmer in programming mode, with memories of the part's sizes
 pub record Stands (part : Part) (m : Memories) (q : Programmer) : Type 0 where
-  pub settled : Settled part m q
+  pub ready : Ready part m q
   pub sizes : FitsPart part m
 
 nothing_said : (sayings : List ⊥) → sayings ≡ []
@@ -49,14 +48,11 @@ nothing_said (saying ∷ sayings) = absurd saying
 
 -- a step of at most two commands, which have these data from under the one condition and the other
 ends_step : (commands : List Command) (got : List ℕ) (Before After : Programmer → Type 0) (p : Programmer) (fates : List Fate)
-    → Fits device commands Before After → Before p → length commands ≤ 2 → ((q : Programmer) → Before q ⊎ After q → gathered device commands [] q ≡ Data got) → AreFew fates → Ends (step commands) (Ok got) [] After p fates
+    → Fits steady commands Before After → Before p → length commands ≤ 2 → ((q : Programmer) → Before q ⊎ After q → gathered device commands [] q ≡ Data got) → AreFew fates → Ends (step commands) (Ok got) [] After p fates
 ends_step commands got Before After p fates fits before short has few = record {
   ends = λ k o e.
-      let is : o ≡ Ok got = step_few device Before After commands got fits has k p fates o short few before e in record {
-        result = is;
-        sayings = nothing_said (said_along device k (step commands) p fates);
-        after = (step_stands device Before After k commands p fates fits before).whole got (e ∙ ap (λ x. Done x) is);
-      };
+      let comes = step_steady Before After commands got fits has k p fates o short few before e in
+      record { result = comes.0; sayings = nothing_said (said_along device k (step commands) p fates); after = comes.1 };
 }
 
 -- what a call answers, told otherwise
@@ -80,13 +76,13 @@ signature_taken signature false = chosen (bytes_eq signature signature) (Ok sign
 
 module _ (part : Part) (sound : IsPart part) where
   ends_play : (steps : List (List Command)) (m : Memories) (p : Programmer) (fates : List Fate) → AreSteps part steps → Stands part m p → AreFew fates
-      → Ends (play steps []) (Ok (all_given part steps m)) [] (Settled part (struck_by part (length steps) steps m)) p fates
+      → Ends (play steps []) (Ok (all_given part steps m)) [] (Ready part (struck_by part (length steps) steps m)) p fates
   ends_play steps m p fates are s few = record {
     ends = λ k o e.
-        let is : o ≡ Ok (all_given part steps m) = play_few part sound steps m k [] p fates o are s.sizes s.settled few e in record {
+        let is : o ≡ Ok (all_given part steps m) = play_few part sound steps m k [] p fates o are s.sizes s.ready few e in record {
           result = is;
           sayings = nothing_said (said_along device k (play steps []) p fates);
-          after = ((leads_play part sound steps m [] p fates are s.sizes s.settled).after k (Ok (all_given part steps m)) (e ∙ ap (λ x. Done x) is)).0;
+          after = play_ready part sound steps m k [] (all_given part steps m) p fates are s.ready few (e ∙ ap (λ x. Done x) is);
         };
   }
 
@@ -96,9 +92,9 @@ module _ (part : Part) (sound : IsPart part) where
       → Ends (operation steps judge) (judge (all_given part steps m)) [] (Stands part after) p fates
   unfolding operation
   ends_operation steps judge m after p fates are s few leaves sizes =
-      ends_wider (operation steps judge) (judge (all_given part steps m)) [] (Settled part (struck_by part (length steps) steps m)) (Stands part after) p fates
-      (λ q t. record { settled = subst (λ z. Settled part z q) leaves t; sizes = sizes })
-      (ends_told (play steps []) (judged_by judge) (Ok (all_given part steps m)) (Settled part (struck_by part (length steps) steps m)) p fates few (ends_play steps m p fates are s few))
+      ends_wider (operation steps judge) (judge (all_given part steps m)) [] (Ready part (struck_by part (length steps) steps m)) (Stands part after) p fates
+      (λ q t. record { ready = subst (λ z. Ready part z q) leaves t; sizes = sizes })
+      (ends_told (play steps []) (judged_by judge) (Ok (all_given part steps m)) (Ready part (struck_by part (length steps) steps m)) p fates few (ends_play steps m p fates are s few))
 
   -- reading writes nothing
   no_flash_strokes : (place count : ℕ) → strokes_of (each_from (block_steps part Flash) place count) ≡ []
@@ -151,8 +147,8 @@ module _ (part : Part) (sound : IsPart part) where
   -- the three bytes of the signature
   ends_signature : (m : Memories) (p : Programmer) (fates : List Fate) → Stands part m p → AreFew fates → Ends (play signature_steps []) (Ok part.signature) [] (Stands part m) p fates
   ends_signature m p fates s few =
-      ends_wider (play signature_steps []) (Ok part.signature) [] (Settled part m) (Stands part m) p fates (λ q t. record { settled = t; sizes = s.sizes })
-      (subst (λ bytes. Ends (play signature_steps []) (Ok bytes) [] (Settled part m) p fates) (read_gives part sound m s.sizes Signature)
+      ends_wider (play signature_steps []) (Ok part.signature) [] (Ready part m) (Stands part m) p fates (λ q t. record { ready = t; sizes = s.sizes })
+      (subst (λ bytes. Ends (play signature_steps []) (Ok bytes) [] (Ready part m) p fates) (read_gives part sound m s.sizes Signature)
       (ends_play signature_steps m p fates (read_are_steps part sound Signature) s few))
 
   ends_beginning : (m : Memories) (p : Programmer) (fates : List Fate) → FitsPart part m → Idle part m p → AreFew fates
@@ -162,11 +158,11 @@ module _ (part : Part) (sound : IsPart part) where
       let read : List ℕ → Dialog ⊥ Outcome = λ nothing. play signature_steps [] in
       let name = 0x53 ∷ 0x54 ∷ 0x4B ∷ 0x35 ∷ 0x30 ∷ 0x30 ∷ 0x5F ∷ 0x32 ∷ [] in
       ends_bind (if_done (λ signed. step (enter ∷ []) >>= if_done read)) (Ok name) (Ok part.signature) [] [] (Idle part m) (Stands part m) (step (SignOn ∷ [])) p fates few
-      (ends_step (SignOn ∷ []) name (Idle part m) (Idle part m) p fates (sign_on_fits part m) idle (omega arith) (λ q stands. refl) few)
+      (ends_step (SignOn ∷ []) name (Idle part m) (Idle part m) p fates (sign_on_steady part m) idle (omega arith) (λ q stands. refl) few)
       (λ q fs g i.
-      ends_bind (if_done read) (Ok []) (Ok part.signature) [] [] (Settled part m) (Stands part m) (step (enter ∷ [])) q fs g
-      (ends_step (enter ∷ []) [] (Idle part m) (Settled part m) q fs (enter_fits part m) i (omega arith) (λ r stands. refl) g)
-      (λ r gs h s. ends_signature m r gs (record { settled = s; sizes = sizes }) h))
+      ends_bind (if_done read) (Ok []) (Ok part.signature) [] [] (Ready part m) (Stands part m) (step (enter ∷ [])) q fs g
+      (ends_step (enter ∷ []) [] (Idle part m) (Ready part m) q fs (enter_ready part m) i (omega arith) (λ r stands. refl) g)
+      (λ r gs h s. ends_signature m r gs (record { ready = s; sizes = sizes }) h))
 
   pub ends_opening : (force : Bool) (m : Memories) (p : Programmer) (fates : List Fate) → FitsPart part m → Idle part m p → AreFew fates
       → Ends (host.opening part.signature force) (Ok part.signature) [] (Stands part m) p fates
@@ -178,4 +174,4 @@ module _ (part : Part) (sound : IsPart part) where
 pub ends_closing : (part : Part) (m : Memories) (p : Programmer) (fates : List Fate) → Idle part m p → AreFew fates → Ends host.closing (Ok tt) [] (Idle part m) p fates
 unfolding host.closing
 ends_closing part m p fates idle few =
-    ends_told (step (leave ∷ [])) ended (Ok []) (Idle part m) p fates few (ends_step (leave ∷ []) [] (Idle part m) (Idle part m) p fates (leave_fits part m) idle (omega arith) (λ q stands. refl) few)
+    ends_told (step (leave ∷ [])) ended (Ok []) (Idle part m) p fates few (ends_step (leave ∷ []) [] (Idle part m) (Idle part m) p fates (leave_steady part m) idle (omega arith) (λ q stands. refl) few)

@@ -80,14 +80,14 @@ module _ {P : Type 0} (m : Device P) where
   true_bind T k (Say e d) next p fates told more = (told.0, true_bind T k d next p fates told.1 more)
   true_bind T zero (Ask bytes go_on) next p fates told more = tt
   true_bind T (suc k) (Ask bytes go_on) next p fates told more =
-      true_bind T k (go_on (reading_of (first_fate fates) (m.answer bytes p))) next (after_fate (first_fate fates) (m.after bytes p) p) (other_fates fates) told more
+      true_bind T k (go_on (reading_of (first_fate fates) (m.answer bytes p))) next (after_fate (first_fate fates) (m.after bytes p) p (m.reset p)) (other_fates fates) told more
 
   true_lifted : {E R : Type 0} (T : P → E → Type 0) (k : ℕ) (d : Dialog ⊥ R) (p : P) (fates : List Fate) → TellsTrue {E = E} m T k (lifted d) p fates
   true_lifted T k (Done r) p fates = tt
   true_lifted T k (Say e d) p fates = absurd e
   true_lifted T zero (Ask bytes go_on) p fates = tt
   true_lifted T (suc k) (Ask bytes go_on) p fates =
-      true_lifted T k (go_on (reading_of (first_fate fates) (m.answer bytes p))) (after_fate (first_fate fates) (m.after bytes p) p) (other_fates fates)
+      true_lifted T k (go_on (reading_of (first_fate fates) (m.answer bytes p))) (after_fate (first_fate fates) (m.after bytes p) p (m.reset p)) (other_fates fates)
 
   true_says : {R : Type 0} (T : P → Saying → Type 0) (k : ℕ) (sayings : List Saying) (r : R) (p : P) (fates : List Fate) → AllHold (T p) sayings → TellsTrue m T k (says sayings (Done r)) p fates
   true_says T k [] r p fates all = tt

@@ -1,5 +1,5 @@
 -- What is true along a line is true over a wire, where it is told.
-use Rattle.std.proofs.Common.{◌≡◌, ℕ, List, [], ◌∷◌, ◌++◌, length, append_assoc, refl, sym, ap, ◌∙◌, subst, arith, inl, Option, Some, None}
+use Rattle.std.proofs.Common.{◌≡◌, ℕ, List, [], ◌∷◌, ◌++◌, length, append_assoc, refl, sym, ap, ◌∙◌, subst, arith, Option, Some, None}
 use Rattle.stk_frame.specs.Cut.{frames}
 use Rattle.stk_frame.specs.Frame.{frame}
 use Rattle.stk_host.specs.Dialog.{Dialog, Done, Say, Ask, Event, Frame, Said, played, by_answer, next, bytes_sent, frames_in}
@@ -16,8 +16,8 @@ use Rattle.stk_emu.specs.Programmer.{Programmer}
 use Rattle.stk_emu.specs.Wire.{AreLawful, first_fate, other_fates, Wire, passed, tape_of, fresh}
 use Rattle.stk_emu.specs.Wired.{brought}
 use Rattle.stk_emu.proofs.Bodies.{answers_bodies}
-use Rattle.stk_emu.proofs.Fused.{AnswersBodies, first_played, others_lawful, next_other, head_is, tail_is}
-use Rattle.stk_emu.proofs.Segments.{segment_late, segment_leaves}
+use Rattle.stk_emu.proofs.Fused.{AnswersBodies, first_played, others_lawful, head_is, tail_is}
+use Rattle.stk_emu.proofs.Segments.{none_clear, segment_late, segment_leaves}
 use Rattle.stk_emu.proofs.Turning.{sends_whole, frames_front, played_goes}
 use Rattle.avr_emulated.specs.Told.{TellsTrue, SaidTrue}
 
@@ -44,7 +44,7 @@ module _ {P : Type 0} (m : Device P) (answers : AnswersBodies m) where
       let over = ap (λ g. played (Ask bytes go_on) n (tape_of m (g ∷ sent) w)) (sym is) ∙ first in
       subst (λ p. SaidTrue m T p.events w) (sym over)
       (true_over T d' (next n) w' sent more (asks.1 (reading_of (first_fate w.fates) (m.answer bytes w.programmer)))
-      (segment_late m n (next n) bytes w (next_other n) asks.0 (answers bytes w.programmer asks.0))
+      (segment_late m n bytes w asks.0 (answers bytes w.programmer asks.0) clear)
       (others_lawful w.fates lawful)
       (tail_is (frame n bytes) f _ (sent ++ more) (sym (ap (λ p. frames_in p.events) over) ∙ e))
       (subst (λ q. TellsTrue m T (length sent) d' q (other_fates w.fates)) (sym leaves) told))
@@ -81,7 +81,7 @@ told_over T d n p fates talk waits whole later asks lawful brings split front to
     let g = played_goes d n (heard talk) waits in
     let more = played_more d n (heard talk) waits in
     let all : SaidTrue device T (played d n (brought p fates (sent talk))).events (fresh p fates) =
-    true_over device answers_bodies T d n (fresh p fates) (frames (sent talk)) (f.0 ++ g.0) asks (inl refl) lawful
+    true_over device answers_bodies T d n (fresh p fates) (frames (sent talk)) (f.0 ++ g.0) asks (none_clear n) lawful
     (ap (λ t. frames_in (played d n t).events) brings ∙ (g.1 ∙ (ap (λ fs. fs ++ g.0) f.1 ∙ append_assoc (frames (sent talk)) f.0 g.0))) told in
     said_front device T whole later (fresh p fates)
     (said_front device T (whole ++ later) more.0 (fresh p fates)

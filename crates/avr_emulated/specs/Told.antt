@@ -34,7 +34,7 @@ TellsTrue m IsTrue k (Say e dialog) p fates = IsTrue p e × TellsTrue m IsTrue k
 TellsTrue m IsTrue zero (Ask bytes go_on) p fates = ⊤
 TellsTrue m IsTrue (suc k) (Ask bytes go_on) p fates =
     TellsTrue m IsTrue k (go_on (reading_of (first_fate fates) (m.answer bytes p)))
-    (after_fate (first_fate fates) (m.after bytes p) p) (other_fates fates)
+    (after_fate (first_fate fates) (m.after bytes p) p (m.reset p)) (other_fates fates)
 
 -- the line of a memory: so many bytes were written, verified or read
 abbrev pub count_line : Mem → ℕ → Bytes → Saying

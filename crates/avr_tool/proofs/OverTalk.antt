@@ -1,5 +1,5 @@
 -- A session over any link that behaves as a line with fates does.
-use Rattle.std.proofs.Common.{◌≡◌, ◌*◌, ℕ, List, [], ◌++◌, All, length, refl, sym, ap, ◌∙◌, subst, inl, Some}
+use Rattle.std.proofs.Common.{◌≡◌, ◌*◌, ℕ, List, [], ◌++◌, All, length, refl, sym, ap, ◌∙◌, subst, Some}
 use Rattle.std.proofs.lemmas.List.{append-nil}
 use Rattle.avr_message.specs.Said.{Saying}
 use Rattle.avr_part.specs.Part.{IsPart}
@@ -22,6 +22,7 @@ use Rattle.stk_emu.proofs.Beginning.{fresh_idle, fresh_fits}
 use Rattle.stk_emu.proofs.Bodies.{answers_bodies}
 use Rattle.stk_emu.proofs.Fused.{fused}
 use Rattle.stk_emu.proofs.SaidAlong.{said_over}
+use Rattle.stk_emu.proofs.Segments.{none_clear}
 use Rattle.stk_emu.proofs.Turning.{AreWhole, sends_whole, frames_front}
 use Rattle.avr_emulated.specs.Bound.{run_steps}
 use Rattle.avr_emulated.specs.Course.{course}
@@ -65,7 +66,7 @@ module _ (plan : Plan) (s : chips.State) (q : Programmer) (fates : List Fate) (b
   over = ap (λ t. frames_in (played (session plan) 1 t).events) talks.tape_is ∙ (ap (λ p. frames_in p.events) is ∙ front.1)
 
   goes : Fused device (session plan) 1 (wire.fresh begun fates) (frames bytes)
-  goes = fused device answers_bodies (session plan) 1 (wire.fresh begun fates) (frames bytes) front.0 asks (inl refl) lawful over
+  goes = fused device answers_bodies (session plan) 1 (wire.fresh begun fates) (frames bytes) front.0 asks (none_clear 1) lawful over
 
   comes : (along device count (session plan) begun fates).dialog ≡ Done status
   comes = (goes.outcome status next left (ap (λ t. (played (session plan) 1 t).outcome) talks.tape_is ∙ ap (λ p. p.outcome) is)).0
@@ -76,7 +77,7 @@ module _ (plan : Plan) (s : chips.State) (q : Programmer) (fates : List Fate) (b
   said : sayings events ≡ said_along device count (session plan) begun fates
   said =
       ap (λ p. sayings p.events) (sym is) ∙ (ap (λ t. sayings (played (session plan) 1 t).events) (sym talks.tape_is)
-      ∙ said_over device answers_bodies (session plan) 1 (wire.fresh begun fates) (frames bytes) front.0 asks (inl refl) lawful over)
+      ∙ said_over device answers_bodies (session plan) 1 (wire.fresh begun fates) (frames bytes) front.0 asks (none_clear 1) lawful over)
 
   came : status ≡ 0 → Came status (course plan (memories_of s)).status (said_along device count (session plan) begun fates) (course plan (memories_of s)).says
       (memories_of (along device count (session plan) begun fates).programmer.chip ≡ (course plan (memories_of s)).memories)

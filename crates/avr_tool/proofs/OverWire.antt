@@ -21,6 +21,7 @@ use Rattle.stk_emu.specs.Along.{AsksBodies}
 use Rattle.stk_emu.specs.Device.{device}
 use Rattle.stk_emu.specs.Effect.{memories_of}
 use Rattle.stk_emu.specs.Few.{AreFew}
+use Rattle.stk_emu.specs.Lawful.{none_late}
 use Rattle.stk_emu.specs.Leads.{GoesAlong}
 use Rattle.stk_emu.specs.Programmer.{Programmer, fresh_programmer}
 use Rattle.stk_emu.specs.Settled.{Idle, FitsPart}
@@ -66,7 +67,7 @@ is_fresh w new = record {
   lawful = new.lawful;
 }
   where
-    as_begun : (x : Wire Programmer) → x.programmer ≡ fresh_programmer x.programmer.chip → x.late ≡ [] → x ≡ wire.fresh (fresh_programmer x.programmer.chip) x.fates
+    as_begun : (x : Wire Programmer) → x.programmer ≡ fresh_programmer x.programmer.chip → x.late ≡ none_late → x ≡ wire.fresh (fresh_programmer x.programmer.chip) x.fates
     as_begun x p l = ap (λ q. record x { programmer = q }) p ∙ ap (λ late. record { programmer = fresh_programmer x.programmer.chip; fates = x.fates; late = late }) l
 
 module _ (plan : Plan) (w v : State) (fresh : IsFresh w) (stays : Stays ComesOf w v) (is_sound : IsSound w.wire.programmer.chip)

@@ -27,6 +27,7 @@ use Rattle.avr_emulated.specs.Told.{RunsTruly}
 use Rattle.avr_emulated.specs.Written.{IsWritten}
 use Rattle.stk_emu.specs.Effect.{Memories, memories_of}
 use Rattle.stk_emu.specs.Few.{AreFew}
+use Rattle.stk_emu.specs.Lawful.{none_late}
 use Rattle.stk_emu.specs.Programmer.{Programmer, fresh_programmer}
 use Rattle.stk_emu.specs.Wire.{AreLawful, fresh}
 use Rattle.stk_emu.specs.Wired.{State}
@@ -192,7 +193,7 @@ pub record IsNew (w : State) : Type 0 where
   pub none_held : w.held ≡ []
   pub none_waits : w.waits ≡ []
   pub none_passed : w.talk ≡ []
-  pub none_late : w.wire.late ≡ []
+  pub none_late : w.wire.late ≡ none_late
   pub programmer : w.wire.programmer ≡ fresh_programmer w.wire.programmer.chip
   pub lawful : AreLawful w.wire.fates
 

@@ -8,11 +8,13 @@ use Rattle.stk_host.specs.Tape.{Reading}
 use Rattle.stk_host.specs.Dialog.{Dialog, Done, Say, Ask, ◌>>=◌}
 use Rattle.stk_host.specs.Steps.{Reply, Data, Again, Stop, Outcome, replied, with_data, exchange, attempt, settled, tries, step}
 use Rattle.stk_emu.specs.declared.fate.Fate.{Fate}
-use Rattle.stk_emu.specs.declared.fate.Fate.TheVariants.{Good, LostCommand, LostAnswer, LateAnswer, CommandRefused, AnswerSpoiled}
+use Rattle.stk_emu.specs.declared.fate.Fate.TheVariants.{Good, LostCommand, LostAnswer, LateAnswer, HeldAnswer, Reset, CommandRefused, AnswerSpoiled}
 use Rattle.stk_emu.specs.Device.{Device}
 use Rattle.stk_emu.specs.Wire.{first_fate, other_fates, after_fate}
 use Rattle.stk_emu.specs.Along.{reading_of, Standing, along}
 use Rattle.stk_emu.specs.Fits.{obeyed, Fits}
+use Rattle.stk_emu.specs.Given.{gathered}
+use Rattle.stk_emu.proofs.Gathered.{attempt_gives}
 
 -- from where a dialog stands, the next one
 abbrev pub onward : {E A B P : Type 0} → Device P → (A → Dialog E B) → ℕ → List Fate → P → Dialog E A → Standing E B P
@@ -30,11 +32,12 @@ along_bind m k (Say e d) next p fates = along_bind m k d next p fates
 along_bind m zero (Ask bytes go_on) next p fates = refl
 along_bind m (suc k) (Ask bytes go_on) next p fates = along_bind m k (go_on _) next _ (other_fates fates)
 
--- An attempt has obeyed a front of its commands; where it came to data, all of them.
+-- An attempt has obeyed a front of its commands, behind which the device may have begun anew; where it came to data, all
+-- of them.
 pub record Obeyed {P : Type 0} (m : Device P) (commands : List Command) (p : P) (s : Standing ⊥ Reply P) : Type 0 where
   pub count : ℕ
-  pub is : s.programmer ≡ obeyed m count commands p
-  pub whole : (bytes : List ℕ) → s.dialog ≡ Done (Data bytes) → count ≡ length commands
+  pub is : (s.programmer ≡ obeyed m count commands p) ⊎ (s.programmer ≡ m.reset (obeyed m count commands p))
+  pub whole : (bytes : List ℕ) → s.dialog ≡ Done (Data bytes) → s.programmer ≡ obeyed m (length commands) commands p
 
 again≢data : (fault : StepFault) (bytes : List ℕ) → ◌≡◌ {A = Dialog ⊥ Reply} (Done (Again fault)) (Done (Data bytes)) → ⊥
 again≢data fault bytes e = cc
@@ -51,14 +54,18 @@ err≢ok fault bytes e = cc
 module _ {P : Type 0} (m : Device P) where
   -- the command was not obeyed, or its answer is lost
   ends_again : (k i : ℕ) (commands : List Command) (fault : StepFault) (p q : P) (fates : List Fate) → q ≡ obeyed m i commands p → Obeyed m commands p (along m k (Done (Again fault)) q fates)
-  ends_again k i commands fault p q fates is = record { count = i; is = is; whole = λ bytes e. absurd (again≢data fault bytes e) }
+  ends_again k i commands fault p q fates is = record { count = i; is = inl is; whole = λ bytes e. absurd (again≢data fault bytes e) }
 
   ends_stop : (k i : ℕ) (commands : List Command) (fault : StepFault) (p q : P) (fates : List Fate) → q ≡ obeyed m i commands p → Obeyed m commands p (along m k (Done (Stop fault)) q fates)
-  ends_stop k i commands fault p q fates is = record { count = i; is = is; whole = λ bytes e. absurd (stop≢data fault bytes e) }
+  ends_stop k i commands fault p q fates is = record { count = i; is = inl is; whole = λ bytes e. absurd (stop≢data fault bytes e) }
+
+  -- the device begins anew
+  ends_anew : (k : ℕ) (commands : List Command) (fault : StepFault) (p : P) (fates : List Fate) → Obeyed m commands p (along m k (Done (Again fault)) (m.reset p) fates)
+  ends_anew k commands fault p fates = record { count = 0; is = inr refl; whole = λ bytes e. absurd (again≢data fault bytes e) }
 
   -- one command more in front
   in_front : (command : Command) (commands : List Command) (p : P) (s : Standing ⊥ Reply P) → Obeyed m commands (m.after (body command) p) s → Obeyed m (command ∷ commands) p s
-  in_front command commands p s o = record { count = suc o.count; is = o.is; whole = λ bytes e. ap suc (o.whole bytes e) }
+  in_front command commands p s o = record { count = suc o.count; is = o.is; whole = o.whole }
 
   answered : (k : ℕ) (reply : Reply) (command : Command) (commands : List Command) (go_on : List ℕ → Dialog ⊥ Reply) (p : P) (fates : List Fate)
       → ((bytes : List ℕ) → Obeyed m commands (m.after (body command) p) (along m k (go_on bytes) (m.after (body command) p) fates))
@@ -69,18 +76,20 @@ module _ {P : Type 0} (m : Device P) where
 
   asked : (k : ℕ) (fate : Fate) (command : Command) (commands : List Command) (go_on : List ℕ → Dialog ⊥ Reply) (p : P) (fates : List Fate)
       → ((bytes : List ℕ) → Obeyed m commands (m.after (body command) p) (along m k (go_on bytes) (m.after (body command) p) fates))
-      → Obeyed m (command ∷ commands) p (along m k (with_data go_on (replied command (reading_of fate (m.answer (body command) p)))) (after_fate fate (m.after (body command) p) p) fates)
+      → Obeyed m (command ∷ commands) p (along m k (with_data go_on (replied command (reading_of fate (m.answer (body command) p)))) (after_fate fate (m.after (body command) p) p (m.reset p)) fates)
   asked k Good command commands go_on p fates each = answered k _ command commands go_on p fates each
   asked k LostCommand command commands go_on p fates each = ends_again k 0 (command ∷ commands) _ p p fates refl
   asked k LostAnswer command commands go_on p fates each = ends_again k 1 (command ∷ commands) _ p (m.after (body command) p) fates refl
   asked k LateAnswer command commands go_on p fates each = ends_again k 1 (command ∷ commands) _ p (m.after (body command) p) fates refl
+  asked k HeldAnswer command commands go_on p fates each = ends_again k 1 (command ∷ commands) _ p (m.after (body command) p) fates refl
+  asked k Reset command commands go_on p fates each = ends_anew k (command ∷ commands) _ p fates
   asked k CommandRefused command commands go_on p fates each = ends_again k 0 (command ∷ commands) _ p p fates refl
   asked k (AnswerSpoiled noise) command commands go_on p fates each = ends_again k 1 (command ∷ commands) _ p (m.after (body command) p) fates refl
 
   pub attempt_obeys : (k : ℕ) (commands : List Command) (before : List ℕ) (p : P) (fates : List Fate) → Obeyed m commands p (along m k (attempt commands before) p fates)
   unfolding attempt exchange
-  attempt_obeys k [] before p fates = record { count = 0; is = refl; whole = λ bytes e. refl }
-  attempt_obeys zero (command ∷ commands) before p fates = record { count = 0; is = refl; whole = λ bytes e. absurd (asks≢done _ _ _ e) }
+  attempt_obeys k [] before p fates = record { count = 0; is = inl refl; whole = λ bytes e. refl }
+  attempt_obeys zero (command ∷ commands) before p fates = record { count = 0; is = inl refl; whole = λ bytes e. absurd (asks≢done _ _ _ e) }
   attempt_obeys (suc k) (command ∷ commands) before p fates =
       asked k (first_fate fates) command commands (λ bytes. attempt commands (before ++ bytes)) p (other_fates fates)
       (λ bytes. attempt_obeys k commands (before ++ bytes) (m.after (body command) p) (other_fates fates))
@@ -108,13 +117,25 @@ module _ {P : Type 0} (m : Device P) where
     on_from again left fates q (Say e dialog) stands given more = absurd e
     on_from again left fates q (Ask bytes go_on) stands given more = record { stands = stands; whole = λ data_of e. absurd (asks≢done _ _ _ e) }
 
-    pub fronts : (commands : List Command) → Fits m commands Before After → (p : P) (i : ℕ) → Before p ⊎ After p → Before (obeyed m i commands p) ⊎ After (obeyed m i commands p)
+    fronts : (commands : List Command) → Fits m commands Before After → (p : P) (i : ℕ) → Before p ⊎ After p → Before (obeyed m i commands p) ⊎ After (obeyed m i commands p)
     fronts commands fits p i (inl b) = fits.front p i b
     fronts commands fits p i (inr a) = inr (fits.again p i a)
 
-    wholes : (commands : List Command) → Fits m commands Before After → (p : P) → Before p ⊎ After p → After (obeyed m (length commands) commands p)
-    wholes commands fits p (inl b) = fits.whole p b
-    wholes commands fits p (inr a) = fits.again p (length commands) a
+    wholes : (commands : List Command) → Fits m commands Before After → (p : P) (bytes : List ℕ) → gathered m commands [] p ≡ Data bytes → Before p ⊎ After p → After (obeyed m (length commands) commands p)
+    wholes commands fits p bytes has (inl b) = fits.whole p bytes has b
+    wholes commands fits p bytes has (inr a) = fits.again p (length commands) a
+
+    anews : (commands : List Command) → Fits m commands Before After → (p : P) → Before p ⊎ After p → Before (m.reset p) ⊎ After (m.reset p)
+    anews commands fits p (inl b) = inl (fits.anew p b)
+    anews commands fits p (inr a) = inr (fits.anew_again p a)
+
+    -- what an attempt leaves
+    pub stood_after : (commands : List Command) → Fits m commands Before After → (p : P) (s : Standing ⊥ Reply P) → Obeyed m commands p s → Before p ⊎ After p → Before s.programmer ⊎ After s.programmer
+    stood_after commands fits p s o stood = by_end o.is
+      where
+        by_end : (s.programmer ≡ obeyed m o.count commands p) ⊎ (s.programmer ≡ m.reset (obeyed m o.count commands p)) → Before s.programmer ⊎ After s.programmer
+        by_end (inl is) = subst (λ q. Before q ⊎ After q) (sym is) (fronts commands fits p o.count stood)
+        by_end (inr is) = subst (λ q. Before q ⊎ After q) (sym is) (anews commands fits (obeyed m o.count commands p) (fronts commands fits p o.count stood))
 
     pub tries_stand : (k more : ℕ) (commands : List Command) (fault : StepFault) (p : P) (fates : List Fate) → Fits m commands Before After → Before p ⊎ After p
         → Stepped Before After (along m k (tries more commands fault) p fates)
@@ -123,8 +144,9 @@ module _ {P : Type 0} (m : Device P) where
     tries_stand k (suc more) commands fault p fates fits stands =
         let s = along m k (attempt commands []) p fates in
         let o : Obeyed m commands p s = attempt_obeys k commands [] p fates in
-        let now : Before s.programmer ⊎ After s.programmer = subst (λ q. Before q ⊎ After q) (sym o.is) (fronts commands fits p o.count stands) in
-        let given : (bytes : List ℕ) → s.dialog ≡ Done (Data bytes) → After s.programmer = λ bytes e. subst After (sym (o.is ∙ ap (λ i. obeyed m i commands p) (o.whole bytes e))) (wholes commands fits p stands) in
+        let now : Before s.programmer ⊎ After s.programmer = stood_after commands fits p s o stands in
+        let given : (bytes : List ℕ) → s.dialog ≡ Done (Data bytes) → After s.programmer =
+        λ bytes e. subst After (sym (o.whole bytes e)) (wholes commands fits p bytes (attempt_gives m k commands [] bytes p fates e) stands) in
         subst (λ z. Stepped Before After z) (sym (along_bind m k (attempt commands []) (settled (tries more commands)) p fates))
         (on_from (tries more commands) s.left s.fates s.programmer s.dialog now given (λ again. tries_stand s.left more commands again s.programmer s.fates fits now))
 

@@ -14,7 +14,7 @@ use Rattle.stk_emu.specs.Settled.{Idle, Settled, FitsPart}
 use Rattle.stk_emu.specs.Climbs.{AreSome, Climbs}
 use Rattle.stk_emu.specs.Strokes.{struck_by, IsStep, Erases, ProgramsPage, ProgramsRun, ProgramsFuse, ProgramsLock, ReadsFlash, ReadsEeprom, ReadsFuse, ReadsLock, ReadsSignature, ReadsCalibration, AreSteps}
 use Rattle.stk_emu.proofs.Climbing.{play_climbs}
-use Rattle.stk_emu.proofs.Striking.{all_fit}
+use Rattle.stk_emu.proofs.Outside.{all_fit}
 
 pub fresh_idle : (s : chip.State) → IsSound s → Idle s.part (memories_of s) (fresh_programmer s)
 fresh_idle s sound = record { memories = refl; part_is = refl; flash_buffer = sound.flash_buffer_size; eeprom_buffer = sound.eeprom_buffer_size }

@@ -12,21 +12,27 @@ use Rattle.stk_host.specs.Bound.{AsksAtMost}
 use Rattle.stk_host.specs.Steps.{Reply, Data, Again, Stop, Outcome, replied, with_data, exchange, attempt, settled, tries, step, if_done, play}
 use Rattle.stk_host.proofs.Bounds.{step_most}
 use Rattle.stk_emu.specs.declared.fate.Fate.{Fate}
-use Rattle.stk_emu.specs.declared.fate.Fate.TheVariants.{Good, LostCommand, LostAnswer, LateAnswer, CommandRefused, AnswerSpoiled}
+use Rattle.stk_emu.specs.declared.fate.Fate.TheVariants.{Good, LostCommand, LostAnswer, LateAnswer, HeldAnswer, Reset, CommandRefused, AnswerSpoiled}
 use Rattle.stk_emu.specs.Programmer.{Programmer}
 use Rattle.stk_emu.specs.Device.{Device, device}
 use Rattle.stk_emu.specs.Wire.{first_fate, other_fates, after_fate}
 use Rattle.stk_emu.specs.Along.{reading_of, Standing, along}
 use Rattle.stk_emu.specs.Effect.{Memories}
 use Rattle.stk_emu.specs.Few.{bad, bad_in, FewOf, AreFew, each_second}
+use Rattle.stk_emu.specs.Climbs.{Climbs}
 use Rattle.stk_emu.specs.Fits.{Fits}
-use Rattle.stk_emu.specs.Settled.{Settled, FitsPart}
-use Rattle.stk_emu.specs.Strokes.{struck, IsStep, Erases, ProgramsPage, ProgramsRun, ProgramsFuse, ProgramsLock, ReadsFlash, ReadsEeprom, ReadsFuse, ReadsLock, ReadsSignature, ReadsCalibration, AreSteps}
+use Rattle.stk_emu.specs.Settled.{Ready, FitsPart}
+use Rattle.stk_emu.specs.Strokes.{struck, struck_by, IsStep, Erases, ProgramsPage, ProgramsRun, ProgramsFuse, ProgramsLock, ReadsFlash, ReadsEeprom, ReadsFuse, ReadsLock, ReadsSignature, ReadsCalibration, AreSteps}
 use Rattle.stk_emu.specs.Given.{on_data, reply_to, gathered, given_by, all_given}
 use Rattle.stk_emu.specs.Leads.{AreGood}
-use Rattle.stk_emu.proofs.Attempts.{along_bind, onward, step_stands, Stepped, Obeyed, attempt_obeys, fronts, asks≢done}
-use Rattle.stk_emu.proofs.Gathering.{done_reply, done_outcome}
-use Rattle.stk_emu.proofs.Striking.{step_fits}
+use Rattle.stk_emu.proofs.Attempts.{along_bind, onward, step_stands, Stepped, attempt_obeys, stood_after, asks≢done}
+use Rattle.stk_emu.proofs.Gathered.{done_reply}
+use Rattle.stk_emu.proofs.Gathering.{done_outcome}
+use Rattle.stk_emu.proofs.Beginning.{are_some}
+use Rattle.stk_emu.proofs.Climbing.{play_climbs}
+use Rattle.stk_emu.proofs.Obeying.{steady}
+use Rattle.stk_emu.proofs.Striking.{step_ready, all_ready}
+use Rattle.stk_emu.proofs.Outside.{gathered_steady}
 use Rattle.stk_emu.proofs.Giving.{step_data, struck_sizes, given_same}
 
 -- ---- counting
@@ -71,7 +77,7 @@ done_within m (suc n) zero (Ask bytes go_on) p fates asks le = absurd (omega (ar
 done_within m (suc n) (suc k) (Ask bytes go_on) p fates asks le =
     let fate = first_fate fates in
     let reading = reading_of fate (m.answer bytes p) in
-    done_within m n k (go_on reading) (after_fate fate (m.after bytes p) p) (other_fates fates) (asks reading) (omega (arith, le))
+    done_within m n k (go_on reading) (after_fate fate (m.after bytes p) p (m.reset p)) (other_fates fates) (asks reading) (omega (arith, le))
 
 -- the fates behind so many
 abbrev behind : ℕ → List Fate → List Fate
@@ -84,7 +90,7 @@ record Spent (size : ℕ) (fates : List Fate) (then : Reply) (rest : List Fate) 
   again : then ≡ Again fault
   place : ℕ
   near : suc place ≤ size
-  went_wrong : bad (first_fate (behind place fates)) ≡ 1
+  went_wrong : 1 ≤ bad (first_fate (behind place fates))
   behind_it : rest ≡ other_fates (behind place fates)
 
 abbrev Tried : ℕ → List Fate → List ℕ → Reply → List Fate → Type 0
@@ -108,15 +114,15 @@ well size fates got then rest (inl brings) = inl brings
 well size fates got then rest (inr s) = inr (record { fault = s.fault; again = s.again; place = suc s.place; near = (let n = s.near in omega (arith, n)); went_wrong = s.went_wrong; behind_it = s.behind_it })
 
 -- the frame that went wrong
-wrong : (size : ℕ) (fates : List Fate) (got : List ℕ) (then : Reply) (fault : StepFault) → bad (first_fate fates) ≡ 1 → ◌≡◌ {A = Dialog ⊥ Reply} (Done (Again fault)) (Done then) → Tried (suc size) fates got then (other_fates fates)
-wrong size fates got then fault is e = inr (record { fault = fault; again = sym (done_reply (Again fault) then e); place = 0; near = omega arith; went_wrong = is; behind_it = refl })
+wrong : (more size : ℕ) (fates : List Fate) (got : List ℕ) (then : Reply) (fault : StepFault) → bad (first_fate fates) ≡ suc more → ◌≡◌ {A = Dialog ⊥ Reply} (Done (Again fault)) (Done then) → Tried (suc size) fates got then (other_fates fates)
+wrong more size fates got then fault is e = inr (record { fault = fault; again = sym (done_reply (Again fault) then e); place = 0; near = omega arith; went_wrong = omega (arith, is); behind_it = refl })
 
 -- enough frames go well for one attempt and so many more: one frame goes well between two that go wrong, at most
 record Clear (more : ℕ) (fates : List Fate) : Type 0 where
   here : bad_in (suc (more + more)) fates ≤ more
   next : bad_in (suc (more + more)) (other_fates fates) ≤ more
 
-next_clear : (more : ℕ) (fates : List Fate) → bad (first_fate fates) ≡ 1 → bad_in (suc (suc more + suc more)) fates ≤ suc more → Clear more (other_fates fates)
+next_clear : (more : ℕ) (fates : List Fate) → 1 ≤ bad (first_fate fates) → bad_in (suc (suc more + suc more)) fates ≤ suc more → Clear more (other_fates fates)
 next_clear more fates is le =
     let rest = other_fates fates in
     let e : suc more + suc more ≡ suc (suc (more + more)) = omega arith in
@@ -125,12 +131,12 @@ next_clear more fates is le =
     let less = more_bad (suc (more + more)) (suc (suc (more + more))) rest (omega arith) in
     record { here = omega (arith, less, few'); next = omega (arith, few') }
 
-clear_behind : (place more : ℕ) (fates rest : List Fate) → suc place ≤ 2 → rest ≡ other_fates (behind place fates) → bad (first_fate (behind place fates)) ≡ 1 → Clear (suc more) fates → Clear more rest
+clear_behind : (place more : ℕ) (fates rest : List Fate) → suc place ≤ 2 → rest ≡ other_fates (behind place fates) → 1 ≤ bad (first_fate (behind place fates)) → Clear (suc more) fates → Clear more rest
 clear_behind zero more fates rest le is wrong c = subst (Clear more) (sym is) (next_clear more fates wrong c.here)
 clear_behind (suc zero) more fates rest le is wrong c = subst (Clear more) (sym is) (next_clear more (other_fates fates) wrong c.next)
 clear_behind (suc (suc place)) more fates rest le is wrong c = absurd (omega (arith, le))
 
-none_wrong : (place : ℕ) (fates : List Fate) → suc place ≤ 2 → bad (first_fate (behind place fates)) ≡ 1 → Clear 0 fates → ⊥
+none_wrong : (place : ℕ) (fates : List Fate) → suc place ≤ 2 → 1 ≤ bad (first_fate (behind place fates)) → Clear 0 fates → ⊥
 none_wrong zero fates le wrong c = let h = c.here in omega (arith, h, wrong)
 none_wrong (suc zero) fates le wrong c = let h = c.next in omega (arith, h, wrong)
 none_wrong (suc (suc place)) fates le wrong c = omega (arith, le)
@@ -146,14 +152,16 @@ module _ {P : Type 0} (m : Device P) where
 
   by_fate : (k : ℕ) (fate : Fate) (command : Command) (then : Reply) (go_on : List ℕ → Dialog ⊥ Reply) (go : List ℕ → Reply) (size : ℕ) (p : P) (fates : List Fate) (got : List ℕ) → bad (first_fate fates) ≡ bad fate → on_data (reply_to m command p) go ≡ Data got
       → ((bytes : List ℕ) → go bytes ≡ Data got → (along m k (go_on bytes) (m.after (body command) p) (other_fates fates)).dialog ≡ Done then → Tried size (other_fates fates) got then (along m k (go_on bytes) (m.after (body command) p) (other_fates fates)).fates)
-      → (along m k (with_data go_on (replied command (reading_of fate (m.answer (body command) p)))) (after_fate fate (m.after (body command) p) p) (other_fates fates)).dialog ≡ Done then
-      → Tried (suc size) fates got then (along m k (with_data go_on (replied command (reading_of fate (m.answer (body command) p)))) (after_fate fate (m.after (body command) p) p) (other_fates fates)).fates
+      → (along m k (with_data go_on (replied command (reading_of fate (m.answer (body command) p)))) (after_fate fate (m.after (body command) p) p (m.reset p)) (other_fates fates)).dialog ≡ Done then
+      → Tried (suc size) fates got then (along m k (with_data go_on (replied command (reading_of fate (m.answer (body command) p)))) (after_fate fate (m.after (body command) p) p (m.reset p)) (other_fates fates)).fates
   by_fate k Good command then go_on go size p fates got is has each e = answered k (reply_to m command p) then go_on go size (m.after (body command) p) fates got has each e
-  by_fate k LostCommand command then go_on go size p fates got is has each e = wrong size fates got then _ is e
-  by_fate k LostAnswer command then go_on go size p fates got is has each e = wrong size fates got then _ is e
-  by_fate k LateAnswer command then go_on go size p fates got is has each e = wrong size fates got then _ is e
-  by_fate k CommandRefused command then go_on go size p fates got is has each e = wrong size fates got then _ is e
-  by_fate k (AnswerSpoiled noise) command then go_on go size p fates got is has each e = wrong size fates got then _ is e
+  by_fate k LostCommand command then go_on go size p fates got is has each e = wrong 0 size fates got then _ is e
+  by_fate k LostAnswer command then go_on go size p fates got is has each e = wrong 0 size fates got then _ is e
+  by_fate k LateAnswer command then go_on go size p fates got is has each e = wrong 0 size fates got then _ is e
+  by_fate k HeldAnswer command then go_on go size p fates got is has each e = wrong 0 size fates got then _ is e
+  by_fate k Reset command then go_on go size p fates got is has each e = wrong 3 size fates got then _ is e
+  by_fate k CommandRefused command then go_on go size p fates got is has each e = wrong 0 size fates got then _ is e
+  by_fate k (AnswerSpoiled noise) command then go_on go size p fates got is has each e = wrong 0 size fates got then _ is e
 
   -- an attempt whose commands would all have data: they come, or a frame went wrong
   attempt_tried : (k : ℕ) (commands : List Command) (before : List ℕ) (p : P) (fates : List Fate) (got : List ℕ) (then : Reply) → gathered m commands before p ≡ Data got → (along m k (attempt commands before) p fates).dialog ≡ Done then
@@ -188,8 +196,7 @@ module _ {P : Type 0} (m : Device P) where
     -- what the attempt of a try leaves
     stood_on : (k : ℕ) (p : P) (fates : List Fate) → Before p ⊎ After p → Before (along m k (attempt commands []) p fates).programmer ⊎ After (along m k (attempt commands []) p fates).programmer
     stood_on k p fates stood =
-        let went : Obeyed m commands p (along m k (attempt commands []) p fates) = attempt_obeys m k commands [] p fates in
-        subst (λ q. Before q ⊎ After q) (sym went.is) (fronts m Before After commands fits p went.count stood)
+        stood_after m Before After commands fits p (along m k (attempt commands []) p fates) (attempt_obeys m k commands [] p fates) stood
 
     tries_few : (k more : ℕ) (fault : StepFault) (p : P) (fates : List Fate) (o : Outcome) → length commands ≤ 2 → Before p ⊎ After p → Clear more fates
         → (along m k (tries (suc more) commands fault) p fates).dialog ≡ Done o → o ≡ Ok got
@@ -213,6 +220,75 @@ module _ {P : Type 0} (m : Device P) where
     step_few k p fates o short few before e =
         tries_few k 3 NoAnswer p fates o short (inl before) (record { here = in_seven fates few; next = in_seven (other_fates fates) (others_few fates few) }) e
 
+-- ---- lines on which nothing begins anew
+
+abbrev IsSteady : Fate → Type 0
+IsSteady Good = Unit {0}
+IsSteady LostCommand = Unit {0}
+IsSteady LostAnswer = Unit {0}
+IsSteady LateAnswer = Unit {0}
+IsSteady HeldAnswer = Unit {0}
+IsSteady Reset = ⊥
+IsSteady CommandRefused = Unit {0}
+IsSteady (AnswerSpoiled noise) = Unit {0}
+
+abbrev AreSteady : List Fate → Type 0
+AreSteady [] = Unit {0}
+AreSteady (fate ∷ fates) = IsSteady fate × AreSteady fates
+
+first_steady : (fates : List Fate) → AreSteady fates → IsSteady (first_fate fates)
+first_steady [] s = tt
+first_steady (fate ∷ fates) s = s.0
+
+others_steady : (fates : List Fate) → AreSteady fates → AreSteady (other_fates fates)
+others_steady [] s = s
+others_steady (fate ∷ fates) s = s.1
+
+not_four : (fate : Fate) → bad fate ≤ 3 → IsSteady fate
+not_four Good le = tt
+not_four LostCommand le = tt
+not_four LostAnswer le = tt
+not_four LateAnswer le = tt
+not_four HeldAnswer le = tt
+not_four Reset le = omega (arith, le)
+not_four CommandRefused le = tt
+not_four (AnswerSpoiled noise) le = tt
+
+-- where few frames go wrong, none lets the programmer begin anew
+few_steady : (fates : List Fate) → AreFew fates → AreSteady fates
+few_steady [] few = tt
+few_steady (fate ∷ fates) few = (not_four fate (let le = few.0 in omega (arith, le)), few_steady fates few.1)
+
+same_after : {P : Type 0} (fate : Fate) (obeyed kept anew other : P) → IsSteady fate → after_fate fate obeyed kept anew ≡ after_fate fate obeyed kept other
+same_after Good obeyed kept anew other s = refl
+same_after LostCommand obeyed kept anew other s = refl
+same_after LostAnswer obeyed kept anew other s = refl
+same_after LateAnswer obeyed kept anew other s = refl
+same_after HeldAnswer obeyed kept anew other s = refl
+same_after Reset obeyed kept anew other s = absurd s
+same_after CommandRefused obeyed kept anew other s = refl
+same_after (AnswerSpoiled noise) obeyed kept anew other s = refl
+
+along_steady : {E R : Type 0} (k : ℕ) (d : Dialog E R) (p : Programmer) (fates : List Fate) → AreSteady fates → along device k d p fates ≡ along steady k d p fates
+along_steady k (Done r) p fates s = refl
+along_steady k (Say e d) p fates s = along_steady k d p fates s
+along_steady zero (Ask bytes go_on) p fates s = refl
+along_steady (suc k) (Ask bytes go_on) p fates s =
+    let fate = first_fate fates in
+    let d = go_on (reading_of fate (device.answer bytes p)) in
+    ap (λ q. along device k d q (other_fates fates)) (same_after fate (device.after bytes p) p (device.reset p) p (first_steady fates s))
+    ∙ along_steady k d (after_fate fate (device.after bytes p) p p) (other_fates fates) (others_steady fates s)
+
+-- a step of at most two commands, which have these data from under the one condition and the other
+pub step_steady : (Before After : Programmer → Type 0) (commands : List Command) (got : List ℕ) → Fits steady commands Before After → ((q : Programmer) → Before q ⊎ After q → gathered device commands [] q ≡ Data got)
+    → (k : ℕ) (p : Programmer) (fates : List Fate) (o : Outcome) → length commands ≤ 2 → AreFew fates → Before p → (along device k (step commands) p fates).dialog ≡ Done o
+    → (o ≡ Ok got) × After (along device k (step commands) p fates).programmer
+step_steady Before After commands got fits has k p fates o short few before e =
+    let same = along_steady k (step commands) p fates (few_steady fates few) in
+    let here : (along steady k (step commands) p fates).dialog ≡ Done o = sym (ap (λ (z : Standing ⊥ Outcome Programmer). z.dialog) same) ∙ e in
+    let is : o ≡ Ok got = step_few steady Before After commands got fits (λ q stood. gathered_steady commands [] q ∙ has q stood) k p fates o short few before here in
+    (is, subst (λ (z : Standing ⊥ Outcome Programmer). After z.programmer) (sym same) ((step_stands steady Before After k commands p fates fits before).whole got (here ∙ ap (λ x. Done x) is)))
+
 -- ---- the steps of a host
 
 module _ (part : Part) (sound : IsPart part) where
@@ -233,25 +309,29 @@ module _ (part : Part) (sound : IsPart part) where
   step_short commands (ReadsCalibration e) = short_as _ commands e (omega arith)
 
   -- whether or not the step was already done, all of one attempt's commands have its data
-  data_either : (commands : List Command) (m : Memories) → IsStep part commands → FitsPart part m → (q : Programmer) → Settled part m q ⊎ Settled part (struck part commands m) q
+  data_either : (commands : List Command) (m : Memories) → IsStep part commands → FitsPart part m → (q : Programmer) → Ready part m q ⊎ Ready part (struck part commands m) q
       → gathered device commands [] q ≡ Data (given_by part commands m)
   data_either commands m is f q (inl t) = step_data part sound commands m q is f t
   data_either commands m is f q (inr t) = step_data part sound commands (struck part commands m) q is (struck_sizes part commands m sound f) t ∙ ap Data (given_same part sound commands m is)
 
+  data_steady : (commands : List Command) (m : Memories) → IsStep part commands → FitsPart part m → (q : Programmer) → Ready part m q ⊎ Ready part (struck part commands m) q
+      → gathered steady commands [] q ≡ Data (given_by part commands m)
+  data_steady commands m is f q stood = gathered_steady commands [] q ∙ data_either commands m is f q stood
+
   -- a step comes to what it gives, in at most eight questions
-  pub step_comes : (commands : List Command) (m : Memories) (k : ℕ) (p : Programmer) (fates : List Fate) → IsStep part commands → FitsPart part m → Settled part m p → AreFew fates → 8 ≤ k
+  pub step_comes : (commands : List Command) (m : Memories) (k : ℕ) (p : Programmer) (fates : List Fate) → IsStep part commands → FitsPart part m → Ready part m p → AreFew fates → 8 ≤ k
       → (along device k (step commands) p fates).dialog ≡ Done (Ok (given_by part commands m))
   step_comes commands m k p fates is f s few le =
       let short = step_short commands is in
       let within : (o : Outcome) × ((along device k (step commands) p fates).dialog ≡ Done o) = done_within device (4 * length commands) k (step commands) p fates (step_most commands) (omega (arith, short, le)) in
-      within.1 ∙ ap (λ x. Done x) (step_few device (Settled part m) (Settled part (struck part commands m)) commands (given_by part commands m) (step_fits part sound commands m is) (data_either commands m is f) k p fates within.0 short few s within.1)
+      within.1 ∙ ap (λ x. Done x) (step_steady (Ready part m) (Ready part (struck part commands m)) commands (given_by part commands m) (step_ready part sound commands m is) (data_either commands m is f) k p fates within.0 short few s within.1).0
 
   few_on : (left : ℕ) (fates : List Fate) (q : Programmer) (d : Dialog ⊥ Outcome) (go_on : List ℕ → Dialog ⊥ Outcome) (bytes : List ℕ) (o want : Outcome)
-      → ((first : Outcome) → d ≡ Done first → first ≡ Ok bytes) → (d ≡ Done (Ok bytes) → (along device left (go_on bytes) q fates).dialog ≡ Done o → o ≡ want)
-      → (onward device (if_done go_on) left fates q d).dialog ≡ Done o → o ≡ want
+      → ((first : Outcome) → d ≡ Done first → first ≡ Ok bytes) → (d ≡ Done (Ok bytes) → (along steady left (go_on bytes) q fates).dialog ≡ Done o → o ≡ want)
+      → (onward steady (if_done go_on) left fates q d).dialog ≡ Done o → o ≡ want
   few_on left fates q (Done (Ok got)) go_on bytes o want first more e =
       let same : got ≡ bytes = ok_is got bytes (first (Ok got) refl) in
-      more (ap (λ x. Done (Ok x)) same) (subst (λ x. (along device left (go_on x) q fates).dialog ≡ Done o) same e)
+      more (ap (λ x. Done (Ok x)) same) (subst (λ x. (along steady left (go_on x) q fates).dialog ≡ Done o) same e)
     where
       ok_is : (a b : List ℕ) → ◌≡◌ {A = Outcome} (Ok a) (Ok b) → a ≡ b
       ok_is a b e = cc
@@ -263,25 +343,41 @@ module _ (part : Part) (sound : IsPart part) where
   few_on left fates q (Ask x answered) go_on bytes o want first more e = absurd (asks≢done _ _ _ e)
 
   -- a play of steps comes to all that they give
-  pub play_few : (steps : List (List Command)) (m : Memories) (k : ℕ) (before : List ℕ) (p : Programmer) (fates : List Fate) (o : Outcome) → AreSteps part steps → FitsPart part m → Settled part m p → AreFew fates
-      → (along device k (play steps before) p fates).dialog ≡ Done o → o ≡ Ok (before ++ all_given part steps m)
+  play_steady : (steps : List (List Command)) (m : Memories) (k : ℕ) (before : List ℕ) (p : Programmer) (fates : List Fate) (o : Outcome) → AreSteps part steps → FitsPart part m → Ready part m p → AreFew fates
+      → (along steady k (play steps before) p fates).dialog ≡ Done o → o ≡ Ok (before ++ all_given part steps m)
   unfolding play
-  play_few [] m k before p fates o are f s few e = sym (done_outcome (Ok before) o e) ∙ ap (λ x. Ok x) (sym (append-nil before))
-  play_few (commands ∷ steps) m k before p fates o are f s few e =
-      let z = along device k (step commands) p fates in
+  play_steady [] m k before p fates o are f s few e = sym (done_outcome (Ok before) o e) ∙ ap (λ x. Ok x) (sym (append-nil before))
+  play_steady (commands ∷ steps) m k before p fates o are f s few e =
+      let z = along steady k (step commands) p fates in
       let bytes = given_by part commands m in
-      let fits = step_fits part sound commands m are.0 in
-      let stepped : Stepped device (Settled part m) (Settled part (struck part commands m)) z =
-      step_stands device (Settled part m) (Settled part (struck part commands m)) k commands p fates fits s in
+      let fits = step_ready part sound commands m are.0 in
+      let stepped : Stepped steady (Ready part m) (Ready part (struck part commands m)) z =
+      step_stands steady (Ready part m) (Ready part (struck part commands m)) k commands p fates fits s in
       let go_on : List ℕ → Dialog ⊥ Outcome = λ got. play steps (before ++ got) in
       few_on z.left z.fates z.programmer z.dialog go_on bytes o (Ok (before ++ all_given part (commands ∷ steps) m))
       (λ first is.
-      step_few device (Settled part m) (Settled part (struck part commands m)) commands bytes fits (data_either commands m are.0 f) k p fates first (step_short commands are.0) few s is)
+      step_few steady (Ready part m) (Ready part (struck part commands m)) commands bytes fits (data_steady commands m are.0 f) k p fates first (step_short commands are.0) few s is)
       (λ is done.
-      play_few steps (struck part commands m) z.left (before ++ bytes) z.programmer z.fates o are.1 (struck_sizes part commands m sound f) (stepped.whole bytes is)
-      (fates_along device AreFew others_few k (step commands) p fates few) done
+      play_steady steps (struck part commands m) z.left (before ++ bytes) z.programmer z.fates o are.1 (struck_sizes part commands m sound f) (stepped.whole bytes is)
+      (fates_along steady AreFew others_few k (step commands) p fates few) done
       ∙ ap (λ x. Ok x) (append_assoc before bytes (all_given part steps (struck part commands m))))
-      (sym (ap (λ (t : Standing ⊥ Outcome Programmer). t.dialog) (along_bind device k (step commands) (if_done go_on) p fates)) ∙ e)
+      (sym (ap (λ (t : Standing ⊥ Outcome Programmer). t.dialog) (along_bind steady k (step commands) (if_done go_on) p fates)) ∙ e)
+
+  pub play_few : (steps : List (List Command)) (m : Memories) (k : ℕ) (before : List ℕ) (p : Programmer) (fates : List Fate) (o : Outcome) → AreSteps part steps → FitsPart part m → Ready part m p → AreFew fates
+      → (along device k (play steps before) p fates).dialog ≡ Done o → o ≡ Ok (before ++ all_given part steps m)
+  play_few steps m k before p fates o are f s few e =
+      play_steady steps m k before p fates o are f s few (sym (ap (λ (z : Standing ⊥ Outcome Programmer). z.dialog) (along_steady k (play steps before) p fates (few_steady fates few))) ∙ e)
+
+  -- and is ready behind them
+  pub play_ready : (steps : List (List Command)) (m : Memories) (k : ℕ) (before got : List ℕ) (p : Programmer) (fates : List Fate) → AreSteps part steps → Ready part m p → AreFew fates
+      → (along device k (play steps before) p fates).dialog ≡ Done (Ok got) → Ready part (struck_by part (length steps) steps m) (along device k (play steps before) p fates).programmer
+  play_ready steps m k before got p fates are s few e =
+      let same = along_steady k (play steps before) p fates (few_steady fates few) in
+      let climbs : Climbs steady (λ j. Ready part (struck_by part j steps m)) 0 k steps p fates (along steady k (play steps before) p fates) =
+      play_climbs steady (λ j. Ready part (struck_by part j steps m)) steps 0 k before p fates (are_some part steps are) (all_ready part sound steps m are) s in
+      let whole : climbs.count ≡ length steps = climbs.whole got (sym (ap (λ (z : Standing ⊥ Outcome Programmer). z.dialog) same) ∙ e) in
+      subst (λ (z : Standing ⊥ Outcome Programmer). Ready part (struck_by part (length steps) steps m) z.programmer) (sym same)
+      (subst (λ count. Ready part (struck_by part count steps m) (along steady k (play steps before) p fates).programmer) (let n : 0 + climbs.count ≡ climbs.count = omega arith in n ∙ whole) climbs.stands)
 
 -- four bad frames of seven are too many, in a row and where each second one is bad
 pub four_too_many : (command : Command) (commands : List Command) (p : Programmer)

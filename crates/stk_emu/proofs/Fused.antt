@@ -1,5 +1,5 @@
 -- A dialog played over the wire's tape goes as it goes along the line.
-use Rattle.std.proofs.Common.{◌≡◌, ℕ, ◌≢◌, List, [], ◌∷◌, ◌++◌, length, refl, sym, ap, ◌∙◌, subst, arith, Option, Some, None}
+use Rattle.std.proofs.Common.{◌≡◌, ℕ, List, [], ◌∷◌, ◌++◌, length, refl, sym, ap, ◌∙◌, subst, arith, Option, Some, None}
 use Rattle.std.proofs.lemmas.List.Elements.{All-head, All-tail}
 use Rattle.stk_frame.specs.Frame.{frame}
 use Rattle.stk_host.specs.Tape.{Tape, Reading}
@@ -23,9 +23,6 @@ first_lawful (fate ∷ fates) l = All-head IsLawfulFate fate fates l
 pub others_lawful : (fates : List Fate) → AreLawful fates → AreLawful (other_fates fates)
 others_lawful [] l = l
 others_lawful (fate ∷ fates) l = All-tail IsLawfulFate fate fates l
-
-pub next_other : (n : ℕ) → n ≢ next n
-next_other n = omega arith
 
 pub head_is : (x y : List ℕ) (xs ys : List (List ℕ)) → x ∷ xs ≡ y ∷ ys → x ≡ y
 head_is x y xs ys e = cc
@@ -94,5 +91,5 @@ module _ {P : Type 0} (m : Device P) (answers : AnswersBodies m) where
       (at_frame bytes go_on n w sent more asks.0 clear lawful
       (fused (go_on (reading_of (first_fate w.fates) (m.answer bytes w.programmer))) (next n) (passed m (frame n bytes) w) sent more
       (asks.1 (reading_of (first_fate w.fates) (m.answer bytes w.programmer)))
-      (segment_late m n (next n) bytes w (next_other n) asks.0 (answers bytes w.programmer asks.0))
+      (segment_late m n bytes w asks.0 (answers bytes w.programmer asks.0) clear)
       (others_lawful w.fates lawful)))) e

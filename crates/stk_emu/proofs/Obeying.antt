@@ -17,23 +17,26 @@ use Rattle.stk_emu.specs.Device.{Device, device}
 use Rattle.stk_emu.specs.Fits.{obeyed, Fits}
 use Rattle.stk_emu.specs.Effect.{Memories, memories_of}
 use Rattle.stk_emu.specs.Strokes.{struck}
-use Rattle.stk_emu.specs.Settled.{Idle, Settled}
+use Rattle.stk_emu.specs.Settled.{Idle, Settled, Ready}
 
 -- a body is obeyed as its command
 pub obeys : (c : Command) (p : Programmer) → decoding.Fits c → obey (body c) p ≡ obey_command c p
 obeys c p fits = ap (λ o. read_as o (body c) p) (read_back c fits)
 
 module _ {P : Type 0} (m : Device P) where
-  obeyed_none : (i : ℕ) (p : P) → obeyed m i [] p ≡ p
+  pub obeyed_none : (i : ℕ) (p : P) → obeyed m i [] p ≡ p
   obeyed_none zero p = refl
   obeyed_none (suc i) p = refl
 
   -- a step of one command
-  pub one_fits : (c : Command) (Before After : P → Type 0) → ((p : P) → Before p → After (m.after (body c) p)) → ((p : P) → After p → After (m.after (body c) p)) → Fits m (c ∷ []) Before After
-  one_fits c Before After does again = record {
+  pub one_fits : (c : Command) (Before After : P → Type 0) → ((p : P) → Before p → After (m.after (body c) p)) → ((p : P) → After p → After (m.after (body c) p))
+      → ((p : P) → Before p → Before (m.reset p)) → ((p : P) → After p → After (m.reset p)) → Fits m (c ∷ []) Before After
+  one_fits c Before After does again anew anew_again = record {
     front = λ p i b. fronts p i b;
     again = λ p i a. agains p i a;
-    whole = λ p b. does p b;
+    whole = λ p bytes has b. does p b;
+    anew = anew;
+    anew_again = anew_again;
   }
     where
       fronts : (p : P) (i : ℕ) → Before p → Before (obeyed m i (c ∷ []) p) ⊎ After (obeyed m i (c ∷ []) p)
@@ -47,11 +50,13 @@ module _ {P : Type 0} (m : Device P) where
   -- a step of two
   pub two_fits : (c d : Command) (Before After : P → Type 0) → ((p : P) → Before p → Before (m.after (body c) p)) → ((p : P) → After p → After (m.after (body c) p))
       → ((p : P) → Before p → After (m.after (body d) (m.after (body c) p))) → ((p : P) → After p → After (m.after (body d) (m.after (body c) p)))
-      → Fits m (c ∷ d ∷ []) Before After
-  two_fits c d Before After first first_again does again = record {
+      → ((p : P) → Before p → Before (m.reset p)) → ((p : P) → After p → After (m.reset p)) → Fits m (c ∷ d ∷ []) Before After
+  two_fits c d Before After first first_again does again anew anew_again = record {
     front = λ p i b. fronts p i b;
     again = λ p i a. agains p i a;
-    whole = λ p b. does p b;
+    whole = λ p bytes has b. does p b;
+    anew = anew;
+    anew_again = anew_again;
   }
     where
       fronts : (p : P) (i : ℕ) → Before p → Before (obeyed m i (c ∷ d ∷ []) p) ⊎ After (obeyed m i (c ∷ d ∷ []) p)
@@ -63,6 +68,18 @@ module _ {P : Type 0} (m : Device P) where
       agains p zero a = a
       agains p (suc zero) a = first_again p a
       agains p (suc (suc i)) a = subst After (sym (obeyed_none i (m.after (body d) (m.after (body c) p)))) (again p a)
+
+-- the device as it goes along where it never begins anew
+abbrev pub steady : Device Programmer
+steady = record { answer = device.answer; after = device.after; reset = λ p. p }
+
+-- its steps
+pub one_steady : (c : Command) (Before After : Programmer → Type 0) → ((p : Programmer) → Before p → After (device.after (body c) p)) → ((p : Programmer) → After p → After (device.after (body c) p)) → Fits steady (c ∷ []) Before After
+one_steady c Before After does again = one_fits steady c Before After does again (λ p b. b) (λ p a. a)
+
+pub two_steady : (c d : Command) (Before After : Programmer → Type 0) → ((p : Programmer) → Before p → Before (device.after (body c) p)) → ((p : Programmer) → After p → After (device.after (body c) p))
+    → ((p : Programmer) → Before p → After (device.after (body d) (device.after (body c) p))) → ((p : Programmer) → After p → After (device.after (body d) (device.after (body c) p))) → Fits steady (c ∷ d ∷ []) Before After
+two_steady c d Before After first first_again does again = two_fits steady c d Before After first first_again does again (λ p b. b) (λ p a. a)
 
 -- a command of programming mode, in it
 pub in_mode_is : (p : Programmer) (x y : Done) → p.mode ≡ true → (cond p.mode x y).1 ≡ x.1
@@ -78,6 +95,36 @@ module _ (part : Part) where
     eeprom_buffer = ap length s.eeprom_buffer ∙ length-replicate {A = Option ℕ} part.eeprom_page None;
   }
 
+  -- what is ready is settled, and what is settled is ready in programming mode
+  pub ready_settled : (m : Memories) (p : Programmer) → Ready part m p → Settled part m p
+  ready_settled m p s = record { memories = s.memories; part_is = s.part_is; flash_buffer = s.flash_buffer; eeprom_buffer = s.eeprom_buffer; extended = s.extended }
+
+  pub settled_ready : (m : Memories) (p : Programmer) → p.mode ≡ true → Settled part m p → Ready part m p
+  settled_ready m p mode s = record { memories = s.memories; part_is = s.part_is; mode = mode; flash_buffer = s.flash_buffer; eeprom_buffer = s.eeprom_buffer; extended = s.extended }
+
+  pub ready_idle : (m : Memories) (p : Programmer) → Ready part m p → Idle part m p
+  ready_idle m p s = settled_idle m p (ready_settled m p s)
+
+  -- what begins anew keeps its memories, and nothing is loaded
+  pub anew_idle : (m : Memories) (p : Programmer) → Idle part m p → Idle part m (device.reset p)
+  anew_idle m p s = record {
+    memories = s.memories;
+    part_is = s.part_is;
+    flash_buffer = length-replicate (length p.chip.flash_buffer) 255 ∙ s.flash_buffer;
+    eeprom_buffer = length-replicate {A = Option ℕ} (length p.chip.eeprom_buffer) None ∙ s.eeprom_buffer;
+  }
+
+  pub anew_settled : (m : Memories) (p : Programmer) → Settled part m p → Settled part m (device.reset p)
+  anew_settled m p s =
+      let idle = settled_idle m p s in
+      record {
+        memories = s.memories;
+        part_is = s.part_is;
+        flash_buffer = ap (λ n. replicate n 255) idle.flash_buffer;
+        eeprom_buffer = ap (λ n. replicate {A = Option ℕ} n None) idle.eeprom_buffer;
+        extended = λ narrow. refl;
+      }
+
   pub sign_on_keeps : (m : Memories) (p : Programmer) → Idle part m p → Idle part m (device.after (body SignOn) p)
   sign_on_keeps m p s = s
 
@@ -85,7 +132,7 @@ module _ (part : Part) where
   sign_on_stays m p s = s
 
   -- ENTER puts the mode on, and empties the buffers
-  pub enter_does : (m : Memories) (p : Programmer) → Idle part m p → Settled part m (device.after (body enter) p)
+  pub enter_does : (m : Memories) (p : Programmer) → Idle part m p → Ready part m (device.after (body enter) p)
   enter_does m p s = record {
     memories = s.memories;
     part_is = s.part_is;
@@ -98,13 +145,13 @@ module _ (part : Part) where
   pub leave_keeps : (m : Memories) (p : Programmer) → Idle part m p → Idle part m (device.after (body leave) p)
   leave_keeps m p s = record { memories = s.memories; part_is = s.part_is; flash_buffer = s.flash_buffer; eeprom_buffer = s.eeprom_buffer }
 
-  pub load_keeps : (address : ℕ) (m : Memories) (p : Programmer) → address < 2 ^ 32 → Settled part m p → Settled part m (device.after (body (LoadAddress address)) p)
-  load_keeps address m p fits s = subst (λ z. Settled part m z) (sym (ap (λ z. z.1) (obeys (LoadAddress address) p fits)))
+  pub load_keeps : (address : ℕ) (m : Memories) (p : Programmer) → address < 2 ^ 32 → Ready part m p → Ready part m (device.after (body (LoadAddress address)) p)
+  load_keeps address m p fits s = subst (λ z. Ready part m z) (sym (ap (λ z. z.1) (obeys (LoadAddress address) p fits)))
       (record { memories = s.memories; part_is = s.part_is; mode = s.mode; flash_buffer = s.flash_buffer; eeprom_buffer = s.eeprom_buffer; extended = s.extended })
 
   -- the fuses
-  pub fuse_does : (f : Fuse) (v : ℕ) (m : Memories) (p : Programmer) → Settled part m p → Settled part (struck part (program_fuse f v ∷ []) m) (device.after (body (program_fuse f v)) p)
-  fuse_does Low v m p s = subst (Settled part (struck part (program_fuse Low v ∷ []) m)) (sym (in_mode_is p _ _ s.mode)) (record {
+  pub fuse_does : (f : Fuse) (v : ℕ) (m : Memories) (p : Programmer) → Ready part m p → Ready part (struck part (program_fuse f v ∷ []) m) (device.after (body (program_fuse f v)) p)
+  fuse_does Low v m p s = subst (Ready part (struck part (program_fuse Low v ∷ []) m)) (sym (in_mode_is p _ _ s.mode)) (record {
     memories = ap (struck part (program_fuse Low v ∷ [])) s.memories;
     part_is = s.part_is;
     mode = s.mode;
@@ -112,7 +159,7 @@ module _ (part : Part) where
     eeprom_buffer = s.eeprom_buffer;
     extended = s.extended;
   })
-  fuse_does High v m p s = subst (Settled part (struck part (program_fuse High v ∷ []) m)) (sym (in_mode_is p _ _ s.mode)) (record {
+  fuse_does High v m p s = subst (Ready part (struck part (program_fuse High v ∷ []) m)) (sym (in_mode_is p _ _ s.mode)) (record {
     memories = ap (struck part (program_fuse High v ∷ [])) s.memories;
     part_is = s.part_is;
     mode = s.mode;
@@ -120,7 +167,7 @@ module _ (part : Part) where
     eeprom_buffer = s.eeprom_buffer;
     extended = s.extended;
   })
-  fuse_does Extended v m p s = subst (Settled part (struck part (program_fuse Extended v ∷ []) m)) (sym (in_mode_is p _ _ s.mode)) (record {
+  fuse_does Extended v m p s = subst (Ready part (struck part (program_fuse Extended v ∷ []) m)) (sym (in_mode_is p _ _ s.mode)) (record {
     memories = ap (struck part (program_fuse Extended v ∷ [])) s.memories;
     part_is = s.part_is;
     mode = s.mode;
@@ -129,8 +176,8 @@ module _ (part : Part) where
     extended = s.extended;
   })
 
-  pub lock_does : (v : ℕ) (m : Memories) (p : Programmer) → Settled part m p → Settled part (struck part (program_lock v ∷ []) m) (device.after (body (program_lock v)) p)
-  lock_does v m p s = subst (Settled part (struck part (program_lock v ∷ []) m)) (sym (in_mode_is p _ _ s.mode)) (record {
+  pub lock_does : (v : ℕ) (m : Memories) (p : Programmer) → Ready part m p → Ready part (struck part (program_lock v ∷ []) m) (device.after (body (program_lock v)) p)
+  lock_does v m p s = subst (Ready part (struck part (program_lock v ∷ []) m)) (sym (in_mode_is p _ _ s.mode)) (record {
     memories = ap (struck part (program_lock v ∷ [])) s.memories;
     part_is = s.part_is;
     mode = s.mode;
@@ -143,8 +190,8 @@ module _ (part : Part) where
   erase_memories : (s : chip.State) → s.part ≡ part → memories_of (chip.with_erased s) ≡ struck part (erase ∷ []) (memories_of s)
   erase_memories s e = ap (λ (q : Part). struck q (erase ∷ []) (memories_of s)) e
 
-  pub erase_does : (m : Memories) (p : Programmer) → Settled part m p → Settled part (struck part (erase ∷ []) m) (device.after (body erase) p)
-  erase_does m p s = subst (Settled part (struck part (erase ∷ []) m)) (sym (in_mode_is p _ _ s.mode)) (record {
+  pub erase_does : (m : Memories) (p : Programmer) → Ready part m p → Ready part (struck part (erase ∷ []) m) (device.after (body erase) p)
+  erase_does m p s = subst (Ready part (struck part (erase ∷ []) m)) (sym (in_mode_is p _ _ s.mode)) (record {
     memories = erase_memories p.chip s.part_is ∙ ap (struck part (erase ∷ [])) s.memories;
     part_is = s.part_is;
     mode = s.mode;

@@ -19,7 +19,7 @@ use Rattle.stk_emu.specs.Programmer.{Programmer, sent_to, extension, flash_loads
 use Rattle.stk_emu.specs.Device.{device}
 use Rattle.avr_part.specs.declared.mem.Mem.TheVariants.{Flash}
 use Rattle.stk_emu.specs.Effect.{Memories, Write, and_in, effects}
-use Rattle.stk_emu.specs.Settled.{Settled, IsNarrow}
+use Rattle.stk_emu.specs.Settled.{Ready, IsNarrow}
 use Rattle.stk_emu.specs.Strokes.{placed, struck, IsPage}
 use Rattle.stk_emu.proofs.Blocks.{sent-append}
 use Rattle.stk_emu.proofs.Images.{put, put_is, anded_in}
@@ -233,8 +233,8 @@ module _ (part : Part) (sound : IsPart part) where
       ap (λ start. effects part (Write Flash (placed start page) ∷ []) m)
       (flash_address_back part (n * part.flash_page) (omega arith) (page_even part sound n))
 
-  pub page_does : (n : ℕ) (page : List ℕ) (m : Memories) (p : Programmer) → IsPage part n page → Settled part m p
-      → Settled part (struck part (load_flash part (n * part.flash_page) ∷ program_page page ∷ []) m) (device.after (body (program_page page)) (device.after (body (load_flash part (n * part.flash_page))) p))
+  pub page_does : (n : ℕ) (page : List ℕ) (m : Memories) (p : Programmer) → IsPage part n page → Ready part m p
+      → Ready part (struck part (load_flash part (n * part.flash_page) ∷ program_page page ∷ []) m) (device.after (body (program_page page)) (device.after (body (load_flash part (n * part.flash_page))) p))
   page_does n page m p is_page s =
       let a = n * (part.flash_page / 2) in
       let wide = is_wide part in
@@ -254,8 +254,8 @@ module _ (part : Part) (sound : IsPart part) where
       ap (device.after (body (program_page page))) loaded
       ∙ (flash_after page q s.mode (omega arith) (omega arith) (ap (λ x. x % 2) count ∙ p_halves)
       ∙ ap (λ c. moved (length page / 2) (record q { chip = c })) paged.is) in
-      subst (λ x. Settled part x (device.after (body (program_page page)) (device.after (body (load_flash part (n * part.flash_page))) p))) (sym (page_struck n page m is_page))
-      (subst (Settled part (effects part (Write Flash (placed (n * part.flash_page) page) ∷ []) m)) (sym after_is) (record {
+      subst (λ x. Ready part x (device.after (body (program_page page)) (device.after (body (load_flash part (n * part.flash_page))) p))) (sym (page_struck n page m is_page))
+      (subst (Ready part (effects part (Write Flash (placed (n * part.flash_page) page) ∷ []) m)) (sym after_is) (record {
         memories = ap (effects part (Write Flash (placed (n * part.flash_page) page) ∷ [])) s.memories;
         part_is = s.part_is;
         mode = s.mode;

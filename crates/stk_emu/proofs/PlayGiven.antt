@@ -19,7 +19,7 @@ use Rattle.stk_emu.specs.Settled.{Settled, FitsPart}
 use Rattle.stk_emu.specs.Strokes.{struck, AreSteps}
 use Rattle.stk_emu.specs.Given.{all_given}
 use Rattle.stk_emu.proofs.Attempts.{along_bind, onward, step_stands, Stepped, asks≢done, err≢ok}
-use Rattle.stk_emu.proofs.Striking.{step_fits}
+use Rattle.stk_emu.proofs.Outside.{step_fits}
 use Rattle.stk_emu.proofs.Giving.{step_given, struck_sizes}
 use Rattle.stk_emu.proofs.Pages.{flash_address_back}
 

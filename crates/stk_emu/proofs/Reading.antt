@@ -11,7 +11,7 @@ use Rattle.stk_host.specs.Places.{load_flash, load_eeprom}
 use Rattle.stk_emu.specs.Programmer.{Programmer, Done, moved, block, flash_looks, eeprom_looks}
 use Rattle.stk_emu.specs.Device.{device}
 use Rattle.stk_emu.specs.Effect.{Memories}
-use Rattle.stk_emu.specs.Settled.{Settled, IsNarrow}
+use Rattle.stk_emu.specs.Settled.{Ready, IsNarrow}
 use Rattle.stk_emu.specs.Strokes.{IsBlock, AreWords}
 use Rattle.stk_emu.proofs.Obeying.{obeys}
 use Rattle.stk_emu.proofs.Pages.{is_wide, flash_loaded_at}
@@ -45,8 +45,8 @@ module _ (part : Part) (sound : IsPart part) where
   narrow_test is_narrow = le-ltb 131072 part.flash_size is_narrow
 
   -- the address is loaded, and the block is read
-  pub flash_read_keeps : (start count : ℕ) (m : Memories) (p : Programmer) → IsBlock part Flash start count → AreWords start count → Settled part m p
-      → Settled part m (device.after (body (read_flash count)) (device.after (body (load_flash part start)) p))
+  pub flash_read_keeps : (start count : ℕ) (m : Memories) (p : Programmer) → IsBlock part Flash start count → AreWords start count → Ready part m p
+      → Ready part m (device.after (body (read_flash count)) (device.after (body (load_flash part start)) p))
   flash_read_keeps start count m p is_block words s =
       let inside = is_block.inside in
       let most = sound.flash_most in
@@ -56,7 +56,7 @@ module _ (part : Part) (sound : IsPart part) where
       ap (device.after (body (read_flash count))) (flash_loaded_at part start p (omega arith))
       ∙ (ap {A = Done} (λ z. z.1) (flash_block count q s.mode is_block.some words.count_even is_block.few)
       ∙ ap (λ c. record (moved (count / 2) q) { chip = c }) left.is) in
-      subst (Settled part m) (sym after_is) (record {
+      subst (Ready part m) (sym after_is) (record {
         memories = s.memories;
         part_is = s.part_is;
         mode = s.mode;
@@ -65,8 +65,8 @@ module _ (part : Part) (sound : IsPart part) where
         extended = λ is_narrow. left.kept (narrow_test is_narrow) ∙ s.extended is_narrow;
       })
 
-  pub eeprom_read_keeps : (start count : ℕ) (m : Memories) (p : Programmer) → IsBlock part Eeprom start count → Settled part m p
-      → Settled part m (device.after (body (read_eeprom count)) (device.after (body (load_eeprom start)) p))
+  pub eeprom_read_keeps : (start count : ℕ) (m : Memories) (p : Programmer) → IsBlock part Eeprom start count → Ready part m p
+      → Ready part m (device.after (body (read_eeprom count)) (device.after (body (load_eeprom start)) p))
   eeprom_read_keeps start count m p is_block s =
       let inside = is_block.inside in
       let most = sound.eeprom_most in
@@ -75,7 +75,7 @@ module _ (part : Part) (sound : IsPart part) where
       ap (device.after (body (read_eeprom count))) (narrow_loaded start p (omega arith))
       ∙ (ap {A = Done} (λ z. z.1) (eeprom_block count q s.mode is_block.some is_block.few)
       ∙ ap (λ c. record (moved count q) { chip = c }) (eeprom_left start 0 count p.chip)) in
-      subst (Settled part m) (sym after_is) (record {
+      subst (Ready part m) (sym after_is) (record {
         memories = s.memories;
         part_is = s.part_is;
         mode = s.mode;

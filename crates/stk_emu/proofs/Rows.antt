@@ -1,11 +1,18 @@
 -- Worked answers of the programmer, with a small part.
-use Rattle.std.proofs.Common.{◌≡◌, ℕ, List, [], ◌∷◌, refl}
+use Rattle.std.proofs.Common.{◌≡◌, ℕ, List, [], ◌∷◌, ◌++◌, refl}
 use Rattle.avr_part.specs.Part.{Part}
 use Rattle.avr_part.specs.State.{fresh_state}
 use Rattle.stk_frame.specs.Commands.{body}
+use Rattle.stk_frame.specs.Frame.{frame}
 use Rattle.stk_frame.specs.HostCommands.{enter}
-use Rattle.stk_emu.specs.Programmer.{Programmer, fresh_programmer, obey}
+use Rattle.stk_host.specs.declared.link.Item.TheVariants.{Silence}
+use Rattle.stk_host.specs.Tape.{Tape, on_tape}
+use Rattle.stk_emu.specs.Programmer.{Programmer, fresh_programmer, restarted, obey}
 use Rattle.stk_emu.specs.Emulator.{emulate}
+use Rattle.stk_emu.specs.declared.fate.Fate.{Fate}
+use Rattle.stk_emu.specs.declared.fate.Fate.TheVariants.{Good, LostAnswer, LateAnswer, HeldAnswer, Reset}
+use Rattle.stk_emu.specs.Device.{device}
+use Rattle.stk_emu.specs.Wire.{fresh, tape_of}
 
 abbrev small : Part
 small = record {
@@ -68,3 +75,39 @@ extended_asked = refl
 
 pub poll_above_four : (obey (0x10 ∷ 0xC8 ∷ 0x64 ∷ 0x19 ∷ 0x20 ∷ 0x00 ∷ 0x53 ∷ 0x05 ∷ 0xAC ∷ 0x53 ∷ 0x00 ∷ 0x00 ∷ []) start).0 ≡ 0x10 ∷ 0xC0 ∷ []
 poll_above_four = refl
+
+-- five frames of a command that no programmer knows, and their answers
+abbrev asked : ℕ → List ℕ
+asked n = frame n (0x05 ∷ [])
+
+abbrev told : ℕ → List ℕ
+told n = frame n (0x05 ∷ 0xC9 ∷ [])
+
+abbrev brings : List Fate → Tape
+brings fates = tape_of device (asked 1 ∷ asked 2 ∷ asked 3 ∷ asked 4 ∷ asked 5 ∷ []) (fresh start fates)
+
+-- Two answers are held, and come together; a late one is held with them; of four the first is lost.
+pub two_held : brings (HeldAnswer ∷ HeldAnswer ∷ Good ∷ [])
+    ≡ Silence ∷ Silence ∷ on_tape (told 1 ++ (told 2 ++ (told 3 ++ (told 4 ++ told 5))))
+two_held = refl
+
+pub held_behind_late : brings (LateAnswer ∷ HeldAnswer ∷ LostAnswer ∷ [])
+    ≡ Silence ∷ Silence ∷ (on_tape (told 1 ++ told 2) ++ Silence ∷ on_tape (told 4 ++ told 5))
+held_behind_late = refl
+
+pub late_behind_held : brings (HeldAnswer ∷ LateAnswer ∷ [])
+    ≡ Silence ∷ (on_tape (told 1) ++ Silence ∷ on_tape (told 2 ++ (told 3 ++ (told 4 ++ told 5))))
+late_behind_held = refl
+
+pub four_held : brings (HeldAnswer ∷ HeldAnswer ∷ HeldAnswer ∷ HeldAnswer ∷ [])
+    ≡ Silence ∷ Silence ∷ Silence ∷ Silence ∷ on_tape (told 2 ++ (told 3 ++ (told 4 ++ told 5)))
+four_held = refl
+
+-- A reset brings what is held, and then a silence.
+pub held_before_reset : brings (HeldAnswer ∷ Reset ∷ [])
+    ≡ Silence ∷ (on_tape (told 1) ++ Silence ∷ on_tape (told 3 ++ (told 4 ++ told 5)))
+held_before_reset = refl
+
+-- a page that is loaded, and not written, is lost with programming mode
+pub load_is_lost : restarted (behind (0x13 ∷ 0x00 ∷ 0x02 ∷ 0x41 ∷ 0x0A ∷ 0x40 ∷ 0x4C ∷ 0x20 ∷ 0xFF ∷ 0xFF ∷ 0x12 ∷ 0x34 ∷ []) loaded) ≡ start
+load_is_lost = refl

@@ -15,7 +15,7 @@ use Rattle.stk_frame.proofs.Cut.{chosen}
 use Rattle.stk_emu.specs.Programmer.{Programmer, sent_to, eeprom_loads, eeprom_writes, byte_at, moved, instructed, high, low}
 use Rattle.stk_emu.specs.Device.{device}
 use Rattle.stk_emu.specs.Effect.{Memories, laid}
-use Rattle.stk_emu.specs.Settled.{Settled}
+use Rattle.stk_emu.specs.Settled.{Ready}
 use Rattle.stk_emu.specs.Strokes.{placed, struck, IsRun}
 use Rattle.stk_emu.proofs.Blocks.{sent-append}
 use Rattle.stk_emu.proofs.Images.{put, run_laid, length_put}
@@ -101,8 +101,8 @@ module _ (part : Part) (sound : IsPart part) where
       ∙ (ap (λ x. record s { eeprom = cond (chip.is_locked s) s.eeprom x; eeprom_buffer = replicate (length loaded) None }) over
       ∙ ap (λ n. record s { eeprom = cond (chip.is_locked s) s.eeprom (laid (placed a run) s.eeprom); eeprom_buffer = replicate n None }) same_length)))
 
-  pub run_does : (a : ℕ) (run : List ℕ) (m : Memories) (p : Programmer) → IsRun part a run → Settled part m p
-      → Settled part (struck part (LoadAddress a ∷ program_eeprom run ∷ []) m) (device.after (body (program_eeprom run)) (device.after (body (LoadAddress a)) p))
+  pub run_does : (a : ℕ) (run : List ℕ) (m : Memories) (p : Programmer) → IsRun part a run → Ready part m p
+      → Ready part (struck part (LoadAddress a ∷ program_eeprom run ∷ []) m) (device.after (body (program_eeprom run)) (device.after (body (LoadAddress a)) p))
   run_does a run m p is_run s =
       let r_inside = is_run.inside in
       let most = sound.eeprom_most in
@@ -112,7 +112,7 @@ module _ (part : Part) (sound : IsPart part) where
       ap (device.after (body (program_eeprom run))) (narrow_loaded a p (omega arith))
       ∙ (eeprom_after run q s.mode is_run.some (omega arith)
       ∙ ap (λ c. moved (length run) (record q { chip = c })) (run_chip p.chip a run s.part_is s.eeprom_buffer is_run)) in
-      subst (Settled part (struck part (LoadAddress a ∷ program_eeprom run ∷ []) m)) (sym after_is) (record {
+      subst (Ready part (struck part (LoadAddress a ∷ program_eeprom run ∷ []) m)) (sym after_is) (record {
         memories = ap (struck part (LoadAddress a ∷ program_eeprom run ∷ [])) s.memories;
         part_is = s.part_is;
         mode = s.mode;

@@ -1,5 +1,5 @@
 -- What a dialog says along a line, and what it says in a play over what a wire brings.
-use Rattle.std.proofs.Common.{◌≡◌, ℕ, zero, suc, List, [], ◌∷◌, ◌++◌, length, refl, sym, ap, ◌∙◌, arith, inl, Some}
+use Rattle.std.proofs.Common.{◌≡◌, ℕ, zero, suc, List, [], ◌∷◌, ◌++◌, length, refl, sym, ap, ◌∙◌, arith, Some}
 use Rattle.std.proofs.lemmas.List.{append-nil}
 use Rattle.stk_frame.specs.Frame.{frame}
 use Rattle.stk_frame.specs.Cut.{frames}
@@ -15,9 +15,9 @@ use Rattle.stk_emu.specs.Wire.{AreLawful, first_fate, other_fates, after_fate, W
 use Rattle.stk_emu.specs.Wired.{State, Keeps, brought}
 use Rattle.stk_emu.specs.Lawful.{IsClear}
 use Rattle.stk_emu.specs.Along.{along, said_along, reading_of, AsksBodies}
-use Rattle.stk_emu.proofs.Segments.{segment_late, segment_leaves}
+use Rattle.stk_emu.proofs.Segments.{none_clear, segment_late, segment_leaves}
 use Rattle.stk_emu.proofs.Bodies.{answers_bodies}
-use Rattle.stk_emu.proofs.Fused.{AnswersBodies, first_played, others_lawful, next_other, head_is, tail_is}
+use Rattle.stk_emu.proofs.Fused.{AnswersBodies, first_played, others_lawful, head_is, tail_is}
 use Rattle.stk_emu.proofs.Turning.{sends_whole, frames_front, never_idle}
 
 -- what the next dialog says from where one stands
@@ -34,7 +34,7 @@ said_bind m k (Done a) next p fates = refl
 said_bind m k (Say e d) next p fates = ap (λ said. e ∷ said) (said_bind m k d next p fates)
 said_bind m zero (Ask bytes go_on) next p fates = refl
 said_bind m (suc k) (Ask bytes go_on) next p fates =
-    said_bind m k (go_on (reading_of (first_fate fates) (m.answer bytes p))) next (after_fate (first_fate fates) (m.after bytes p) p) (other_fates fates)
+    said_bind m k (go_on (reading_of (first_fate fates) (m.answer bytes p))) next (after_fate (first_fate fates) (m.after bytes p) p (m.reset p)) (other_fates fates)
 
 -- a dialog that can say nothing says nothing
 pub said_lifted : {E R P : Type 0} (m : Device P) (k : ℕ) (d : Dialog ⊥ R) (p : P) (fates : List Fate) → said_along {E = E} m k (lifted d) p fates ≡ []
@@ -42,7 +42,7 @@ said_lifted m k (Done r) p fates = refl
 said_lifted m k (Say e d) p fates = absurd e
 said_lifted m zero (Ask bytes go_on) p fates = refl
 said_lifted {E = E} m (suc k) (Ask bytes go_on) p fates =
-    said_lifted {E = E} m k (go_on (reading_of (first_fate fates) (m.answer bytes p))) (after_fate (first_fate fates) (m.after bytes p) p) (other_fates fates)
+    said_lifted {E = E} m k (go_on (reading_of (first_fate fates) (m.answer bytes p))) (after_fate (first_fate fates) (m.after bytes p) p (m.reset p)) (other_fates fates)
 
 cons_none : (x : List ℕ) (xs : List (List ℕ)) → [] ≡ x ∷ xs → ⊥
 cons_none x xs e = cc
@@ -65,7 +65,7 @@ module _ {P : Type 0} (m : Device P) (answers : AnswersBodies m) where
       let over = ap (λ g. played (Ask bytes go_on) n (tape_of m (g ∷ sent) w)) (sym is) ∙ first in
       ap (λ p. sayings p.events) over
       ∙ (said_over d' (next n) w' sent more (asks.1 (reading_of (first_fate w.fates) (m.answer bytes w.programmer)))
-      (segment_late m n (next n) bytes w (next_other n) asks.0 (answers bytes w.programmer asks.0))
+      (segment_late m n bytes w asks.0 (answers bytes w.programmer asks.0) clear)
       (others_lawful w.fates lawful)
       (tail_is (frame n bytes) f _ (sent ++ more) (sym (ap (λ p. frames_in p.events) over) ∙ e))
       ∙ ap (λ q. said_along m (length sent) d' q (other_fates w.fates)) leaves)
@@ -82,4 +82,4 @@ whole_said d n p fates w events r next left asks lawful keeps plays =
     let front = frames_front (played d n (brought p fates (sent w.talk))).events (sent w.talk) [] whole
     (append-nil (sent w.talk) ∙ (sym plays.all_sent ∙ ap (λ x. bytes_sent x.events) (sym over))) in
     ap (λ x. sayings x.events) (sym over)
-    ∙ said_over device answers_bodies d n (fresh p fates) (frames (sent w.talk)) front.0 asks (inl refl) lawful front.1
+    ∙ said_over device answers_bodies d n (fresh p fates) (frames (sent w.talk)) front.0 asks (none_clear n) lawful front.1

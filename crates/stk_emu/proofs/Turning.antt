@@ -20,10 +20,10 @@ use Rattle.stk_emu.specs.Wired.{State, Keeps, NeverIdle, brought}
 use Rattle.stk_emu.specs.Lawful.{IsBody, IsClear}
 use Rattle.stk_emu.specs.Along.{along, reading_of, AsksBodies, Fused}
 use Rattle.stk_emu.specs.Leads.{GoesAlong}
-use Rattle.stk_emu.proofs.Segments.{segment_late}
+use Rattle.stk_emu.proofs.Segments.{none_clear, segment_late}
 use Rattle.stk_emu.proofs.Bodies.{answers_bodies}
 use Rattle.stk_emu.proofs.Extending.{answer_extends}
-use Rattle.stk_emu.proofs.Fused.{AnswersBodies, first_played, others_lawful, next_other, head_is, tail_is, none_some, fused}
+use Rattle.stk_emu.proofs.Fused.{AnswersBodies, first_played, others_lawful, head_is, tail_is, none_some, fused}
 
 -- whole frames
 pub record IsWhole (f : List ℕ) : Type 0 where
@@ -78,7 +78,7 @@ never_waits m answers (Ask bytes go_on) n w (f ∷ sent) asks clear lawful waits
     let at : (g : List ℕ) → g ≡ f → played (Ask bytes go_on) n (tape_of m (f ∷ sent) w) ≡ played (Ask bytes go_on) n (tape_of m (g ∷ sent) w) = λ g same. ap (λ h. played (Ask bytes go_on) n (tape_of m (h ∷ sent) w)) (sym same) in
     never_waits m answers (go_on (reading_of (first_fate w.fates) (m.answer bytes w.programmer))) (next n) (passed m (frame n bytes) w) sent
     (asks.1 (reading_of (first_fate w.fates) (m.answer bytes w.programmer)))
-    (segment_late m n (next n) bytes w (next_other n) asks.0 (answers bytes w.programmer asks.0))
+    (segment_late m n bytes w asks.0 (answers bytes w.programmer asks.0) clear)
     (others_lawful w.fates lawful)
     (sym (ap (λ p. p.outcome) (at (frame n bytes) is ∙ first)) ∙ waits)
     (tail_is (frame n bytes) f _ sent (sym (ap (λ p. frames_in p.events) (at (frame n bytes) is ∙ first)) ∙ e))
@@ -97,7 +97,7 @@ never_idle d n p fates talk asks lawful turns before after items split same =
     let due : IsDue d n (heard before) (sent before) = due_at d n [] [] before after items (subst (TurnsFrom d n [] []) split turns) in
     let here : IsDue d n (brought p fates (sent before)) (sent before) = subst (λ t. IsDue d n t (sent before)) (sym same) due in
     let events = (played d n (brought p fates (sent before))).events in
-    never_waits device answers_bodies d n (fresh p fates) (frames (sent before)) asks (inl refl) lawful here.waits
+    never_waits device answers_bodies d n (fresh p fates) (frames (sent before)) asks (none_clear n) lawful here.waits
     (sym (frames_sent events (sends_whole d n (brought p fates (sent before)) asks)) ∙ ap frames here.all_sent)
 
 -- more of the tape, more frames behind those sent
@@ -186,7 +186,7 @@ module _ {E R : Type 0} (d : Dialog E R) (n : ℕ) (p : Programmer) (fates : Lis
   goes_along front =
       let f = frames_front (played d n (heard w.talk)).events (sent w.talk) front.0 (sends_whole d n (heard w.talk) asks) front.1 in
       let g = played_goes d n (heard w.talk) w.waits in
-      fused device answers_bodies d n (fresh p fates) (frames (sent w.talk)) (f.0 ++ g.0) asks (inl refl) lawful
+      fused device answers_bodies d n (fresh p fates) (frames (sent w.talk)) (f.0 ++ g.0) asks (none_clear n) lawful
       (ap (λ t. frames_in (played d n t).events) brings ∙ (g.1 ∙ (ap (λ fs. fs ++ g.0) f.1 ∙ append_assoc (frames (sent w.talk)) f.0 g.0)))
 
   -- where the talk broke off the programmer stands along the line

@@ -4,7 +4,15 @@ use Rattle.std.proofs.Math.ListN.{set}
 use Rattle.std.proofs.lemmas.List.{take_more, take_more_set, map_push, map-append, drop-map, drop-append-le, length-map}
 use Rattle.stk_host.specs.declared.link.Item.TheVariants.{Byte, Silence}
 use Rattle.stk_host.specs.Tape.{Tape, on_tape}
+use Rattle.stk_host.proofs.Tapes.{on_tape_append}
 use Rattle.stk_emu.specs.Waiting.{item_of, tape_in, IsQuiet}
+
+-- three pieces of bytes, put one behind another
+pub three_put : (t x y z : Tape) (a b c : List ℕ) → t ≡ [] → x ≡ t ++ on_tape a → y ≡ x ++ on_tape b → z ≡ y ++ on_tape c → z ≡ on_tape (a ++ (b ++ c))
+three_put t x y z a b c e f g h =
+    h
+    ∙ (ap (λ s. s ++ on_tape c) (g ∙ ap (λ s. s ++ on_tape b) (f ∙ ap (λ s. s ++ on_tape a) e))
+    ∙ (append_assoc (on_tape a) (on_tape b) (on_tape c) ∙ (ap (λ s. on_tape a ++ s) (sym (on_tape_append b c)) ∙ sym (on_tape_append a (b ++ c)))))
 
 -- one byte more is put behind
 pub put_on : (start segment new : List (Option ℕ)) (bytes : List ℕ) (i : ℕ) → i < length bytes → tape_in segment ≡ tape_in start ++ on_tape (take i bytes)

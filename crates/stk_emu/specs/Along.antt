@@ -3,7 +3,7 @@ use Rattle.std.specs.Prelude.{ℕ, zero, suc, List, [], ◌∷◌, ◌≡◌, So
 use Rattle.stk_host.specs.Tape.{Tape, Reading, Answered, Silent}
 use Rattle.stk_host.specs.Dialog.{Dialog, Done, Say, Ask, played}
 use Rattle.stk_emu.specs.declared.fate.Fate.{Fate}
-use Rattle.stk_emu.specs.declared.fate.Fate.TheVariants.{Good, LostCommand, LostAnswer, LateAnswer, CommandRefused, AnswerSpoiled}
+use Rattle.stk_emu.specs.declared.fate.Fate.TheVariants.{Good, LostCommand, LostAnswer, LateAnswer, HeldAnswer, Reset, CommandRefused, AnswerSpoiled}
 use Rattle.stk_emu.specs.Device.{Device, refusal}
 use Rattle.stk_emu.specs.Lawful.{IsBody}
 use Rattle.stk_emu.specs.Wire.{first_fate, other_fates, after_fate, Wire, tape_of, wire_after}
@@ -14,6 +14,8 @@ reading_of Good answered = Answered answered
 reading_of LostCommand answered = Silent
 reading_of LostAnswer answered = Silent
 reading_of LateAnswer answered = Silent
+reading_of HeldAnswer answered = Silent
+reading_of Reset answered = Silent
 reading_of CommandRefused answered = Answered refusal
 reading_of (AnswerSpoiled noise) answered = Silent
 
@@ -31,7 +33,7 @@ along m k (Say e dialog) p fates = along m k dialog p fates
 along m zero (Ask bytes go_on) p fates = record { dialog = Ask bytes go_on; programmer = p; fates = fates; left = 0 }
 along m (suc k) (Ask bytes go_on) p fates =
     along m k (go_on (reading_of (first_fate fates) (m.answer bytes p)))
-    (after_fate (first_fate fates) (m.after bytes p) p) (other_fates fates)
+    (after_fate (first_fate fates) (m.after bytes p) p (m.reset p)) (other_fates fates)
 
 -- what a dialog says beside the line in at most so many questions
 abbrev pub said_along : {E R P : Type 0} → Device P → ℕ → Dialog E R → P → List Fate → List E
@@ -40,7 +42,7 @@ said_along m k (Say e dialog) p fates = e ∷ said_along m k dialog p fates
 said_along m zero (Ask bytes go_on) p fates = []
 said_along m (suc k) (Ask bytes go_on) p fates =
     said_along m k (go_on (reading_of (first_fate fates) (m.answer bytes p)))
-    (after_fate (first_fate fates) (m.after bytes p) p) (other_fates fates)
+    (after_fate (first_fate fates) (m.after bytes p) p (m.reset p)) (other_fates fates)
 
 -- each question is a body that a frame can carry
 abbrev pub AsksBodies : {E R : Type 0} → Dialog E R → Type 0

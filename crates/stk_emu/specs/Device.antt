@@ -2,15 +2,16 @@
 use Rattle.std.specs.Prelude.{ℕ, List, [], ◌∷◌, ◌++◌, if◌then◌else◌}
 use Rattle.stk_frame.specs.Frame.{frame}
 use Rattle.stk_frame.specs.Cut.{is_good, seq_of, body_of}
-use Rattle.stk_emu.specs.Programmer.{Programmer, obey}
+use Rattle.stk_emu.specs.Programmer.{Programmer, obey, restarted}
 
--- the body of the answer to a body, and what is there afterwards
+-- the body of the answer to a body, what is there afterwards, and what is there when it begins anew
 pub record Device (P : Type 0) : Type 0 where
   pub answer : List ℕ → P → List ℕ
   pub after : List ℕ → P → P
+  pub reset : P → P
 
 abbrev pub device : Device Programmer
-device = record { answer = λ bytes p. (obey bytes p).0; after = λ bytes p. (obey bytes p).1 }
+device = record { answer = λ bytes p. (obey bytes p).0; after = λ bytes p. (obey bytes p).1; reset = restarted }
 
 -- the body that tells of a wrong XOR
 abbrev pub refusal : List ℕ

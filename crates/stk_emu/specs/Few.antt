@@ -1,19 +1,21 @@
 -- A line on which few frames go wrong.
 use Rattle.std.specs.Prelude.{ℕ, zero, suc, ◌+◌, ◌≤◌, List, [], ◌∷◌}
 use Rattle.stk_emu.specs.declared.fate.Fate.{Fate}
-use Rattle.stk_emu.specs.declared.fate.Fate.TheVariants.{Good, LostCommand, LostAnswer, LateAnswer, CommandRefused, AnswerSpoiled}
+use Rattle.stk_emu.specs.declared.fate.Fate.TheVariants.{Good, LostCommand, LostAnswer, LateAnswer, HeldAnswer, Reset, CommandRefused, AnswerSpoiled}
 use Rattle.stk_emu.specs.Wire.{first_fate, other_fates}
 
--- one, where a frame goes wrong
+-- One, where a frame goes wrong; four, where a programmer begins anew, since no attempt can succeed behind it.
 abbrev pub bad : Fate → ℕ
 bad Good = 0
 bad LostCommand = 1
 bad LostAnswer = 1
 bad LateAnswer = 1
+bad HeldAnswer = 1
+bad Reset = 4
 bad CommandRefused = 1
 bad (AnswerSpoiled noise) = 1
 
--- how many of the first so many frames go wrong
+-- how badly the first so many frames go wrong
 abbrev pub bad_in : ℕ → List Fate → ℕ
 bad_in zero fates = 0
 bad_in (suc n) fates = bad (first_fate fates) + bad_in n (other_fates fates)

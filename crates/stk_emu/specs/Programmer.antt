@@ -1,7 +1,7 @@
 -- The programmer, and what each command makes it do.
 use Rattle.std.specs.Prelude.{ℕ, Bool, true, false, zero, suc, List, [], ◌∷◌, ◌++◌, ◌+◌, ◌-◌, ◌/◌, ◌%◌, length, ◌==◌, ◌&&◌, ◌||◌, not, nat_le, nat_lt, if◌then◌else◌, slice_index, slice_set, bit_or, take, drop, replicate, Option, Some, None}
 use Rattle.std.specs.Int.{bit_at}
-use Rattle.avr_part.specs.State.{State, spi_of}
+use Rattle.avr_part.specs.State.{State, spi_of, with_empty_buffers}
 use Rattle.stk_frame.specs.declared.command.Command.{Command}
 use Rattle.stk_frame.specs.declared.command.Command.TheVariants.{SignOn, SetParameter, GetParameter, LoadAddress, EnterProgmode, LeaveProgmode, ChipErase, ProgramFlash, ReadFlash, ProgramEeprom, ReadEeprom, ProgramFuse, ReadFuse, ProgramLock, ReadLock, ReadSignature, ReadOsccal, SpiMulti}
 use Rattle.stk_frame.specs.declared.command.EnterProgmode.{EnterProgmode as EnterFields}
@@ -29,6 +29,10 @@ fresh_programmer chip = record {
   parameters = replicate 256 0;
   chip = chip;
 }
+
+-- A programmer that begins anew: the memories of its part stay, and all else is lost, the page buffers too.
+abbrev pub restarted : Programmer → Programmer
+restarted p = fresh_programmer (with_empty_buffers p.chip)
 
 -- the body of an answer, and the programmer behind the command
 abbrev pub Done : Type 0

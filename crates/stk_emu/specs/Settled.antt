@@ -16,9 +16,18 @@ pub record Idle (part : Part) (m : Memories) (p : Programmer) : Type 0 where
   pub flash_buffer : length p.chip.flash_buffer ≡ part.flash_page
   pub eeprom_buffer : length p.chip.eeprom_buffer ≡ part.eeprom_page
 
--- The programmer in programming mode: nothing is loaded, and no extended address is set that no step would set again.
--- Neither the address nor the parameters matter, since each attempt of a step loads its address.
+-- The programmer with nothing loaded, in programming mode or begun anew: no extended address is set that no step would
+-- set again. Neither the address nor the parameters matter, since each attempt of a step loads its address; outside the
+-- mode, which no step enters again, no attempt of a step succeeds.
 pub record Settled (part : Part) (m : Memories) (p : Programmer) : Type 0 where
+  pub memories : memories_of p.chip ≡ m
+  pub part_is : p.chip.part ≡ part
+  pub flash_buffer : p.chip.flash_buffer ≡ replicate part.flash_page 255
+  pub eeprom_buffer : p.chip.eeprom_buffer ≡ replicate part.eeprom_page None
+  pub extended : IsNarrow part → p.chip.extended ≡ 0
+
+-- and in programming mode
+pub record Ready (part : Part) (m : Memories) (p : Programmer) : Type 0 where
   pub memories : memories_of p.chip ≡ m
   pub part_is : p.chip.part ≡ part
   pub mode : p.mode ≡ true

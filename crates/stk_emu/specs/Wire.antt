@@ -1,12 +1,12 @@
 -- A line to a programmer that loses, delays and spoils.
-use Rattle.std.specs.Prelude.{ℕ, List, [], ◌∷◌, ◌++◌, ◌≡◌, All}
+use Rattle.std.specs.Prelude.{ℕ, Bool, true, false, List, [], ◌∷◌, ◌++◌, ◌≡◌, if◌then◌else◌, All}
 use Rattle.stk_frame.specs.Frame.{frame}
 use Rattle.stk_frame.specs.Cut.{frames, seq_of}
 use Rattle.stk_host.specs.declared.link.Item.TheVariants.{Silence}
 use Rattle.stk_host.specs.Tape.{Tape, on_tape}
 use Rattle.stk_emu.specs.declared.fate.Fate.{Fate}
-use Rattle.stk_emu.specs.declared.fate.Fate.TheVariants.{Good, LostCommand, LostAnswer, LateAnswer, CommandRefused, AnswerSpoiled}
-use Rattle.stk_emu.specs.Lawful.{IsLawful}
+use Rattle.stk_emu.specs.declared.fate.Fate.TheVariants.{Good, LostCommand, LostAnswer, LateAnswer, HeldAnswer, Reset, CommandRefused, AnswerSpoiled}
+use Rattle.stk_emu.specs.Lawful.{IsLawful, Late, none_late, behind_late, waiting}
 use Rattle.stk_emu.specs.Device.{Device, refusal, answer_frame, after_frame}
 
 abbrev pub IsLawfulFate : Fate → Type 0
@@ -15,6 +15,8 @@ IsLawfulFate Good = Unit {0}
 IsLawfulFate LostCommand = Unit {0}
 IsLawfulFate LostAnswer = Unit {0}
 IsLawfulFate LateAnswer = Unit {0}
+IsLawfulFate HeldAnswer = Unit {0}
+IsLawfulFate Reset = Unit {0}
 IsLawfulFate CommandRefused = Unit {0}
 
 abbrev pub AreLawful : List Fate → Type 0
@@ -29,14 +31,16 @@ abbrev pub other_fates : List Fate → List Fate
 other_fates [] = []
 other_fates (fate ∷ fates) = fates
 
--- the programmer after a frame of this fate: the one that obeyed it, or the one that never saw it
-abbrev pub after_fate : {P : Type 0} → Fate → P → P → P
-after_fate Good obeyed kept = obeyed
-after_fate LostCommand obeyed kept = kept
-after_fate LostAnswer obeyed kept = obeyed
-after_fate LateAnswer obeyed kept = obeyed
-after_fate CommandRefused obeyed kept = kept
-after_fate (AnswerSpoiled noise) obeyed kept = obeyed
+-- the programmer after a frame of this fate: the one that obeyed it, the one that never saw it, or one begun anew
+abbrev pub after_fate : {P : Type 0} → Fate → P → P → P → P
+after_fate Good obeyed kept anew = obeyed
+after_fate LostCommand obeyed kept anew = kept
+after_fate LostAnswer obeyed kept anew = obeyed
+after_fate LateAnswer obeyed kept anew = obeyed
+after_fate HeldAnswer obeyed kept anew = obeyed
+after_fate Reset obeyed kept anew = anew
+after_fate CommandRefused obeyed kept anew = kept
+after_fate (AnswerSpoiled noise) obeyed kept anew = obeyed
 
 -- what comes back, by the frames of its answer and of the refusal
 abbrev pub back : Fate → List ℕ → List ℕ → Tape
@@ -44,35 +48,55 @@ back Good answered refused = on_tape answered
 back LostCommand answered refused = Silence ∷ []
 back LostAnswer answered refused = Silence ∷ []
 back LateAnswer answered refused = Silence ∷ []
+back HeldAnswer answered refused = Silence ∷ []
+back Reset answered refused = Silence ∷ []
 back CommandRefused answered refused = on_tape refused
 back (AnswerSpoiled noise) answered refused = on_tape noise.items ++ Silence ∷ []
 
--- and what comes later
-abbrev pub late_of : Fate → List ℕ → List ℕ
-late_of Good answered = []
-late_of LostCommand answered = []
-late_of LostAnswer answered = []
-late_of LateAnswer answered = answered
-late_of CommandRefused answered = []
-late_of (AnswerSpoiled noise) answered = []
+-- those that wait go on waiting
+abbrev pub is_held : Fate → Bool
+is_held Good = false
+is_held LostCommand = false
+is_held LostAnswer = false
+is_held LateAnswer = false
+is_held HeldAnswer = true
+is_held Reset = false
+is_held CommandRefused = false
+is_held (AnswerSpoiled noise) = false
 
--- the programmer, the fates to come, and the bytes of a late answer that waits, or none
+-- what comes in front, of those that wait
+abbrev pub let_go : Fate → Late → List ℕ
+let_go fate late = if is_held fate then [] else waiting late
+
+-- and what comes later
+abbrev pub late_of : Fate → List ℕ → Late → Late
+late_of Good answered late = none_late
+late_of LostCommand answered late = none_late
+late_of LostAnswer answered late = none_late
+late_of LateAnswer answered late = behind_late none_late answered
+late_of HeldAnswer answered late = behind_late late answered
+late_of Reset answered late = none_late
+late_of CommandRefused answered late = none_late
+late_of (AnswerSpoiled noise) answered late = none_late
+
+-- the programmer, the fates to come, and the late answers that wait
 pub record Wire (P : Type 0) : Type 0 where
   pub programmer : P
   pub fates : List Fate
-  pub late : List ℕ
+  pub late : Late
 
 -- what a whole frame brings
 abbrev pub segment : {P : Type 0} → Device P → List ℕ → Wire P → Tape
 segment m piece w =
-    on_tape w.late ++ back (first_fate w.fates) (answer_frame m piece w.programmer) (frame (seq_of piece) refusal)
+    on_tape (let_go (first_fate w.fates) w.late)
+    ++ back (first_fate w.fates) (answer_frame m piece w.programmer) (frame (seq_of piece) refusal)
 
 -- and what it leaves
 abbrev pub passed : {P : Type 0} → Device P → List ℕ → Wire P → Wire P
 passed m piece w = record {
-  programmer = after_fate (first_fate w.fates) (after_frame m piece w.programmer) w.programmer;
+  programmer = after_fate (first_fate w.fates) (after_frame m piece w.programmer) w.programmer (m.reset w.programmer);
   fates = other_fates w.fates;
-  late = late_of (first_fate w.fates) (answer_frame m piece w.programmer);
+  late = late_of (first_fate w.fates) (answer_frame m piece w.programmer) w.late;
 }
 
 -- the segments of whole frames, joined, and the wire behind them
@@ -86,7 +110,7 @@ wire_after m (piece ∷ pieces) w = wire_after m pieces (passed m piece w)
 
 -- a wire that nothing passed yet
 abbrev pub fresh : {P : Type 0} → P → List Fate → Wire P
-fresh p fates = record { programmer = p; fates = fates; late = [] }
+fresh p fates = record { programmer = p; fates = fates; late = none_late }
 
 -- These bytes were sent over a wire, this is the whole tape that they bring, and this programmer stands at its end.
 pub record Talks {P : Type 0} (m : Device P) (fates : List Fate) (p : P) (sent : List ℕ) (tape : Tape)

@@ -26,7 +26,7 @@ ghost use Rattle.stk_emu.specs.Lawful.{IsBody, IsClear};
 ghost use Rattle.stk_emu.specs.Wire.{Wire, AreLawful, IsLawfulFate, first_fate, segment, tape_of};
 ghost use Rattle.stk_emu.specs.Along.{along, said_along, reading_of, AsksBodies, Fused};
 ghost use Rattle.stk_emu.specs.Effect.{Memories, Image, Item, effect, effects, memories_of, memory_in, laid, and_in};
-ghost use Rattle.stk_emu.specs.Settled.{Idle, Settled, FitsPart};
+ghost use Rattle.stk_emu.specs.Settled.{Idle, Settled, Ready, FitsPart};
 ghost use Rattle.stk_emu.specs.Fits.{Fits};
 ghost use Rattle.stk_emu.specs.Strokes.{IsStep, AreSteps, struck, struck_by, strokes_of, all_steps, AllFitItems};
 ghost use Rattle.stk_emu.specs.Given.{given_by, all_given, Holds};
@@ -146,14 +146,14 @@ pub fn steps_are_counted_as_strokes()
 /// four lost commands in a row are too many, and of any six frames three are, where each second one is lost.
 pub fn few_bad_fates_bring_all_data()
     ensures step { (part : Part) (commands : List Command) (m : Memories) (k : ℕ) (p : Programmer) (fates : List Fate)
-        → IsPart part → IsStep part commands → FitsPart part m → Settled part m p → AreFew fates → 8 ≤ k
+        → IsPart part → IsStep part commands → FitsPart part m → Ready part m p → AreFew fates → 8 ≤ k
         → (along device k (step commands) p fates).dialog ≡ Done (Ok (given_by part commands m)) }
     ensures rest { (k : ℕ) (commands : List Command) (p : Programmer) (fates : List Fate)
         → AreFew fates → AreFew (along device k (step commands) p fates).fates }
     ensures play { (part : Part) (steps : List (List Command)) (m : Memories) (k : ℕ) (before : List ℕ) (p : Programmer)
         (fates : List Fate)
         (o : Outcome)
-        → IsPart part → AreSteps part steps → FitsPart part m → Settled part m p → AreFew fates
+        → IsPart part → AreSteps part steps → FitsPart part m → Ready part m p → AreFew fates
         → (along device k (play steps before) p fates).dialog ≡ Done o → o ≡ Ok (before ++ all_given part steps m) }
     ensures good { (fates : List Fate) → AreGood fates → AreFew fates }
     ensures four { (command : Command) (commands : List Command) (p : Programmer)

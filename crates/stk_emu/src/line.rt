@@ -1,18 +1,20 @@
 //! The wire, frame by frame.
 #![tactic(auto)]
 
-ghost use Rattle.std.specs.Prelude.{◌≡◌, ◌++◌, []};
+ghost use Rattle.std.specs.Prelude.{◌≡◌, ◌≤◌, ◌++◌, [], length, if◌then◌else◌};
 ghost use Rattle.stk_frame.specs.Frame.{frame};
 ghost use Rattle.stk_frame.specs.Cut.{is_good, seq_of};
 ghost use Rattle.stk_frame.specs.Reader.{HoldsFrame, Tells, found};
 ghost use Rattle.stk_host.specs.Tape.{on_tape};
-ghost use Rattle.stk_emu.specs.Programmer.{fresh_programmer};
+ghost use Rattle.stk_emu.specs.Programmer.{fresh_programmer, restarted};
 ghost use Rattle.stk_emu.specs.Device.{device, refusal, answer_frame, after_frame};
+ghost use Rattle.stk_emu.specs.Lawful.{none_late};
 ghost use Rattle.stk_emu.specs.Waiting.{tape_in};
-ghost use Rattle.stk_emu.specs.Wire.{AreLawful, IsLawfulFate, fresh, segment, passed, tape_of, wire_after, late_of, after_fate, back};
+ghost use Rattle.stk_emu.specs.Wire.{AreLawful, IsLawfulFate, fresh, segment, passed, tape_of, wire_after, is_held, let_go, late_of, after_fate, back};
 
 use crate::emulator::{Frame, answer, refuse};
 use crate::fate::Fate;
+use crate::late::Late;
 use crate::programmer::Programmer;
 use crate::segment::{Segment, put_bytes, put_silence};
 use avr_part::Chip;
@@ -25,7 +27,7 @@ pub(crate) struct Line {
     programmer: Programmer,
     fates: Vec<Fate>,
     next: usize,
-    late: Frame,
+    late: Late,
 }
 
 impl Model for Line {
@@ -38,17 +40,46 @@ impl Model for Line {
     ghost view = { λ line. record {
       programmer = line.programmer;
       fates = drop line.next line.fates.items;
-      late = line.late.items;
+      late = line.late;
     } };
 
     ghost invariant = { λ line. AreLawful line.fates.items };
 }
 
-/// Passes the frame that the reader holds, with this fate: `out` becomes what it brings, behind a late answer.
+/// Whether the answers that wait go on waiting.
+fn is_held(fate: &Fate) -> bool
+    ensures { result ≡ is_held fate.now }
+{
+    match fate {
+        Fate::HeldAnswer => true,
+        Fate::Good
+        | Fate::LostCommand
+        | Fate::LostAnswer
+        | Fate::LateAnswer
+        | Fate::Reset
+        | Fate::CommandRefused
+        | Fate::AnswerSpoiled(_) => false,
+    }
+}
+
+/// Brings the answers that wait, unless they go on waiting: `out`, which is empty, becomes these.
+fn bring_late(fate: &Fate, late: &mut Late, out: &mut Segment)
+    requires { out.old.items ≡ [] }
+    ensures items { tape_in out.new.items ≡ on_tape (let_go fate.now late.old) }
+    ensures len { length out.new.items ≤ 843 }
+    ensures late { late.new ≡ (if is_held fate.now then late.old else none_late) }
+{
+    if !is_held(fate) {
+        late.put(out);
+        late.clear();
+    }
+}
+
+/// Passes the frame that the reader holds, with this fate: `out` becomes what it brings, behind the answers that wait.
 fn pass_with(
     fate: &Fate,
     programmer: &mut Programmer,
-    late: &mut Frame,
+    late: &mut Late,
     reader: &FrameReader,
     good: bool,
     out: &mut Segment,
@@ -57,15 +88,14 @@ fn pass_with(
     requires lawful { IsLawfulFate fate.now }
     requires holds { HoldsFrame reader.now }
     requires tells { is_good reader.now ≡ good }
-    ensures items { tape_in out.new.items ≡ on_tape late.old.items
+    ensures items { tape_in out.new.items ≡ on_tape (let_go fate.now late.old)
         ++ back fate.now (answer_frame device reader.now programmer.old) (frame (seq_of reader.now) refusal) }
     ensures programmer { programmer.new ≡ after_fate fate.now (after_frame device reader.now programmer.old)
-        programmer.old }
-    ensures late { late.new.items ≡ late_of fate.now (answer_frame device reader.now programmer.old) }
+        programmer.old (restarted programmer.old) }
+    ensures late { late.new ≡ late_of fate.now (answer_frame device reader.now programmer.old) late.old }
 {
     let mut frame = Frame::new();
-    put_bytes(out, late.as_slice());
-    late.clear();
+    bring_late(fate, late, out);
     match fate {
         Fate::Good => {
             answer(reader, good, programmer, &mut frame);
@@ -76,8 +106,13 @@ fn pass_with(
             answer(reader, good, programmer, &mut frame);
             put_silence(out);
         }
-        Fate::LateAnswer => {
-            answer(reader, good, programmer, late);
+        Fate::LateAnswer | Fate::HeldAnswer => {
+            answer(reader, good, programmer, &mut frame);
+            late.hold(frame);
+            put_silence(out);
+        }
+        Fate::Reset => {
+            programmer.restart();
             put_silence(out);
         }
         Fate::CommandRefused => {
@@ -103,7 +138,7 @@ impl Line {
             programmer: Programmer::new(chip),
             fates,
             next: 0,
-            late: Frame::new(),
+            late: Late::new(),
         }
     }
 

@@ -3,7 +3,7 @@
 
 ghost use Rattle.std.specs.Prelude.{◌≡◌, ◌<◌, ◌≤◌, ◌∷◌, [], ◌+◌, ◌%◌, ℕ, length, slice_index, if◌then◌else◌, false, true};
 ghost use Rattle.avr_part.specs.State.{spi_of};
-ghost use Rattle.stk_emu.specs.Programmer.{fresh_programmer, sign_on, set_parameter, get_parameter, load_address, entered, enter_progmode, leave_progmode, chip_erase, program_byte, read_byte, program_flash, flash_fits, program_eeprom, eeprom_fits, is_paged, is_written, writes_page, is_polled, read_flash, read_eeprom, spi_multi, obey_command, is_known, not_read, obey, bit_31};
+ghost use Rattle.stk_emu.specs.Programmer.{fresh_programmer, restarted, sign_on, set_parameter, get_parameter, load_address, entered, enter_progmode, leave_progmode, chip_erase, program_byte, read_byte, program_flash, flash_fits, program_eeprom, eeprom_fits, is_paged, is_written, writes_page, is_polled, read_flash, read_eeprom, spi_multi, obey_command, is_known, not_read, obey, bit_31};
 
 use crate::spi::BIT_31;
 use crate::{eeprom, flash};
@@ -21,6 +21,9 @@ const UNKNOWN: u8 = 0xC9;
 
 /// The body of an answer.
 pub(crate) type Body = ArrayVec<u8, 275>;
+
+/// The instruction that empties the part's page buffers.
+const PROGRAMMING_ENABLE: [u8; 4] = [0xAC, 0x53, 0x00, 0x00];
 
 /// A programmer with its part.
 #[derive(Drop)]
@@ -158,6 +161,17 @@ impl Programmer {
         ensures { result.now ≡ self.now.chip }
     {
         &self.chip
+    }
+
+    /// Begins anew: the memories of its part stay, and all else is lost, the page buffers too.
+    pub fn restart(&mut self)
+        ensures { self.new ≡ restarted self.old }
+    {
+        self.mode = false;
+        self.address = 0;
+        self.wide = false;
+        self.parameters = [0; 256];
+        self.chip.spi(PROGRAMMING_ENABLE);
     }
 
     fn set_parameter(&mut self, number: u8, value: u8, out: &mut Body)

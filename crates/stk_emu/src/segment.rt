@@ -8,15 +8,15 @@ ghost use Rattle.stk_emu.specs.Waiting.{tape_in, IsQuiet};
 
 use arrayvec::ArrayVec;
 
-/// Room for all that one frame can bring: a late answer of 281 bytes, noise of 2,048, and a silence.
-pub(crate) const ROOM: usize = 2330;
+/// Room for all that one frame can bring: three late answers of 281 bytes, noise of 2,048, and a silence.
+pub(crate) const ROOM: usize = 2892;
 
 /// What one frame brings.
-pub(crate) type Segment = ArrayVec<Option<u8>, 2330>;
+pub(crate) type Segment = ArrayVec<Option<u8>, 2892>;
 
 /// Puts bytes behind the items.
 pub(crate) fn put_bytes(segment: &mut Segment, bytes: &[u8])
-    requires { length segment.old.items + length bytes.now ≤ 2330 }
+    requires { length segment.old.items + length bytes.now ≤ 2892 }
     ensures items { tape_in segment.new.items ≡ tape_in segment.old.items ++ on_tape bytes.now }
     ensures len { length segment.new.items ≡ length segment.old.items + length bytes.now }
 {
@@ -27,7 +27,7 @@ pub(crate) fn put_bytes(segment: &mut Segment, bytes: &[u8])
 
 /// Puts a silence behind the items.
 pub(crate) fn put_silence(segment: &mut Segment)
-    requires { length segment.old.items + 1 ≤ 2330 }
+    requires { length segment.old.items + 1 ≤ 2892 }
     ensures { tape_in segment.new.items ≡ tape_in segment.old.items ++ item.Silence ∷ [] }
 {
     segment.push(None);

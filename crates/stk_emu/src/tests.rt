@@ -265,6 +265,19 @@ fn nothing_is_obeyed_where_all_is_lost(rt: HostRuntime) -> Result<(), Fail> {
     Ok(())
 }
 
+#[test]
+fn a_programmer_that_begins_anew_is_outside_the_mode(rt: HostRuntime) -> Result<(), Fail> {
+    let fates = fates(rt.alloc(), 2, 0, Fate::Reset)?;
+    let mut link = Wired::new(rt.alloc(), m328p(rt.alloc())?, fates);
+    let mut host = Host::new(&Parts::none().find("m328p")?);
+    assert_eq!(rt;
+        host.open(&mut link, false),
+        Err(HostFault::Refused(0x1B, 0xC0))
+    );
+    assert_eq!(rt; host.close(&mut link), Ok(()));
+    Ok(())
+}
+
 /// Whether a session opens and closes in which the frame of this place has a fate of this kind.
 fn gets_through(alloc: Global, place: usize, kind: usize) -> Result<bool, Fail> {
     let fate = match kind {
@@ -273,6 +286,7 @@ fn gets_through(alloc: Global, place: usize, kind: usize) -> Result<bool, Fail> 
         2 => Fate::LostAnswer,
         3 => Fate::LateAnswer,
         4 => Fate::CommandRefused,
+        5 => Fate::HeldAnswer,
         _ => {
             let noise = [0x1B, 0x06, 0x00, 0x03, 0x0E, 0x17, 0x00, 0x00, 0x00];
             if !noise_is_lawful(&noise) {
@@ -291,7 +305,7 @@ fn gets_through(alloc: Global, place: usize, kind: usize) -> Result<bool, Fail> 
 #[test]
 fn a_session_gets_through_every_fate(rt: HostRuntime) -> Result<(), Fail> {
     for place in 0..6usize {
-        for kind in 0..6usize {
+        for kind in 0..7usize {
             assert!(rt;
                 gets_through(rt.alloc(), place, kind)?,
                 "frame {place}, fate {kind}"
@@ -313,5 +327,22 @@ fn a_late_answer_comes_before_the_next(rt: HostRuntime) -> Result<(), Fail> {
     assert_eq!(rt; link.recv(&mut buffer), Ok(Heard::Bytes(25)));
     assert!(rt; buffer.starts_with(&ANSWERS[..25]));
     assert_eq!(rt; link.recv(&mut buffer), Ok(Heard::Silence));
+    Ok(())
+}
+
+#[test]
+fn held_answers_come_together(rt: HostRuntime) -> Result<(), Fail> {
+    let alloc = rt.alloc();
+    let mut fates = fates(alloc, 0, 0, Fate::HeldAnswer)?;
+    add(&mut fates, Fate::HeldAnswer)?;
+    let mut link = Wired::new(alloc, m328p(alloc)?, fates);
+    let mut buffer = [0; 64];
+    assert_eq!(rt; link.send(&FRAMES), Ok(7));
+    assert_eq!(rt; link.recv(&mut buffer), Ok(Heard::Silence));
+    assert_eq!(rt; link.send(&FRAMES[7..25]), Ok(18));
+    assert_eq!(rt; link.recv(&mut buffer), Ok(Heard::Silence));
+    assert_eq!(rt; link.send(&FRAMES[25..37]), Ok(12));
+    assert_eq!(rt; link.recv(&mut buffer), Ok(Heard::Bytes(35)));
+    assert!(rt; buffer.starts_with(&ANSWERS[..35]));
     Ok(())
 }

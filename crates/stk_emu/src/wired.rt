@@ -50,7 +50,7 @@ impl Model for Wired {
 fn make_room(waits: &mut Vec<Option<u8>>, log: &mut Log, count: usize) -> Result<(), AllocError>
     ensures waits { waits.new.items ≡ waits.old.items }
     ensures talk { log.new.talk ≡ log.old.talk }
-    ensures wait_room { OnOk result (vec_len waits.new + 2330 ≤ vec_capacity waits.new) }
+    ensures wait_room { OnOk result (vec_len waits.new + 2892 ≤ vec_capacity waits.new) }
     ensures piece_room { OnOk result (0 < log.new.piece_room) }
     ensures byte_room { OnOk result (count ≤ log.new.byte_room) }
 {
@@ -61,7 +61,7 @@ fn make_room(waits: &mut Vec<Option<u8>>, log: &mut Log, count: usize) -> Result
 
 /// Keeps what a frame brought and what was sent, for which there is room.
 fn keep(waits: &mut Vec<Option<u8>>, log: &mut Log, brought: &Segment, sent: &[u8])
-    requires wait_room { vec_len waits.old + 2330 ≤ vec_capacity waits.old }
+    requires wait_room { vec_len waits.old + 2892 ≤ vec_capacity waits.old }
     requires piece_room { 0 < log.old.piece_room }
     requires byte_room { length sent.now ≤ log.old.byte_room }
     ensures waits { waits.new.items ≡ waits.old.items ++ brought.now.items }
