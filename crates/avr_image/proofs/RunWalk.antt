@@ -1,6 +1,7 @@
 -- The runs of an image, and a walk over them.
 use Rattle.std.proofs.Common.{◌≡◌, ◌∙◌, sym, ap, ap₂, refl, arith, ℕ, zero, suc, ◌+◌, ◌-◌, ◌<◌, ◌≤◌, ◌==◌, Bool, true, false, cond, not, List, [], ◌∷◌, ◌++◌, length, take, drop, fold, min, Option, Some, None, is_some, inl, inr, add-zero, get_or, All, ◌⊎◌}
 use Rattle.std.specs.List.{position_from, prefix_len, flat_map, enumerate_from, slice_range}
+use Rattle.std.proofs.lemmas.List.Recursion.{is_count_by}
 use Rattle.std.proofs.lemmas.Bool.{cases_eq, cases_lt, true≢false}
 use Rattle.std.proofs.lemmas.Bool.Decides.{nat_tests}
 use Rattle.std.proofs.lemmas.List.{append_assoc, drop-drop, get_or-drop, length-drop, length-append, set_at, take_all}
@@ -388,3 +389,37 @@ longest-from (suc n) addr image room gap (Some place) found =
 
 pub runs-longest : (image : List (Option ℕ)) → All (IsLongestRun image) (runs 0 image)
 runs-longest image = longest-from (length image) 0 image (omega arith) (inl refl) (first_from image 0) refl
+
+-- ---- how many bytes there are
+
+-- address by address
+abbrev held_in : List (Option ℕ) → ℕ
+held_in [] = 0
+held_in (None ∷ image) = held_in image
+held_in (Some b ∷ image) = suc (held_in image)
+
+first_counted : (byte : Option ℕ) (image : List (Option ℕ)) → held_in (byte ∷ image) ≡ cond (is_some byte) (1 + held_in image) (held_in image)
+first_counted None image = refl
+first_counted (Some b) image = omega arith
+
+held_is_counted : (image : List (Option ℕ)) → held_in image ≡ held image
+held_is_counted = is_count_by held_in is_some refl first_counted
+
+abbrev pub held_by : List (ℕ × List ℕ) → ℕ
+held_by [] = 0
+held_by (run ∷ more) = length run.1 + held_by more
+
+held_by-onto : (addr b : ℕ) (cut : List (ℕ × List ℕ)) → held_by (onto_runs addr b cut) ≡ suc (held_by cut)
+held_by-onto addr b [] = refl
+held_by-onto addr b ((next, bytes) ∷ more) = elim (cases_eq next (addr + 1)) [
+  | inl same ↦ let test : (next == addr + 1) ≡ true = grind (arith, nat_tests) in rw test (omega arith)
+  | inr other ↦ let test : (next == addr + 1) ≡ false = grind (arith, nat_tests) in rw test (omega arith)
+]
+
+held_by-each : (addr : ℕ) (image : List (Option ℕ)) → held_by (runs addr image) ≡ held_in image
+held_by-each addr [] = refl
+held_by-each addr (None ∷ image) = held_by-each (addr + 1) image
+held_by-each addr (Some b ∷ image) = held_by-onto addr b (runs (addr + 1) image) ∙ ap suc (held_by-each (addr + 1) image)
+
+pub held_by-runs : (addr : ℕ) (image : List (Option ℕ)) → held_by (runs addr image) ≡ held image
+held_by-runs addr image = held_by-each addr image ∙ held_is_counted image

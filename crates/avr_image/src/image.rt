@@ -107,7 +107,7 @@ impl Image {
         self.bytes.len() as u32
     }
 
-    /// How many addresses hold a byte. Each is looked at.
+    /// How many addresses hold a byte. The runs are looked at, and not their bytes.
     ///
     /// ```text
     /// let mut image = Image::new(alloc, 64)?;
@@ -117,13 +117,11 @@ impl Image {
     pub fn len(&self) -> u32
         ensures { result ≡ held self.now }
     {
-        let mut count = 0;
-        for addr in 0..self.size() {
-            if self.get(addr).is_some() {
-                count += 1;
-            }
+        let mut gaps = self.size();
+        for (_, bytes) in self.runs() {
+            gaps -= bytes.len() as u32;
         }
-        count
+        self.size() - gaps
     }
 
     /// Whether no address holds a byte.

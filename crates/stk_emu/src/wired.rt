@@ -30,6 +30,8 @@ pub struct Wired {
     line: Line,
     waits: Vec<Option<u8>>,
     at: usize,
+    /// What the frame that is passed brings; kept, so that its room is made once.
+    brought: Segment,
     log: Log,
     failures: u64,
 }
@@ -100,6 +102,7 @@ impl Wired {
             line: Line::new(chip, fates),
             waits: Vec::new(alloc),
             at: 0,
+            brought: Segment::new(),
             log: Log::new(alloc),
             failures: 0,
         }
@@ -140,9 +143,14 @@ impl Wired {
     {
         make_room(&mut self.waits, &mut self.log, bytes.len())?;
         let (used, event) = self.reader.feed(bytes);
-        let mut brought = Segment::new();
-        self.line.pass_event(&self.reader, event, &mut brought);
-        keep(&mut self.waits, &mut self.log, &brought, &bytes[..used]);
+        self.brought.clear();
+        self.line.pass_event(&self.reader, event, &mut self.brought);
+        keep(
+            &mut self.waits,
+            &mut self.log,
+            &self.brought,
+            &bytes[..used],
+        );
         Ok(used)
     }
 
