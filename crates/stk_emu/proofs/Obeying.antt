@@ -20,7 +20,7 @@ use Rattle.stk_emu.specs.Strokes.{struck}
 use Rattle.stk_emu.specs.Settled.{Idle, Settled, Ready}
 
 -- a body is obeyed as its command
-pub obeys : (c : Command) (p : Programmer) → decoding.Fits c → obey (body c) p ≡ obey_command c p
+pub obeys : (c : Command) (p : Programmer) → decoding.FieldsFit c → obey (body c) p ≡ obey_command c p
 obeys c p fits = ap (λ o. read_as o (body c) p) (read_back c fits)
 
 module _ {P : Type 0} (m : Device P) where
