@@ -57,8 +57,9 @@ LINES = {
 # what is refused
 FAULTS = [*((kind, "fail") for kind in LINES), ("growth", "onwards")]
 
-# the crates whose tests hold devices in memory: a desk, a tape of answers, and the wire to the emulated programmer
-DEVICES = ["avr_desk", "stk_host", "stk_emu"]
+# the tests that hold devices in memory, by crate and the front of their names: a desk; a tape of answers, and the wire to
+# the emulated programmer
+DEVICES = {"library_tests": "desks::", "host_tests": ""}
 
 # what has to change nothing
 HARMLESS = [("read", "interrupt"), ("read", "one"), ("write", "interrupt"), ("write", "one")]
@@ -179,10 +180,10 @@ class OverNet(Sweep):
 class Tests:
     """The tests of a crate, in the program that rt ci leaves: devices in memory, whose every growth is refused in turn."""
 
-    def __init__(self, room, shim, crate):
+    def __init__(self, room, shim, crate, front):
         self.program, self.room, self.shim = TOP / f"crates/{crate}/out/{crate}_tests", room, shim
         listed = subprocess.run([self.program, "--list"], capture_output=True, text=True, check=True).stdout
-        self.names = [name for name, _, kind in (line.partition(": ") for line in listed.splitlines()) if kind == "test"]
+        self.names = [name for name, _, kind in (line.partition(": ") for line in listed.splitlines()) if kind == "test" and name.startswith(front)]
 
     def through(self, how):
         """How often memory was refused: a test that lacks it may fail, and says so, but none crashes or goes on for ever."""
@@ -193,7 +194,7 @@ class Tests:
                 if not was_refused:
                     assert ended.returncode == 0, (name, ended)
                     break
-                told = b"the test failed" in ended.stderr or b"assertion failed" in ended.stderr
+                told = b"the test failed" in ended.stderr or b"test stopped at" in ended.stdout
                 assert ended.returncode == 0 or told, (name, how, number, ended)
                 refusals += 1
         return refusals
@@ -234,9 +235,9 @@ def main():
     served = Serving(room, shim, "a session served at a port", ["-p", "m328p", "--chip", "chip.bin"], b"")
     assert served.sound[1] == ANSWERS, served.sound
     total += swept(served, [*FAULTS, *HARMLESS])
-    for crate in DEVICES:
+    for crate, front in DEVICES.items():
         for how in ["fail", "onwards"]:
-            print(f"{Tests(room, shim, crate).through(how):6} refused: growth, {how}: the tests of {crate}", flush=True)
+            print(f"{Tests(room, shim, crate, front).through(how):6} refused: growth, {how}: the tests of {crate}", flush=True)
     seconds = time.monotonic() - begun
     print(f"{total['told']} refusals told, {total['unneeded']} of no effect, 0 failed, in {seconds:.0f} s")
 
