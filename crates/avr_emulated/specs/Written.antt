@@ -73,11 +73,17 @@ abbrev pub and_all : ℕ → List ℕ → ℕ
 and_all first [] = first
 and_all first (byte ∷ bytes) = and_all (bit_and first byte) bytes
 
--- A byte of flash before some items and after them: it is the one before, or FF, AND the bytes that none, one or more
--- of the images have there that are written to flash.
+-- an erase is among them
+abbrev pub HasErase : List Item → Type 0
+HasErase [] = ⊥
+HasErase (effect.Erase ∷ items) = ⊤
+HasErase (effect.Write mem image ∷ items) = HasErase items
+
+-- A byte of flash before some items and after them: it is the one before, or the FF of an erase, AND the bytes that
+-- none, one or more of the images have there that are written to flash.
 pub record IsMade (items : List Item) (addr before after : ℕ) : Type 0 where
   pub first : ℕ
   pub bytes : List ℕ
-  pub first_is : (first ≡ before) ⊎ (first ≡ 255)
+  pub first_is : (first ≡ before) ⊎ ((first ≡ 255) × HasErase items)
   pub are_there : AreThere items addr bytes
   pub is : after ≡ and_all first bytes
