@@ -1,6 +1,4 @@
 //! The comparison of a memory with an image.
-#![tactic(auto)]
-
 ghost use Rattle.std.specs.Prelude.{◌≡◌, ◌+◌, ◌≤◌, ◌^◌, length, map, Some};
 ghost use Rattle.stk_host.specs.Operations.{compared, differs, difference_from};
 
