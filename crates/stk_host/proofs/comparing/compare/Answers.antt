@@ -2,7 +2,7 @@ use Rattle.std.proofs.Common.{◌≡◌, ◌∙◌, ap, sym, refl, arith, length
 use Rattle.std.proofs.lemmas.Result.{err_from_is_err_and}
 use Rattle.std.proofs.lemmas.List.{length-take-le}
 use Rattle.avr_image.specs.Runs.{runs}
-use Rattle.avr_image.proofs.RunWalk.{EndBy, runs-end}
+use Rattle.avr_image.proofs.RunWalk.{runs-end}
 use Rattle.stk_host.specs.Operations.{differs, difference_from}
 use Rattle.stk_host.proofs.Differences.{held_as, among, none_differs, passes_run, ends_behind, rest_is, error_differs, whole_is}
 use Rattle.stk_host.proofs.comparing.compare.Goals as goal
