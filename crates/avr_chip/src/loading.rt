@@ -26,10 +26,10 @@ fn file_size(part: &Part) -> u32
 
 /// A chip of this part as it comes new.
 fn fresh_chip<D: Desk>(alloc: Global, part: &Part, desk: &mut D) -> Result<Chip, u8>
-    ensures goes { Goes (settled (Ok (fresh_state part.now))) (D.kept desk.old) (D.kept desk.new) (D.failures desk.old)
-        (D.failures desk.new) result }
+    ensures goes { Goes (settled (Ok (fresh_state part.now))) (D.view desk.old).kept (D.view desk.new).kept (D.view desk.old).failures
+        (D.view desk.new).failures result }
     ensures part { IfOk result (λ c. c.part ≡ part.now) }
-    ensures rises { D.failures desk.old ≤ D.failures desk.new }
+    ensures rises { (D.view desk.old).failures ≤ (D.view desk.new).failures }
 {
     match Chip::fresh(alloc, part.copied()) {
         Ok(chip) => Ok(chip),
@@ -46,10 +46,10 @@ fn chip_of<D: Desk>(
     desk: &mut D,
 ) -> Result<Chip, u8>
     requires { length bytes.now ≤ 4194304 }
-    ensures goes { Goes (settled (chip_or_line part.now file.now bytes.now)) (D.kept desk.old) (D.kept desk.new)
-        (D.failures desk.old) (D.failures desk.new) result }
+    ensures goes { Goes (settled (chip_or_line part.now file.now bytes.now)) (D.view desk.old).kept (D.view desk.new).kept
+        (D.view desk.old).failures (D.view desk.new).failures result }
     ensures part { IfOk result (λ c. c.part ≡ part.now) }
-    ensures rises { D.failures desk.old ≤ D.failures desk.new }
+    ensures rises { (D.view desk.old).failures ≤ (D.view desk.new).failures }
 {
     match Chip::from_bytes(alloc, part.copied(), bytes) {
         Ok(chip) => Ok(chip),
@@ -70,12 +70,12 @@ fn unread_chip<D: Desk>(
     fault: FileFault,
     desk: &mut D,
 ) -> Result<Chip, u8>
-    ensures goes { (old : Option Record) (before : ℕ) → FileBreaks file.now old (D.kept desk.old) fault
-        → before ≤ D.failures desk.old
-        → IsCounted before (D.failures desk.old) fault
-        → Goes (chip_stage part.now file.now) old (D.kept desk.new) before (D.failures desk.new) result }
+    ensures goes { (old : Option Record) (before : ℕ) → FileBreaks file.now old (D.view desk.old).kept fault
+        → before ≤ (D.view desk.old).failures
+        → IsCounted before (D.view desk.old).failures fault
+        → Goes (chip_stage part.now file.now) old (D.view desk.new).kept before (D.view desk.new).failures result }
     ensures part { IfOk result (λ c. c.part ≡ part.now) }
-    ensures rises { D.failures desk.old ≤ D.failures desk.new }
+    ensures rises { (D.view desk.old).failures ≤ (D.view desk.new).failures }
 {
     match fault {
         FileFault::Absent => fresh_chip(alloc, part, desk),
@@ -91,10 +91,10 @@ fn unread_chip<D: Desk>(
 /// `m328p`), also where it is empty, where it can't be opened or read on, and where memory is refused. Then the line
 /// that tells why was printed, as far as the desk takes it.
 pub fn load_chip<D: Desk>(alloc: Global, part: &Part, file: &str, desk: &mut D) -> Result<Chip, u8>
-    ensures goes { Goes (chip_stage part.now file.now) (D.kept desk.old) (D.kept desk.new) (D.failures desk.old)
-        (D.failures desk.new) result }
+    ensures goes { Goes (chip_stage part.now file.now) (D.view desk.old).kept (D.view desk.new).kept (D.view desk.old).failures
+        (D.view desk.new).failures result }
     ensures part { IfOk result (λ c. c.part ≡ part.now) }
-    ensures rises { D.failures desk.old ≤ D.failures desk.new }
+    ensures rises { (D.view desk.old).failures ≤ (D.view desk.new).failures }
 {
     let contents = match read_file(alloc, desk, file, LIMIT) {
         Ok(contents) => contents,

@@ -11,9 +11,9 @@ use avr_plan::refuse;
 /// Tells what can't be done with a file.
 pub(crate) fn refuse_saving<'a, D: Desk>(desk: &mut D, file: &'a str, trouble: &'a str) -> u8
     ensures status { result ≡ 1 }
-    ensures told { Tells (D.kept desk.old) (D.kept desk.new) (error (file.now ∷ trouble.now ∷ []))
-        (D.failures desk.old) (D.failures desk.new) }
-    ensures rises { D.failures desk.old ≤ D.failures desk.new }
+    ensures told { Tells (D.view desk.old).kept (D.view desk.new).kept (error (file.now ∷ trouble.now ∷ []))
+        (D.view desk.old).failures (D.view desk.new).failures }
+    ensures rises { (D.view desk.old).failures ≤ (D.view desk.new).failures }
 {
     refuse(desk, &[Piece::Text(file), Piece::Text(trouble)])
 }
@@ -21,9 +21,9 @@ pub(crate) fn refuse_saving<'a, D: Desk>(desk: &mut D, file: &'a str, trouble: &
 /// Tells that a file has another number of bytes than is expected.
 pub(crate) fn refuse_length<D: Desk>(desk: &mut D, file: &str, found: u32, expected: u32) -> u8
     ensures status { result ≡ 1 }
-    ensures told { Tells (D.kept desk.old) (D.kept desk.new) (length_line file.now found expected)
-        (D.failures desk.old) (D.failures desk.new) }
-    ensures rises { D.failures desk.old ≤ D.failures desk.new }
+    ensures told { Tells (D.view desk.old).kept (D.view desk.new).kept (length_line file.now found expected)
+        (D.view desk.old).failures (D.view desk.new).failures }
+    ensures rises { (D.view desk.old).failures ≤ (D.view desk.new).failures }
 {
     refuse(
         desk,

@@ -11,9 +11,9 @@ use std::alloc::Global;
 
 /// Creates the file of this name and writes these bytes.
 fn save_bytes<D: Desk>(file: &str, bytes: &[u8], desk: &mut D) -> Result<(), u8>
-    ensures saves { Saves (D.kept desk.old) (D.kept desk.new) file.now bytes.now (D.failures desk.old)
-        (D.failures desk.new) result }
-    ensures rises { D.failures desk.old ≤ D.failures desk.new }
+    ensures saves { Saves (D.view desk.old).kept (D.view desk.new).kept file.now bytes.now (D.view desk.old).failures
+        (D.view desk.new).failures result }
+    ensures rises { (D.view desk.old).failures ≤ (D.view desk.new).failures }
 {
     if desk.create(file).is_err() {
         return Err(refuse_saving(desk, file, ": cannot be created"));
@@ -31,9 +31,9 @@ fn save_bytes<D: Desk>(file: &str, bytes: &[u8], desk: &mut D) -> Result<(), u8>
 /// line that tells why was printed, as far as the desk takes it. No file is created where memory is refused; one that
 /// was created holds a front of the bytes.
 pub fn save_chip<D: Desk>(alloc: Global, chip: &Chip, file: &str, desk: &mut D) -> Result<(), u8>
-    ensures saves { Saves (D.kept desk.old) (D.kept desk.new) file.now (chip_file chip.now) (D.failures desk.old)
-        (D.failures desk.new) result }
-    ensures rises { D.failures desk.old ≤ D.failures desk.new }
+    ensures saves { Saves (D.view desk.old).kept (D.view desk.new).kept file.now (chip_file chip.now) (D.view desk.old).failures
+        (D.view desk.new).failures result }
+    ensures rises { (D.view desk.old).failures ≤ (D.view desk.new).failures }
 {
     match chip.to_bytes(alloc) {
         Ok(bytes) => save_bytes(file, bytes.as_slice(), desk),

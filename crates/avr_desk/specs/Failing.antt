@@ -1,5 +1,6 @@
 -- A desk one of whose calls fails by plan.
 use Rattle.std.specs.Prelude.{◌≡◌, ◌≢◌, ◌==◌, ◌+◌, ◌-◌, ◌^◌, ℕ, min, Result, Err, if◌then◌else◌}
+use Rattle.avr_desk.specs.Record.{DeskView}
 use Rattle.avr_desk.specs.declared.fault.DeskFault.{DeskFault}
 use Rattle.avr_desk.specs.declared.fault.DeskFault.TheVariants.{Failed}
 
@@ -10,9 +11,9 @@ pub record Failing (D : Type 0) : Type 0 where
   pub due : ℕ
   pub planned : ℕ
 
--- both counts together, up to the end of a count
-abbrev pub all_failures : {D : Type 0} → (D → ℕ) → Failing D → ℕ
-all_failures failures d = min (failures d.inner + d.planned) (2 ^ 64 - 1)
+-- what it shows: the record of the desk within, and both counts together, up to the end of a count
+abbrev pub failing_view : {D : Type 0} → DeskView → Failing D → DeskView
+failing_view inner d = record { kept = inner.kept; failures = min (inner.failures + d.planned) (2 ^ 64 - 1) }
 
 -- the failures by plan after the next call
 abbrev pub planned_after : {D : Type 0} → Failing D → ℕ

@@ -20,6 +20,11 @@ pub record Record : Type 0 where
   pub output : Bytes
   pub messages : Bytes
 
+-- what a desk shows of itself: its record, if it keeps one, and how often it has failed
+pub record DeskView : Type 0 where
+  pub kept : Option Record
+  pub failures : ℕ
+
 abbrev pub opening_of : Open → List Opening
 opening_of (ToRead x) = Found x ∷ []
 opening_of _ = []

@@ -64,16 +64,14 @@ impl<D: Desk> Desk for FailingDesk<D> {
     ghost use Rattle.avr_desk.specs.Fault.{Counts, WriteCounts};
     ghost use Rattle.avr_desk.specs.Stream.{SendsTaken};
     ghost use Rattle.avr_desk.specs.declared.stream.Stream.TheVariants.{File, Output, Messages};
-    ghost use Rattle.avr_desk.specs.Failing.{FailsWhenDue, all_failures};
+    ghost use Rattle.avr_desk.specs.Failing.{FailsWhenDue, failing_view};
 
-    ghost kept = { λ d. D.kept d.inner };
-
-    ghost failures = { λ d. all_failures D.failures d };
+    ghost view = { λ d. failing_view (D.view d.inner) d };
 
     fn open(&mut self, name: &str) -> Result<(), DeskFault>
-        ensures kept { D.kept self.new.inner ≡ option_map (after_open name.now result) (D.kept self.old.inner) }
-        ensures counts { Counts (all_failures D.failures self.old) (all_failures D.failures self.new) result }
-        ensures when_due { FailsWhenDue (Counts (D.failures self.old.inner) (D.failures self.new.inner) result) self.old
+        ensures kept { (D.view self.new.inner).kept ≡ option_map (after_open name.now result) (D.view self.old.inner).kept }
+        ensures counts { Counts (failing_view (D.view self.old.inner) self.old).failures (failing_view (D.view self.new.inner) self.new).failures result }
+        ensures when_due { FailsWhenDue (Counts (D.view self.old.inner).failures (D.view self.new.inner).failures result) self.old
             self.new result }
     {
         if self.is_due() {
@@ -83,10 +81,10 @@ impl<D: Desk> Desk for FailingDesk<D> {
     }
 
     fn create(&mut self, name: &str) -> Result<(), DeskFault>
-        ensures kept { D.kept self.new.inner ≡ option_map (after_create name.now result) (D.kept self.old.inner) }
-        ensures counts { Counts (all_failures D.failures self.old) (all_failures D.failures self.new) result }
+        ensures kept { (D.view self.new.inner).kept ≡ option_map (after_create name.now result) (D.view self.old.inner).kept }
+        ensures counts { Counts (failing_view (D.view self.old.inner) self.old).failures (failing_view (D.view self.new.inner) self.new).failures result }
         ensures fault { IfErr result (λ e. e ≡ DeskFault.Failed) }
-        ensures when_due { FailsWhenDue (Counts (D.failures self.old.inner) (D.failures self.new.inner) result) self.old
+        ensures when_due { FailsWhenDue (Counts (D.view self.old.inner).failures (D.view self.new.inner).failures result) self.old
             self.new result }
     {
         if self.is_due() {
@@ -97,11 +95,11 @@ impl<D: Desk> Desk for FailingDesk<D> {
 
     fn read(&mut self, buf: &mut [u8]) -> Result<usize, DeskFault>
         ensures bound { IfOk result (λ n. n ≤ length buf.new) }
-        ensures kept { D.kept self.new.inner ≡ option_map (after_read buf.new result) (D.kept self.old.inner) }
-        ensures has_file { HasOpen is_to_read (D.kept self.old.inner) result }
-        ensures counts { Counts (all_failures D.failures self.old) (all_failures D.failures self.new) result }
+        ensures kept { (D.view self.new.inner).kept ≡ option_map (after_read buf.new result) (D.view self.old.inner).kept }
+        ensures has_file { HasOpen is_to_read (D.view self.old.inner).kept result }
+        ensures counts { Counts (failing_view (D.view self.old.inner) self.old).failures (failing_view (D.view self.new.inner) self.new).failures result }
         ensures fault { IfErr result (λ e. e ≡ DeskFault.Failed) }
-        ensures when_due { FailsWhenDue (Counts (D.failures self.old.inner) (D.failures self.new.inner) result) self.old
+        ensures when_due { FailsWhenDue (Counts (D.view self.old.inner).failures (D.view self.new.inner).failures result) self.old
             self.new result }
     {
         if self.is_due() {
@@ -112,13 +110,13 @@ impl<D: Desk> Desk for FailingDesk<D> {
 
     fn write(&mut self, bytes: &[u8]) -> Result<usize, DeskFault>
         ensures bound { IfOk result (λ n. n ≤ length bytes.now) }
-        ensures kept { SendsTaken File bytes.now (D.kept self.old.inner) (D.kept self.new.inner) result }
-        ensures has_file { HasOpen is_to_write (D.kept self.old.inner) result }
-        ensures counts { WriteCounts bytes.now (all_failures D.failures self.old)
-            (all_failures D.failures self.new) result }
+        ensures kept { SendsTaken File bytes.now (D.view self.old.inner).kept (D.view self.new.inner).kept result }
+        ensures has_file { HasOpen is_to_write (D.view self.old.inner).kept result }
+        ensures counts { WriteCounts bytes.now (failing_view (D.view self.old.inner) self.old).failures
+            (failing_view (D.view self.new.inner) self.new).failures result }
         ensures fault { IfErr result (λ e. e ≡ DeskFault.Failed) }
-        ensures when_due { FailsWhenDue (WriteCounts bytes.now (D.failures self.old.inner)
-            (D.failures self.new.inner) result) self.old self.new result }
+        ensures when_due { FailsWhenDue (WriteCounts bytes.now (D.view self.old.inner).failures
+            (D.view self.new.inner).failures result) self.old self.new result }
     {
         if self.is_due() {
             return Err(DeskFault::Failed);
@@ -128,12 +126,12 @@ impl<D: Desk> Desk for FailingDesk<D> {
 
     fn out(&mut self, bytes: &[u8]) -> Result<usize, DeskFault>
         ensures bound { IfOk result (λ n. n ≤ length bytes.now) }
-        ensures kept { SendsTaken Output bytes.now (D.kept self.old.inner) (D.kept self.new.inner) result }
-        ensures counts { WriteCounts bytes.now (all_failures D.failures self.old)
-            (all_failures D.failures self.new) result }
+        ensures kept { SendsTaken Output bytes.now (D.view self.old.inner).kept (D.view self.new.inner).kept result }
+        ensures counts { WriteCounts bytes.now (failing_view (D.view self.old.inner) self.old).failures
+            (failing_view (D.view self.new.inner) self.new).failures result }
         ensures fault { IfErr result (λ e. e ≡ DeskFault.Failed) }
-        ensures when_due { FailsWhenDue (WriteCounts bytes.now (D.failures self.old.inner)
-            (D.failures self.new.inner) result) self.old self.new result }
+        ensures when_due { FailsWhenDue (WriteCounts bytes.now (D.view self.old.inner).failures
+            (D.view self.new.inner).failures result) self.old self.new result }
     {
         if self.is_due() {
             return Err(DeskFault::Failed);
@@ -143,12 +141,12 @@ impl<D: Desk> Desk for FailingDesk<D> {
 
     fn err(&mut self, bytes: &[u8]) -> Result<usize, DeskFault>
         ensures bound { IfOk result (λ n. n ≤ length bytes.now) }
-        ensures kept { SendsTaken Messages bytes.now (D.kept self.old.inner) (D.kept self.new.inner) result }
-        ensures counts { WriteCounts bytes.now (all_failures D.failures self.old)
-            (all_failures D.failures self.new) result }
+        ensures kept { SendsTaken Messages bytes.now (D.view self.old.inner).kept (D.view self.new.inner).kept result }
+        ensures counts { WriteCounts bytes.now (failing_view (D.view self.old.inner) self.old).failures
+            (failing_view (D.view self.new.inner) self.new).failures result }
         ensures fault { IfErr result (λ e. e ≡ DeskFault.Failed) }
-        ensures when_due { FailsWhenDue (WriteCounts bytes.now (D.failures self.old.inner)
-            (D.failures self.new.inner) result) self.old self.new result }
+        ensures when_due { FailsWhenDue (WriteCounts bytes.now (D.view self.old.inner).failures
+            (D.view self.new.inner).failures result) self.old self.new result }
     {
         if self.is_due() {
             return Err(DeskFault::Failed);

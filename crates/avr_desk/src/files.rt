@@ -57,9 +57,9 @@ pub fn read_file<D: Desk>(
     name: &str,
     limit: usize,
 ) -> Result<Contents, FileFault>
-    ensures kept { ReadsFile name.now (D.kept desk.old) (D.kept desk.new) result }
+    ensures kept { ReadsFile name.now (D.view desk.old).kept (D.view desk.new).kept result }
     ensures whole { IfOk result (IsWhole limit) }
-    ensures counts { FaultCounts (D.failures desk.old) (D.failures desk.new) result }
+    ensures counts { FaultCounts (D.view desk.old).failures (D.view desk.new).failures result }
 {
     match desk.open(name) {
         Ok(()) => read_open(alloc, desk, limit),
@@ -70,9 +70,9 @@ pub fn read_file<D: Desk>(
 
 /// Reads what is open.
 fn read_open<D: Desk>(alloc: Global, desk: &mut D, limit: usize) -> Result<Contents, FileFault>
-    ensures kept { ReadsOpen (D.kept desk.old) (D.kept desk.new) result }
+    ensures kept { ReadsOpen (D.view desk.old).kept (D.view desk.new).kept result }
     ensures whole { IfOk result (IsWhole limit) }
-    ensures counts { FaultCounts (D.failures desk.old) (D.failures desk.new) result }
+    ensures counts { FaultCounts (D.view desk.old).failures (D.view desk.new).failures result }
 {
     let mut bytes = Bytes::new(alloc);
     let mut piece = [0u8; PIECE];

@@ -152,9 +152,7 @@ impl Desk for MemDesk {
     ghost use Rattle.avr_desk.specs.Fault.{Counts, WriteCounts};
     ghost use Rattle.avr_desk.specs.Memory.{contents, unread};
 
-    ghost kept = { λ d. Some d.kept };
-
-    ghost failures = { λ d. d.failures };
+    ghost view = { λ d. record { kept = Some d.kept; failures = d.failures } };
 
     fn open(&mut self, name: &str) -> Result<(), DeskFault>
         ensures kept { self.new ≡ record self.old {

@@ -20,8 +20,8 @@ pub enum Stream {
 /// Writes some of the bytes.
 fn write_some<D: Desk>(desk: &mut D, stream: Stream, bytes: &[u8]) -> Result<usize, DeskFault>
     ensures bound { IfOk result (λ n. n ≤ length bytes.now) }
-    ensures kept { SendsTaken stream bytes.now (D.kept desk.old) (D.kept desk.new) result }
-    ensures counts { WriteCounts bytes.now (D.failures desk.old) (D.failures desk.new) result }
+    ensures kept { SendsTaken stream bytes.now (D.view desk.old).kept (D.view desk.new).kept result }
+    ensures counts { WriteCounts bytes.now (D.view desk.old).failures (D.view desk.new).failures result }
     ensures fault { IfErr result (λ e. e ≡ DeskFault.Failed) }
 {
     match stream {
@@ -33,9 +33,9 @@ fn write_some<D: Desk>(desk: &mut D, stream: Stream, bytes: &[u8]) -> Result<usi
 
 /// Writes all the bytes. After a fault a front of them was written.
 pub fn write_all<D: Desk>(desk: &mut D, stream: Stream, bytes: &[u8]) -> Result<(), DeskFault>
-    ensures all { OnOk result (D.kept desk.new ≡ option_map (after_sent stream bytes.now) (D.kept desk.old)) }
-    ensures part { OnErr result (SendsPart stream (D.kept desk.old) (D.kept desk.new) bytes.now) }
-    ensures counts { Counts (D.failures desk.old) (D.failures desk.new) result }
+    ensures all { OnOk result ((D.view desk.new).kept ≡ option_map (after_sent stream bytes.now) (D.view desk.old).kept) }
+    ensures part { OnErr result (SendsPart stream (D.view desk.old).kept (D.view desk.new).kept bytes.now) }
+    ensures counts { Counts (D.view desk.old).failures (D.view desk.new).failures result }
     ensures fault { IfErr result (λ e. e ≡ DeskFault.Failed) }
 {
     let mut at = 0;

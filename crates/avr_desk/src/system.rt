@@ -149,9 +149,7 @@ impl<'a, R: Files + Input, O: Write + Drop, E: Write + Drop> SystemDesk<'a, R, O
 }
 
 impl<'a, R: Files + Input, O: Write + Drop, E: Write + Drop> Desk for SystemDesk<'a, R, O, E> {
-    ghost kept = { λ d. None };
-
-    ghost failures = { λ d. d.failures };
+    ghost view = { λ d. record { kept = None; failures = d.failures } };
 
     fn open(&mut self, name: &str) -> Result<(), DeskFault>
         ensures counts { Counts self.old.failures self.new.failures result }

@@ -14,10 +14,10 @@ use stk_emu::Wired;
 
 /// Saves the chip of a wire if anything was sent over it, and answers the status of a run of this one.
 fn save_if_sent<D: Desk>(alloc: Global, wire: &Wired, file: &str, desk: &mut D, status: u8) -> u8
-    ensures saved { IsSaved (sent wire.now.talk) (D.kept desk.old) (D.kept desk.new) file.now
+    ensures saved { IsSaved (sent wire.now.talk) (D.view desk.old).kept (D.view desk.new).kept file.now
         (chip_file wire.now.wire.programmer.chip)
-        (D.failures desk.old) (D.failures desk.new) status result }
-    ensures rises { D.failures desk.old ≤ D.failures desk.new }
+        (D.view desk.old).failures (D.view desk.new).failures status result }
+    ensures rises { (D.view desk.old).failures ≤ (D.view desk.new).failures }
 {
     if wire.sent().is_empty() {
         return status;
@@ -34,8 +34,8 @@ fn save_if_sent<D: Desk>(alloc: Global, wire: &Wired, file: &str, desk: &mut D, 
 /// The status is 0 where no fault came, else 1. Every fault has its line; what is refused is told before any frame is
 /// sent.
 pub fn run_emulated<D: Desk>(alloc: Global, settings: &Settings, file: &str, desk: &mut D) -> u8
-    ensures runs { RunsEmulated settings.now file.now (D.kept desk.old) (D.kept desk.new) (D.failures desk.old)
-        (D.failures desk.new) result }
+    ensures runs { RunsEmulated settings.now file.now (D.view desk.old).kept (D.view desk.new).kept (D.view desk.old).failures
+        (D.view desk.new).failures result }
 {
     let plan = match plan(alloc, settings, desk) {
         Ok(plan) => plan,

@@ -26,12 +26,12 @@ pub fn drive_wired<D: Desk>(alloc: Global, plan: &Plan, desk: &mut D, wire: &mut
     requires fresh { IsFresh wire.old }
     requires part { wire.old.wire.programmer.chip.part ≡ plan.now.part }
     // What is sent, said and answered is the play of the session.
-    ensures runs { RunsTo (session plan.now) (Some wire.old.talk) (Some wire.new.talk) (D.kept desk.old)
-        (D.kept desk.new)
-        (Stops (takes_memory plan.now) wire.old.failures wire.new.failures (D.failures desk.old) (D.failures desk.new))
+    ensures runs { RunsTo (session plan.now) (Some wire.old.talk) (Some wire.new.talk) (D.view desk.old).kept
+        (D.view desk.new).kept
+        (Stops (takes_memory plan.now) wire.old.failures wire.new.failures (D.view desk.old).failures (D.view desk.new).failures)
         result }
     // The count of the desk's failures never falls.
-    ensures rises { D.failures desk.old ≤ D.failures desk.new }
+    ensures rises { (D.view desk.old).failures ≤ (D.view desk.new).failures }
     // Whatever the wire began as, it is still one that did.
     ensures comes { Stays ComesOf wire.old wire.new }
     // Whatever the line loses, delays and spoils, this is what the run leaves in the chip.
@@ -45,22 +45,22 @@ pub fn drive_wired<D: Desk>(alloc: Global, plan: &Plan, desk: &mut D, wire: &mut
     // Where of any seven frames in a row at most three go wrong, it goes as its course says.
     ensures few_bad { AreFew wire.old.wire.fates → GoesWell plan.now (memories_of wire.old.wire.programmer.chip)
         (memories_of wire.new.wire.programmer.chip)
-        (D.kept desk.old) (D.kept desk.new) (Some wire.new.talk)
-        (Stops (takes_memory plan.now) wire.old.failures wire.new.failures (D.failures desk.old) (D.failures desk.new))
+        (D.view desk.old).kept (D.view desk.new).kept (Some wire.new.talk)
+        (Stops (takes_memory plan.now) wire.old.failures wire.new.failures (D.view desk.old).failures (D.view desk.new).failures)
         result }
     // And where the plan erases, and agrees on a chip of 00 and on one of FF, it succeeds whatever the chip was.
     ensures succeeds { AreFew wire.old.wire.fates → plan.now.switches.dry ≡ false
         → is_erase_due plan.now.switches plan.now.tasks ≡ true → AgreesAnyway plan.now
         → Succeeds plan.now (memories_of wire.old.wire.programmer.chip) (memories_of wire.new.wire.programmer.chip)
-        (D.kept desk.old) (D.kept desk.new) (Some wire.new.talk)
-        (Stops (takes_memory plan.now) wire.old.failures wire.new.failures (D.failures desk.old) (D.failures desk.new))
+        (D.view desk.old).kept (D.view desk.new).kept (Some wire.new.talk)
+        (Stops (takes_memory plan.now) wire.old.failures wire.new.failures (D.view desk.old).failures (D.view desk.new).failures)
         result }
     // Whatever it told was true of the chip as the frames sent before had left it, also where it failed or broke off
     // later.
     ensures believable { RunsTruly plan.now (memories_of wire.old.wire.programmer.chip)
         (fresh (fresh_programmer wire.old.wire.programmer.chip) wire.old.wire.fates)
-        (Some wire.old.talk) (Some wire.new.talk) (D.kept desk.old) (D.kept desk.new)
-        (Stops (takes_memory plan.now) wire.old.failures wire.new.failures (D.failures desk.old) (D.failures desk.new))
+        (Some wire.old.talk) (Some wire.new.talk) (D.view desk.old).kept (D.view desk.new).kept
+        (Stops (takes_memory plan.now) wire.old.failures wire.new.failures (D.view desk.old).failures (D.view desk.new).failures)
         result }
 {
     // What the clauses rest on: each image has the size of its memory, and the chip's memories those of its part.

@@ -62,9 +62,9 @@ fn spaced(signature: [u8; 3]) -> [u8; 8]
 
 /// Writes a number's decimal digits to the messages.
 fn write_number<D: Desk>(desk: &mut D, number: u32) -> Result<(), DeskFault>
-    ensures all { OnOk result (D.kept desk.new ≡ option_map (after_err (decimal number)) (D.kept desk.old)) }
-    ensures part { OnErr result (SendsPart Stream.Messages (D.kept desk.old) (D.kept desk.new) (decimal number)) }
-    ensures counts { Counts (D.failures desk.old) (D.failures desk.new) result }
+    ensures all { OnOk result ((D.view desk.new).kept ≡ option_map (after_err (decimal number)) (D.view desk.old).kept) }
+    ensures part { OnErr result (SendsPart Stream.Messages (D.view desk.old).kept (D.view desk.new).kept (decimal number)) }
+    ensures counts { Counts (D.view desk.old).failures (D.view desk.new).failures result }
     ensures fault { IfErr result (λ e. e ≡ DeskFault.Failed) }
 {
     let mut buffer = itoa::Buffer::new();
@@ -73,9 +73,9 @@ fn write_number<D: Desk>(desk: &mut D, number: u32) -> Result<(), DeskFault>
 
 /// Writes a piece to the messages.
 pub(crate) fn write_piece<D: Desk>(desk: &mut D, piece: &Piece<'_>) -> Result<(), DeskFault>
-    ensures all { OnOk result (D.kept desk.new ≡ option_map (after_err (text_of piece.now)) (D.kept desk.old)) }
-    ensures part { OnErr result (SendsPart Stream.Messages (D.kept desk.old) (D.kept desk.new) (text_of piece.now)) }
-    ensures counts { Counts (D.failures desk.old) (D.failures desk.new) result }
+    ensures all { OnOk result ((D.view desk.new).kept ≡ option_map (after_err (text_of piece.now)) (D.view desk.old).kept) }
+    ensures part { OnErr result (SendsPart Stream.Messages (D.view desk.old).kept (D.view desk.new).kept (text_of piece.now)) }
+    ensures counts { Counts (D.view desk.old).failures (D.view desk.new).failures result }
     ensures fault { IfErr result (λ e. e ≡ DeskFault.Failed) }
 {
     match piece {

@@ -70,9 +70,9 @@ fn file_kind(format: Format, front: &[u8]) -> Found
 
 /// Reads the front of the open file.
 fn read_front<D: Desk>(desk: &mut D) -> Result<Front, FileFault>
-    ensures kept { FrontIsRead (D.kept desk.old) (D.kept desk.new) result }
-    ensures rises { D.failures desk.old ≤ D.failures desk.new }
-    ensures counted { IfErr result (IsCounted (D.failures desk.old) (D.failures desk.new)) }
+    ensures kept { FrontIsRead (D.view desk.old).kept (D.view desk.new).kept result }
+    ensures rises { (D.view desk.old).failures ≤ (D.view desk.new).failures }
+    ensures counted { IfErr result (IsCounted (D.view desk.old).failures (D.view desk.new).failures) }
 {
     let mut bytes: ArrayVec<u8, FRONT> = ArrayVec::new();
     let mut piece = [0u8; FRONT];
@@ -113,9 +113,9 @@ fn read_rest<D: Desk>(
     requires { counted intake + left < 2 ^ 31 }
     ensures read { (limit : ℕ) (found : AnyFound) (size : ℕ) (before : Bytes) → Takes found size intake before
         → length before + left ≡ limit
-        → RestIsRead limit found size before (D.kept desk.old) (D.kept desk.new) result }
-    ensures rises { D.failures desk.old ≤ D.failures desk.new }
-    ensures counted { IfErr result (IsCountedRead (D.failures desk.old) (D.failures desk.new)) }
+        → RestIsRead limit found size before (D.view desk.old).kept (D.view desk.new).kept result }
+    ensures rises { (D.view desk.old).failures ≤ (D.view desk.new).failures }
+    ensures counted { IfErr result (IsCountedRead (D.view desk.old).failures (D.view desk.new).failures) }
 {
     let mut piece = [0u8; PIECE];
     'pieces: loop {
@@ -143,9 +143,9 @@ fn read_open<D: Desk>(
 ) -> Result<(Image, Ending), ReadFault>
     requires front { FRONT ≤ limit }
     requires most { limit < 2 ^ 31 }
-    ensures read { OpenIsRead limit format size (D.kept desk.old) (D.kept desk.new) result }
-    ensures rises { D.failures desk.old ≤ D.failures desk.new }
-    ensures counted { IfErr result (IsCountedRead (D.failures desk.old) (D.failures desk.new)) }
+    ensures read { OpenIsRead limit format size (D.view desk.old).kept (D.view desk.new).kept result }
+    ensures rises { (D.view desk.old).failures ≤ (D.view desk.new).failures }
+    ensures counted { IfErr result (IsCountedRead (D.view desk.old).failures (D.view desk.new).failures) }
 {
     let front = match read_front(desk) {
         Ok(front) => front,
@@ -184,9 +184,9 @@ pub fn read_image<D: Desk>(
     format: Format,
     size: u32,
 ) -> Result<(Image, Ending), ReadFault>
-    ensures read { ImageIsRead 4194304 format size name.now (D.kept desk.old) (D.kept desk.new) result }
-    ensures rises { D.failures desk.old ≤ D.failures desk.new }
-    ensures counted { IfErr result (IsCountedRead (D.failures desk.old) (D.failures desk.new)) }
+    ensures read { ImageIsRead 4194304 format size name.now (D.view desk.old).kept (D.view desk.new).kept result }
+    ensures rises { (D.view desk.old).failures ≤ (D.view desk.new).failures }
+    ensures counted { IfErr result (IsCountedRead (D.view desk.old).failures (D.view desk.new).failures) }
 {
     match desk.open(name) {
         Ok(()) => read_open(alloc, desk, format, size, LIMIT),

@@ -14,9 +14,9 @@ const LIMIT: usize = 65_536;
 
 /// The parts of a part file.
 fn file_parts<D: Desk>(alloc: Global, desk: &mut D, file: &str) -> Result<Parts, u8>
-    ensures goes { Goes (parts_stage (Some file.now)) (D.kept desk.old) (D.kept desk.new) (D.failures desk.old)
-        (D.failures desk.new) result }
-    ensures rises { D.failures desk.old ≤ D.failures desk.new }
+    ensures goes { Goes (parts_stage (Some file.now)) (D.view desk.old).kept (D.view desk.new).kept (D.view desk.old).failures
+        (D.view desk.new).failures result }
+    ensures rises { (D.view desk.old).failures ≤ (D.view desk.new).failures }
 {
     let contents = match read_file(alloc, desk, file, LIMIT) {
         Ok(contents) => contents,
@@ -36,9 +36,9 @@ fn file_parts<D: Desk>(alloc: Global, desk: &mut D, file: &str) -> Result<Parts,
 /// The file has at most 65,536 bytes. Where it can't be read, is longer or is no part file, and where memory is
 /// refused, the line that tells why was printed, as far as the desk takes it, and the answer is the status, 1.
 pub fn given_parts<D: Desk>(alloc: Global, desk: &mut D, file: &Option<Text>) -> Result<Parts, u8>
-    ensures goes { Goes (parts_stage file.now) (D.kept desk.old) (D.kept desk.new) (D.failures desk.old)
-        (D.failures desk.new) result }
-    ensures rises { D.failures desk.old ≤ D.failures desk.new }
+    ensures goes { Goes (parts_stage file.now) (D.view desk.old).kept (D.view desk.new).kept (D.view desk.old).failures
+        (D.view desk.new).failures result }
+    ensures rises { (D.view desk.old).failures ≤ (D.view desk.new).failures }
 {
     match file {
         Some(file) => file_parts(alloc, desk, file.as_str()),
@@ -56,9 +56,9 @@ pub fn given_parts<D: Desk>(alloc: Global, desk: &mut D, file: &Option<Text>) ->
 /// let part = chosen_part(&mut desk, &parts, "m328p")?;
 /// ```
 pub fn chosen_part<D: Desk>(desk: &mut D, parts: &Parts, id: &str) -> Result<Part, u8>
-    ensures goes { Goes (part_stage id.now parts.now) (D.kept desk.old) (D.kept desk.new) (D.failures desk.old)
-        (D.failures desk.new) result }
-    ensures rises { D.failures desk.old ≤ D.failures desk.new }
+    ensures goes { Goes (part_stage id.now parts.now) (D.view desk.old).kept (D.view desk.new).kept (D.view desk.old).failures
+        (D.view desk.new).failures result }
+    ensures rises { (D.view desk.old).failures ≤ (D.view desk.new).failures }
 {
     match parts.find(id) {
         Ok(part) => Ok(part),

@@ -34,8 +34,8 @@ fn warn_of_ending<D: Desk>(
     ending: Ending,
 ) -> Result<(), u8>
     ensures goes { Goes (said (warned switches file.now ending))
-        (D.kept desk.old) (D.kept desk.new) (D.failures desk.old) (D.failures desk.new) result }
-    ensures rises { D.failures desk.old ≤ D.failures desk.new }
+        (D.view desk.old).kept (D.view desk.new).kept (D.view desk.old).failures (D.view desk.new).failures result }
+    ensures rises { (D.view desk.old).failures ≤ (D.view desk.new).failures }
 {
     let warns = is_warned(switches, ending);
     if !warns {
@@ -57,8 +57,8 @@ fn file_image<D: Desk>(
     size: u32,
 ) -> Result<Image, u8>
     ensures goes { Goes (file_image_stage switches file.now format size)
-        (D.kept desk.old) (D.kept desk.new) (D.failures desk.old) (D.failures desk.new) result }
-    ensures rises { D.failures desk.old ≤ D.failures desk.new }
+        (D.view desk.old).kept (D.view desk.new).kept (D.view desk.old).failures (D.view desk.new).failures result }
+    ensures rises { (D.view desk.old).failures ≤ (D.view desk.new).failures }
     ensures sized { IfOk result (λ image. length image ≡ size) }
 {
     match read_image(alloc, desk, file, format, size) {
@@ -79,8 +79,8 @@ fn values_image<D: Desk>(
     size: u32,
 ) -> Result<Image, u8>
     ensures goes { (switches : AnySwitches) → Goes (image_stage switches memory size text.now Format.Immediate)
-        (D.kept desk.old) (D.kept desk.new) (D.failures desk.old) (D.failures desk.new) result }
-    ensures rises { D.failures desk.old ≤ D.failures desk.new }
+        (D.view desk.old).kept (D.view desk.new).kept (D.view desk.old).failures (D.view desk.new).failures result }
+    ensures rises { (D.view desk.old).failures ≤ (D.view desk.new).failures }
     ensures sized { IfOk result (λ image. length image ≡ size) }
 {
     match parse_immediate(alloc, text, size) {
@@ -98,8 +98,8 @@ pub(crate) fn update_image<D: Desk>(
     update: &Update,
 ) -> Result<Image, u8>
     ensures goes { Goes (update_image_stage switches part.now update.now)
-        (D.kept desk.old) (D.kept desk.new) (D.failures desk.old) (D.failures desk.new) result }
-    ensures rises { D.failures desk.old ≤ D.failures desk.new }
+        (D.view desk.old).kept (D.view desk.new).kept (D.view desk.old).failures (D.view desk.new).failures result }
+    ensures rises { (D.view desk.old).failures ≤ (D.view desk.new).failures }
     ensures sized { IfOk result (λ image. length image ≡ size_of update.now.memory part.now) }
 {
     let size = part.size_of(update.memory);

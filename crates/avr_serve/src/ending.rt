@@ -14,17 +14,17 @@ use std::alloc::Global;
 
 /// Prints an error, as far as the desk takes it.
 fn tell<D: Desk>(desk: &mut D, text: &str)
-    ensures told { Tells (D.kept desk.old) (D.kept desk.new) (error (text.now ∷ [])) (D.failures desk.old)
-        (D.failures desk.new) }
-    ensures rises { D.failures desk.old ≤ D.failures desk.new }
+    ensures told { Tells (D.view desk.old).kept (D.view desk.new).kept (error (text.now ∷ [])) (D.view desk.old).failures
+        (D.view desk.new).failures }
+    ensures rises { (D.view desk.old).failures ≤ (D.view desk.new).failures }
 {
     let _ = print_error(desk, &[Piece::Text(text)]);
 }
 
 /// Tells how serving ended, if not with an end that was heard.
 pub(crate) fn tell_end<D: Desk>(desk: &mut D, served: Served)
-    ensures told { TellsEnd served (D.kept desk.old) (D.kept desk.new) (D.failures desk.old) (D.failures desk.new) }
-    ensures rises { D.failures desk.old ≤ D.failures desk.new }
+    ensures told { TellsEnd served (D.view desk.old).kept (D.view desk.new).kept (D.view desk.old).failures (D.view desk.new).failures }
+    ensures rises { (D.view desk.old).failures ≤ (D.view desk.new).failures }
 {
     match served {
         Served::Ended => {}
@@ -52,9 +52,9 @@ pub(crate) fn save_served<D: Desk>(
     desk: &mut D,
     served: Served,
 ) -> u8
-    ensures saved { IsSaved served (D.kept desk.old) (D.kept desk.new) file.now (chip_file chip.now)
-        (D.failures desk.old) (D.failures desk.new) result }
-    ensures rises { D.failures desk.old ≤ D.failures desk.new }
+    ensures saved { IsSaved served (D.view desk.old).kept (D.view desk.new).kept file.now (chip_file chip.now)
+        (D.view desk.old).failures (D.view desk.new).failures result }
+    ensures rises { (D.view desk.old).failures ≤ (D.view desk.new).failures }
 {
     match save_chip(alloc, chip, file, desk) {
         Ok(()) => status_of(served),

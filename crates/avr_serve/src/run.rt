@@ -19,9 +19,9 @@ pub const READS: u32 = 16_777_216;
 
 /// The part of the settings: looked up in their part file, where they have one, before the built-in parts.
 fn find_part<D: Desk>(alloc: Global, desk: &mut D, settings: &Settings) -> Result<Part, u8>
-    ensures goes { Goes (settings_part settings.now) (D.kept desk.old) (D.kept desk.new) (D.failures desk.old)
-        (D.failures desk.new) result }
-    ensures rises { D.failures desk.old ≤ D.failures desk.new }
+    ensures goes { Goes (settings_part settings.now) (D.view desk.old).kept (D.view desk.new).kept (D.view desk.old).failures
+        (D.view desk.new).failures result }
+    ensures rises { (D.view desk.old).failures ≤ (D.view desk.new).failures }
 {
     let parts = match given_parts(alloc, desk, &settings.parts) {
         Ok(parts) => parts,
@@ -41,9 +41,9 @@ pub fn find_chip<D: Desk>(
     file: &str,
     desk: &mut D,
 ) -> Result<Chip, u8>
-    ensures goes { Goes (settings_chip settings.now file.now) (D.kept desk.old) (D.kept desk.new) (D.failures desk.old)
-        (D.failures desk.new) result }
-    ensures rises { D.failures desk.old ≤ D.failures desk.new }
+    ensures goes { Goes (settings_chip settings.now file.now) (D.view desk.old).kept (D.view desk.new).kept (D.view desk.old).failures
+        (D.view desk.new).failures result }
+    ensures rises { (D.view desk.old).failures ≤ (D.view desk.new).failures }
 {
     let part = match find_part(alloc, desk, settings) {
         Ok(part) => part,
@@ -68,11 +68,11 @@ pub fn serve_chip<D: Desk, L: Link>(
     link: &mut L,
     turns: u32,
 ) -> u8
-    ensures serves { ServesChip chip file.now turns (L.talk link.old) (L.talk link.new) (L.failures link.old)
-        (L.failures link.new)
-        (D.kept desk.old) (D.kept desk.new) (D.failures desk.old) (D.failures desk.new) result }
-    ensures rises { D.failures desk.old ≤ D.failures desk.new }
-    ensures counted { L.failures link.old ≤ L.failures link.new }
+    ensures serves { ServesChip chip file.now turns (L.view link.old).talk (L.view link.new).talk (L.view link.old).failures
+        (L.view link.new).failures
+        (D.view desk.old).kept (D.view desk.new).kept (D.view desk.old).failures (D.view desk.new).failures result }
+    ensures rises { (D.view desk.old).failures ≤ (D.view desk.new).failures }
+    ensures counted { (L.view link.old).failures ≤ (L.view link.new).failures }
 {
     let mut emulator = Emulator::new(chip);
     let served = answer_all(&mut emulator, link, turns);
@@ -96,11 +96,11 @@ pub fn serve_for<D: Desk, L: Link>(
     link: &mut L,
     turns: u32,
 ) -> u8
-    ensures runs { RunsServed settings.now file.now turns (L.talk link.old) (L.talk link.new) (L.failures link.old)
-        (L.failures link.new)
-        (D.kept desk.old) (D.kept desk.new) (D.failures desk.old) (D.failures desk.new) result }
-    ensures rises { D.failures desk.old ≤ D.failures desk.new }
-    ensures counted { L.failures link.old ≤ L.failures link.new }
+    ensures runs { RunsServed settings.now file.now turns (L.view link.old).talk (L.view link.new).talk (L.view link.old).failures
+        (L.view link.new).failures
+        (D.view desk.old).kept (D.view desk.new).kept (D.view desk.old).failures (D.view desk.new).failures result }
+    ensures rises { (D.view desk.old).failures ≤ (D.view desk.new).failures }
+    ensures counted { (L.view link.old).failures ≤ (L.view link.new).failures }
 {
     let chip = match find_chip(alloc, settings, file, desk) {
         Ok(chip) => chip,
@@ -117,11 +117,11 @@ pub fn serve<D: Desk, L: Link>(
     desk: &mut D,
     link: &mut L,
 ) -> u8
-    ensures runs { RunsServed settings.now file.now 16777216 (L.talk link.old) (L.talk link.new) (L.failures link.old)
-        (L.failures link.new)
-        (D.kept desk.old) (D.kept desk.new) (D.failures desk.old) (D.failures desk.new) result }
-    ensures rises { D.failures desk.old ≤ D.failures desk.new }
-    ensures counted { L.failures link.old ≤ L.failures link.new }
+    ensures runs { RunsServed settings.now file.now 16777216 (L.view link.old).talk (L.view link.new).talk (L.view link.old).failures
+        (L.view link.new).failures
+        (D.view desk.old).kept (D.view desk.new).kept (D.view desk.old).failures (D.view desk.new).failures result }
+    ensures rises { (D.view desk.old).failures ≤ (D.view desk.new).failures }
+    ensures counted { (L.view link.old).failures ≤ (L.view link.new).failures }
 {
     serve_for(alloc, settings, file, desk, link, READS)
 }

@@ -20,10 +20,10 @@ fn make_room<D: Desk>(
 ) -> Result<(), DeskFault>
     requires { count ≤ 4096 }
     ensures sent { OnOk result
-        (SendsFront stream (D.kept desk.old) (D.kept desk.new) waiting.old.items waiting.new.items) }
+        (SendsFront stream (D.view desk.old).kept (D.view desk.new).kept waiting.old.items waiting.new.items) }
     ensures room { OnOk result (length waiting.new.items + count ≤ 4096) }
-    ensures part { OnErr result (SendsPart stream (D.kept desk.old) (D.kept desk.new) waiting.old.items) }
-    ensures counts { Counts (D.failures desk.old) (D.failures desk.new) result }
+    ensures part { OnErr result (SendsPart stream (D.view desk.old).kept (D.view desk.new).kept waiting.old.items) }
+    ensures counts { Counts (D.view desk.old).failures (D.view desk.new).failures result }
     ensures fault { IfErr result (λ e. e ≡ DeskFault.Failed) }
 {
     let room = waiting.remaining_capacity();
@@ -41,9 +41,9 @@ fn write_pieces<D: Desk, P: Pieces + Drop>(
     stream: Stream,
     text: P,
 ) -> Result<(), DeskFault>
-    ensures all { OnOk result (D.kept desk.new ≡ option_map (after_sent stream (P.rest text)) (D.kept desk.old)) }
-    ensures part { OnErr result (SendsPart stream (D.kept desk.old) (D.kept desk.new) (P.rest text)) }
-    ensures counts { Counts (D.failures desk.old) (D.failures desk.new) result }
+    ensures all { OnOk result ((D.view desk.new).kept ≡ option_map (after_sent stream (P.rest text)) (D.view desk.old).kept) }
+    ensures part { OnErr result (SendsPart stream (D.view desk.old).kept (D.view desk.new).kept (P.rest text)) }
+    ensures counts { Counts (D.view desk.old).failures (D.view desk.new).failures result }
     ensures fault { IfErr result (λ e. e ≡ DeskFault.Failed) }
 {
     let mut text = text;
@@ -67,9 +67,9 @@ pub(crate) fn write_text<D: Desk>(
 ) -> Result<(), DeskFault>
     requires { length bytes.now ≤ 2 ^ 32 }
     ensures all { OnOk result
-        (D.kept desk.new ≡ option_map (after_sent stream (file_text format bytes.now)) (D.kept desk.old)) }
-    ensures part { OnErr result (SendsPart stream (D.kept desk.old) (D.kept desk.new) (file_text format bytes.now)) }
-    ensures counts { Counts (D.failures desk.old) (D.failures desk.new) result }
+        ((D.view desk.new).kept ≡ option_map (after_sent stream (file_text format bytes.now)) (D.view desk.old).kept) }
+    ensures part { OnErr result (SendsPart stream (D.view desk.old).kept (D.view desk.new).kept (file_text format bytes.now)) }
+    ensures counts { Counts (D.view desk.old).failures (D.view desk.new).failures result }
     ensures fault { IfErr result (λ e. e ≡ DeskFault.Failed) }
 {
     match format {

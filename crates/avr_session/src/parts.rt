@@ -31,8 +31,8 @@ pub(crate) fn open_session<D: Desk, L: Link>(
     requires sound { host.old.broken ≡ None }
     requires signature { host.old.signature ≡ plan.now.part.signature }
     ensures performs { Performs false (opening_part plan.now.part plan.now.switches) host.old host.new
-        (L.talk link.old) (L.talk link.new) (L.failures link.old) (L.failures link.new)
-        (D.kept desk.old) (D.kept desk.new) (D.failures desk.old) (D.failures desk.new) result }
+        (L.view link.old).talk (L.view link.new).talk (L.view link.old).failures (L.view link.new).failures
+        (D.view desk.old).kept (D.view desk.new).kept (D.view desk.old).failures (D.view desk.new).failures result }
     ensures comes { Stays L.comes_of link.old link.new }
 {
     let switches = plan.switches();
@@ -50,8 +50,8 @@ fn erase_chip<D: Desk, L: Link>(
 ) -> Result<Standing, Stopped>
     requires sound { host.old.broken ≡ None }
     ensures performs { Performs false (chip_erasing_part plan.now.part plan.now.switches) host.old host.new
-        (L.talk link.old) (L.talk link.new) (L.failures link.old) (L.failures link.new)
-        (D.kept desk.old) (D.kept desk.new) (D.failures desk.old) (D.failures desk.new) result }
+        (L.view link.old).talk (L.view link.new).talk (L.view link.old).failures (L.view link.new).failures
+        (D.view desk.old).kept (D.view desk.new).kept (D.view desk.old).failures (D.view desk.new).failures result }
     ensures comes { Stays L.comes_of link.old link.new }
 {
     let erased = host.erase(link);
@@ -61,18 +61,18 @@ fn erase_chip<D: Desk, L: Link>(
 
 /// Warns that an erase that was asked for is left out.
 fn warn_of_no_erase<D: Desk>(desk: &mut D, quiet: u8) -> Result<(), Stopped>
-    ensures reports { Reports (D.kept desk.old) (D.kept desk.new)
+    ensures reports { Reports (D.view desk.old).kept (D.view desk.new).kept
         (warns quiet (codes "chip not erased because of -n" ∷ []))
-        (PrintStops (D.failures desk.old) (D.failures desk.new)) result }
-    ensures counted { D.failures desk.old ≤ D.failures desk.new }
+        (PrintStops (D.view desk.old).failures (D.view desk.new).failures) result }
+    ensures counted { (D.view desk.old).failures ≤ (D.view desk.new).failures }
 {
     warn(desk, quiet, &[Piece::Text("chip not erased because of -n")])
 }
 
 /// Leaves out an erase, with a warning if one was asked for.
 fn leave_out_erase<D: Desk>(desk: &mut D, switches: Switches) -> Result<Standing, Stopped>
-    ensures leaves { LeavesOut (left_out_erase switches) (D.kept desk.old) (D.kept desk.new)
-        (D.failures desk.old) (D.failures desk.new) result }
+    ensures leaves { LeavesOut (left_out_erase switches) (D.view desk.old).kept (D.view desk.new).kept
+        (D.view desk.old).failures (D.view desk.new).failures result }
 {
     if switches.erase {
         let warned = warn_of_no_erase(desk, switches.quiet);
@@ -111,8 +111,8 @@ pub(crate) fn erase_if_due<D: Desk, L: Link>(
 ) -> Result<Standing, Stopped>
     requires sound { host.old.broken ≡ None }
     ensures performs { Performs false (erasing_part plan.now.part plan.now.switches plan.now.tasks) host.old host.new
-        (L.talk link.old) (L.talk link.new) (L.failures link.old) (L.failures link.new)
-        (D.kept desk.old) (D.kept desk.new) (D.failures desk.old) (D.failures desk.new) result }
+        (L.view link.old).talk (L.view link.new).talk (L.view link.old).failures (L.view link.new).failures
+        (D.view desk.old).kept (D.view desk.new).kept (D.view desk.old).failures (D.view desk.new).failures result }
     ensures comes { Stays L.comes_of link.old link.new }
 {
     let switches = plan.switches();
@@ -139,8 +139,8 @@ fn verify<D: Desk, L: Link>(
     requires part { host.old.part ≡ plan.now.part }
     requires fits { length image.now ≤ size_of mem plan.now.part }
     ensures performs { Performs true (verifying_part plan.now.part plan.now.switches mem image.now) host.old host.new
-        (L.talk link.old) (L.talk link.new) (L.failures link.old) (L.failures link.new)
-        (D.kept desk.old) (D.kept desk.new) (D.failures desk.old) (D.failures desk.new) result }
+        (L.view link.old).talk (L.view link.new).talk (L.view link.old).failures (L.view link.new).failures
+        (D.view desk.old).kept (D.view desk.new).kept (D.view desk.old).failures (D.view desk.new).failures result }
     ensures comes { Stays L.comes_of link.old link.new }
 {
     let verified = host.verify(alloc, link, mem, image);
@@ -170,8 +170,8 @@ fn write<D: Desk, L: Link>(
     requires part { host.old.part ≡ plan.now.part }
     requires fits { length image.now ≤ size_of mem plan.now.part }
     ensures performs { Performs false (writing_part plan.now.part plan.now.switches mem image.now) host.old host.new
-        (L.talk link.old) (L.talk link.new) (L.failures link.old) (L.failures link.new)
-        (D.kept desk.old) (D.kept desk.new) (D.failures desk.old) (D.failures desk.new) result }
+        (L.view link.old).talk (L.view link.new).talk (L.view link.old).failures (L.view link.new).failures
+        (D.view desk.old).kept (D.view desk.new).kept (D.view desk.old).failures (D.view desk.new).failures result }
     ensures comes { Stays L.comes_of link.old link.new }
 {
     let written = host.write(link, mem, image);
@@ -203,8 +203,8 @@ fn read_back<D: Desk, L: Link>(
     requires fits { length image.now ≤ size_of mem plan.now.part }
     ensures performs { Performs (not plan.now.switches.no_verify)
         (read_back_part plan.now.part plan.now.switches mem image.now) host.old host.new
-        (L.talk link.old) (L.talk link.new) (L.failures link.old) (L.failures link.new)
-        (D.kept desk.old) (D.kept desk.new) (D.failures desk.old) (D.failures desk.new) result }
+        (L.view link.old).talk (L.view link.new).talk (L.view link.old).failures (L.view link.new).failures
+        (D.view desk.old).kept (D.view desk.new).kept (D.view desk.old).failures (D.view desk.new).failures result }
     ensures comes { Stays L.comes_of link.old link.new }
 {
     if plan.switches().no_verify {
@@ -221,7 +221,7 @@ fn leave_out_write<D: Desk>(
     image: &Image,
 ) -> Result<Standing, Stopped>
     ensures leaves { LeavesOut (left_out_write plan.now.switches mem image.now)
-        (D.kept desk.old) (D.kept desk.new) (D.failures desk.old) (D.failures desk.new) result }
+        (D.view desk.old).kept (D.view desk.new).kept (D.view desk.old).failures (D.view desk.new).failures result }
 {
     let said = report_bytes(
         desk,
@@ -248,8 +248,8 @@ fn write_and_verify<D: Desk, L: Link>(
     requires fits { length image.now ≤ size_of mem plan.now.part }
     ensures performs { Performs (not (plan.now.switches.dry || plan.now.switches.no_verify))
         (write_part plan.now.part plan.now.switches mem image.now) host.old host.new
-        (L.talk link.old) (L.talk link.new) (L.failures link.old) (L.failures link.new)
-        (D.kept desk.old) (D.kept desk.new) (D.failures desk.old) (D.failures desk.new) result }
+        (L.view link.old).talk (L.view link.new).talk (L.view link.old).failures (L.view link.new).failures
+        (D.view desk.old).kept (D.view desk.new).kept (D.view desk.old).failures (D.view desk.new).failures result }
     ensures comes { Stays L.comes_of link.old link.new }
 {
     if plan.switches().dry {
@@ -275,8 +275,8 @@ fn read<D: Desk, L: Link>(
     requires part { host.old.part ≡ plan.now.part }
     ensures performs { Performs true
         (reading_part plan.now.part plan.now.switches mem target.entry.format target.entry.file.now)
-        host.old host.new (L.talk link.old) (L.talk link.new) (L.failures link.old) (L.failures link.new)
-        (D.kept desk.old) (D.kept desk.new) (D.failures desk.old) (D.failures desk.new) result }
+        host.old host.new (L.view link.old).talk (L.view link.new).talk (L.view link.old).failures (L.view link.new).failures
+        (D.view desk.old).kept (D.view desk.new).kept (D.view desk.old).failures (D.view desk.new).failures result }
     ensures comes { Stays L.comes_of link.old link.new }
 {
     let mut bytes = Vec::new(alloc);
@@ -299,8 +299,8 @@ fn perform<D: Desk, L: Link>(
     requires fits { IsFitted plan.now.part task.now }
     ensures performs { Performs (task_takes_memory plan.now.switches task.now)
         (task_part plan.now.part plan.now.switches task.now) host.old host.new
-        (L.talk link.old) (L.talk link.new) (L.failures link.old) (L.failures link.new)
-        (D.kept desk.old) (D.kept desk.new) (D.failures desk.old) (D.failures desk.new) result }
+        (L.view link.old).talk (L.view link.new).talk (L.view link.old).failures (L.view link.new).failures
+        (D.view desk.old).kept (D.view desk.new).kept (D.view desk.old).failures (D.view desk.new).failures result }
     ensures comes { Stays L.comes_of link.old link.new }
 {
     match task {
@@ -334,8 +334,8 @@ pub(crate) fn perform_all<D: Desk, L: Link>(
     requires fits { All (IsFitted plan.now.part) tasks.now }
     ensures performs { Performs (list_any (task_takes_memory plan.now.switches) tasks.now)
         (tasks_part plan.now.part plan.now.switches tasks.now) host.old host.new
-        (L.talk link.old) (L.talk link.new) (L.failures link.old) (L.failures link.new)
-        (D.kept desk.old) (D.kept desk.new) (D.failures desk.old) (D.failures desk.new) result }
+        (L.view link.old).talk (L.view link.new).talk (L.view link.old).failures (L.view link.new).failures
+        (D.view desk.old).kept (D.view desk.new).kept (D.view desk.old).failures (D.view desk.new).failures result }
     ensures comes { Stays L.comes_of link.old link.new }
 {
     match tasks {

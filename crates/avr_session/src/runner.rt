@@ -12,8 +12,8 @@ use stk_host::Link;
 /// Plans what the settings ask for, runs it over a link, reports it at the desk, and answers the status: 0 where no
 /// fault came, else 1. What is refused is told before any frame is sent or file created.
 pub fn run<D: Desk, L: Link>(alloc: Global, settings: &Settings, desk: &mut D, link: &mut L) -> u8
-    ensures runs { RunsSettings settings.now (L.talk link.old) (L.talk link.new) (D.kept desk.old) (D.kept desk.new)
-        (L.failures link.old) (L.failures link.new) (D.failures desk.old) (D.failures desk.new) result }
+    ensures runs { RunsSettings settings.now (L.view link.old).talk (L.view link.new).talk (D.view desk.old).kept (D.view desk.new).kept
+        (L.view link.old).failures (L.view link.new).failures (D.view desk.old).failures (D.view desk.new).failures result }
     ensures comes { Stays L.comes_of link.old link.new }
 {
     match plan(alloc, settings, desk) {

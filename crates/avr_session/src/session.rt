@@ -25,8 +25,8 @@ fn open_and_erase<D: Desk, L: Link>(
     requires sound { host.old.broken ≡ None }
     requires signature { host.old.signature ≡ plan.now.part.signature }
     ensures performs { Performs false (beginning plan.now) host.old host.new
-        (L.talk link.old) (L.talk link.new) (L.failures link.old) (L.failures link.new)
-        (D.kept desk.old) (D.kept desk.new) (D.failures desk.old) (D.failures desk.new) result }
+        (L.view link.old).talk (L.view link.new).talk (L.view link.old).failures (L.view link.new).failures
+        (D.view desk.old).kept (D.view desk.new).kept (D.view desk.old).failures (D.view desk.new).failures result }
     ensures comes { Stays L.comes_of link.old link.new }
 {
     match open_session(host, desk, link, plan)? {
@@ -47,8 +47,8 @@ fn work<D: Desk, L: Link>(
     requires signature { host.old.signature ≡ plan.now.part.signature }
     requires part { host.old.part ≡ plan.now.part }
     ensures performs { Performs (takes_memory plan.now) (working plan.now) host.old host.new
-        (L.talk link.old) (L.talk link.new) (L.failures link.old) (L.failures link.new)
-        (D.kept desk.old) (D.kept desk.new) (D.failures desk.old) (D.failures desk.new) result }
+        (L.view link.old).talk (L.view link.new).talk (L.view link.old).failures (L.view link.new).failures
+        (D.view desk.old).kept (D.view desk.new).kept (D.view desk.old).failures (D.view desk.new).failures result }
     ensures comes { Stays L.comes_of link.old link.new }
 {
     match open_and_erase(host, desk, link, plan)? {
@@ -66,8 +66,8 @@ fn close<D: Desk, L: Link>(
 ) -> Result<Standing, Stopped>
     requires { host.old.broken ≡ None }
     ensures performs { Performs false (ending plan.now.part plan.now.switches Fine) host.old host.new
-        (L.talk link.old) (L.talk link.new) (L.failures link.old) (L.failures link.new)
-        (D.kept desk.old) (D.kept desk.new) (D.failures desk.old) (D.failures desk.new) result }
+        (L.view link.old).talk (L.view link.new).talk (L.view link.old).failures (L.view link.new).failures
+        (D.view desk.old).kept (D.view desk.new).kept (D.view desk.old).failures (D.view desk.new).failures result }
     ensures comes { Stays L.comes_of link.old link.new }
 {
     let closed = host.close(link);
@@ -84,8 +84,8 @@ fn close_after_fault<D: Desk, L: Link>(
 ) -> Result<Standing, Stopped>
     requires { host.old.broken ≡ None }
     ensures performs { PerformsBehind false true (ending plan.now.part plan.now.switches Faulty) host.old host.new
-        (L.talk link.old) (L.talk link.new) (L.failures link.old) (L.failures link.new)
-        (D.kept desk.old) (D.kept desk.new) (D.failures desk.old) (D.failures desk.new) result }
+        (L.view link.old).talk (L.view link.new).talk (L.view link.old).failures (L.view link.new).failures
+        (D.view desk.old).kept (D.view desk.new).kept (D.view desk.old).failures (D.view desk.new).failures result }
     ensures comes { Stays L.comes_of link.old link.new }
 {
     let closed = host.close(link);
@@ -104,8 +104,8 @@ fn end<D: Desk, L: Link>(
     requires { Serves (Ok standing) host.old.broken }
     ensures performs { PerformsBehind false (is_told standing)
         (ending plan.now.part plan.now.switches standing) host.old host.new
-        (L.talk link.old) (L.talk link.new) (L.failures link.old) (L.failures link.new)
-        (D.kept desk.old) (D.kept desk.new) (D.failures desk.old) (D.failures desk.new) result }
+        (L.view link.old).talk (L.view link.new).talk (L.view link.old).failures (L.view link.new).failures
+        (D.view desk.old).kept (D.view desk.new).kept (D.view desk.old).failures (D.view desk.new).failures result }
     ensures comes { Stays L.comes_of link.old link.new }
 {
     match standing {
@@ -127,8 +127,8 @@ fn play<D: Desk, L: Link>(
     requires signature { host.old.signature ≡ plan.now.part.signature }
     requires part { host.old.part ≡ plan.now.part }
     ensures performs { Performs (takes_memory plan.now) (playing plan.now) host.old host.new
-        (L.talk link.old) (L.talk link.new) (L.failures link.old) (L.failures link.new)
-        (D.kept desk.old) (D.kept desk.new) (D.failures desk.old) (D.failures desk.new) result }
+        (L.view link.old).talk (L.view link.new).talk (L.view link.old).failures (L.view link.new).failures
+        (D.view desk.old).kept (D.view desk.new).kept (D.view desk.old).failures (D.view desk.new).failures result }
     ensures comes { Stays L.comes_of link.old link.new }
 {
     let standing = work(alloc, host, desk, link, plan)?;
@@ -141,10 +141,10 @@ fn play<D: Desk, L: Link>(
 /// After a fault of the link or the desk, or where memory was refused to read or to compare, its line is printed, whole
 /// unless the desk fails, and nothing more is sent or said. Behind the line of a fault a second one is not told.
 pub fn drive<D: Desk, L: Link>(alloc: Global, plan: &Plan, desk: &mut D, link: &mut L) -> u8
-    ensures runs { RunsTo (session plan.now) (L.talk link.old) (L.talk link.new) (D.kept desk.old) (D.kept desk.new)
-        (Stops (takes_memory plan.now) (L.failures link.old) (L.failures link.new) (D.failures desk.old)
-        (D.failures desk.new)) result }
-    ensures rises { D.failures desk.old ≤ D.failures desk.new }
+    ensures runs { RunsTo (session plan.now) (L.view link.old).talk (L.view link.new).talk (D.view desk.old).kept (D.view desk.new).kept
+        (Stops (takes_memory plan.now) (L.view link.old).failures (L.view link.new).failures (D.view desk.old).failures
+        (D.view desk.new).failures) result }
+    ensures rises { (D.view desk.old).failures ≤ (D.view desk.new).failures }
     ensures comes { Stays L.comes_of link.old link.new }
 {
     let mut host = Host::new(plan.part());

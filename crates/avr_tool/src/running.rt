@@ -15,9 +15,9 @@ use stk_host::Link;
 /// fault came, else 1. What is refused is told before any frame is sent or file created.
 #[tactic(auto, using(crate::proofs::Joining::is_run))]
 pub fn run<D: Desk, L: Link>(alloc: Global, settings: &Settings, desk: &mut D, link: &mut L) -> u8
-    ensures runs { IsRun settings.now (L.talk link.old) (L.talk link.new) (D.kept desk.old) (D.kept desk.new) result
-        ⊎ IsStopped settings.now (L.talk link.old) (L.talk link.new) (D.kept desk.old) (D.kept desk.new)
-        (L.failures link.old) (L.failures link.new) (D.failures desk.old) (D.failures desk.new) result }
+    ensures runs { IsRun settings.now (L.view link.old).talk (L.view link.new).talk (D.view desk.old).kept (D.view desk.new).kept result
+        ⊎ IsStopped settings.now (L.view link.old).talk (L.view link.new).talk (D.view desk.old).kept (D.view desk.new).kept
+        (L.view link.old).failures (L.view link.new).failures (D.view desk.old).failures (D.view desk.new).failures result }
     ensures comes { Stays L.comes_of link.old link.new }
 {
     run_over(alloc, settings, desk, link)
@@ -29,8 +29,8 @@ pub fn run<D: Desk, L: Link>(alloc: Global, settings: &Settings, desk: &mut D, l
 /// another part is met as any programmer is.
 pub fn run_wired<D: Desk>(alloc: Global, settings: &Settings, desk: &mut D, wire: &mut Wired) -> u8
     requires new { IsNew wire.old }
-    ensures runs { RunsWired settings.now wire.old wire.new (D.kept desk.old) (D.kept desk.new)
-        (D.failures desk.old) (D.failures desk.new) result }
+    ensures runs { RunsWired settings.now wire.old wire.new (D.view desk.old).kept (D.view desk.new).kept
+        (D.view desk.old).failures (D.view desk.new).failures result }
 {
     let plan = match plan(alloc, settings, desk) {
         Ok(plan) => plan,

@@ -23,9 +23,7 @@ struct Loopback {
 }
 
 impl Link for Loopback {
-    ghost talk = { λ _. None };
-
-    ghost failures = { λ link. link.near.failures };
+    ghost view = { λ link. record { talk = None; failures = link.near.failures } };
 
     ghost Start = { Unit {0} };
 

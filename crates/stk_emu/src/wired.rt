@@ -194,9 +194,7 @@ impl Wired {
 }
 
 impl Link for Wired {
-    ghost talk = { λ link. Some link.talk };
-
-    ghost failures = { λ link. link.failures };
+    ghost view = { λ link. record { talk = Some link.talk; failures = link.failures } };
 
     ghost Start = { Start };
 

@@ -60,12 +60,12 @@ impl Model for Conversation {
 
 fn send_command<L: Link>(link: &mut L, seq: u8, command: &Command<'_>) -> Result<(), LinkFault>
     requires { FitsFrame command.now }
-    ensures ok { OnOk result (Says (frame seq (body command.now)) (L.talk link.old) (L.talk link.new)) }
-    ensures err { OnErr result (SaysPart (frame seq (body command.now)) (L.talk link.old) (L.talk link.new)) }
-    ensures counted { L.failures link.old ≤ L.failures link.new }
+    ensures ok { OnOk result (Says (frame seq (body command.now)) (L.view link.old).talk (L.view link.new).talk) }
+    ensures err { OnErr result (SaysPart (frame seq (body command.now)) (L.view link.old).talk (L.view link.new).talk) }
+    ensures counted { (L.view link.old).failures ≤ (L.view link.new).failures }
     ensures comes { Stays L.comes_of link.old link.new }
-    ensures sound { OnOk result (L.failures link.new ≡ L.failures link.old) }
-    ensures failed { OnErr result (HasFailed (L.failures link.old) (L.failures link.new)) }
+    ensures sound { OnOk result ((L.view link.new).failures ≡ (L.view link.old).failures) }
+    ensures failed { OnErr result (HasFailed (L.view link.old).failures (L.view link.new).failures) }
 {
     let mut frame = ArrayVec::new();
     command.put_frame(seq, &mut frame);
@@ -131,18 +131,18 @@ impl Conversation {
     fn exchange<L: Link>(&mut self, link: &mut L, command: &Command<'_>) -> Result<Reply, Broken>
         requires { FitsFrame command.now }
         ensures ok { IfOk result (λ reply. PlaysOver (exchange command.now) self.old.next self.old.unread
-            (L.talk link.old) (L.talk link.new)
+            (L.view link.old).talk (L.view link.new).talk
             (reply_of reply (data_held command.now self.new.held)) self.new.next self.new.unread) }
         ensures sized { IsOkAnd result (λ reply. reply ≡ Reply.Data)
             → SizedBy (shape command.now) (data_held command.now self.new.held) }
         ensures quiet { BringsNoData command.now → IsOkAnd result (λ reply. reply ≡ Reply.Data)
             → data_held command.now self.new.held ≡ [] }
         ensures err { IfErr result (λ broken. FailsOver broken (exchange command.now) self.old.next self.old.unread
-            (L.talk link.old) (L.talk link.new)) }
-        ensures counted { L.failures link.old ≤ L.failures link.new }
+            (L.view link.old).talk (L.view link.new).talk) }
+        ensures counted { (L.view link.old).failures ≤ (L.view link.new).failures }
         ensures comes { Stays L.comes_of link.old link.new }
-        ensures sound { OnOk result (L.failures link.new ≡ L.failures link.old) }
-        ensures failed { OnErr result (HasFailed (L.failures link.old) (L.failures link.new)) }
+        ensures sound { OnOk result ((L.view link.new).failures ≡ (L.view link.old).failures) }
+        ensures failed { OnErr result (HasFailed (L.view link.old).failures (L.view link.new).failures) }
         ensures bound { length self.new.unread ≤ LARGEST_FRAME }
     {
         let seq = self.next;
@@ -166,16 +166,16 @@ impl Conversation {
         requires quiet { All BringsNoData first.now }
         requires fits { FitsFrame last.now }
         ensures ok { IfOk result (λ reply. PlaysOver (attempt (first.now ++ last.now ∷ []) []) self.old.next
-            self.old.unread (L.talk link.old) (L.talk link.new)
+            self.old.unread (L.view link.old).talk (L.view link.new).talk
             (reply_of reply (data_held last.now self.new.held)) self.new.next self.new.unread) }
         ensures err { IfErr result (λ broken. FailsOver broken (attempt (first.now ++ last.now ∷ []) []) self.old.next
-            self.old.unread (L.talk link.old) (L.talk link.new)) }
+            self.old.unread (L.view link.old).talk (L.view link.new).talk) }
         ensures sized { IsOkAnd result (λ reply. reply ≡ Reply.Data)
             → SizedBy (shape last.now) (data_held last.now self.new.held) }
-        ensures counted { L.failures link.old ≤ L.failures link.new }
+        ensures counted { (L.view link.old).failures ≤ (L.view link.new).failures }
         ensures comes { Stays L.comes_of link.old link.new }
-        ensures sound { OnOk result (L.failures link.new ≡ L.failures link.old) }
-        ensures failed { OnErr result (HasFailed (L.failures link.old) (L.failures link.new)) }
+        ensures sound { OnOk result ((L.view link.new).failures ≡ (L.view link.old).failures) }
+        ensures failed { OnErr result (HasFailed (L.view link.old).failures (L.view link.new).failures) }
         ensures bound { length self.new.unread ≤ LARGEST_FRAME }
     {
         for command in first {
@@ -199,11 +199,11 @@ impl Conversation {
     ) -> Result<(), Stop>
         requires quiet { All BringsNoData first.now }
         requires fits { FitsFrame last.now }
-        ensures played { EndsSteps (step (first.now ++ last.now ∷ [])) self.old.next self.old.unread (L.talk link.old)
-            (L.talk link.new)
+        ensures played { EndsSteps (step (first.now ++ last.now ∷ [])) self.old.next self.old.unread (L.view link.old).talk
+            (L.view link.new).talk
             (λ done. data_held last.now self.new.held) result self.new.next self.new.unread }
         ensures sized { OnOk result (SizedBy (shape last.now) (data_held last.now self.new.held)) }
-        ensures counted { CountsLink (L.failures link.old) (L.failures link.new) result }
+        ensures counted { CountsLink (L.view link.old).failures (L.view link.new).failures result }
         ensures comes { Stays L.comes_of link.old link.new }
         ensures bound { length self.new.unread ≤ LARGEST_FRAME }
     {

@@ -15,9 +15,9 @@ use stk_frame::Command;
 /// Erases the chip.
 pub(crate) fn erase_chip<L: Link>(conversation: &mut Conversation, link: &mut L) -> Result<(), Stop>
     ensures played { EndsSteps (play ((erase ∷ []) ∷ []) []) conversation.old.next conversation.old.unread
-        (L.talk link.old) (L.talk link.new)
+        (L.view link.old).talk (L.view link.new).talk
         (λ done. []) result conversation.new.next conversation.new.unread }
-    ensures counted { CountsLink (L.failures link.old) (L.failures link.new) result }
+    ensures counted { CountsLink (L.view link.old).failures (L.view link.new).failures result }
     ensures comes { Stays L.comes_of link.old link.new }
     ensures bound { length conversation.new.unread ≤ LARGEST_FRAME }
 {

@@ -73,9 +73,10 @@ impl<L> FailingLink<L> {
 }
 
 impl<L: Link + Drop> Link for FailingLink<L> {
-    ghost talk = { λ link. L.talk link.inner };
-
-    ghost failures = { λ link. total_failures (L.failures link.inner) link.failed };
+    ghost view = { λ link. record {
+      talk = (L.view link.inner).talk;
+      failures = total_failures (L.view link.inner).failures link.failed;
+    } };
 
     ghost Start = { L.Start };
 
@@ -83,20 +84,20 @@ impl<L: Link + Drop> Link for FailingLink<L> {
 
     fn send(&mut self, bytes: &[u8]) -> Result<usize, LinkFault>
         ensures within { IfOk result (λ n. n ≤ length bytes.now) }
-        ensures ok { IfOk result (λ n. Grows (L.talk self.old.inner) (Sent (take n bytes.now) ∷ [])
-            (L.talk self.new.inner)) }
-        ensures err { OnErr result (Grows (L.talk self.old.inner) [] (L.talk self.new.inner)) }
-        ensures counted { total_failures (L.failures self.old.inner) self.old.failed
-            ≤ total_failures (L.failures self.new.inner) self.new.failed }
-        ensures failed { OnErr result (HasFailed (total_failures (L.failures self.old.inner) self.old.failed)
-            (total_failures (L.failures self.new.inner) self.new.failed)) }
+        ensures ok { IfOk result (λ n. Grows (L.view self.old.inner).talk (Sent (take n bytes.now) ∷ [])
+            (L.view self.new.inner).talk) }
+        ensures err { OnErr result (Grows (L.view self.old.inner).talk [] (L.view self.new.inner).talk) }
+        ensures counted { total_failures (L.view self.old.inner).failures self.old.failed
+            ≤ total_failures (L.view self.new.inner).failures self.new.failed }
+        ensures failed { OnErr result (HasFailed (total_failures (L.view self.old.inner).failures self.old.failed)
+            (total_failures (L.view self.new.inner).failures self.new.failed)) }
         ensures stuck { IfOk result (λ n. n ≡ 0 → 0 < length bytes.now
-            → HasFailed (total_failures (L.failures self.old.inner) self.old.failed)
-            (total_failures (L.failures self.new.inner) self.new.failed)) }
-        ensures sound { IfOk result (λ n. 0 < n → total_failures (L.failures self.new.inner) self.new.failed
-            ≡ total_failures (L.failures self.old.inner) self.old.failed) }
-        ensures idle { OnOk result (length bytes.now ≡ 0 → total_failures (L.failures self.new.inner) self.new.failed
-            ≡ total_failures (L.failures self.old.inner) self.old.failed) }
+            → HasFailed (total_failures (L.view self.old.inner).failures self.old.failed)
+            (total_failures (L.view self.new.inner).failures self.new.failed)) }
+        ensures sound { IfOk result (λ n. 0 < n → total_failures (L.view self.new.inner).failures self.new.failed
+            ≡ total_failures (L.view self.old.inner).failures self.old.failed) }
+        ensures idle { OnOk result (length bytes.now ≡ 0 → total_failures (L.view self.new.inner).failures self.new.failed
+            ≡ total_failures (L.view self.old.inner).failures self.old.failed) }
         ensures comes { Stays L.comes_of self.old.inner self.new.inner }
         ensures due { self.new.due ≡ self.old.due - 1 }
         ensures cut { self.new.cut ≡ self.old.cut }
@@ -104,7 +105,7 @@ impl<L: Link + Drop> Link for FailingLink<L> {
         ensures chosen { self.old.due ≡ 1 → (result ≡ Err Failed) × (self.new.inner ≡ self.old.inner) }
         // Every other call fails only with the inner link.
         ensures others { self.old.due ≢ 1 → (self.new.failed ≡ self.old.failed)
-            × OnErr result (HasFailed (L.failures self.old.inner) (L.failures self.new.inner)) }
+            × OnErr result (HasFailed (L.view self.old.inner).failures (L.view self.new.inner).failures) }
         ensures short { IfOk result (λ n. n ≤ self.old.cut) }
     {
         if self.is_due() {
@@ -117,15 +118,15 @@ impl<L: Link + Drop> Link for FailingLink<L> {
     fn recv(&mut self, buffer: &mut [u8]) -> Result<Heard, LinkFault>
         requires { 0 < length buffer.old }
         ensures within { IfOk result (λ heard. FitsBuffer heard (length buffer.new)) }
-        ensures ok { IfOk result (λ heard. Grows (L.talk self.old.inner) (Got (items_of heard buffer.new) ∷ [])
-            (L.talk self.new.inner)) }
-        ensures err { OnErr result (Grows (L.talk self.old.inner) [] (L.talk self.new.inner)) }
-        ensures counted { total_failures (L.failures self.old.inner) self.old.failed
-            ≤ total_failures (L.failures self.new.inner) self.new.failed }
-        ensures failed { OnErr result (HasFailed (total_failures (L.failures self.old.inner) self.old.failed)
-            (total_failures (L.failures self.new.inner) self.new.failed)) }
-        ensures sound { OnOk result (total_failures (L.failures self.new.inner) self.new.failed
-            ≡ total_failures (L.failures self.old.inner) self.old.failed) }
+        ensures ok { IfOk result (λ heard. Grows (L.view self.old.inner).talk (Got (items_of heard buffer.new) ∷ [])
+            (L.view self.new.inner).talk) }
+        ensures err { OnErr result (Grows (L.view self.old.inner).talk [] (L.view self.new.inner).talk) }
+        ensures counted { total_failures (L.view self.old.inner).failures self.old.failed
+            ≤ total_failures (L.view self.new.inner).failures self.new.failed }
+        ensures failed { OnErr result (HasFailed (total_failures (L.view self.old.inner).failures self.old.failed)
+            (total_failures (L.view self.new.inner).failures self.new.failed)) }
+        ensures sound { OnOk result (total_failures (L.view self.new.inner).failures self.new.failed
+            ≡ total_failures (L.view self.old.inner).failures self.old.failed) }
         ensures comes { Stays L.comes_of self.old.inner self.new.inner }
         ensures due { self.new.due ≡ self.old.due - 1 }
         ensures cut { self.new.cut ≡ self.old.cut }
@@ -133,7 +134,7 @@ impl<L: Link + Drop> Link for FailingLink<L> {
         ensures chosen { self.old.due ≡ 1 → (result ≡ Err Failed) × (self.new.inner ≡ self.old.inner) }
         // Every other call fails only with the inner link.
         ensures others { self.old.due ≢ 1 → (self.new.failed ≡ self.old.failed)
-            × OnErr result (HasFailed (L.failures self.old.inner) (L.failures self.new.inner)) }
+            × OnErr result (HasFailed (L.view self.old.inner).failures (L.view self.new.inner).failures) }
         ensures short { IfOk result (λ heard. FitsBuffer heard self.old.cut) }
     {
         if self.is_due() {

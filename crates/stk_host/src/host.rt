@@ -168,15 +168,15 @@ impl Host {
         // Else the call is the play of the steps that open a session, or after a fault of the link a front of it.
         ensures played { self.old.broken ≡ None → EndsCall (opening self.old.signature force) self.old.next
             self.old.unread
-            (L.talk link.old) (L.talk link.new) result self.new.next self.new.unread }
+            (L.view link.old).talk (L.view link.new).talk result self.new.next self.new.unread }
         ensures lasts { self.old.broken ≡ None → self.new.broken ≡ left_by result }
         ensures part { self.new.part ≡ self.old.part }
         ensures signature { self.new.signature ≡ self.old.signature }
         // A fault of the link is told where the link has failed, and only there.
         ensures failed { self.old.broken ≡ None → IsBroken result
-            → HasFailed (L.failures link.old) (L.failures link.new) }
-        ensures sound { self.old.broken ≡ None → UnlessBroken result (L.failures link.new ≡ L.failures link.old) }
-        ensures counted { L.failures link.old ≤ L.failures link.new }
+            → HasFailed (L.view link.old).failures (L.view link.new).failures }
+        ensures sound { self.old.broken ≡ None → UnlessBroken result ((L.view link.new).failures ≡ (L.view link.old).failures) }
+        ensures counted { (L.view link.old).failures ≤ (L.view link.new).failures }
         ensures comes { Stays L.comes_of link.old link.new }
         // Of what was heard at most one piece is left.
         ensures bound { self.old.broken ≡ None → length self.new.unread ≤ LARGEST_FRAME }
@@ -197,15 +197,15 @@ impl Host {
             × (self.new ≡ self.old) × (link.new ≡ link.old) }
         // Else the call is the play of the step that erases the chip, or after a fault of the link a front of it.
         ensures played { self.old.broken ≡ None → EndsCall erasing self.old.next self.old.unread
-            (L.talk link.old) (L.talk link.new) result self.new.next self.new.unread }
+            (L.view link.old).talk (L.view link.new).talk result self.new.next self.new.unread }
         ensures lasts { self.old.broken ≡ None → self.new.broken ≡ left_by result }
         ensures part { self.new.part ≡ self.old.part }
         ensures signature { self.new.signature ≡ self.old.signature }
         // A fault of the link is told where the link has failed, and only there.
         ensures failed { self.old.broken ≡ None → IsBroken result
-            → HasFailed (L.failures link.old) (L.failures link.new) }
-        ensures sound { self.old.broken ≡ None → UnlessBroken result (L.failures link.new ≡ L.failures link.old) }
-        ensures counted { L.failures link.old ≤ L.failures link.new }
+            → HasFailed (L.view link.old).failures (L.view link.new).failures }
+        ensures sound { self.old.broken ≡ None → UnlessBroken result ((L.view link.new).failures ≡ (L.view link.old).failures) }
+        ensures counted { (L.view link.old).failures ≤ (L.view link.new).failures }
         ensures comes { Stays L.comes_of link.old link.new }
         // Of what was heard at most one piece is left.
         ensures bound { self.old.broken ≡ None → length self.new.unread ≤ LARGEST_FRAME }
@@ -232,15 +232,15 @@ impl Host {
         // Else the call is the play of the steps that write the image, or after a fault of the link a front of it.
         ensures played { self.old.broken ≡ None → EndsCall (writing self.old.part mem image.now) self.old.next
             self.old.unread
-            (L.talk link.old) (L.talk link.new) result self.new.next self.new.unread }
+            (L.view link.old).talk (L.view link.new).talk result self.new.next self.new.unread }
         ensures lasts { self.old.broken ≡ None → self.new.broken ≡ left_by result }
         ensures part { self.new.part ≡ self.old.part }
         ensures signature { self.new.signature ≡ self.old.signature }
         // A fault of the link is told where the link has failed, and only there.
         ensures failed { self.old.broken ≡ None → IsBroken result
-            → HasFailed (L.failures link.old) (L.failures link.new) }
-        ensures sound { self.old.broken ≡ None → UnlessBroken result (L.failures link.new ≡ L.failures link.old) }
-        ensures counted { L.failures link.old ≤ L.failures link.new }
+            → HasFailed (L.view link.old).failures (L.view link.new).failures }
+        ensures sound { self.old.broken ≡ None → UnlessBroken result ((L.view link.new).failures ≡ (L.view link.old).failures) }
+        ensures counted { (L.view link.old).failures ≤ (L.view link.new).failures }
         ensures comes { Stays L.comes_of link.old link.new }
         // Of what was heard at most one piece is left.
         ensures bound { self.old.broken ≡ None → length self.new.unread ≤ LARGEST_FRAME }
@@ -272,7 +272,7 @@ impl Host {
         // Else the call is the play of the steps that read the memory, or after a fault of the link a front of it.
         // Where memory was refused nothing was sent or heard.
         ensures played { self.old.broken ≡ None → EndsOrLacks (reading self.old.part mem) self.old.next self.old.unread
-            (L.talk link.old) (L.talk link.new) (given out.new.items result) self.new.next self.new.unread }
+            (L.view link.old).talk (L.view link.new).talk (given out.new.items result) self.new.next self.new.unread }
         ensures empty { OnErr result (out.new.items ≡ []) }
         ensures sized { OnOk result (length out.new.items ≡ size_of mem self.old.part) }
         ensures short { length out.new.items < 2 ^ 32 }
@@ -281,9 +281,9 @@ impl Host {
         ensures signature { self.new.signature ≡ self.old.signature }
         // A fault of the link is told where the link has failed, and only there.
         ensures failed { self.old.broken ≡ None → IsBroken result
-            → HasFailed (L.failures link.old) (L.failures link.new) }
-        ensures sound { self.old.broken ≡ None → UnlessBroken result (L.failures link.new ≡ L.failures link.old) }
-        ensures counted { L.failures link.old ≤ L.failures link.new }
+            → HasFailed (L.view link.old).failures (L.view link.new).failures }
+        ensures sound { self.old.broken ≡ None → UnlessBroken result ((L.view link.new).failures ≡ (L.view link.old).failures) }
+        ensures counted { (L.view link.old).failures ≤ (L.view link.new).failures }
         ensures comes { Stays L.comes_of link.old link.new }
         // Of what was heard at most one piece is left.
         ensures bound { self.old.broken ≡ None → length self.new.unread ≤ LARGEST_FRAME }
@@ -321,15 +321,15 @@ impl Host {
         // a front of it. Where memory was refused nothing was sent or heard.
         ensures played { self.old.broken ≡ None → EndsOrLacks (verifying self.old.part mem image.now) self.old.next
             self.old.unread
-            (L.talk link.old) (L.talk link.new) result self.new.next self.new.unread }
+            (L.view link.old).talk (L.view link.new).talk result self.new.next self.new.unread }
         ensures lasts { self.old.broken ≡ None → self.new.broken ≡ left_by result }
         ensures part { self.new.part ≡ self.old.part }
         ensures signature { self.new.signature ≡ self.old.signature }
         // A fault of the link is told where the link has failed, and only there.
         ensures failed { self.old.broken ≡ None → IsBroken result
-            → HasFailed (L.failures link.old) (L.failures link.new) }
-        ensures sound { self.old.broken ≡ None → UnlessBroken result (L.failures link.new ≡ L.failures link.old) }
-        ensures counted { L.failures link.old ≤ L.failures link.new }
+            → HasFailed (L.view link.old).failures (L.view link.new).failures }
+        ensures sound { self.old.broken ≡ None → UnlessBroken result ((L.view link.new).failures ≡ (L.view link.old).failures) }
+        ensures counted { (L.view link.old).failures ≤ (L.view link.new).failures }
         ensures comes { Stays L.comes_of link.old link.new }
         // Of what was heard at most one piece is left.
         ensures bound { self.old.broken ≡ None → length self.new.unread ≤ LARGEST_FRAME }
@@ -355,15 +355,15 @@ impl Host {
         // Else the call is the play of the step that leaves programming mode, or after a fault of the link a front of
         // it.
         ensures played { self.old.broken ≡ None → EndsCall closing self.old.next self.old.unread
-            (L.talk link.old) (L.talk link.new) result self.new.next self.new.unread }
+            (L.view link.old).talk (L.view link.new).talk result self.new.next self.new.unread }
         ensures lasts { self.old.broken ≡ None → self.new.broken ≡ left_by result }
         ensures part { self.new.part ≡ self.old.part }
         ensures signature { self.new.signature ≡ self.old.signature }
         // A fault of the link is told where the link has failed, and only there.
         ensures failed { self.old.broken ≡ None → IsBroken result
-            → HasFailed (L.failures link.old) (L.failures link.new) }
-        ensures sound { self.old.broken ≡ None → UnlessBroken result (L.failures link.new ≡ L.failures link.old) }
-        ensures counted { L.failures link.old ≤ L.failures link.new }
+            → HasFailed (L.view link.old).failures (L.view link.new).failures }
+        ensures sound { self.old.broken ≡ None → UnlessBroken result ((L.view link.new).failures ≡ (L.view link.old).failures) }
+        ensures counted { (L.view link.old).failures ≤ (L.view link.new).failures }
         ensures comes { Stays L.comes_of link.old link.new }
         // Of what was heard at most one piece is left.
         ensures bound { self.old.broken ≡ None → length self.new.unread ≤ LARGEST_FRAME }

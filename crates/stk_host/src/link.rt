@@ -1,6 +1,6 @@
 //! The line between the host and a programmer.
 ghost use Rattle.std.specs.Prelude.{◌≡◌, ◌<◌, ◌≤◌, ℕ, length, take, [], ◌∷◌, ◌++◌, Option, IfOk, OnOk, OnErr};
-ghost use Rattle.stk_host.specs.Talk.{Talk, Sent, Got, Grows, HasFailed, Stays, FitsBuffer, items_of};
+ghost use Rattle.stk_host.specs.Talk.{LinkView, Sent, Got, Grows, HasFailed, Stays, FitsBuffer, items_of};
 
 use thiserror::Error;
 
@@ -51,11 +51,8 @@ pub enum Item {
 /// failed, at most 2^64 - 1. A fault is answered only where that count rose or stands at this end, and no call that
 /// answers none raises it, but for a `send` that took none of some bytes.
 pub trait Link {
-    /// What was sent and heard, or `None` where the link doesn't keep it.
-    ghost talk: { Self → Option Talk };
-
-    /// How often the link has failed.
-    ghost failures: { Self → ℕ };
+    /// What was sent and heard, or `None` where the link doesn't keep it. And how often the link has failed.
+    ghost view: { Self → LinkView };
 
     /// What a link may begin with, where that tells what it does later on: for a wire its programmer and its fates.
     ghost Start: { Type 0 };
@@ -69,14 +66,14 @@ pub trait Link {
     /// that keeps what passed has passed nothing, and one that doesn't may have passed a front of them.
     fn send(&mut self, bytes: &[u8]) -> Result<usize, LinkFault>
         ensures within { IfOk result (λ n. n ≤ length bytes.now) }
-        ensures ok { IfOk result (λ n. Grows (talk self.old) (Sent (take n bytes.now) ∷ []) (talk self.new)) }
-        ensures err { OnErr result (Grows (talk self.old) [] (talk self.new)) }
-        ensures counted { failures self.old ≤ failures self.new }
-        ensures failed { OnErr result (HasFailed (failures self.old) (failures self.new)) }
+        ensures ok { IfOk result (λ n. Grows (view self.old).talk (Sent (take n bytes.now) ∷ []) (view self.new).talk) }
+        ensures err { OnErr result (Grows (view self.old).talk [] (view self.new).talk) }
+        ensures counted { (view self.old).failures ≤ (view self.new).failures }
+        ensures failed { OnErr result (HasFailed (view self.old).failures (view self.new).failures) }
         ensures stuck { IfOk result (λ n. n ≡ 0 → 0 < length bytes.now
-            → HasFailed (failures self.old) (failures self.new)) }
-        ensures sound { IfOk result (λ n. 0 < n → failures self.new ≡ failures self.old) }
-        ensures idle { OnOk result (length bytes.now ≡ 0 → failures self.new ≡ failures self.old) }
+            → HasFailed (view self.old).failures (view self.new).failures) }
+        ensures sound { IfOk result (λ n. 0 < n → (view self.new).failures ≡ (view self.old).failures) }
+        ensures idle { OnOk result (length bytes.now ≡ 0 → (view self.new).failures ≡ (view self.old).failures) }
         ensures comes { Stays comes_of self.old self.new };
 
     /// Listens: for at least one byte and as many as the buffer holds, a silence or the end.
@@ -85,11 +82,11 @@ pub trait Link {
     fn recv(&mut self, buffer: &mut [u8]) -> Result<Heard, LinkFault>
         requires { 0 < length buffer.old }
         ensures within { IfOk result (λ heard. FitsBuffer heard (length buffer.new)) }
-        ensures ok { IfOk result (λ heard. Grows (talk self.old) (Got (items_of heard buffer.new) ∷ [])
-            (talk self.new)) }
-        ensures err { OnErr result (Grows (talk self.old) [] (talk self.new)) }
-        ensures counted { failures self.old ≤ failures self.new }
-        ensures failed { OnErr result (HasFailed (failures self.old) (failures self.new)) }
-        ensures sound { OnOk result (failures self.new ≡ failures self.old) }
+        ensures ok { IfOk result (λ heard. Grows (view self.old).talk (Got (items_of heard buffer.new) ∷ [])
+            (view self.new).talk) }
+        ensures err { OnErr result (Grows (view self.old).talk [] (view self.new).talk) }
+        ensures counted { (view self.old).failures ≤ (view self.new).failures }
+        ensures failed { OnErr result (HasFailed (view self.old).failures (view self.new).failures) }
+        ensures sound { OnOk result ((view self.new).failures ≡ (view self.old).failures) }
         ensures comes { Stays comes_of self.old self.new };
 }

@@ -61,15 +61,15 @@ pub(crate) fn listen<L: Link>(
     seq: u8,
 ) -> Result<Reading, LinkFault>
     requires few { length unread.old ≤ LARGEST_FRAME }
-    ensures ok { IfOk result (λ reading. Hears seq unread.old (L.talk link.old) (L.talk link.new)
+    ensures ok { IfOk result (λ reading. Hears seq unread.old (L.view link.old).talk (L.view link.new).talk
         (reading_of reading reader.new) unread.new) }
     ensures fits { length unread.new ≤ LARGEST_FRAME }
     ensures holds { IfOk result (λ reading. HoldsAnswer reading reader.new) }
-    ensures err { OnErr result (HearsNone seq unread.old (L.talk link.old) (L.talk link.new)) }
-    ensures counted { L.failures link.old ≤ L.failures link.new }
+    ensures err { OnErr result (HearsNone seq unread.old (L.view link.old).talk (L.view link.new).talk) }
+    ensures counted { (L.view link.old).failures ≤ (L.view link.new).failures }
     ensures comes { Stays L.comes_of link.old link.new }
-    ensures sound { OnOk result (L.failures link.new ≡ L.failures link.old) }
-    ensures failed { OnErr result (HasFailed (L.failures link.old) (L.failures link.new)) }
+    ensures sound { OnOk result ((L.view link.new).failures ≡ (L.view link.old).failures) }
+    ensures failed { OnErr result (HasFailed (L.view link.old).failures (L.view link.new).failures) }
 {
     reader.reset();
     let mut count = 0;

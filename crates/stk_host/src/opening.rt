@@ -19,9 +19,9 @@ fn signature_byte<L: Link>(
     place: u8,
 ) -> Result<u8, Stop>
     ensures played { EndsSteps (step (read_signature place ∷ [])) conversation.old.next conversation.old.unread
-        (L.talk link.old) (L.talk link.new)
+        (L.view link.old).talk (L.view link.new).talk
         (λ byte. byte ∷ []) result conversation.new.next conversation.new.unread }
-    ensures counted { CountsLink (L.failures link.old) (L.failures link.new) result }
+    ensures counted { CountsLink (L.view link.old).failures (L.view link.new).failures result }
     ensures comes { Stays L.comes_of link.old link.new }
     ensures bound { length conversation.new.unread ≤ LARGEST_FRAME }
 {
@@ -32,10 +32,10 @@ fn signature_byte<L: Link>(
 
 /// Signs on, enters programming mode and reads the signature, byte 0 first.
 pub(crate) fn begin<L: Link>(conversation: &mut Conversation, link: &mut L) -> Result<[u8; 3], Stop>
-    ensures played { EndsSteps beginning conversation.old.next conversation.old.unread (L.talk link.old)
-        (L.talk link.new)
+    ensures played { EndsSteps beginning conversation.old.next conversation.old.unread (L.view link.old).talk
+        (L.view link.new).talk
         (λ found. found) result conversation.new.next conversation.new.unread }
-    ensures counted { CountsLink (L.failures link.old) (L.failures link.new) result }
+    ensures counted { CountsLink (L.view link.old).failures (L.view link.new).failures result }
     ensures comes { Stays L.comes_of link.old link.new }
     ensures bound { length conversation.new.unread ≤ LARGEST_FRAME }
 {
@@ -49,10 +49,10 @@ pub(crate) fn begin<L: Link>(conversation: &mut Conversation, link: &mut L) -> R
 
 /// Leaves programming mode.
 pub(crate) fn end<L: Link>(conversation: &mut Conversation, link: &mut L) -> Result<(), Stop>
-    ensures played { EndsSteps (step (leave ∷ [])) conversation.old.next conversation.old.unread (L.talk link.old)
-        (L.talk link.new)
+    ensures played { EndsSteps (step (leave ∷ [])) conversation.old.next conversation.old.unread (L.view link.old).talk
+        (L.view link.new).talk
         (λ done. []) result conversation.new.next conversation.new.unread }
-    ensures counted { CountsLink (L.failures link.old) (L.failures link.new) result }
+    ensures counted { CountsLink (L.view link.old).failures (L.view link.new).failures result }
     ensures comes { Stays L.comes_of link.old link.new }
     ensures bound { length conversation.new.unread ≤ LARGEST_FRAME }
 {

@@ -64,9 +64,9 @@ fn read_blocks<L: Link>(
     requires empty { out.old.items ≡ [] }
     requires room { parts.size_of mem part.now ≤ vec_capacity out.old }
     ensures played { EndsSteps (play (each_from (block_steps part.now mem) 0 (block_count (parts.size_of mem part.now)))
-        []) conversation.old.next conversation.old.unread (L.talk link.old) (L.talk link.new)
+        []) conversation.old.next conversation.old.unread (L.view link.old).talk (L.view link.new).talk
         (λ done. out.new.items) result conversation.new.next conversation.new.unread }
-    ensures counted { CountsLink (L.failures link.old) (L.failures link.new) result }
+    ensures counted { CountsLink (L.view link.old).failures (L.view link.new).failures result }
     ensures comes { Stays L.comes_of link.old link.new }
     ensures bound { length conversation.old.unread ≤ LARGEST_FRAME → length conversation.new.unread ≤ LARGEST_FRAME }
     ensures size { OnOk result (length out.new.items ≡ parts.size_of mem part.now) }
@@ -89,10 +89,10 @@ fn read_signature<L: Link>(
 ) -> Result<(), Stop>
     requires empty { out.old.items ≡ [] }
     requires room { 3 ≤ vec_capacity out.old }
-    ensures played { EndsSteps (play signature_steps []) conversation.old.next conversation.old.unread (L.talk link.old)
-        (L.talk link.new)
+    ensures played { EndsSteps (play signature_steps []) conversation.old.next conversation.old.unread (L.view link.old).talk
+        (L.view link.new).talk
         (λ done. out.new.items) result conversation.new.next conversation.new.unread }
-    ensures counted { CountsLink (L.failures link.old) (L.failures link.new) result }
+    ensures counted { CountsLink (L.view link.old).failures (L.view link.new).failures result }
     ensures comes { Stays L.comes_of link.old link.new }
     ensures bound { length conversation.old.unread ≤ LARGEST_FRAME → length conversation.new.unread ≤ LARGEST_FRAME }
     ensures size { OnOk result (length out.new.items ≡ 3) }
@@ -122,9 +122,9 @@ fn read_byte<L: Link>(
     requires empty { out.old.items ≡ [] }
     requires room { 1 ≤ vec_capacity out.old }
     ensures played { EndsSteps (play ((command.now ∷ []) ∷ []) []) conversation.old.next conversation.old.unread
-        (L.talk link.old) (L.talk link.new)
+        (L.view link.old).talk (L.view link.new).talk
         (λ done. out.new.items) result conversation.new.next conversation.new.unread }
-    ensures counted { CountsLink (L.failures link.old) (L.failures link.new) result }
+    ensures counted { CountsLink (L.view link.old).failures (L.view link.new).failures result }
     ensures comes { Stays L.comes_of link.old link.new }
     ensures bound { length conversation.new.unread ≤ LARGEST_FRAME }
     ensures size { OnOk result (length out.new.items ≡ 1) }
@@ -143,9 +143,9 @@ pub(crate) fn read_memory<L: Link>(
     requires empty { out.old.items ≡ [] }
     requires room { parts.size_of mem part.now ≤ vec_capacity out.old }
     ensures played { EndsSteps (play (read_steps part.now mem) []) conversation.old.next conversation.old.unread
-        (L.talk link.old) (L.talk link.new)
+        (L.view link.old).talk (L.view link.new).talk
         (λ done. out.new.items) result conversation.new.next conversation.new.unread }
-    ensures counted { CountsLink (L.failures link.old) (L.failures link.new) result }
+    ensures counted { CountsLink (L.view link.old).failures (L.view link.new).failures result }
     ensures comes { Stays L.comes_of link.old link.new }
     ensures bound { length conversation.old.unread ≤ LARGEST_FRAME → length conversation.new.unread ≤ LARGEST_FRAME }
     ensures size { OnOk result (length out.new.items ≡ parts.size_of mem part.now) }

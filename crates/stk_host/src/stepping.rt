@@ -31,9 +31,9 @@ pub(crate) fn play_step<L: Link>(
     requires counted { IsCounted (shape last.now) }
     requires no_data { data_count (shape last.now) ≡ 0 }
     ensures played { EndsInnerStep (first.now ++ last.now ∷ []) [] [] conversation.old.next conversation.old.unread
-        (L.talk link.old) (L.talk link.new)
+        (L.view link.old).talk (L.view link.new).talk
         result conversation.new.next conversation.new.unread }
-    ensures counted { CountsLink (L.failures link.old) (L.failures link.new) result }
+    ensures counted { CountsLink (L.view link.old).failures (L.view link.new).failures result }
     ensures comes { Stays L.comes_of link.old link.new }
     ensures bound { length conversation.new.unread ≤ LARGEST_FRAME }
 {
@@ -53,9 +53,9 @@ pub(crate) fn read_step<L: Link>(
     requires counted { IsCounted (shape last.now) }
     requires room { length out.old.items + data_count (shape last.now) ≤ vec_capacity out.old }
     ensures played { EndsInnerStep (first.now ++ last.now ∷ []) out.old.items out.new.items conversation.old.next
-        conversation.old.unread (L.talk link.old) (L.talk link.new)
+        conversation.old.unread (L.view link.old).talk (L.view link.new).talk
         result conversation.new.next conversation.new.unread }
-    ensures counted { CountsLink (L.failures link.old) (L.failures link.new) result }
+    ensures counted { CountsLink (L.view link.old).failures (L.view link.new).failures result }
     ensures comes { Stays L.comes_of link.old link.new }
     ensures bound { length conversation.new.unread ≤ LARGEST_FRAME }
     ensures size { OnOk result (length out.new.items ≡ length out.old.items + data_count (shape last.now)) }

@@ -116,9 +116,7 @@ impl<R, W> StreamLink<R, W> {
 }
 
 impl<R: Read + Drop, W: Write + Drop> Link for StreamLink<R, W> {
-    ghost talk = { λ _. None };
-
-    ghost failures = { λ link. link.failures };
+    ghost view = { λ link. record { talk = None; failures = link.failures } };
 
     ghost Start = { Unit {0} };
 

@@ -112,9 +112,7 @@ impl TapeLink {
 }
 
 impl Link for TapeLink {
-    ghost talk = { λ link. Some link.talk };
-
-    ghost failures = { λ link. link.failures };
+    ghost view = { λ link. record { talk = Some link.talk; failures = link.failures } };
 
     ghost Start = { Unit {0} };
 

@@ -75,12 +75,12 @@ impl Unread {
         requires room { 0 < most }
         ensures within { length self.new ≤ most }
         ensures fits { length self.new ≤ LARGEST_FRAME }
-        ensures ok { IfOk result (λ heard. HearsPiece heard self.new (L.talk link.old) (L.talk link.new)) }
-        ensures err { OnErr result (Grows (L.talk link.old) [] (L.talk link.new)) }
-        ensures counted { L.failures link.old ≤ L.failures link.new }
+        ensures ok { IfOk result (λ heard. HearsPiece heard self.new (L.view link.old).talk (L.view link.new).talk) }
+        ensures err { OnErr result (Grows (L.view link.old).talk [] (L.view link.new).talk) }
+        ensures counted { (L.view link.old).failures ≤ (L.view link.new).failures }
         ensures comes { Stays L.comes_of link.old link.new }
-        ensures sound { OnOk result (L.failures link.new ≡ L.failures link.old) }
-        ensures failed { OnErr result (HasFailed (L.failures link.old) (L.failures link.new)) }
+        ensures sound { OnOk result ((L.view link.new).failures ≡ (L.view link.old).failures) }
+        ensures failed { OnErr result (HasFailed (L.view link.old).failures (L.view link.new).failures) }
     {
         self.start = 0;
         self.end = 0;

@@ -32,9 +32,9 @@ fn program_page<L: Link>(
 ) -> Result<(), Stop>
     requires { start < 2 ^ 20 }
     ensures played { EndsInnerStep (page_step part.now image.now start) [] [] conversation.old.next
-        conversation.old.unread (L.talk link.old) (L.talk link.new)
+        conversation.old.unread (L.view link.old).talk (L.view link.new).talk
         result conversation.new.next conversation.new.unread }
-    ensures counted { CountsLink (L.failures link.old) (L.failures link.new) result }
+    ensures counted { CountsLink (L.view link.old).failures (L.view link.new).failures result }
     ensures comes { Stays L.comes_of link.old link.new }
     ensures bound { length conversation.new.unread ≤ LARGEST_FRAME }
 {
@@ -55,9 +55,9 @@ fn write_flash<L: Link>(
 ) -> Result<(), Stop>
     requires { length image.now ≤ size_of Mem.Flash part.now }
     ensures played { EndsSteps (play (write_steps part.now Mem.Flash image.now) []) conversation.old.next
-        conversation.old.unread (L.talk link.old) (L.talk link.new)
+        conversation.old.unread (L.view link.old).talk (L.view link.new).talk
         (λ done. []) result conversation.new.next conversation.new.unread }
-    ensures counted { CountsLink (L.failures link.old) (L.failures link.new) result }
+    ensures counted { CountsLink (L.view link.old).failures (L.view link.new).failures result }
     ensures comes { Stays L.comes_of link.old link.new }
     ensures bound { length conversation.old.unread ≤ LARGEST_FRAME → length conversation.new.unread ≤ LARGEST_FRAME }
 {
@@ -83,9 +83,9 @@ fn program_run<L: Link>(
     requires fits { end - start ≤ 256 }
     ensures played { EndsInnerStep
         (places.load_eeprom start ∷ host.program_eeprom (filled image.now start (end - start)) ∷ [])
-        [] [] conversation.old.next conversation.old.unread (L.talk link.old) (L.talk link.new)
+        [] [] conversation.old.next conversation.old.unread (L.view link.old).talk (L.view link.new).talk
         result conversation.new.next conversation.new.unread }
-    ensures counted { CountsLink (L.failures link.old) (L.failures link.new) result }
+    ensures counted { CountsLink (L.view link.old).failures (L.view link.new).failures result }
     ensures comes { Stays L.comes_of link.old link.new }
     ensures bound { length conversation.new.unread ≤ LARGEST_FRAME }
 {
@@ -106,9 +106,9 @@ fn write_eeprom<L: Link>(
 ) -> Result<(), Stop>
     requires { length image.now ≤ size_of Mem.Eeprom part.now }
     ensures played { EndsSteps (play (write_steps part.now Mem.Eeprom image.now) []) conversation.old.next
-        conversation.old.unread (L.talk link.old) (L.talk link.new)
+        conversation.old.unread (L.view link.old).talk (L.view link.new).talk
         (λ done. []) result conversation.new.next conversation.new.unread }
-    ensures counted { CountsLink (L.failures link.old) (L.failures link.new) result }
+    ensures counted { CountsLink (L.view link.old).failures (L.view link.new).failures result }
     ensures comes { Stays L.comes_of link.old link.new }
     ensures bound { length conversation.old.unread ≤ LARGEST_FRAME → length conversation.new.unread ≤ LARGEST_FRAME }
 {
@@ -130,9 +130,9 @@ fn write_fuse<L: Link>(
     byte: Option<u8>,
 ) -> Result<(), Stop>
     ensures played { EndsSteps (play (byte_steps (host.program_fuse fuse) byte) []) conversation.old.next
-        conversation.old.unread (L.talk link.old) (L.talk link.new)
+        conversation.old.unread (L.view link.old).talk (L.view link.new).talk
         (λ done. []) result conversation.new.next conversation.new.unread }
-    ensures counted { CountsLink (L.failures link.old) (L.failures link.new) result }
+    ensures counted { CountsLink (L.view link.old).failures (L.view link.new).failures result }
     ensures comes { Stays L.comes_of link.old link.new }
     ensures bound { length conversation.old.unread ≤ LARGEST_FRAME → length conversation.new.unread ≤ LARGEST_FRAME }
 {
@@ -149,9 +149,9 @@ fn write_lock<L: Link>(
     byte: Option<u8>,
 ) -> Result<(), Stop>
     ensures played { EndsSteps (play (byte_steps host.program_lock byte) []) conversation.old.next
-        conversation.old.unread (L.talk link.old) (L.talk link.new)
+        conversation.old.unread (L.view link.old).talk (L.view link.new).talk
         (λ done. []) result conversation.new.next conversation.new.unread }
-    ensures counted { CountsLink (L.failures link.old) (L.failures link.new) result }
+    ensures counted { CountsLink (L.view link.old).failures (L.view link.new).failures result }
     ensures comes { Stays L.comes_of link.old link.new }
     ensures bound { length conversation.old.unread ≤ LARGEST_FRAME → length conversation.new.unread ≤ LARGEST_FRAME }
 {
@@ -171,9 +171,9 @@ pub(crate) fn write_memory<L: Link>(
 ) -> Result<(), Stop>
     requires { length image.now ≤ size_of mem part.now }
     ensures played { EndsSteps (play (write_steps part.now mem image.now) []) conversation.old.next
-        conversation.old.unread (L.talk link.old) (L.talk link.new)
+        conversation.old.unread (L.view link.old).talk (L.view link.new).talk
         (λ done. []) result conversation.new.next conversation.new.unread }
-    ensures counted { CountsLink (L.failures link.old) (L.failures link.new) result }
+    ensures counted { CountsLink (L.view link.old).failures (L.view link.new).failures result }
     ensures comes { Stays L.comes_of link.old link.new }
     ensures bound { length conversation.old.unread ≤ LARGEST_FRAME → length conversation.new.unread ≤ LARGEST_FRAME }
 {

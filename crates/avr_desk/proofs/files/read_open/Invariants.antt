@@ -4,8 +4,8 @@ use Rattle.avr_desk.proofs.files.read_open.Given as goal
 
 abbrev pub invariant-pieces : goal.invariant-pieces
 invariant-pieces g l = record {
-  read : g.D.Desk.kept l.desk ≡ option_map (after_reading l.bytes false) (g.D.Desk.kept l.initial.desk);
-  counted : g.D.Desk.failures l.desk ≡ g.D.Desk.failures l.initial.desk;
+  read : (g.D.Desk.view l.desk).kept ≡ option_map (after_reading l.bytes false) (g.D.Desk.view l.initial.desk).kept;
+  counted : (g.D.Desk.view l.desk).failures ≡ (g.D.Desk.view l.initial.desk).failures;
   bound : length l.bytes ≤ l.limit + 4096;
 }
 

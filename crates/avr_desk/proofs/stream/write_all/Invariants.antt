@@ -5,8 +5,8 @@ use Rattle.avr_desk.proofs.stream.write_all.Given as goal
 abbrev pub invariant-loop-at : goal.invariant-loop-at
 invariant-loop-at g l = record {
   within : l.at ≤ length l.bytes;
-  sent : g.D.Desk.kept l.desk ≡ option_map (after_sent l.fn.stream (take l.at l.bytes)) (g.D.Desk.kept l.initial.desk);
-  counted : g.D.Desk.failures l.desk ≡ g.D.Desk.failures l.initial.desk;
+  sent : (g.D.Desk.view l.desk).kept ≡ option_map (after_sent l.fn.stream (take l.at l.bytes)) (g.D.Desk.view l.initial.desk).kept;
+  counted : (g.D.Desk.view l.desk).failures ≡ (g.D.Desk.view l.initial.desk).failures;
 }
 
 abbrev pub decreases-loop-at : goal.decreases-loop-at

@@ -8,8 +8,8 @@ pub returns-in-Err-load_chip : goal.returns-in-Err-load_chip
 returns-in-Err-load_chip g c = record {
   runs = inr (inl (record {
     plan = c.in-Ok.plan;
-    planned_desk = g.D.Desk.kept c.plan.new.desk;
-    planned_failures = g.D.Desk.failures c.plan.new.desk;
+    planned_desk = (g.D.Desk.view c.plan.new.desk).kept;
+    planned_failures = (g.D.Desk.view c.plan.new.desk).failures;
     made = rw c.in-Ok.is at c.plan.ensures.goes;
     rises = c.plan.ensures.rises;
     refused = rw (c.part.ensures, c.in-Err-load_chip.is) at c.load_chip.ensures.goes;

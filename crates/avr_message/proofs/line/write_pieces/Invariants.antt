@@ -5,6 +5,6 @@ use Rattle.avr_message.proofs.line.write_pieces.Given as goal
 
 abbrev pub invariant-loop-piece : goal.invariant-loop-piece
 invariant-loop-piece g l = record {
-  sent : g.D.Desk.kept l.desk ≡ option_map (after_err (all_text (take l.piece-index l.pieces))) (g.D.Desk.kept l.initial.desk);
-  counted : g.D.Desk.failures l.desk ≡ g.D.Desk.failures l.initial.desk;
+  sent : (g.D.Desk.view l.desk).kept ≡ option_map (after_err (all_text (take l.piece-index l.pieces))) (g.D.Desk.view l.initial.desk).kept;
+  counted : (g.D.Desk.view l.desk).failures ≡ (g.D.Desk.view l.initial.desk).failures;
 }

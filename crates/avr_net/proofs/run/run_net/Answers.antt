@@ -5,8 +5,8 @@ pub returns : goal.returns
 returns g c = record {
   runs = inl (record {
     plan = c.in-Ok.plan;
-    planned_desk = g.D.Desk.kept c.plan.new.desk;
-    planned_failures = g.D.Desk.failures c.plan.new.desk;
+    planned_desk = (g.D.Desk.view c.plan.new.desk).kept;
+    planned_failures = (g.D.Desk.view c.plan.new.desk).failures;
     link_failures = c.drive.new.link.failures;
     made = rw c.in-Ok.is at c.plan.ensures.goes;
     rises = c.plan.ensures.rises;

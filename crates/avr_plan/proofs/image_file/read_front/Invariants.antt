@@ -4,8 +4,8 @@ use Rattle.avr_plan.proofs.image_file.read_front.Given as goal
 
 abbrev pub invariant-front : goal.invariant-front
 invariant-front g l = record {
-  read : g.D.Desk.kept l.desk ≡ option_map (after_reading l.bytes.items false) (g.D.Desk.kept l.initial.desk);
-  rises : g.D.Desk.failures l.initial.desk ≤ g.D.Desk.failures l.desk;
+  read : (g.D.Desk.view l.desk).kept ≡ option_map (after_reading l.bytes.items false) (g.D.Desk.view l.initial.desk).kept;
+  rises : (g.D.Desk.view l.initial.desk).failures ≤ (g.D.Desk.view l.desk).failures;
   bound : length l.bytes.items ≤ 1024;
 }
 

@@ -24,8 +24,8 @@ loop-update-preserved g c =
       goes = λ new now result goes. c.loop-update.invariant.goes new now result
           (goes_with_next c.args.switches part c.loop-update.tasks us i u _ _ new _ _ now c.in_ok-task.task result cut c.in_ok-task.ensures.goes
           c.in_ok-task.ensures.rises
-          (subst (λ (ts : List Task). Goes (tasks_stage c.args.switches part ts (drop (i + 1) us)) (g.D.Desk.kept c.update_task.new.desk) new
-          (g.D.Desk.failures c.update_task.new.desk) now result) same goes));
+          (subst (λ (ts : List Task). Goes (tasks_stage c.args.switches part ts (drop (i + 1) us)) (g.D.Desk.view c.update_task.new.desk).kept new
+          (g.D.Desk.view c.update_task.new.desk).failures now result) same goes));
       rises = omega (arith, c.loop-update.invariant.rises, c.in_ok-task.ensures.rises);
       fitted = subst (λ (ts : List Task). All (IsFitted part) ts) (sym same)
           (All-append (IsFitted part) c.loop-update.tasks (c.in_ok-task.task ∷ []) c.loop-update.invariant.fitted
@@ -59,8 +59,8 @@ pub returns-clause-goes : goal.returns-clause-goes
 returns-clause-goes g c =
     let us = c.args.updates.now in
     let none = drop_all c.loop-update.update-index us c.loop-update-test.false in
-    let d = g.D.Desk.kept c.loop-update.desk in
-    let n = g.D.Desk.failures c.loop-update.desk in
+    let d = (g.D.Desk.view c.loop-update.desk).kept in
+    let n = (g.D.Desk.view c.loop-update.desk).failures in
     c.loop-update.invariant.goes d n (Ok c.loop-update.tasks)
     (subst (λ (rest : List Update). Goes (tasks_stage c.args.switches c.args.part.now c.loop-update.tasks rest) d d n n (Ok c.loop-update.tasks))
     (sym none) (went_nowhere d c.loop-update.tasks))

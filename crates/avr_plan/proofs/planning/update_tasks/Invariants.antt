@@ -10,9 +10,9 @@ use Rattle.avr_plan.proofs.planning.update_tasks.Given as goal
 abbrev pub invariant-loop-update : goal.invariant-loop-update
 invariant-loop-update g l = record {
   goes : (new : Option Record) (now : ℕ) (result : Result (List Task) ℕ)
-      → Goes (tasks_stage l.switches l.part l.tasks (drop l.update-index l.updates)) (g.D.Desk.kept l.desk) new (g.D.Desk.failures l.desk) now
+      → Goes (tasks_stage l.switches l.part l.tasks (drop l.update-index l.updates)) (g.D.Desk.view l.desk).kept new (g.D.Desk.view l.desk).failures now
       result
-      → Goes (tasks_stage l.switches l.part [] l.updates) (g.D.Desk.kept l.initial.desk) new (g.D.Desk.failures l.initial.desk) now result;
-  rises : g.D.Desk.failures l.initial.desk ≤ g.D.Desk.failures l.desk;
+      → Goes (tasks_stage l.switches l.part [] l.updates) (g.D.Desk.view l.initial.desk).kept new (g.D.Desk.view l.initial.desk).failures now result;
+  rises : (g.D.Desk.view l.initial.desk).failures ≤ (g.D.Desk.view l.desk).failures;
   fitted : All (IsFitted l.part) l.tasks;
 }

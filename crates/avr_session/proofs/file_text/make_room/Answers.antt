@@ -3,7 +3,7 @@ use Rattle.avr_desk.proofs.Sending.{sent_none}
 use Rattle.avr_session.proofs.file_text.make_room.Goals as goal
 
 pub returns-then-count-room-clause-sent : goal.returns-then-count-room-clause-sent
-returns-then-count-room-clause-sent g c = ([], refl, sent_none c.args.stream (g.D.Desk.kept c.args.desk.now))
+returns-then-count-room-clause-sent g c = ([], refl, sent_none c.args.stream (g.D.Desk.view c.args.desk.now).kept)
 
 pub returns-clause-sent : goal.returns-clause-sent
 returns-clause-sent g c =

@@ -36,7 +36,7 @@ part_sent s old now new done waiting text (Err fault) is before part = subst (Se
 
 pub pieces-init : goal.pieces-init
 pieces-init g c = record {
-  sent = ([], ap (λ (xs : List ℕ). xs ++ g.P.Pieces.rest c.args.text) (sym c.new-waiting.ensures), sent_none c.args.stream (g.D.Desk.kept c.args.desk.now));
+  sent = ([], ap (λ (xs : List ℕ). xs ++ g.P.Pieces.rest c.args.text) (sym c.new-waiting.ensures), sent_none c.args.stream (g.D.Desk.view c.args.desk.now).kept);
   counted = refl;
 }
 
@@ -58,7 +58,7 @@ pub returns-in_err-make_room-clause-part : goal.returns-in_err-make_room-clause-
 returns-in_err-make_room-clause-part g c =
     let p = err_from_is_err_and c.from_residual.result c.from_residual.ensures.1 in
     let i = c.pieces.invariant.sent in
-    rw p.1 (subst (SendsPart c.args.stream (g.D.Desk.kept c.args.desk.now) (g.D.Desk.kept c.make_room.new.desk)) (sym i.1)
+    rw p.1 (subst (SendsPart c.args.stream (g.D.Desk.view c.args.desk.now).kept (g.D.Desk.view c.make_room.new.desk).kept) (sym i.1)
     (sent_next_part c.args.stream _ _ _ i.0 c.pieces.waiting.items (g.P.Pieces.rest c.pieces.text) i.2 c.in_err-make_room.ensures.part))
 
 pub returns-clause-all : goal.returns-clause-all
@@ -77,4 +77,4 @@ returns-clause-part g c =
 
 pub returns-clause-counts : goal.returns-clause-counts
 returns-clause-counts g c =
-    subst (λ n. Counts n (g.D.Desk.failures c.write_all.new.desk) c.write_all.result) c.pieces.invariant.counted c.write_all.ensures.counts
+    subst (λ n. Counts n (g.D.Desk.view c.write_all.new.desk).failures c.write_all.result) c.pieces.invariant.counted c.write_all.ensures.counts

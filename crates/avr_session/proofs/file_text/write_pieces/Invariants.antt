@@ -4,8 +4,8 @@ use Rattle.avr_session.proofs.file_text.write_pieces.Given as goal
 
 abbrev pub invariant-pieces : goal.invariant-pieces
 invariant-pieces g l = record {
-  sent : (done : List ℕ) × (g.P.Pieces.rest l.initial.text ≡ done ++ (l.waiting.items ++ g.P.Pieces.rest l.text)) × (g.D.Desk.kept l.desk ≡ option_map (after_sent l.initial.stream done) (g.D.Desk.kept l.initial.desk));
-  counted : g.D.Desk.failures l.desk ≡ g.D.Desk.failures l.initial.desk;
+  sent : (done : List ℕ) × (g.P.Pieces.rest l.initial.text ≡ done ++ (l.waiting.items ++ g.P.Pieces.rest l.text)) × ((g.D.Desk.view l.desk).kept ≡ option_map (after_sent l.initial.stream done) (g.D.Desk.view l.initial.desk).kept);
+  counted : (g.D.Desk.view l.desk).failures ≡ (g.D.Desk.view l.initial.desk).failures;
 }
 
 abbrev pub decreases-pieces : goal.decreases-pieces

@@ -5,7 +5,7 @@ use Rattle.avr_session.proofs.reports.report_taken.Goals as goal
 
 pub returns-clause-reports : goal.returns-clause-reports
 returns-clause-reports g c =
-    reports_then _ _ (signature_says c.args.quiet c.args.found) (warns_of_signature c.args.quiet c.args.part.now c.args.found) (g.D.Desk.kept c.report_found.new.desk) _ (g.D.Desk.failures c.report_found.new.desk) _ c.warn_of_signature.result
+    reports_then _ _ (signature_says c.args.quiet c.args.found) (warns_of_signature c.args.quiet c.args.part.now c.args.found) (g.D.Desk.view c.report_found.new.desk).kept _ (g.D.Desk.view c.report_found.new.desk).failures _ c.warn_of_signature.result
     c.in_ok-report_found.ensures.reports c.in_ok-report_found.ensures.counted c.warn_of_signature.ensures.reports
 
 pub returns-in_err-report_found-clause-reports : goal.returns-in_err-report_found-clause-reports

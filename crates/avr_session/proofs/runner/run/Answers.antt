@@ -4,8 +4,8 @@ use Rattle.avr_session.proofs.runner.run.Goals as goal
 pub returns-in-Ok-clause-runs : goal.returns-in-Ok-clause-runs
 returns-in-Ok-clause-runs g c = inl (record {
   plan = c.in-Ok.plan;
-  between = g.D.Desk.kept c.plan.new.desk;
-  count = g.D.Desk.failures c.plan.new.desk;
+  between = (g.D.Desk.view c.plan.new.desk).kept;
+  count = (g.D.Desk.view c.plan.new.desk).failures;
   made = rw c.in-Ok.is at c.plan.ensures.goes;
   rises = c.plan.ensures.rises;
   runs = c.drive.ensures.runs;

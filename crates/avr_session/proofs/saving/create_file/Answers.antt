@@ -9,12 +9,12 @@ use Rattle.avr_session.proofs.saving.create_file.Goals as goal
 
 pub returns-in-Ok-clause-reports : goal.returns-in-Ok-clause-reports
 returns-in-Ok-clause-reports g c =
-    created_then _ _ (g.D.Desk.kept c.write_file.new.desk) c.args.target.file.now (file_text c.args.target.format c.args.bytes.now) _ (g.D.Desk.failures c.create.new.self) _ c.create.result c.write_file.result c.in-Ok.is c.create.ensures.kept c.create.ensures.counts.0 c.write_file.ensures.writes
+    created_then _ _ (g.D.Desk.view c.write_file.new.desk).kept c.args.target.file.now (file_text c.args.target.format c.args.bytes.now) _ (g.D.Desk.view c.create.new.self).failures _ c.create.result c.write_file.result c.in-Ok.is c.create.ensures.kept c.create.ensures.counts.0 c.write_file.ensures.writes
 
 pub returns-in-Err-clause-reports : goal.returns-in-Err-clause-reports
 unfolding cause_line
 returns-in-Err-clause-reports g c =
     let failed = failed_by _ _ c.create.result _ c.in-Err.is c.create.ensures.fault c.create.ensures.counts in
-    file_stops _ _ _ _ c.args.target.file.now NotCreated _ (g.D.Desk.failures c.create.new.self) _ _
+    file_stops _ _ _ _ c.args.target.file.now NotCreated _ (g.D.Desk.view c.create.new.self).failures _ _
     (not_created _ _ c.args.target.file.now c.create.result _ (Writes (file_text c.args.target.format c.args.bytes.now) ∷ []) c.in-Err.is c.create.ensures.kept)
     failed c.create.ensures.counts.0 c.tell_trouble.ensures.counted (λ told stops. (refl, stops)) c.tell_trouble.ensures.told

@@ -10,7 +10,7 @@ pub returns-clause-reports : goal.returns-clause-reports
 returns-clause-reports g c =
     let kept = c.kept_of-kept.result.now in
     rw (← c.kept_of-kept.ensures)
-    (reports_then _ _ (saved c.args.target.file.now (file_text c.args.target.format kept)) (bytes_say c.args.switches.quiet c.args.mem (length kept) (codes " bytes read")) (g.D.Desk.kept c.save.new.desk) _ (g.D.Desk.failures c.save.new.desk) _ c.report_bytes.result
+    (reports_then _ _ (saved c.args.target.file.now (file_text c.args.target.format kept)) (bytes_say c.args.switches.quiet c.args.mem (length kept) (codes " bytes read")) (g.D.Desk.view c.save.new.desk).kept _ (g.D.Desk.view c.save.new.desk).failures _ c.report_bytes.result
     c.in_ok-save.ensures.reports c.in_ok-save.ensures.counted c.report_bytes.ensures.reports)
 
 pub returns-in_err-save-clause-reports : goal.returns-in_err-save-clause-reports

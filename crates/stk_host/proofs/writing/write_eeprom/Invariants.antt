@@ -10,11 +10,11 @@ use Rattle.stk_host.proofs.writing.write_eeprom.Given as goal
 
 abbrev pub invariant-loop-start : goal.invariant-loop-start
 invariant-loop-start g l = record {
-  reaches : Reaches (play (write_steps l.part Eeprom l.image) []) l.fn.conversation.next l.fn.conversation.unread (g.L.Link.talk l.fn.link)
-      (play (each_from (run_steps l.part l.image) l.next (l.part.eeprom_size - l.next)) []) l.conversation.next l.conversation.unread (g.L.Link.talk l.link);
+  reaches : Reaches (play (write_steps l.part Eeprom l.image) []) l.fn.conversation.next l.fn.conversation.unread (g.L.Link.view l.fn.link).talk
+      (play (each_from (run_steps l.part l.image) l.next (l.part.eeprom_size - l.next)) []) l.conversation.next l.conversation.unread (g.L.Link.view l.link).talk;
   within : l.next ≤ l.part.eeprom_size;
   border : (l.next % l.part.eeprom_page ≡ 0) ⊎ (byte_at l.image l.next ≡ None);
-  counted : g.L.Link.failures l.link ≡ g.L.Link.failures l.fn.link;
+  counted : (g.L.Link.view l.link).failures ≡ (g.L.Link.view l.fn.link).failures;
   comes : Stays g.L.Link.comes_of l.fn.link l.link;
   bound : length l.fn.conversation.unread ≤ 281 → length l.conversation.unread ≤ 281;
 }

@@ -7,4 +7,4 @@ returns-then-not-writable-clause-played g c = λ sound. writes_nothing c.args.se
 
 pub returns-clause-played : goal.returns-clause-played
 returns-clause-played g c = λ sound. rw (← c.self.view_is) (rw c.judge_end-outcome.ensures (writing_ends c.self.inside.part c.args.mem c.args.image.now c.write_memory-written.result c.self.inside.conversation.next c.write_memory-written.new.conversation.next
-    c.self.inside.conversation.unread c.write_memory-written.new.conversation.unread (g.L.Link.talk c.args.link.now) (g.L.Link.talk c.write_memory-written.new.link) (sym c.writable.ensures ∙ c.if-not-writable.false) c.write_memory-written.ensures.played))
+    c.self.inside.conversation.unread c.write_memory-written.new.conversation.unread (g.L.Link.view c.args.link.now).talk (g.L.Link.view c.write_memory-written.new.link).talk (sym c.writable.ensures ∙ c.if-not-writable.false) c.write_memory-written.ensures.played))
