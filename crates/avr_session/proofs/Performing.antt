@@ -12,7 +12,7 @@ use Rattle.stk_host.specs.declared.fault.HostFault.{HostFault}
 use Rattle.stk_host.specs.declared.fault.HostFault.TheVariants.{NoAnswer, LinkEnded, SendFailed, Babble, Refused, BadAnswer, WrongSignature, Differs, ReadOnly, Memory, RecvFailed}
 use Rattle.stk_host.specs.State.{HostState, left_by}
 use Rattle.stk_host.specs.Talk as link
-use Rattle.stk_host.specs.Talk.{Talk}
+use Rattle.stk_host.specs.Talk.{Talk, LinkView}
 use Rattle.stk_host.specs.Calls.{IsBroken, given}
 use Rattle.stk_host.specs.Dialog.{Dialog, Done, ◌>>=◌, sayings}
 use Rattle.avr_message.specs.Said.{Saying, Line, Tells}
@@ -135,20 +135,20 @@ serves_after (Err RecvFailed) (Ok ok) broken is = tt
 serves_after outcome (Err stopped) broken is = tt
 
 -- a cause that was told
-told_by : {A : Type 0} (takes : Bool) (outcome : Result A HostFault) {k l a b : ℕ} (d e : Option Record) → a ≤ b → (IsBroken outcome → link.HasFailed k l) → (IsMemory outcome → takes ≡ true) → IsStop outcome → Tells d e (cause_line (cause_of outcome)) a b
+told_by : {A : Type 0} (takes : Bool) (outcome : Result A HostFault) {k l a b : ℕ} (d e : Option Record) → a ≤ b → (IsBroken outcome → link.HasRisen k l) → (IsMemory outcome → takes ≡ true) → IsStop outcome → Tells d e (cause_line (cause_of outcome)) a b
     → ToldBy (Stops takes k l a b) (cause_of outcome) d e
 told_by takes outcome {k = k} {l = l} {a = a} {b = b} d e le failed lacks stop some = (some.told, record { count = a; has_come = stop_is outcome takes k l a a failed lacks stop; tells = some.tells; since = omega arith; until = le }, some.kept)
 
 -- an operation of the host and its report
-pub operation_performs : {A : Type 0} {operation : Dialog ⊥ (Result A HostFault)} (takes : Bool) (outcome_says : Result A HostFault → List Saying) {old new : HostState} {o p : Option Talk} {k l a b : ℕ} {d e : Option Record} (outcome : Result A HostFault) (told : Result (Unit {0}) Stopped) (result : Result Standing Stopped)
+pub operation_performs : {A : Type 0} {operation : Dialog ⊥ (Result A HostFault)} (takes : Bool) (outcome_says : Result A HostFault → List Saying) {old new : HostState} {o p : LinkView} {k l a b : ℕ} {d e : Option Record} (outcome : Result A HostFault) (told : Result (Unit {0}) Stopped) (result : Result Standing Stopped)
     (T : Cause → List ℕ → Type 0) → StopsReport takes k l a b d (outcome_says outcome) T
-    → result ≡ concluded outcome told → Ended takes operation old.next old.unread o p outcome new.next new.unread → length new.unread ≤ 281 → Reports d e (outcome_says outcome) T told → (IsStop outcome → Tells d e (cause_line (cause_of outcome)) a b)
-    → (IsBroken outcome → link.HasFailed k l) → new.broken ≡ left_by outcome → new.part ≡ old.part → k ≤ l → a ≤ b
-    → Performs takes (reported operation outcome_says) old new o p k l d e a b result
+    → result ≡ concluded outcome told → Ended takes operation old.progress o p outcome new.progress → length new.progress.unread ≤ 281 → Reports d e (outcome_says outcome) T told → (IsStop outcome → Tells d e (cause_line (cause_of outcome)) a b)
+    → (IsBroken outcome → link.HasRisen k l) → new.broken ≡ left_by outcome → new.part ≡ old.part → k ≤ l → a ≤ b
+    → Performs takes (reported operation outcome_says) old new o.talk p.talk k l d e a b result
 operation_performs {operation = operation} takes outcome_says {old = old} {new = new} {o = o} {p = p} {k = k} {l = l} {a = a} {b = b} {d = d} {e = e} outcome told result T why is ended few reports some failed lasts part link_counted desk_counted =
-    let lacks = lacks_where takes operation old.next old.unread o p outcome new.next new.unread ended in
+    let lacks = lacks_where takes operation old.progress o p outcome new.progress ended in
     record {
-      runs = subst (λ r. Runs (reported operation outcome_says) old.next old.unread o p d e (Stops takes k l a b) r new.next new.unread) (sym is)
+      runs = subst (λ r. Runs (reported operation outcome_says) old.progress.next old.progress.unread o.talk p.talk d e (Stops takes k l a b) r new.progress.next new.progress.unread) (sym is)
           (operation_runs takes outcome_says outcome d e told (Stops takes k l a b) T why ended few reports (λ stop. told_by takes outcome d e desk_counted failed lacks stop (some stop)));
       serves = subst (λ r. Serves r new.broken) (sym is) (serves_after outcome told new.broken lasts);
       part = part;
@@ -169,7 +169,7 @@ left_out_serves (Err stopped) broken sound = tt
 pub left_out_performs : (takes : Bool) (sayings : List Saying) {host : HostState} {o : Option Talk} (k : ℕ) {d e : Option Record} {a b : ℕ} (result : Result Standing Stopped) → host.broken ≡ None → LeavesOut sayings d e a b result
     → Performs takes (says sayings (Done Fine)) host host o o k k d e a b result
 left_out_performs takes sayings {host = host} {o = o} k {d = d} {e = e} {a = a} {b = b} result sound leaves = record {
-  runs = subst (λ r. Runs (says sayings (Done Fine)) host.next host.unread o o d e (Stops takes k k a b) r host.next host.unread) (sym leaves.result_is) (left_out_runs takes sayings host.next host.unread o k d e a b leaves.desk leaves.told leaves.reports);
+  runs = subst (λ r. Runs (says sayings (Done Fine)) host.progress.next host.progress.unread o o d e (Stops takes k k a b) r host.progress.next host.progress.unread) (sym leaves.result_is) (left_out_runs takes sayings host.progress.next host.progress.unread o k d e a b leaves.desk leaves.told leaves.reports);
   serves = subst (λ r. Serves r host.broken) (sym leaves.result_is) (left_out_serves leaves.told host.broken sound);
   part = refl;
   link = omega arith;
@@ -179,7 +179,7 @@ left_out_performs takes sayings {host = host} {o = o} k {d = d} {e = e} {a = a} 
 -- nothing
 pub nothing_performs : (takes : Bool) (host : HostState) (o : Option Talk) (k : ℕ) (d : Option Record) (a : ℕ) → host.broken ≡ None → Performs takes (Done Fine) host host o o k k d d a a (Ok Fine)
 nothing_performs takes host o k d a sound = record {
-  runs = ran_from (came_here (Done Fine) host.next host.unread o d);
+  runs = ran_from (came_here (Done Fine) host.progress.next host.progress.unread o d);
   serves = sound;
   part = refl;
   link = omega arith;
@@ -326,7 +326,7 @@ performs_until go_on stopped done = record { runs = broke_part go_on (λ said ca
 
 pub over_performs : (takes was : Bool) (host : HostState) (o : Option Talk) (k : ℕ) (d : Option Record) (a : ℕ) → PerformsBehind takes was (Done Over) host host o o k k d d a a (Ok Over)
 over_performs takes was host o k d a = record {
-  runs = ran_from (came_here (Done Over) host.next host.unread o d);
+  runs = ran_from (came_here (Done Over) host.progress.next host.progress.unread o d);
   serves = tt;
   part = refl;
   link = omega arith;
@@ -334,7 +334,7 @@ over_performs takes was host o k d a = record {
 }
 
 -- nothing is told of a link that failed, behind a fault that was told
-told_nothing : {A : Type 0} (outcome : Result A HostFault) {k l : ℕ} (d : Option Record) (a : ℕ) → (IsBroken outcome → link.HasFailed k l) → IsBroken outcome → ToldBy (StopsBehind false true k l a a) (cause_of outcome) d d
+told_nothing : {A : Type 0} (outcome : Result A HostFault) {k l : ℕ} (d : Option Record) (a : ℕ) → (IsBroken outcome → link.HasRisen k l) → IsBroken outcome → ToldBy (StopsBehind false true k l a a) (cause_of outcome) d d
 told_nothing (Ok x) d a failed broken = absurd broken
 told_nothing (Err NoAnswer) d a failed broken = absurd broken
 told_nothing (Err LinkEnded) d a failed broken = absurd broken
@@ -349,13 +349,13 @@ told_nothing (Err Memory) d a failed broken = absurd broken
 told_nothing (Err RecvFailed) d a failed broken = ([], record { count = a; has_come = failed tt; tells = refl; since = omega arith; until = omega arith }, kept_nothing d)
 
 -- an operation of which nothing is told
-pub quietly_performs : {operation : Dialog ⊥ (Result (Unit {0}) HostFault)} {old new : HostState} {o p : Option Talk} {k l : ℕ} (d : Option Record) (a : ℕ) (outcome : Result (Unit {0}) HostFault) (result : Result Standing Stopped)
-    → result ≡ concluded outcome (Ok tt) → Ended false operation old.next old.unread o p outcome new.next new.unread → length new.unread ≤ 281
-    → (IsBroken outcome → link.HasFailed k l) → new.broken ≡ left_by outcome → new.part ≡ old.part → k ≤ l → PerformsBehind false true (reported operation (λ _. [])) old new o p k l d d a a result
+pub quietly_performs : {operation : Dialog ⊥ (Result (Unit {0}) HostFault)} {old new : HostState} {o p : LinkView} {k l : ℕ} (d : Option Record) (a : ℕ) (outcome : Result (Unit {0}) HostFault) (result : Result Standing Stopped)
+    → result ≡ concluded outcome (Ok tt) → Ended false operation old.progress o p outcome new.progress → length new.progress.unread ≤ 281
+    → (IsBroken outcome → link.HasRisen k l) → new.broken ≡ left_by outcome → new.part ≡ old.part → k ≤ l → PerformsBehind false true (reported operation (λ _. [])) old new o.talk p.talk k l d d a a result
 quietly_performs {operation = operation} {old = old} {new = new} {o = o} {p = p} {k = k} {l = l} d a outcome result is ended few failed lasts part counted =
-    let only = only_broken operation old.next old.unread o p outcome new.next new.unread ended in
+    let only = only_broken operation old.progress o p outcome new.progress ended in
     record {
-      runs = subst (λ r. Runs (reported operation (λ _. [])) old.next old.unread o p d d (StopsBehind false true k l a a) r new.next new.unread) (sym is)
+      runs = subst (λ r. Runs (reported operation (λ _. [])) old.progress.next old.progress.unread o.talk p.talk d d (StopsBehind false true k l a a) r new.progress.next new.progress.unread) (sym is)
           (operation_runs false (λ _. []) outcome d d (Ok tt) (StopsBehind false true k l a a) (PrintStops a a)
           (λ mid cause front told stops. print_stops_run false true k l a a (omega arith) (front.whole ++ front.begun) cause told stops) ended few (kept_none d) (λ stop. told_nothing outcome d a failed (only stop)));
       serves = subst (λ r. Serves r new.broken) (sym is) (serves_after outcome (Ok tt) new.broken lasts);
@@ -368,7 +368,7 @@ quietly_performs {operation = operation} {old = old} {new = new} {o = o} {p = p}
 pub quietly_on : {first : Dialog Saying Standing} (go_on : Standing → Dialog Saying Standing) {x y : HostState} {o p : Option Talk} {k l : ℕ} {d e : Option Record} {a b : ℕ} (standing then : Standing) → go_on standing ≡ Done then → Serves (Ok then) y.broken
     → PerformsBehind false true first x y o p k l d e a b (Ok standing) → PerformsBehind false true (first >>= go_on) x y o p k l d e a b (Ok then)
 quietly_on go_on {y = y} {p = p} {e = e} standing then is serves done = record {
-  runs = ran_on (came_part go_on done.runs) (subst (λ dialog. Ran dialog y.next y.unread p p e e then y.next y.unread) (sym is) (ran_from (came_here (Done then) y.next y.unread p e)));
+  runs = ran_on (came_part go_on done.runs) (subst (λ dialog. Ran dialog y.progress.next y.progress.unread p p e e then y.progress.next y.progress.unread) (sym is) (ran_from (came_here (Done then) y.progress.next y.progress.unread p e)));
   serves = serves;
   part = done.part;
   link = done.link;
@@ -381,21 +381,21 @@ StatusIs (Ok standing) status = status ≡ status_of standing
 StatusIs (Err stopped) status = status ≡ 1
 
 -- a whole session
-pub session_runs : (plan : Plan) {x y : HostState} {o p : Option Talk} {k l : ℕ} {d e : Option Record} {a b : ℕ} (result : Result Standing Stopped) (status : ℕ) → x.next ≡ 1 → x.unread ≡ []
+pub session_runs : (plan : Plan) {x y : HostState} {o p : Option Talk} {k l : ℕ} {d e : Option Record} {a b : ℕ} (result : Result Standing Stopped) (status : ℕ) → x.progress.next ≡ 1 → x.progress.unread ≡ []
     → Performs (takes_memory plan) (playing plan) x y o p k l d e a b result → StatusIs result status → RunsTo (session plan) o p d e (Stops (takes_memory plan) k l a b) status
 unfolding session
 session_runs plan {x = x} {y = y} {o = o} {p = p} {d = d} {e = e} (Ok standing) status first none done is =
-    let ran = ran_on (came_part (λ standing. Done (status_of standing)) done.runs) (ran_from (came_here (Done (status_of standing)) y.next y.unread p e)) in
+    let ran = ran_on (came_part (λ standing. Done (status_of standing)) done.runs) (ran_from (came_here (Done (status_of standing)) y.progress.next y.progress.unread p e)) in
     inl (
-      y.next,
-      y.unread,
-      subst (λ s. Ran (playing plan >>= λ standing. Done (status_of standing)) 1 [] o p d e s y.next y.unread) (sym is) (subst (λ u. Ran (playing plan >>= λ standing. Done (status_of standing)) 1 u o p d e (status_of standing) y.next y.unread) none
-          (subst (λ n. Ran (playing plan >>= λ standing. Done (status_of standing)) n x.unread o p d e (status_of standing) y.next y.unread) first ran)),
+      y.progress.next,
+      y.progress.unread,
+      subst (λ s. Ran (playing plan >>= λ standing. Done (status_of standing)) 1 [] o p d e s y.progress.next y.progress.unread) (sym is) (subst (λ u. Ran (playing plan >>= λ standing. Done (status_of standing)) 1 u o p d e (status_of standing) y.progress.next y.progress.unread) none
+          (subst (λ n. Ran (playing plan >>= λ standing. Done (status_of standing)) n x.progress.unread o p d e (status_of standing) y.progress.next y.progress.unread) first ran)),
     )
 session_runs plan {x = x} {y = y} {o = o} {p = p} {k = k} {l = l} {d = d} {e = e} {a = a} {b = b} (Err stopped) status first none done is =
     let broke = broke_part (λ standing. Done (status_of standing)) (λ said cause told s. s) done.runs in
     inr (
       subst (λ u. BrokeOff (playing plan >>= λ standing. Done (status_of standing)) 1 u o p d e (Stops (takes_memory plan) k l a b)) none
-          (subst (λ n. BrokeOff (playing plan >>= λ standing. Done (status_of standing)) n x.unread o p d e (Stops (takes_memory plan) k l a b)) first broke),
+          (subst (λ n. BrokeOff (playing plan >>= λ standing. Done (status_of standing)) n x.progress.unread o p d e (Stops (takes_memory plan) k l a b)) first broke),
       is,
     )

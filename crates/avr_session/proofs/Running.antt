@@ -4,9 +4,9 @@ use Rattle.avr_desk.specs.Record.{Record, after_err}
 use Rattle.stk_host.specs.declared.fault.Broken.{Broken}
 use Rattle.stk_host.specs.declared.fault.Broken.TheVariants.{Send, Recv}
 use Rattle.stk_host.specs.Tape.{Tape, on_tape}
-use Rattle.stk_host.specs.Talk.{Talk, Grows, heard}
+use Rattle.stk_host.specs.Talk.{Talk, LinkView, Grows, heard}
 use Rattle.stk_host.specs.Dialog.{Dialog, Done, ◌>>=◌, lifted, Event, Frame, Said, Played, played, bytes_sent, sayings}
-use Rattle.stk_host.specs.Play.{Plays, PlaysOver, FailsOver}
+use Rattle.stk_host.specs.Play.{Plays, Progress, PlaysOver, FailsOver}
 use Rattle.stk_host.specs.Reach.{Leads}
 use Rattle.stk_host.proofs.Talks.{grows_none, grows_on}
 use Rattle.stk_host.proofs.Leading.{continued, played_bind, leads_here, leads_on, leads_bind, leads_say, leads_from, plays_from, breaks_on, breaks_bind}
@@ -54,8 +54,8 @@ came_on {o = o} {p = p} {q = q} {d = d} {e = e} {f = f} x y = record {
 }
 
 -- an operation of the host, and what follows it
-pub came_lifted : {A R : Type 0} {dialog : Dialog ⊥ A} {m n : ℕ} {u v : List ℕ} {o p : Option Talk} {result : A} (go_on : A → Dialog Saying R) (d : Option Record)
-    → PlaysOver dialog m u o p result n v → length v ≤ 281 → Came (lifted dialog >>= go_on) m u o p d d (go_on result) n v
+pub came_lifted : {A R : Type 0} {dialog : Dialog ⊥ A} {m n : Progress} {o p : LinkView} {result : A} (go_on : A → Dialog Saying R) (d : Option Record)
+    → PlaysOver dialog m o p result n → length n.unread ≤ 281 → Came (lifted dialog >>= go_on) m.next m.unread o.talk p.talk d d (go_on result) n.next n.unread
 came_lifted go_on d f few = record {
   during = f.during;
   events = raised f.events;
@@ -130,8 +130,8 @@ broke_on {a = a} {m = m} {u = u} {o = o} {p = p} {q = q} {d = d} {e = e} {f = f}
     }
 
 -- behind an operation of the host
-pub broke_lifted : {A R : Type 0} {dialog : Dialog ⊥ A} {m n : ℕ} {u v : List ℕ} {o p q : Option Talk} {result : A} {d e : Option Record} {S : List Saying → Cause → List ℕ → Type 0} (go_on : A → Dialog Saying R)
-    → PlaysOver dialog m u o p result n v → length v ≤ 281 → BrokeOff (go_on result) n v p q d e S → BrokeOff (lifted dialog >>= go_on) m u o q d e S
+pub broke_lifted : {A R : Type 0} {dialog : Dialog ⊥ A} {m n : Progress} {o p : LinkView} {q : Option Talk} {result : A} {d e : Option Record} {S : List Saying → Cause → List ℕ → Type 0} (go_on : A → Dialog Saying R)
+    → PlaysOver dialog m o p result n → length n.unread ≤ 281 → BrokeOff (go_on result) n.next n.unread p.talk q d e S → BrokeOff (lifted dialog >>= go_on) m.next m.unread o.talk q d e S
 unfolding came_lifted
 broke_lifted {d = d} {S = S} go_on f few y = broke_on (came_lifted go_on d f few) (λ said cause told s. subst (λ (ss : List Saying). S (ss ++ said) cause told) (sym (sayings_raised f.events)) s) y
 
@@ -193,10 +193,10 @@ abbrev pub broken_cause : Broken → Cause
 broken_cause Send = OfSending
 broken_cause Recv = OfListening
 
-broke_raised : {A : Type 0} (by : Broken) {dialog : Dialog ⊥ A} {m : ℕ} {u : List ℕ} {o p : Option Talk} {d e : Option Record} {S : List Saying → Cause → List ℕ → Type 0} (told : List ℕ)
-    → FailsOver by dialog m u o p → S [] (broken_cause by) told → e ≡ option_map (after_err told) d → BrokeOff (lifted dialog) m u o p d e S
-broke_raised Send {dialog = dialog} {m = m} {u = u} {d = d} {e = e} {S = S} told f stops kept =
-    let g = by_lifted Saying Send dialog m u f.during f.shown f.breaks in
+broke_raised : {A : Type 0} (by : Broken) {dialog : Dialog ⊥ A} {m : Progress} {o p : LinkView} {d e : Option Record} {S : List Saying → Cause → List ℕ → Type 0} (told : List ℕ)
+    → FailsOver by dialog m o p → S [] (broken_cause by) told → e ≡ option_map (after_err told) d → BrokeOff (lifted dialog) m.next m.unread o.talk p.talk d e S
+broke_raised Send {dialog = dialog} {m = m} {d = d} {e = e} {S = S} told f stops kept =
+    let g = by_lifted Saying Send dialog m.next m.unread f.during f.shown f.breaks in
     record {
       during = f.during;
       shown = raised f.shown;
@@ -220,8 +220,8 @@ broke_raised Send {dialog = dialog} {m = m} {u = u} {d = d} {e = e} {S = S} told
       stops = subst (λ said. S said OfSending told) (sym (sayings_raised f.shown)) stops;
       kept = subst (λ ss. e ≡ option_map (λ r. after_err told (after_all ss r)) d) (sym (sayings_raised f.shown)) kept;
     }
-broke_raised Recv {dialog = dialog} {m = m} {u = u} {d = d} {e = e} {S = S} told f stops kept =
-    let g = by_lifted Saying Recv dialog m u f.during f.shown f.breaks in
+broke_raised Recv {dialog = dialog} {m = m} {d = d} {e = e} {S = S} told f stops kept =
+    let g = by_lifted Saying Recv dialog m.next m.unread f.during f.shown f.breaks in
     record {
       during = f.during;
       shown = raised f.shown;
@@ -250,8 +250,8 @@ broke_raised Recv {dialog = dialog} {m = m} {u = u} {d = d} {e = e} {S = S} told
 abbrev pub ToldBy : (List Saying → Cause → List ℕ → Type 0) → Cause → Option Record → Option Record → Type 0
 ToldBy S cause d e = (told : List ℕ) × S [] cause told × (e ≡ option_map (after_err told) d)
 
-pub broke_operation : {A R : Type 0} (by : Broken) {dialog : Dialog ⊥ A} {m : ℕ} {u : List ℕ} {o p : Option Talk} {d e : Option Record} {S : List Saying → Cause → List ℕ → Type 0} (go_on : A → Dialog Saying R)
-    → FailsOver by dialog m u o p → ToldBy S (broken_cause by) d e → BrokeOff (lifted dialog >>= go_on) m u o p d e S
+pub broke_operation : {A R : Type 0} (by : Broken) {dialog : Dialog ⊥ A} {m : Progress} {o p : LinkView} {d e : Option Record} {S : List Saying → Cause → List ℕ → Type 0} (go_on : A → Dialog Saying R)
+    → FailsOver by dialog m o p → ToldBy S (broken_cause by) d e → BrokeOff (lifted dialog >>= go_on) m.next m.unread o.talk p.talk d e S
 broke_operation by go_on f some = broke_part go_on (λ said cause told s. s) (broke_raised by some.0 f some.1 some.2)
 
 -- in what is said

@@ -21,8 +21,8 @@ is_told standing = true
 pub record PerformsBehind (takes was_told : Bool) (dialog : Dialog Saying Standing) (old new : HostState)
     (talk_before talk_now : Option Talk) (link_before link_now : ℕ) (desk_old desk_new : Option Record)
     (desk_before desk_now : ℕ) (result : Result Standing Stopped) : Type 0 where
-  pub runs : Runs dialog old.next old.unread talk_before talk_now desk_old desk_new
-      (StopsBehind takes was_told link_before link_now desk_before desk_now) result new.next new.unread
+  pub runs : Runs dialog old.progress.next old.progress.unread talk_before talk_now desk_old desk_new
+      (StopsBehind takes was_told link_before link_now desk_before desk_now) result new.progress.next new.progress.unread
   pub serves : Serves result new.broken
   pub part : new.part ≡ old.part
   pub link : link_before ≤ link_now

@@ -116,8 +116,8 @@ IsOfDesk cause = ⊥
 -- The cause has come: a device has failed, by the count of its failures before and then. No count shows that memory was
 -- refused; that comes only where memory is taken (`takes`).
 abbrev pub HasCome : Bool → ℕ → ℕ → ℕ → ℕ → Cause → Type 0
-HasCome takes link_before link_then desk_before desk_then OfSending = link.HasFailed link_before link_then
-HasCome takes link_before link_then desk_before desk_then OfListening = link.HasFailed link_before link_then
+HasCome takes link_before link_then desk_before desk_then OfSending = link.HasRisen link_before link_then
+HasCome takes link_before link_then desk_before desk_then OfListening = link.HasRisen link_before link_then
 HasCome takes link_before link_then desk_before desk_then OfMemory = takes ≡ true
 HasCome takes link_before link_then desk_before desk_then cause = desk.HasFailed desk_before desk_then
 
