@@ -29,7 +29,7 @@ pub(crate) fn open_session<D: Desk, L: Link>(
     plan: &Plan,
 ) -> Result<Standing, Stopped>
     requires sound { host.old.broken ≡ None }
-    requires signature { host.old.signature ≡ plan.now.part.signature }
+    requires signature { host.old.part.signature ≡ plan.now.part.signature }
     ensures performs { Performs false (opening_part plan.now.part plan.now.switches) host.old host.new
         (L.view link.old).talk (L.view link.new).talk (L.view link.old).failures (L.view link.new).failures
         (D.view desk.old).kept (D.view desk.new).kept (D.view desk.old).failures (D.view desk.new).failures result }

@@ -23,7 +23,7 @@ fn open_and_erase<D: Desk, L: Link>(
     plan: &Plan,
 ) -> Result<Standing, Stopped>
     requires sound { host.old.broken ≡ None }
-    requires signature { host.old.signature ≡ plan.now.part.signature }
+    requires signature { host.old.part.signature ≡ plan.now.part.signature }
     ensures performs { Performs false (beginning plan.now) host.old host.new
         (L.view link.old).talk (L.view link.new).talk (L.view link.old).failures (L.view link.new).failures
         (D.view desk.old).kept (D.view desk.new).kept (D.view desk.old).failures (D.view desk.new).failures result }
@@ -44,7 +44,7 @@ fn work<D: Desk, L: Link>(
     plan: &Plan,
 ) -> Result<Standing, Stopped>
     requires sound { host.old.broken ≡ None }
-    requires signature { host.old.signature ≡ plan.now.part.signature }
+    requires signature { host.old.part.signature ≡ plan.now.part.signature }
     requires part { host.old.part ≡ plan.now.part }
     ensures performs { Performs (takes_memory plan.now) (working plan.now) host.old host.new
         (L.view link.old).talk (L.view link.new).talk (L.view link.old).failures (L.view link.new).failures
@@ -124,7 +124,7 @@ fn play<D: Desk, L: Link>(
     plan: &Plan,
 ) -> Result<Standing, Stopped>
     requires sound { host.old.broken ≡ None }
-    requires signature { host.old.signature ≡ plan.now.part.signature }
+    requires signature { host.old.part.signature ≡ plan.now.part.signature }
     requires part { host.old.part ≡ plan.now.part }
     ensures performs { Performs (takes_memory plan.now) (playing plan.now) host.old host.new
         (L.view link.old).talk (L.view link.new).talk (L.view link.old).failures (L.view link.new).failures
