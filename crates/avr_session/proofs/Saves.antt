@@ -1,8 +1,8 @@
 -- Files that are created and written.
 use Rattle.std.proofs.Common.{◌≡◌, ◌≤◌, ℕ, true, List, [], ◌∷◌, ◌++◌, map, bytes_eq, codes, Option, option_map, Result, Ok, Err, ◌∙◌, refl, arith, Some, None}
 use Rattle.std.proofs.lemmas.Slice.Eq.{bytes_eq-Decides}
-use Rattle.avr_desk.specs.Record.{Record, DeskView, after_create}
-use Rattle.avr_desk.specs.Fault.{HasFailed}
+use Rattle.avr_desk.specs.Record.{Record, DeskView, Passes, after_create}
+use Rattle.avr_desk.specs.Fault.{Follows, HasFailed}
 use Rattle.avr_desk.specs.Stream.{SendsPart}
 use Rattle.avr_desk.specs.declared.stream.Stream.{Stream}
 use Rattle.avr_desk.specs.declared.stream.Stream.TheVariants.{File, Output}
@@ -10,6 +10,7 @@ use Rattle.avr_desk.specs.declared.fault.DeskFault.{DeskFault}
 use Rattle.stk_host.specs.Dialog.{Said}
 use Rattle.avr_message.specs.Said.{Saying, Creates, Writes, Outs, Tells, after_all}
 use Rattle.avr_message.proofs.Saying.{kept_append, kept_none}
+use Rattle.avr_message.proofs.Telling.{failure_told, follows_on}
 use Rattle.avr_session.specs.Runs.{Cause, OfSending, OfListening, OfFile, OfPrinting, OfMemory, NotCreated, NotWritten, SaysFront, SaidSome, SaysOrStops, Reports, DeskStops, cause_line}
 use Rattle.avr_session.specs.Session.{saved}
 use Rattle.avr_session.specs.Saving.{SaveStops, WritesSome, WritesAll}
@@ -21,7 +22,7 @@ same_record : (r : Option Record) (file : List ℕ) (fault : DeskFault) → opti
 same_record None file fault = refl
 same_record (Some r) file fault = refl
 
-pub not_created : (old new : Option Record) (file : List ℕ) (result : Result (Unit {0}) DeskFault) (fault : DeskFault) (more : List Saying) → result ≡ Err fault → new ≡ option_map (after_create file result) old
+pub not_created : (old new : DeskView) (file : List ℕ) (result : Result (Unit {0}) DeskFault) (fault : DeskFault) (more : List Saying) → result ≡ Err fault → Passes (after_create file result) old new
     → SaysFront (OfFile file NotCreated) old new (Creates file ∷ more)
 not_created old new file (Ok done) fault more is kept = cc
 not_created old new file (Err other) fault more is kept = record {
@@ -31,7 +32,7 @@ not_created old new file (Err other) fault more is kept = record {
   sayings_are = refl;
   place = record { more = map Said more; due = refl; none = refl };
   by_desk = tt;
-  kept = kept ∙ (same_record old file other ∙ kept_none old);
+  kept = kept ∙ (same_record old.kept file other ∙ kept_none old.kept);
 }
 
 -- where a file can't be saved the desk has failed
@@ -44,22 +45,22 @@ save_is_desk file before now OfPrinting told stops = absurd stops
 save_is_desk file before now OfMemory told stops = absurd stops
 
 -- a file was created, and its bytes were written, or a front of them
-text_then : (old mid new : DeskView) (file text : List ℕ) (result : Result (Unit {0}) Stopped) → mid.kept ≡ option_map (after_all (Creates file ∷ [])) old.kept → old.failures ≤ mid.failures → WritesAll File file mid new text result
+text_then : (old mid new : DeskView) (file text : List ℕ) (result : Result (Unit {0}) Stopped) → Passes (after_all (Creates file ∷ [])) old mid → Follows old mid → WritesAll File file mid new text result
     → SaysOrStops (SaveStops file) old new (Creates file ∷ Writes text ∷ []) result
 text_then old mid new file text (Ok done) kept le writes = kept_append (Creates file ∷ []) (Writes text ∷ []) old.kept mid.kept new.kept kept writes
 text_then old mid new file text (Err stopped) kept le writes = record {
   between = writes.between;
   cause = OfFile file NotWritten;
-  front = file_part old.kept mid.kept writes.between file text kept writes.part;
+  front = file_part old mid writes.between file text kept writes.part;
   told = writes.told;
   stops = (refl, file_stops_in old mid new new file NotWritten writes.told le (omega arith) writes.stops);
   kept = writes.kept;
 }
 
 pub created_then : (old mid new : DeskView) (file text : List ℕ) (created : Result (Unit {0}) DeskFault) (result : Result (Unit {0}) Stopped) {done : Unit {0}} → created ≡ Ok done
-    → mid.kept ≡ option_map (after_create file created) old.kept → old.failures ≤ mid.failures → mid.failures ≤ new.failures → WritesAll File file mid new text result → Reports (SaveStops file) old new (Creates file ∷ Writes text ∷ []) result
+    → Passes (after_create file created) old mid → Follows old mid → Follows mid new → WritesAll File file mid new text result → Reports (SaveStops file) old new (Creates file ∷ Writes text ∷ []) result
 created_then old mid new file text (Err fault) result is kept first last writes = cc
-created_then old mid new file text (Ok ok) result is kept first last writes = record { says = text_then old mid new file text result kept first writes; counted = omega (arith, first, last) }
+created_then old mid new file text (Ok ok) result is kept first last writes = record { says = text_then old mid new file text result kept first writes; follows = follows_on old mid new first last }
 
 -- bytes were written to standard output, or a front of them
 put_out : (old new : DeskView) (file text : List ℕ) (result : Result (Unit {0}) Stopped) → file ≡ codes "-" → WritesAll Output file old new text result → SaysOrStops (SaveStops file) old new (Outs text ∷ []) result
@@ -67,22 +68,21 @@ put_out old new file text (Ok done) named writes = writes
 put_out old new file text (Err stopped) named writes = record {
   between = writes.between;
   cause = OfFile file NotWritten;
-  front = output_part old.kept writes.between file text named writes.part;
+  front = output_part old writes.between file text named writes.part;
   told = writes.told;
   stops = (refl, writes.stops);
   kept = writes.kept;
 }
 
-pub saved_out : (old new : DeskView) (file text : List ℕ) (result : Result (Unit {0}) Stopped) → bytes_eq file (codes "-") ≡ true → WritesAll Output file old new text result → old.failures ≤ new.failures → Reports (SaveStops file) old new (saved file text) result
-saved_out old new file text result same writes counted = record { says = rw same (put_out old new file text result ((bytes_eq-Decides file (codes "-")).0 same) writes); counted = counted }
+pub saved_out : (old new : DeskView) (file text : List ℕ) (result : Result (Unit {0}) Stopped) → bytes_eq file (codes "-") ≡ true → WritesAll Output file old new text result → Follows old new → Reports (SaveStops file) old new (saved file text) result
+saved_out old new file text result same writes follows = record { says = rw same (put_out old new file text result ((bytes_eq-Decides file (codes "-")).0 same) writes); follows = follows }
 
 -- what was told of a file behind a front of its bytes
-pub writes_some : (stream : Stream) (file text : List ℕ) (old mid new : DeskView) → SendsPart stream old.kept mid.kept text → HasFailed old.failures mid.failures → old.failures ≤ mid.failures → mid.failures ≤ new.failures
-    → Tells mid.kept new.kept (cause_line (OfFile file NotWritten)) mid.failures new.failures → WritesSome stream file old new text
-writes_some stream file text old mid new part failed first then some = record {
-  between = mid.kept;
+pub writes_some : (stream : Stream) (file text : List ℕ) (old mid new : DeskView) → SendsPart stream old mid text → HasFailed old mid → Follows old mid → Tells mid new (cause_line (OfFile file NotWritten)) → WritesSome stream file old new text
+writes_some stream file text old mid new part failed first some = record {
+  between = mid;
   part = part;
   told = some.told;
-  stops = record { count = mid.failures; failed = failed; tells = some.tells; since = first; until = then };
+  stops = failure_told old mid new (cause_line (OfFile file NotWritten)) first failed some;
   kept = some.kept;
 }

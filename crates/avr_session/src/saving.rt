@@ -1,5 +1,6 @@
 //! What was read of a memory becomes a file.
 ghost use Rattle.std.specs.Prelude.{◌≡◌, ◌∷◌, ◌≤◌, ◌<◌, ◌^◌, [], length};
+ghost use Rattle.avr_desk.specs.Fault.{Follows};
 ghost use Rattle.avr_message.specs.Lines.{error};
 ghost use Rattle.avr_message.specs.Said.{Creates, Writes, Tells};
 ghost use Rattle.avr_session.specs.FileText.{file_text};
@@ -27,9 +28,7 @@ pub(crate) struct Target<'a> {
 
 /// Prints what can't be done with a file, as far as the desk prints it.
 fn tell_trouble<D: Desk>(desk: &mut D, file: &str, trouble: &str)
-    ensures told { Tells (D.view desk.old).kept (D.view desk.new).kept (error (file.now ∷ trouble.now ∷ []))
-        (D.view desk.old).failures (D.view desk.new).failures }
-    ensures counted { (D.view desk.old).failures ≤ (D.view desk.new).failures }
+    ensures { Tells (D.view desk.old) (D.view desk.new) (error (file.now ∷ trouble.now ∷ [])) }
 {
     let _ = print_error(desk, &[Piece::Text(file), Piece::Text(trouble)]);
 }
@@ -44,7 +43,7 @@ fn write_file<D: Desk>(
     requires { length bytes.now ≤ 2 ^ 32 }
     ensures writes { WritesAll stream target.entry.file.now (D.view desk.old) (D.view desk.new)
         (file_text target.entry.format bytes.now) result }
-    ensures counted { (D.view desk.old).failures ≤ (D.view desk.new).failures }
+    ensures follows { Follows (D.view desk.old) (D.view desk.new) }
 {
     match write_text(desk, stream, target.format, bytes) {
         Ok(()) => Ok(()),
