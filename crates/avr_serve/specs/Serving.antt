@@ -3,7 +3,7 @@ use Rattle.std.specs.Prelude.{ℕ, List, [], ◌∷◌, ◌++◌, ◌+◌, ◌�
 use Rattle.stk_frame.specs.Cut.{frames}
 use Rattle.stk_host.specs.declared.link.Item.TheVariants.{Byte, Silence, End}
 use Rattle.stk_host.specs.Tape.{Tape}
-use Rattle.stk_host.specs.Talk.{Talk, Sent, Got, sent, heard, Grows, HasFailed}
+use Rattle.stk_host.specs.Talk.{Talk, Sent, Got, sent, heard, Grows, HasRisen}
 use Rattle.stk_host.specs.Play.{IsPrefixOf}
 use Rattle.stk_emu.specs.Programmer.{Programmer}
 use Rattle.stk_emu.specs.Device.{device, answers, answer_frame, after_all}
@@ -90,6 +90,6 @@ pub record Serves (old : Machine) (turns : ℕ) (served : Served) (before after 
 -- what it was.
 abbrev pub FailsBy : Served → ℕ → ℕ → Type 0
 FailsBy Ended before now = now ≡ before
-FailsBy RecvFailed before now = HasFailed before now
-FailsBy SendFailed before now = HasFailed before now
+FailsBy RecvFailed before now = HasRisen before now
+FailsBy SendFailed before now = HasRisen before now
 FailsBy TooManyReads before now = now ≡ before

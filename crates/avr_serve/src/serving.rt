@@ -31,7 +31,7 @@ fn answer_piece<L: Link>(
     ensures err { OnErr result (RepliesPart emulator.old piece.now (L.view link.old).talk (L.view link.new).talk emulator.new) }
     ensures counted { (L.view link.old).failures ≤ (L.view link.new).failures }
     ensures sound { OnOk result ((L.view link.new).failures ≡ (L.view link.old).failures) }
-    ensures failed { OnErr result (HasFailed (L.view link.old).failures (L.view link.new).failures) }
+    ensures failed { OnErr result (HasFailed (L.view link.old) (L.view link.new)) }
 {
     let mut answer = ArrayVec::new();
     let mut used = 0;
