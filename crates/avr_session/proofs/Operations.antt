@@ -1,6 +1,6 @@
 -- An operation of the host and its report, as a part of a session.
 use Rattle.std.proofs.Common.{◌≡◌, ℕ, ◌≤◌, Bool, true, false, List, [], ◌++◌, length, refl, sym, ap, ◌∙◌, ◌∷◌, subst, bytes_eq, if◌then◌else◌, Option, Some, None, Result, Ok, Err, inl, inr, ◌⊎◌}
-use Rattle.avr_desk.specs.Record.{Record}
+use Rattle.avr_desk.specs.Record.{Record, DeskView}
 use Rattle.avr_part.specs.Part.{Part}
 use Rattle.stk_host.specs.declared.fault.HostFault.{HostFault}
 use Rattle.stk_host.specs.declared.fault.HostFault.TheVariants.{NoAnswer, LinkEnded, SendFailed, Babble, Refused, BadAnswer, WrongSignature, Differs, ReadOnly, Memory, RecvFailed}
@@ -27,7 +27,7 @@ use Rattle.avr_session.specs.declared.standing.Stopped.{Stopped}
 use Rattle.avr_session.specs.Concluding.{after_outcome, concluded}
 use Rattle.avr_session.specs.Lines.{fault_line}
 use Rattle.avr_session.specs.Session.{says, standing, reported, fault_or}
-use Rattle.avr_session.specs.Runs.{Cause, OfSending, OfListening, OfMemory, cause_line, HasCome, PrintStops, SaysFront, Reports, BrokeOff, Runs}
+use Rattle.avr_session.specs.Runs.{Cause, OfSending, OfListening, OfMemory, cause_line, HasCome, PrintStops, SaysFront, SaysOrStops, Reports, BrokeOff, Runs}
 use Rattle.avr_session.proofs.Reporting.{told_some}
 use Rattle.avr_session.proofs.Running.{came_lifted, came_said, came_on, ran_from, broke_lifted, broke_saying, broke_operation, broke_lacking, broken_cause, ToldBy}
 
@@ -228,21 +228,21 @@ stop_goes (Err RecvFailed) (Ok ok) stop = refl
 stop_goes (Err RecvFailed) (Err stopped) stop = refl
 
 -- the line of a fault that stops the run tells why it does
-pub told_of : {A : Type 0} (old new : Option Record) (part : Part) (good : A → List Saying) (a b : ℕ) (outcome : Result A HostFault) (told : Result (Unit {0}) Stopped) → Reports old new (fault_or part good outcome) (PrintStops a b) told
-    → IsStop outcome → Tells old new (cause_line (cause_of outcome)) a b
+pub told_of : {A : Type 0} (old new : DeskView) (part : Part) (good : A → List Saying) (outcome : Result A HostFault) (told : Result (Unit {0}) Stopped) → Reports PrintStops old new (fault_or part good outcome) told
+    → IsStop outcome → Tells old.kept new.kept (cause_line (cause_of outcome)) old.failures new.failures
 unfolding cause_line fault_line
-told_of old new part good a b (Ok x) told reports stop = absurd stop
-told_of old new part good a b (Err NoAnswer) told reports stop = absurd stop
-told_of old new part good a b (Err LinkEnded) told reports stop = absurd stop
-told_of old new part good a b (Err SendFailed) told reports stop = told_some old new (fault_line part SendFailed) a b told reports
-told_of old new part good a b (Err Babble) told reports stop = absurd stop
-told_of old new part good a b (Err (Refused command status)) told reports stop = absurd stop
-told_of old new part good a b (Err (BadAnswer command)) told reports stop = absurd stop
-told_of old new part good a b (Err (WrongSignature found)) told reports stop = absurd stop
-told_of old new part good a b (Err (Differs mem address want found)) told reports stop = absurd stop
-told_of old new part good a b (Err (ReadOnly mem)) told reports stop = absurd stop
-told_of old new part good a b (Err Memory) told reports stop = told_some old new (fault_line part Memory) a b told reports
-told_of old new part good a b (Err RecvFailed) told reports stop = told_some old new (fault_line part RecvFailed) a b told reports
+told_of old new part good (Ok x) told reports stop = absurd stop
+told_of old new part good (Err NoAnswer) told reports stop = absurd stop
+told_of old new part good (Err LinkEnded) told reports stop = absurd stop
+told_of old new part good (Err SendFailed) told reports stop = told_some old new (fault_line part SendFailed) told reports.says
+told_of old new part good (Err Babble) told reports stop = absurd stop
+told_of old new part good (Err (Refused command status)) told reports stop = absurd stop
+told_of old new part good (Err (BadAnswer command)) told reports stop = absurd stop
+told_of old new part good (Err (WrongSignature found)) told reports stop = absurd stop
+told_of old new part good (Err (Differs mem address want found)) told reports stop = absurd stop
+told_of old new part good (Err (ReadOnly mem)) told reports stop = absurd stop
+told_of old new part good (Err Memory) told reports stop = told_some old new (fault_line part Memory) told reports.says
+told_of old new part good (Err RecvFailed) told reports stop = told_some old new (fault_line part RecvFailed) told reports.says
 
 -- what stops a run is counted, or is want of memory
 pub stop_is : {A : Type 0} (outcome : Result A HostFault) (takes : Bool) (k l a b : ℕ) → (IsBroken outcome → link.HasFailed k l) → (IsMemory outcome → takes ≡ true) → IsStop outcome → HasCome takes k l a b (cause_of outcome)
@@ -260,24 +260,24 @@ stop_is (Err Memory) takes k l a b failed lacks stop = lacks tt
 stop_is (Err RecvFailed) takes k l a b failed lacks stop = failed tt
 
 -- An operation and its report are a part of a session.
-pub operation_runs : {A : Type 0} {operation : Dialog ⊥ (Result A HostFault)} (takes : Bool) (outcome_says : Result A HostFault → List Saying) {m n : ℕ} {u v : List ℕ} {o p : Option Talk} (outcome : Result A HostFault) (d e : Option Record)
-    (said : Result (Unit {0}) Stopped) (S : List Saying → Cause → List ℕ → Type 0) (T : Cause → List ℕ → Type 0)
-    → ((mid : Option Record) (cause : Cause) (front : SaysFront cause d mid (outcome_says outcome)) (told : List ℕ) → T cause told → S (front.whole ++ front.begun) cause told)
-    → Ended takes operation m u o p outcome n v → length v ≤ 281 → Reports d e (outcome_says outcome) T said → (IsStop outcome → ToldBy S (cause_of outcome) d e)
-    → Runs (reported operation outcome_says) m u o p d e S (concluded outcome said) n v
+pub operation_runs : {A : Type 0} {operation : Dialog ⊥ (Result A HostFault)} (takes : Bool) (outcome_says : Result A HostFault → List Saying) {m n : ℕ} {u v : List ℕ} {o p : Option Talk} (outcome : Result A HostFault) (d e : DeskView)
+    (said : Result (Unit {0}) Stopped) (S : List Saying → Cause → List ℕ → Type 0) (T : DeskView → DeskView → Cause → List ℕ → Type 0)
+    → ((mid : Option Record) (cause : Cause) (front : SaysFront cause d.kept mid (outcome_says outcome)) (told : List ℕ) → T d e cause told → S (front.whole ++ front.begun) cause told)
+    → Ended takes operation m u o p outcome n v → length v ≤ 281 → SaysOrStops T d e (outcome_says outcome) said → (IsStop outcome → ToldBy S (cause_of outcome) d.kept e.kept)
+    → Runs (reported operation outcome_says) m u o p d.kept e.kept S (concluded outcome said) n v
 operation_runs {operation = operation} takes outcome_says {m = m} {n = n} {u = u} {v = v} {o = o} {p = p} outcome d e (Ok done) S T why (inl played) few reports some =
-    subst (λ r. Runs (reported operation outcome_says) m u o p d e S r n v) (sym played.1)
-    (ran_from (came_on (came_lifted (λ outcome. says (outcome_says outcome) (Done (standing outcome))) d played.0 few) (came_said (outcome_says outcome) (Done (standing outcome)) n v p reports)))
+    subst (λ r. Runs (reported operation outcome_says) m u o p d.kept e.kept S r n v) (sym played.1)
+    (ran_from (came_on (came_lifted (λ outcome. says (outcome_says outcome) (Done (standing outcome))) d.kept played.0 few) (came_said (outcome_says outcome) (Done (standing outcome)) n v p reports)))
 operation_runs {operation = operation} takes outcome_says {n = n} {v = v} {p = p} outcome d e (Err stopped) S T why (inl played) few reports some =
     broke_lifted (λ outcome. says (outcome_says outcome) (Done (standing outcome))) played.0 few
     (broke_saying (outcome_says outcome) (Done (standing outcome)) n v p why reports)
 operation_runs {operation = operation} takes outcome_says {m = m} {n = n} {u = u} {v = v} {o = o} {p = p} outcome d e said S T why (inr (inl broke)) few reports some =
     let stop = link_stops broke.0 outcome broke.1 in
-    let why_not : ToldBy S (broken_cause broke.0) d e = subst (λ cause. ToldBy S cause d e) (link_cause broke.0 outcome broke.1) (some stop) in
-    subst (λ r. Runs (reported operation outcome_says) m u o p d e S r n v) (sym (stop_goes outcome said stop))
+    let why_not : ToldBy S (broken_cause broke.0) d.kept e.kept = subst (λ cause. ToldBy S cause d.kept e.kept) (link_cause broke.0 outcome broke.1) (some stop) in
+    subst (λ r. Runs (reported operation outcome_says) m u o p d.kept e.kept S r n v) (sym (stop_goes outcome said stop))
     (broke_operation broke.0 (λ outcome. says (outcome_says outcome) (Done (standing outcome))) broke.2 why_not)
 operation_runs {operation = operation} takes outcome_says {m = m} {n = n} {u = u} {v = v} {o = o} {p = p} outcome d e said S T why (inr (inr lacks)) few reports some =
     let stop = memory_stops outcome lacks.1 in
-    let why_not : ToldBy S OfMemory d e = subst (λ cause. ToldBy S cause d e) (ap cause_of (memory_is outcome lacks.1)) (some stop) in
-    subst (λ r. Runs (reported operation outcome_says) m u o p d e S r n v) (sym (stop_goes outcome said stop))
-    (subst (λ q. BrokeOff (reported operation outcome_says) m u o q d e S) (sym lacks.2) (broke_lacking (reported operation outcome_says) m u o why_not))
+    let why_not : ToldBy S OfMemory d.kept e.kept = subst (λ cause. ToldBy S cause d.kept e.kept) (ap cause_of (memory_is outcome lacks.1)) (some stop) in
+    subst (λ r. Runs (reported operation outcome_says) m u o p d.kept e.kept S r n v) (sym (stop_goes outcome said stop))
+    (subst (λ q. BrokeOff (reported operation outcome_says) m u o q d.kept e.kept S) (sym lacks.2) (broke_lacking (reported operation outcome_says) m u o why_not))

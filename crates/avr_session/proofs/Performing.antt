@@ -3,7 +3,7 @@ use Rattle.std.proofs.Common.{◌≡◌, ℕ, Bool, true, false, ◌||◌, ◌++
 use Rattle.std.proofs.Math.Bool.{or_assoc}
 use Rattle.std.proofs.lemmas.Grind.{common_steps}
 use Rattle.std.proofs.lemmas.List.Folds.{list_any-append}
-use Rattle.avr_desk.specs.Record.{Record}
+use Rattle.avr_desk.specs.Record.{Record, DeskView}
 use Rattle.avr_cli.specs.declared.chosen.Switches.{Switches}
 use Rattle.avr_cli.specs.declared.update.Format.{Format}
 use Rattle.avr_part.specs.Part.{Part}
@@ -24,7 +24,7 @@ use Rattle.avr_session.specs.declared.standing.Stopped.{Stopped}
 use Rattle.avr_session.specs.Concluding.{Serves, after_outcome, concluded, fine_if_said}
 use Rattle.avr_session.specs.Lines.{fault_line}
 use Rattle.avr_session.specs.Session.{says, standing, reported, unless_fault, fault_or, read_says, opening_says, playing, session, status_of, takes_memory}
-use Rattle.avr_session.specs.Runs.{Cause, OfSending, OfListening, OfFile, OfPrinting, OfMemory, cause_line, is_error, tells_fault, HasCome, TellsCause, StopsBehind, Stops, DeskStops, PrintStops, ReadStops, SaysFront, Reports, BrokeOff, Ran, Runs, RunsTo}
+use Rattle.avr_session.specs.Runs.{Cause, OfSending, OfListening, OfFile, OfPrinting, OfMemory, cause_line, is_error, tells_fault, HasCome, TellsCause, StopsBehind, Stops, DeskStops, PrintStops, ReadStops, SaysFront, SaysOrStops, Reports, BrokeOff, Ran, Runs, RunsTo}
 use Rattle.avr_session.specs.Parts.{is_told, PerformsBehind, Performs, LeavesOut}
 use Rattle.avr_session.proofs.Reporting.{told_some, kept_nothing}
 use Rattle.avr_message.proofs.Saying.{kept_none}
@@ -70,21 +70,21 @@ unfolding cause_line
 printing_tells false told a b none = inl none
 printing_tells true told a b none = none
 
-pub print_stops_run : (takes was : Bool) (k l a b : ℕ) → a ≤ b → (said : List Saying) (cause : Cause) (told : List ℕ) → PrintStops a b cause told → StopsBehind takes was k l a b said cause told
+pub print_stops_run : (takes was : Bool) (k l : ℕ) (a b : DeskView) → a.failures ≤ b.failures → (said : List Saying) (cause : Cause) (told : List ℕ) → PrintStops a b cause told → StopsBehind takes was k l a.failures b.failures said cause told
 print_stops_run takes was k l a b le said OfSending told stops = absurd stops
 print_stops_run takes was k l a b le said OfListening told stops = absurd stops
 print_stops_run takes was k l a b le said (OfFile file trouble) told stops = absurd stops
-print_stops_run takes was k l a b le said OfPrinting told stops = record { count = b; has_come = stops.0; tells = printing_tells (was || tells_fault said) told b b stops.1; since = le; until = omega arith }
+print_stops_run takes was k l a b le said OfPrinting told stops = record { count = b.failures; has_come = stops.0; tells = printing_tells (was || tells_fault said) told b.failures b.failures stops.1; since = le; until = omega arith }
 print_stops_run takes was k l a b le said OfMemory told stops = absurd stops
 
 -- at a file too, where no fault was told
-pub desk_stops_run : (takes : Bool) (k l a b : ℕ) → a ≤ b → (said : List Saying) → tells_fault said ≡ false → (cause : Cause) (told : List ℕ) → DeskStops a b cause told → Stops takes k l a b said cause told
+pub desk_stops_run : (takes : Bool) (k l : ℕ) (a b : DeskView) → a.failures ≤ b.failures → (said : List Saying) → tells_fault said ≡ false → (cause : Cause) (told : List ℕ) → DeskStops a b cause told → Stops takes k l a.failures b.failures said cause told
 desk_stops_run takes k l a b le said none OfSending told stops = absurd stops
 desk_stops_run takes k l a b le said none OfListening told stops = absurd stops
 desk_stops_run takes k l a b le said none (OfFile file trouble) told stops = record {
   count = stops.count;
   has_come = stops.failed;
-  tells = subst (λ x. TellsCause x (OfFile file trouble) told stops.count b) (sym none) stops.tells;
+  tells = subst (λ x. TellsCause x (OfFile file trouble) told stops.count b.failures) (sym none) stops.tells;
   since = stops.since;
   until = stops.until;
 }
@@ -92,31 +92,31 @@ desk_stops_run takes k l a b le said none OfPrinting told stops = print_stops_ru
 desk_stops_run takes k l a b le said none OfMemory told stops = absurd stops
 
 -- what a report stops by, behind a front of what it says
-abbrev pub StopsReport : Bool → ℕ → ℕ → ℕ → ℕ → Option Record → List Saying → (Cause → List ℕ → Type 0) → Type 0
-StopsReport takes k l a b d sayings T = (mid : Option Record) (cause : Cause) (front : SaysFront cause d mid sayings) (told : List ℕ) → T cause told → Stops takes k l a b (front.whole ++ front.begun) cause told
+abbrev pub StopsReport : Bool → ℕ → ℕ → DeskView → DeskView → List Saying → (DeskView → DeskView → Cause → List ℕ → Type 0) → Type 0
+StopsReport takes k l d e sayings By = (mid : Option Record) (cause : Cause) (front : SaysFront cause d.kept mid sayings) (told : List ℕ) → By d e cause told → Stops takes k l d.failures e.failures (front.whole ++ front.begun) cause told
 
-pub print_stops_report : (takes : Bool) (k l a b : ℕ) (d : Option Record) (sayings : List Saying) → a ≤ b → StopsReport takes k l a b d sayings (PrintStops a b)
-print_stops_report takes k l a b d sayings le mid cause front told stops = print_stops_run takes false k l a b le (front.whole ++ front.begun) cause told stops
+pub print_stops_report : (takes : Bool) (k l : ℕ) {d e : DeskView} {sayings : List Saying} {told : Result (Unit {0}) Stopped} → Reports PrintStops d e sayings told → StopsReport takes k l d e sayings PrintStops
+print_stops_report takes k l {d = d} {e = e} reports mid cause front told stops = print_stops_run takes false k l d e reports.counted (front.whole ++ front.begun) cause told stops
 
-pub desk_stops_report : (takes : Bool) (k l a b : ℕ) (d : Option Record) (sayings : List Saying) → a ≤ b → tells_fault sayings ≡ false → StopsReport takes k l a b d sayings (DeskStops a b)
-desk_stops_report takes k l a b d sayings le none mid cause front told stops = desk_stops_run takes k l a b le (front.whole ++ front.begun) (front_tells_none front none) cause told stops
+desk_stops_report : (takes : Bool) (k l : ℕ) (d e : DeskView) (sayings : List Saying) → d.failures ≤ e.failures → tells_fault sayings ≡ false → StopsReport takes k l d e sayings DeskStops
+desk_stops_report takes k l d e sayings le none mid cause front told stops = desk_stops_run takes k l d e le (front.whole ++ front.begun) (front_tells_none front none) cause told stops
 
 -- the line of another fault than a signature's stands alone
-pub opening_told : (old new : Option Record) (quiet : ℕ) (part : Part) (a b : ℕ) (outcome : Result (List ℕ) HostFault) (told : Result (Unit {0}) Stopped) → Reports old new (opening_says quiet part outcome) (PrintStops a b) told
-    → IsStop outcome → Tells old new (cause_line (cause_of outcome)) a b
+pub opening_told : (old new : DeskView) (quiet : ℕ) (part : Part) (outcome : Result (List ℕ) HostFault) (told : Result (Unit {0}) Stopped) → Reports PrintStops old new (opening_says quiet part outcome) told
+    → IsStop outcome → Tells old.kept new.kept (cause_line (cause_of outcome)) old.failures new.failures
 unfolding cause_line fault_line
-opening_told old new quiet part a b (Ok x) told reports stop = absurd stop
-opening_told old new quiet part a b (Err NoAnswer) told reports stop = absurd stop
-opening_told old new quiet part a b (Err LinkEnded) told reports stop = absurd stop
-opening_told old new quiet part a b (Err SendFailed) told reports stop = told_some old new (fault_line part SendFailed) a b told reports
-opening_told old new quiet part a b (Err Babble) told reports stop = absurd stop
-opening_told old new quiet part a b (Err (Refused command status)) told reports stop = absurd stop
-opening_told old new quiet part a b (Err (BadAnswer command)) told reports stop = absurd stop
-opening_told old new quiet part a b (Err (WrongSignature found)) told reports stop = absurd stop
-opening_told old new quiet part a b (Err (Differs mem address want found)) told reports stop = absurd stop
-opening_told old new quiet part a b (Err (ReadOnly mem)) told reports stop = absurd stop
-opening_told old new quiet part a b (Err Memory) told reports stop = told_some old new (fault_line part Memory) a b told reports
-opening_told old new quiet part a b (Err RecvFailed) told reports stop = told_some old new (fault_line part RecvFailed) a b told reports
+opening_told old new quiet part (Ok x) told reports stop = absurd stop
+opening_told old new quiet part (Err NoAnswer) told reports stop = absurd stop
+opening_told old new quiet part (Err LinkEnded) told reports stop = absurd stop
+opening_told old new quiet part (Err SendFailed) told reports stop = told_some old new (fault_line part SendFailed) told reports.says
+opening_told old new quiet part (Err Babble) told reports stop = absurd stop
+opening_told old new quiet part (Err (Refused command status)) told reports stop = absurd stop
+opening_told old new quiet part (Err (BadAnswer command)) told reports stop = absurd stop
+opening_told old new quiet part (Err (WrongSignature found)) told reports stop = absurd stop
+opening_told old new quiet part (Err (Differs mem address want found)) told reports stop = absurd stop
+opening_told old new quiet part (Err (ReadOnly mem)) told reports stop = absurd stop
+opening_told old new quiet part (Err Memory) told reports stop = told_some old new (fault_line part Memory) told reports.says
+opening_told old new quiet part (Err RecvFailed) told reports stop = told_some old new (fault_line part RecvFailed) told reports.says
 
 -- the host serves after any outcome that leaves the line
 serves_after : {A : Type 0} (outcome : Result A HostFault) (told : Result (Unit {0}) Stopped) (broken : Option HostFault) → broken ≡ left_by outcome → Serves (concluded outcome told) broken
@@ -140,40 +140,40 @@ told_by : {A : Type 0} (takes : Bool) (outcome : Result A HostFault) {k l a b : 
 told_by takes outcome {k = k} {l = l} {a = a} {b = b} d e le failed lacks stop some = (some.told, record { count = a; has_come = stop_is outcome takes k l a a failed lacks stop; tells = some.tells; since = omega arith; until = le }, some.kept)
 
 -- an operation of the host and its report
-pub operation_performs : {A : Type 0} {operation : Dialog ⊥ (Result A HostFault)} (takes : Bool) (outcome_says : Result A HostFault → List Saying) {old new : HostState} {o p : Option Talk} {k l a b : ℕ} {d e : Option Record} (outcome : Result A HostFault) (told : Result (Unit {0}) Stopped) (result : Result Standing Stopped)
-    (T : Cause → List ℕ → Type 0) → StopsReport takes k l a b d (outcome_says outcome) T
-    → result ≡ concluded outcome told → Ended takes operation old.next old.unread o p outcome new.next new.unread → length new.unread ≤ 281 → Reports d e (outcome_says outcome) T told → (IsStop outcome → Tells d e (cause_line (cause_of outcome)) a b)
-    → (IsBroken outcome → link.HasFailed k l) → new.broken ≡ left_by outcome → new.part ≡ old.part → k ≤ l → a ≤ b
-    → Performs takes (reported operation outcome_says) old new o p k l d e a b result
-operation_performs {operation = operation} takes outcome_says {old = old} {new = new} {o = o} {p = p} {k = k} {l = l} {a = a} {b = b} {d = d} {e = e} outcome told result T why is ended few reports some failed lasts part link_counted desk_counted =
+pub operation_performs : {A : Type 0} {operation : Dialog ⊥ (Result A HostFault)} (takes : Bool) (outcome_says : Result A HostFault → List Saying) {old new : HostState} {o p : Option Talk} {k l : ℕ} {d e : DeskView} (outcome : Result A HostFault) (told : Result (Unit {0}) Stopped)
+    (result : Result Standing Stopped) (By : DeskView → DeskView → Cause → List ℕ → Type 0) → StopsReport takes k l d e (outcome_says outcome) By
+    → result ≡ concluded outcome told → Ended takes operation old.next old.unread o p outcome new.next new.unread → length new.unread ≤ 281 → Reports By d e (outcome_says outcome) told → (IsStop outcome → Tells d.kept e.kept (cause_line (cause_of outcome)) d.failures e.failures)
+    → (IsBroken outcome → link.HasFailed k l) → new.broken ≡ left_by outcome → new.part ≡ old.part → k ≤ l
+    → Performs takes (reported operation outcome_says) old new o p k l d.kept e.kept d.failures e.failures result
+operation_performs {operation = operation} takes outcome_says {old = old} {new = new} {o = o} {p = p} {k = k} {l = l} {d = d} {e = e} outcome told result By why is ended few reports some failed lasts part link_counted =
     let lacks = lacks_where takes operation old.next old.unread o p outcome new.next new.unread ended in
     record {
-      runs = subst (λ r. Runs (reported operation outcome_says) old.next old.unread o p d e (Stops takes k l a b) r new.next new.unread) (sym is)
-          (operation_runs takes outcome_says outcome d e told (Stops takes k l a b) T why ended few reports (λ stop. told_by takes outcome d e desk_counted failed lacks stop (some stop)));
+      runs = subst (λ r. Runs (reported operation outcome_says) old.next old.unread o p d.kept e.kept (Stops takes k l d.failures e.failures) r new.next new.unread) (sym is)
+          (operation_runs takes outcome_says outcome d e told (Stops takes k l d.failures e.failures) By why ended few reports.says (λ stop. told_by takes outcome d.kept e.kept reports.counted failed lacks stop (some stop)));
       serves = subst (λ r. Serves r new.broken) (sym is) (serves_after outcome told new.broken lasts);
       part = part;
       link = link_counted;
-      desk = desk_counted;
+      desk = reports.counted;
     }
 
-left_out_runs : (takes : Bool) (sayings : List Saying) (seq : ℕ) (unread : List ℕ) (o : Option Talk) (k : ℕ) (d e : Option Record) (a b : ℕ) → a ≤ b → (told : Result (Unit {0}) Stopped) → Reports d e sayings (PrintStops a b) told
-    → Runs (says sayings (Done Fine)) seq unread o o d e (Stops takes k k a b) (fine_if_said told) seq unread
-left_out_runs takes sayings seq unread o k d e a b le (Ok done) reports = ran_from (came_said sayings (Done Fine) seq unread o reports)
-left_out_runs takes sayings seq unread o k d e a b le (Err stopped) reports = broke_saying sayings (Done Fine) seq unread o (print_stops_report takes k k a b d sayings le) reports
+left_out_runs : (takes : Bool) (sayings : List Saying) (seq : ℕ) (unread : List ℕ) (o : Option Talk) (k : ℕ) (d e : DeskView) (told : Result (Unit {0}) Stopped) → Reports PrintStops d e sayings told
+    → Runs (says sayings (Done Fine)) seq unread o o d.kept e.kept (Stops takes k k d.failures e.failures) (fine_if_said told) seq unread
+left_out_runs takes sayings seq unread o k d e (Ok done) reports = ran_from (came_said sayings (Done Fine) seq unread o reports.says)
+left_out_runs takes sayings seq unread o k d e (Err stopped) reports = broke_saying sayings (Done Fine) seq unread o (print_stops_report takes k k reports) reports.says
 
 left_out_serves : (told : Result (Unit {0}) Stopped) (broken : Option HostFault) → broken ≡ None → Serves (fine_if_said told) broken
 left_out_serves (Ok done) broken sound = sound
 left_out_serves (Err stopped) broken sound = tt
 
 -- something said in its place
-pub left_out_performs : (takes : Bool) (sayings : List Saying) {host : HostState} {o : Option Talk} (k : ℕ) {d e : Option Record} {a b : ℕ} (result : Result Standing Stopped) → host.broken ≡ None → LeavesOut sayings d e a b result
-    → Performs takes (says sayings (Done Fine)) host host o o k k d e a b result
-left_out_performs takes sayings {host = host} {o = o} k {d = d} {e = e} {a = a} {b = b} result sound leaves = record {
-  runs = subst (λ r. Runs (says sayings (Done Fine)) host.next host.unread o o d e (Stops takes k k a b) r host.next host.unread) (sym leaves.result_is) (left_out_runs takes sayings host.next host.unread o k d e a b leaves.desk leaves.told leaves.reports);
+pub left_out_performs : (takes : Bool) (sayings : List Saying) {host : HostState} {o : Option Talk} (k : ℕ) {d e : DeskView} (result : Result Standing Stopped) → host.broken ≡ None → LeavesOut sayings d e result
+    → Performs takes (says sayings (Done Fine)) host host o o k k d.kept e.kept d.failures e.failures result
+left_out_performs takes sayings {host = host} {o = o} k {d = d} {e = e} result sound leaves = record {
+  runs = subst (λ r. Runs (says sayings (Done Fine)) host.next host.unread o o d.kept e.kept (Stops takes k k d.failures e.failures) r host.next host.unread) (sym leaves.result_is) (left_out_runs takes sayings host.next host.unread o k d e leaves.told leaves.reports);
   serves = subst (λ r. Serves r host.broken) (sym leaves.result_is) (left_out_serves leaves.told host.broken sound);
   part = refl;
   link = omega arith;
-  desk = leaves.desk;
+  desk = leaves.reports.counted;
 }
 
 -- nothing
@@ -295,16 +295,16 @@ given_broken a (Err Memory) broken = broken
 given_broken a (Err RecvFailed) broken = broken
 
 -- a fault alone tells why a run stops
-pub given_told : {A : Type 0} (a : A) (good : A → List Saying) (old new : Option Record) (part : Part) (k l : ℕ) (outcome : Result (Unit {0}) HostFault) (told : Result (Unit {0}) Stopped)
-    → Reports old new (fault_or part good (given a outcome)) (ReadStops outcome k l) told → IsStop (given a outcome) → Tells old new (cause_line (cause_of (given a outcome))) k l
-given_told a good old new part k l (Ok ok) told reports stop = absurd stop
-given_told a good old new part k l (Err fault) told reports stop = told_of old new part good k l (Err fault) told reports stop
+pub given_told : {A : Type 0} (a : A) (good : A → List Saying) (old new : DeskView) (part : Part) (outcome : Result (Unit {0}) HostFault) (told : Result (Unit {0}) Stopped)
+    → Reports (ReadStops outcome) old new (fault_or part good (given a outcome)) told → IsStop (given a outcome) → Tells old.kept new.kept (cause_line (cause_of (given a outcome))) old.failures new.failures
+given_told a good old new part (Ok ok) told reports stop = absurd stop
+given_told a good old new part (Err fault) told reports stop = told_of old new part good (Err fault) told reports stop
 
 -- only where bytes were read there is something to save
-pub read_stops_report : (part : Part) (s : Switches) (mem : Mem) (format : Format) (file items : List ℕ) (outcome : Result (Unit {0}) HostFault) (takes : Bool) (k l a b : ℕ) (d : Option Record) → a ≤ b
-    → StopsReport takes k l a b d (fault_or part (read_says s mem format file) (given items outcome)) (ReadStops outcome a b)
-read_stops_report part s mem format file items (Ok done) takes k l a b d le = desk_stops_report takes k l a b d (read_says s mem format file items) le (read_none s mem format file items)
-read_stops_report part s mem format file items (Err fault) takes k l a b d le = print_stops_report takes k l a b d (Line (fault_line part fault) ∷ []) le
+pub read_stops_report : (part : Part) (s : Switches) (mem : Mem) (format : Format) (file items : List ℕ) (outcome : Result (Unit {0}) HostFault) (takes : Bool) (k l : ℕ) {d e : DeskView} {told : Result (Unit {0}) Stopped}
+    → Reports (ReadStops outcome) d e (fault_or part (read_says s mem format file) (given items outcome)) told → StopsReport takes k l d e (fault_or part (read_says s mem format file) (given items outcome)) (ReadStops outcome)
+read_stops_report part s mem format file items (Ok done) takes k l {d = d} {e = e} reports = desk_stops_report takes k l d e (read_says s mem format file items) reports.counted (read_none s mem format file items)
+read_stops_report part s mem format file items (Err fault) takes k l reports = print_stops_report takes k l reports
 
 -- the tasks are the first and those behind it
 pub first_task : (tasks : List Task) (task : Task) → 1 ≤ length tasks → task ≡ get_or tasks 0 task → task ∷ drop 1 tasks ≡ tasks
@@ -349,15 +349,15 @@ told_nothing (Err Memory) d a failed broken = absurd broken
 told_nothing (Err RecvFailed) d a failed broken = ([], record { count = a; has_come = failed tt; tells = refl; since = omega arith; until = omega arith }, kept_nothing d)
 
 -- an operation of which nothing is told
-pub quietly_performs : {operation : Dialog ⊥ (Result (Unit {0}) HostFault)} {old new : HostState} {o p : Option Talk} {k l : ℕ} (d : Option Record) (a : ℕ) (outcome : Result (Unit {0}) HostFault) (result : Result Standing Stopped)
+pub quietly_performs : {operation : Dialog ⊥ (Result (Unit {0}) HostFault)} {old new : HostState} {o p : Option Talk} {k l : ℕ} (d : DeskView) (outcome : Result (Unit {0}) HostFault) (result : Result Standing Stopped)
     → result ≡ concluded outcome (Ok tt) → Ended false operation old.next old.unread o p outcome new.next new.unread → length new.unread ≤ 281
-    → (IsBroken outcome → link.HasFailed k l) → new.broken ≡ left_by outcome → new.part ≡ old.part → k ≤ l → PerformsBehind false true (reported operation (λ _. [])) old new o p k l d d a a result
-quietly_performs {operation = operation} {old = old} {new = new} {o = o} {p = p} {k = k} {l = l} d a outcome result is ended few failed lasts part counted =
+    → (IsBroken outcome → link.HasFailed k l) → new.broken ≡ left_by outcome → new.part ≡ old.part → k ≤ l → PerformsBehind false true (reported operation (λ _. [])) old new o p k l d.kept d.kept d.failures d.failures result
+quietly_performs {operation = operation} {old = old} {new = new} {o = o} {p = p} {k = k} {l = l} d outcome result is ended few failed lasts part counted =
     let only = only_broken operation old.next old.unread o p outcome new.next new.unread ended in
     record {
-      runs = subst (λ r. Runs (reported operation (λ _. [])) old.next old.unread o p d d (StopsBehind false true k l a a) r new.next new.unread) (sym is)
-          (operation_runs false (λ _. []) outcome d d (Ok tt) (StopsBehind false true k l a a) (PrintStops a a)
-          (λ mid cause front told stops. print_stops_run false true k l a a (omega arith) (front.whole ++ front.begun) cause told stops) ended few (kept_none d) (λ stop. told_nothing outcome d a failed (only stop)));
+      runs = subst (λ r. Runs (reported operation (λ _. [])) old.next old.unread o p d.kept d.kept (StopsBehind false true k l d.failures d.failures) r new.next new.unread) (sym is)
+          (operation_runs false (λ _. []) outcome d d (Ok tt) (StopsBehind false true k l d.failures d.failures) PrintStops
+          (λ mid cause front told stops. print_stops_run false true k l d d (omega arith) (front.whole ++ front.begun) cause told stops) ended few (kept_none d.kept) (λ stop. told_nothing outcome d.kept d.failures failed (only stop)));
       serves = subst (λ r. Serves r new.broken) (sym is) (serves_after outcome (Ok tt) new.broken lasts);
       part = part;
       link = counted;

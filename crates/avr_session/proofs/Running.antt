@@ -1,6 +1,6 @@
 -- How a call over a link and a desk goes on in its dialog.
 use Rattle.std.proofs.Common.{◌≡◌, ℕ, ◌≤◌, List, [], ◌∷◌, ◌++◌, append_assoc, append-nil, length, map, refl, sym, ap, ◌∙◌, subst, Option, None, option_map}
-use Rattle.avr_desk.specs.Record.{Record, after_err}
+use Rattle.avr_desk.specs.Record.{Record, DeskView, after_err}
 use Rattle.stk_host.specs.declared.fault.Broken.{Broken}
 use Rattle.stk_host.specs.declared.fault.Broken.TheVariants.{Send, Recv}
 use Rattle.stk_host.specs.Tape.{Tape, on_tape}
@@ -264,8 +264,8 @@ no_bytes : (xs : List Saying) → bytes_sent (map {B = Event Saying} Said xs) �
 no_bytes [] = refl
 no_bytes (x ∷ xs) = no_bytes xs
 
-pub broke_saying : {R : Type 0} {S : Cause → List ℕ → Type 0} {T : List Saying → Cause → List ℕ → Type 0} {d e : Option Record} (xs : List Saying) (dialog : Dialog Saying R) (seq : ℕ) (u : List ℕ) (o : Option Talk)
-    → ((mid : Option Record) (cause : Cause) (front : SaysFront cause d mid xs) (told : List ℕ) → S cause told → T (front.whole ++ front.begun) cause told) → SaidSome d e xs S → BrokeOff (says xs dialog) seq u o o d e T
+pub broke_saying : {R : Type 0} {By : DeskView → DeskView → Cause → List ℕ → Type 0} {T : List Saying → Cause → List ℕ → Type 0} {d e : DeskView} (xs : List Saying) (dialog : Dialog Saying R) (seq : ℕ) (u : List ℕ) (o : Option Talk)
+    → ((mid : Option Record) (cause : Cause) (front : SaysFront cause d.kept mid xs) (told : List ℕ) → By d e cause told → T (front.whole ++ front.begun) cause told) → SaidSome By d e xs → BrokeOff (says xs dialog) seq u o o d.kept e.kept T
 broke_saying {T = T} {d = d} {e = e} xs dialog seq u o why f =
     let front = f.front in
     let shown : List Saying = front.whole ++ front.begun in
@@ -293,7 +293,7 @@ broke_saying {T = T} {d = d} {e = e} xs dialog seq u o why f =
       place = place;
       listens = desk_listens f.cause (played (says xs dialog) seq (on_tape u ++ [])).outcome front.by_desk;
       stops = subst (λ said. T said f.cause f.told) (sym (sayings_said shown)) (why f.between f.cause f.front f.told f.stops);
-      kept = kept_on (after_all shown) (after_err f.told) (λ r. after_err f.told (after_all (sayings (map Said shown)) r)) d f.between e
+      kept = kept_on (after_all shown) (after_err f.told) (λ r. after_err f.told (after_all (sayings (map Said shown)) r)) d.kept f.between e.kept
           (λ r. ap (after_err f.told) (ap (λ ss. after_all ss r) (sayings_said shown))) f.front.kept f.kept;
     }
 

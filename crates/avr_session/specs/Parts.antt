@@ -1,6 +1,6 @@
 -- How a part of a session ends. (For contracts inside this crate.)
 use Rattle.std.specs.Prelude.{ℕ, Bool, true, false, ◌≡◌, ◌≤◌, List, Option, Result, ⊤}
-use Rattle.avr_desk.specs.Record.{Record}
+use Rattle.avr_desk.specs.Record.{Record, DeskView}
 use Rattle.stk_host.specs.Dialog.{Dialog}
 use Rattle.stk_host.specs.State.{HostState}
 use Rattle.stk_host.specs.Talk.{Talk}
@@ -36,9 +36,7 @@ Performs takes dialog old new talk_before talk_now link_before link_now desk_old
     desk_now result
 
 -- something was said in place of a part of a session
-pub record LeavesOut (sayings : List Saying) (desk_old desk_new : Option Record) (desk_before desk_now : ℕ)
-    (result : Result Standing Stopped) : Type 0 where
+pub record LeavesOut (sayings : List Saying) (old new : DeskView) (result : Result Standing Stopped) : Type 0 where
   pub told : Result ⊤ Stopped
-  pub reports : Reports desk_old desk_new sayings (PrintStops desk_before desk_now) told
+  pub reports : Reports PrintStops old new sayings told
   pub result_is : result ≡ fine_if_said told
-  pub desk : desk_before ≤ desk_now

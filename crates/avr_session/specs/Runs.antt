@@ -1,7 +1,7 @@
 -- What a call over a link and a desk comes to: its dialog played whole, or broken off.
 use Rattle.std.specs.Prelude.{ℕ, Bool, true, false, ◌||◌, List, [], ◌∷◌, ◌++◌, map, ◌≡◌, ◌<◌, ◌≤◌, ◌⊎◌, length, nat_eq, Option, None, option_map, Result, Ok, Err, codes, ⊤}
 use Rattle.std.specs.List.{list_any, starts_with}
-use Rattle.avr_desk.specs.Record.{Record, after_err}
+use Rattle.avr_desk.specs.Record.{Record, DeskView, after_err}
 use Rattle.avr_desk.specs.Fault as desk
 use Rattle.stk_host.specs.Talk as link
 use Rattle.stk_host.specs.Tape.{on_tape}
@@ -195,34 +195,44 @@ pub record SaysFront (cause : Cause) (old new : Option Record) (sayings : List S
   pub by_desk : IsOfDesk cause
   pub kept : new ≡ option_map (after_all (whole ++ begun)) old
 
--- A front of the sayings was done, and behind it stands what was told of the cause.
-pub record SaidSome (old new : Option Record) (sayings : List Saying) (StopsBy : Cause → Bytes → Type 0) : Type 0 where
+-- A front of the sayings was done, and behind it stands what was told of the cause; such a cause may stop them.
+pub record SaidSome (By : DeskView → DeskView → Cause → Bytes → Type 0) (old new : DeskView)
+    (sayings : List Saying) : Type 0 where
   pub between : Option Record
   pub cause : Cause
-  pub front : SaysFront cause old between sayings
+  pub front : SaysFront cause old.kept between sayings
   pub told : Bytes
-  pub stops : StopsBy cause told
-  pub kept : new ≡ option_map (after_err told) between
+  pub stops : By old new cause told
+  pub kept : new.kept ≡ option_map (after_err told) between
 
-abbrev pub Reports : Option Record → Option Record → List Saying → (Cause → Bytes → Type 0) → Result ⊤ Stopped → Type 0
-Reports old new sayings StopsBy (Ok done) = new ≡ option_map (after_all sayings) old
-Reports old new sayings StopsBy (Err stopped) = SaidSome old new sayings StopsBy
+-- the sayings were done, or a front of them
+abbrev pub SaysOrStops : (DeskView → DeskView → Cause → Bytes → Type 0) → DeskView → DeskView → List Saying
+    → Result ⊤ Stopped → Type 0
+SaysOrStops By old new sayings (Ok done) = new.kept ≡ option_map (after_all sayings) old.kept
+SaysOrStops By old new sayings (Err stopped) = SaidSome By old new sayings
+
+-- the same, and the count of the desk's failures never falls
+pub record Reports (By : DeskView → DeskView → Cause → Bytes → Type 0) (old new : DeskView) (sayings : List Saying)
+    (result : Result ⊤ Stopped) : Type 0 where
+  pub says : SaysOrStops By old new sayings result
+  pub counted : old.failures ≤ new.failures
 
 -- the desk failed as it printed, and nothing is told of that
-abbrev pub PrintStops : ℕ → ℕ → Cause → Bytes → Type 0
-PrintStops before now OfPrinting told = desk.HasFailed before now × (told ≡ [])
-PrintStops before now cause told = ⊥
+abbrev pub PrintStops : DeskView → DeskView → Cause → Bytes → Type 0
+PrintStops old new OfPrinting told = desk.HasFailed old.failures new.failures × (told ≡ [])
+PrintStops old new cause told = ⊥
 
 -- the desk failed at a file, and from then on that was told
-abbrev pub FileStops : ℕ → ℕ → Bytes → Trouble → Bytes → Type 0
-FileStops before now file trouble told = TellsFailure (cause_line (OfFile file trouble)) told before now
+abbrev pub FileStops : DeskView → DeskView → Bytes → Trouble → Bytes → Type 0
+FileStops old new file trouble told =
+    TellsFailure (cause_line (OfFile file trouble)) told old.failures new.failures
 
 -- the desk failed, at a file or as it printed
-abbrev pub DeskStops : ℕ → ℕ → Cause → Bytes → Type 0
-DeskStops before now (OfFile file trouble) told = FileStops before now file trouble told
-DeskStops before now cause told = PrintStops before now cause told
+abbrev pub DeskStops : DeskView → DeskView → Cause → Bytes → Type 0
+DeskStops old new (OfFile file trouble) told = FileStops old new file trouble told
+DeskStops old new cause told = PrintStops old new cause told
 
 -- at a file only where there is something to save
-abbrev pub ReadStops : {A Fault : Type 0} → Result A Fault → ℕ → ℕ → Cause → Bytes → Type 0
-ReadStops (Ok read) before now = DeskStops before now
-ReadStops (Err fault) before now = PrintStops before now
+abbrev pub ReadStops : {A Fault : Type 0} → Result A Fault → DeskView → DeskView → Cause → Bytes → Type 0
+ReadStops (Ok read) = DeskStops
+ReadStops (Err fault) = PrintStops

@@ -61,18 +61,15 @@ fn erase_chip<D: Desk, L: Link>(
 
 /// Warns that an erase that was asked for is left out.
 fn warn_of_no_erase<D: Desk>(desk: &mut D, quiet: u8) -> Result<(), Stopped>
-    ensures reports { Reports (D.view desk.old).kept (D.view desk.new).kept
-        (warns quiet (codes "chip not erased because of -n" ∷ []))
-        (PrintStops (D.view desk.old).failures (D.view desk.new).failures) result }
-    ensures counted { (D.view desk.old).failures ≤ (D.view desk.new).failures }
+    ensures { Reports PrintStops (D.view desk.old) (D.view desk.new)
+        (warns quiet (codes "chip not erased because of -n" ∷ [])) result }
 {
     warn(desk, quiet, &[Piece::Text("chip not erased because of -n")])
 }
 
 /// Leaves out an erase, with a warning if one was asked for.
 fn leave_out_erase<D: Desk>(desk: &mut D, switches: Switches) -> Result<Standing, Stopped>
-    ensures leaves { LeavesOut (left_out_erase switches) (D.view desk.old).kept (D.view desk.new).kept
-        (D.view desk.old).failures (D.view desk.new).failures result }
+    ensures { LeavesOut (left_out_erase switches) (D.view desk.old) (D.view desk.new) result }
 {
     if switches.erase {
         let warned = warn_of_no_erase(desk, switches.quiet);
@@ -220,8 +217,7 @@ fn leave_out_write<D: Desk>(
     mem: Mem,
     image: &Image,
 ) -> Result<Standing, Stopped>
-    ensures leaves { LeavesOut (left_out_write plan.now.switches mem image.now)
-        (D.view desk.old).kept (D.view desk.new).kept (D.view desk.old).failures (D.view desk.new).failures result }
+    ensures { LeavesOut (left_out_write plan.now.switches mem image.now) (D.view desk.old) (D.view desk.new) result }
 {
     let said = report_bytes(
         desk,
