@@ -229,20 +229,20 @@ stop_goes (Err RecvFailed) (Err stopped) stop = refl
 
 -- the line of a fault that stops the run tells why it does
 pub told_of : {A : Type 0} (old new : DeskView) (part : Part) (good : A → List Saying) (outcome : Result A HostFault) (told : Result (Unit {0}) Stopped) → Reports PrintStops old new (fault_or part good outcome) told
-    → IsStop outcome → Tells old.kept new.kept (cause_line (cause_of outcome)) old.failures new.failures
+    → IsStop outcome → Tells old new (cause_line (cause_of outcome))
 unfolding cause_line fault_line
 told_of old new part good (Ok x) told reports stop = absurd stop
 told_of old new part good (Err NoAnswer) told reports stop = absurd stop
 told_of old new part good (Err LinkEnded) told reports stop = absurd stop
-told_of old new part good (Err SendFailed) told reports stop = told_some old new (fault_line part SendFailed) told reports.says
+told_of old new part good (Err SendFailed) told reports stop = told_some old new (fault_line part SendFailed) told reports.says reports.counted
 told_of old new part good (Err Babble) told reports stop = absurd stop
 told_of old new part good (Err (Refused command status)) told reports stop = absurd stop
 told_of old new part good (Err (BadAnswer command)) told reports stop = absurd stop
 told_of old new part good (Err (WrongSignature found)) told reports stop = absurd stop
 told_of old new part good (Err (Differs mem address want found)) told reports stop = absurd stop
 told_of old new part good (Err (ReadOnly mem)) told reports stop = absurd stop
-told_of old new part good (Err Memory) told reports stop = told_some old new (fault_line part Memory) told reports.says
-told_of old new part good (Err RecvFailed) told reports stop = told_some old new (fault_line part RecvFailed) told reports.says
+told_of old new part good (Err Memory) told reports stop = told_some old new (fault_line part Memory) told reports.says reports.counted
+told_of old new part good (Err RecvFailed) told reports stop = told_some old new (fault_line part RecvFailed) told reports.says reports.counted
 
 -- what stops a run is counted, or is want of memory
 pub stop_is : {A : Type 0} (outcome : Result A HostFault) (takes : Bool) (k l a b : ℕ) → (IsBroken outcome → link.HasFailed k l) → (IsMemory outcome → takes ≡ true) → IsStop outcome → HasCome takes k l a b (cause_of outcome)

@@ -3,7 +3,7 @@ use Rattle.std.proofs.Common.{◌≡◌, ℕ, Bool, true, false, ◌||◌, ◌++
 use Rattle.std.proofs.Math.Bool.{or_assoc}
 use Rattle.std.proofs.lemmas.Grind.{common_steps}
 use Rattle.std.proofs.lemmas.List.Folds.{list_any-append}
-use Rattle.avr_desk.specs.Record.{Record, DeskView}
+use Rattle.avr_desk.specs.Record.{Record, DeskView, showing}
 use Rattle.avr_cli.specs.declared.chosen.Switches.{Switches}
 use Rattle.avr_cli.specs.declared.update.Format.{Format}
 use Rattle.avr_part.specs.Part.{Part}
@@ -28,7 +28,7 @@ use Rattle.avr_session.specs.Runs.{Cause, OfSending, OfListening, OfFile, OfPrin
 use Rattle.avr_session.specs.Parts.{is_told, PerformsBehind, Performs, LeavesOut}
 use Rattle.avr_session.proofs.Reporting.{told_some, kept_nothing}
 use Rattle.avr_message.proofs.Saying.{kept_none}
-use Rattle.avr_message.proofs.Telling.{failed_later, failed_before, tells_longer}
+use Rattle.avr_message.proofs.Telling.{risen_later, risen_before, tells_longer}
 use Rattle.avr_session.proofs.Running.{came_here, came_said, came_part, ran_from, ran_on, broke_after, broke_part, broke_saying, ToldBy}
 use Rattle.avr_session.proofs.Foretelling.{Foretells, foretold, front_tells_none, read_none}
 use Rattle.avr_session.proofs.Operations.{IsStop, IsMemory, cause_of, Ended, lacks_where, only_broken, operation_runs, stop_is, told_of}
@@ -36,7 +36,7 @@ use Rattle.avr_session.proofs.Operations.{IsStop, IsMemory, cause_of, Ended, lac
 -- what stopped a part stopped the whole
 
 tells_longer_of : (flag : Bool) (cause : Cause) (told : List ℕ) (a b c : ℕ) → a ≤ b → b ≤ c → TellsCause flag cause told a b → TellsCause flag cause told a c
-tells_longer_of false cause told a b c first then tells = tells_longer (cause_line cause) told a b c first then tells
+tells_longer_of false cause told a b c first then tells = tells_longer (cause_line cause) told (showing None a) (showing None b) (showing None c) first then tells
 tells_longer_of true OfSending told a b c first then tells = tells
 tells_longer_of true OfListening told a b c first then tells = tells
 tells_longer_of true (OfFile file trouble) told a b c first then tells = absurd tells
@@ -44,10 +44,10 @@ tells_longer_of true OfPrinting told a b c first then tells = tells
 tells_longer_of true OfMemory told a b c first then tells = absurd tells
 
 has_come_in : (some takes : Bool) (k l m n a b c : ℕ) → (some ≡ true → takes ≡ true) → k ≤ l → l ≤ m → m ≤ n → a ≤ b → (cause : Cause) → HasCome some l m b c cause → HasCome takes k n a c cause
-has_come_in some takes k l m n a b c t p q r s OfSending come = failed_before k m n (omega arith) r (failed_later k l m p come)
-has_come_in some takes k l m n a b c t p q r s OfListening come = failed_before k m n (omega arith) r (failed_later k l m p come)
-has_come_in some takes k l m n a b c t p q r s (OfFile file trouble) come = failed_later a b c s come
-has_come_in some takes k l m n a b c t p q r s OfPrinting come = failed_later a b c s come
+has_come_in some takes k l m n a b c t p q r s OfSending come = risen_before k m n (omega arith) r (risen_later k l m p come)
+has_come_in some takes k l m n a b c t p q r s OfListening come = risen_before k m n (omega arith) r (risen_later k l m p come)
+has_come_in some takes k l m n a b c t p q r s (OfFile file trouble) come = risen_later a b c s come
+has_come_in some takes k l m n a b c t p q r s OfPrinting come = risen_later a b c s come
 has_come_in some takes k l m n a b c t p q r s OfMemory come = t come
 
 -- behind other sayings, where they tell what is taken to be told
@@ -82,9 +82,9 @@ pub desk_stops_run : (takes : Bool) (k l : ℕ) (a b : DeskView) → a.failures 
 desk_stops_run takes k l a b le said none OfSending told stops = absurd stops
 desk_stops_run takes k l a b le said none OfListening told stops = absurd stops
 desk_stops_run takes k l a b le said none (OfFile file trouble) told stops = record {
-  count = stops.count;
+  count = stops.between.failures;
   has_come = stops.failed;
-  tells = subst (λ x. TellsCause x (OfFile file trouble) told stops.count b.failures) (sym none) stops.tells;
+  tells = subst (λ x. TellsCause x (OfFile file trouble) told stops.between.failures b.failures) (sym none) stops.tells;
   since = stops.since;
   until = stops.until;
 }
@@ -103,20 +103,20 @@ desk_stops_report takes k l d e sayings le none mid cause front told stops = des
 
 -- the line of another fault than a signature's stands alone
 pub opening_told : (old new : DeskView) (quiet : ℕ) (part : Part) (outcome : Result (List ℕ) HostFault) (told : Result (Unit {0}) Stopped) → Reports PrintStops old new (opening_says quiet part outcome) told
-    → IsStop outcome → Tells old.kept new.kept (cause_line (cause_of outcome)) old.failures new.failures
+    → IsStop outcome → Tells old new (cause_line (cause_of outcome))
 unfolding cause_line fault_line
 opening_told old new quiet part (Ok x) told reports stop = absurd stop
 opening_told old new quiet part (Err NoAnswer) told reports stop = absurd stop
 opening_told old new quiet part (Err LinkEnded) told reports stop = absurd stop
-opening_told old new quiet part (Err SendFailed) told reports stop = told_some old new (fault_line part SendFailed) told reports.says
+opening_told old new quiet part (Err SendFailed) told reports stop = told_some old new (fault_line part SendFailed) told reports.says reports.counted
 opening_told old new quiet part (Err Babble) told reports stop = absurd stop
 opening_told old new quiet part (Err (Refused command status)) told reports stop = absurd stop
 opening_told old new quiet part (Err (BadAnswer command)) told reports stop = absurd stop
 opening_told old new quiet part (Err (WrongSignature found)) told reports stop = absurd stop
 opening_told old new quiet part (Err (Differs mem address want found)) told reports stop = absurd stop
 opening_told old new quiet part (Err (ReadOnly mem)) told reports stop = absurd stop
-opening_told old new quiet part (Err Memory) told reports stop = told_some old new (fault_line part Memory) told reports.says
-opening_told old new quiet part (Err RecvFailed) told reports stop = told_some old new (fault_line part RecvFailed) told reports.says
+opening_told old new quiet part (Err Memory) told reports stop = told_some old new (fault_line part Memory) told reports.says reports.counted
+opening_told old new quiet part (Err RecvFailed) told reports stop = told_some old new (fault_line part RecvFailed) told reports.says reports.counted
 
 -- the host serves after any outcome that leaves the line
 serves_after : {A : Type 0} (outcome : Result A HostFault) (told : Result (Unit {0}) Stopped) (broken : Option HostFault) → broken ≡ left_by outcome → Serves (concluded outcome told) broken
@@ -135,21 +135,21 @@ serves_after (Err RecvFailed) (Ok ok) broken is = tt
 serves_after outcome (Err stopped) broken is = tt
 
 -- a cause that was told
-told_by : {A : Type 0} (takes : Bool) (outcome : Result A HostFault) {k l a b : ℕ} (d e : Option Record) → a ≤ b → (IsBroken outcome → link.HasFailed k l) → (IsMemory outcome → takes ≡ true) → IsStop outcome → Tells d e (cause_line (cause_of outcome)) a b
-    → ToldBy (Stops takes k l a b) (cause_of outcome) d e
-told_by takes outcome {k = k} {l = l} {a = a} {b = b} d e le failed lacks stop some = (some.told, record { count = a; has_come = stop_is outcome takes k l a a failed lacks stop; tells = some.tells; since = omega arith; until = le }, some.kept)
+told_by : {A : Type 0} (takes : Bool) (outcome : Result A HostFault) {k l : ℕ} (d e : DeskView) → d.failures ≤ e.failures → (IsBroken outcome → link.HasFailed k l) → (IsMemory outcome → takes ≡ true) → IsStop outcome → Tells d e (cause_line (cause_of outcome))
+    → ToldBy (Stops takes k l d.failures e.failures) (cause_of outcome) d.kept e.kept
+told_by takes outcome {k = k} {l = l} d e le failed lacks stop some = (some.told, record { count = d.failures; has_come = stop_is outcome takes k l d.failures d.failures failed lacks stop; tells = some.tells; since = omega arith; until = le }, some.kept)
 
 -- an operation of the host and its report
 pub operation_performs : {A : Type 0} {operation : Dialog ⊥ (Result A HostFault)} (takes : Bool) (outcome_says : Result A HostFault → List Saying) {old new : HostState} {o p : Option Talk} {k l : ℕ} {d e : DeskView} (outcome : Result A HostFault) (told : Result (Unit {0}) Stopped)
     (result : Result Standing Stopped) (By : DeskView → DeskView → Cause → List ℕ → Type 0) → StopsReport takes k l d e (outcome_says outcome) By
-    → result ≡ concluded outcome told → Ended takes operation old.next old.unread o p outcome new.next new.unread → length new.unread ≤ 281 → Reports By d e (outcome_says outcome) told → (IsStop outcome → Tells d.kept e.kept (cause_line (cause_of outcome)) d.failures e.failures)
+    → result ≡ concluded outcome told → Ended takes operation old.next old.unread o p outcome new.next new.unread → length new.unread ≤ 281 → Reports By d e (outcome_says outcome) told → (IsStop outcome → Tells d e (cause_line (cause_of outcome)))
     → (IsBroken outcome → link.HasFailed k l) → new.broken ≡ left_by outcome → new.part ≡ old.part → k ≤ l
     → Performs takes (reported operation outcome_says) old new o p k l d.kept e.kept d.failures e.failures result
 operation_performs {operation = operation} takes outcome_says {old = old} {new = new} {o = o} {p = p} {k = k} {l = l} {d = d} {e = e} outcome told result By why is ended few reports some failed lasts part link_counted =
     let lacks = lacks_where takes operation old.next old.unread o p outcome new.next new.unread ended in
     record {
       runs = subst (λ r. Runs (reported operation outcome_says) old.next old.unread o p d.kept e.kept (Stops takes k l d.failures e.failures) r new.next new.unread) (sym is)
-          (operation_runs takes outcome_says outcome d e told (Stops takes k l d.failures e.failures) By why ended few reports.says (λ stop. told_by takes outcome d.kept e.kept reports.counted failed lacks stop (some stop)));
+          (operation_runs takes outcome_says outcome d e told (Stops takes k l d.failures e.failures) By why ended few reports.says (λ stop. told_by takes outcome d e reports.counted failed lacks stop (some stop)));
       serves = subst (λ r. Serves r new.broken) (sym is) (serves_after outcome told new.broken lasts);
       part = part;
       link = link_counted;
@@ -296,7 +296,7 @@ given_broken a (Err RecvFailed) broken = broken
 
 -- a fault alone tells why a run stops
 pub given_told : {A : Type 0} (a : A) (good : A → List Saying) (old new : DeskView) (part : Part) (outcome : Result (Unit {0}) HostFault) (told : Result (Unit {0}) Stopped)
-    → Reports (ReadStops outcome) old new (fault_or part good (given a outcome)) told → IsStop (given a outcome) → Tells old.kept new.kept (cause_line (cause_of (given a outcome))) old.failures new.failures
+    → Reports (ReadStops outcome) old new (fault_or part good (given a outcome)) told → IsStop (given a outcome) → Tells old new (cause_line (cause_of (given a outcome)))
 given_told a good old new part (Ok ok) told reports stop = absurd stop
 given_told a good old new part (Err fault) told reports stop = told_of old new part good (Err fault) told reports stop
 

@@ -1,7 +1,7 @@
 -- Where a run stops: what stands before it and what follows it changes nothing.
 use Rattle.std.proofs.Common.{◌≡◌, ◌∙◌, ℕ, List, [], ◌∷◌, ◌++◌, map, refl, sym, ap, subst, append_assoc, take, drop, Option, Some, option_map, inl, inr, codes}
 use Rattle.std.proofs.lemmas.List.{take-append-drop}
-use Rattle.avr_desk.specs.Record.{Record}
+use Rattle.avr_desk.specs.Record.{Record, showing}
 use Rattle.avr_desk.specs.Stream.{SendsPart}
 use Rattle.avr_desk.specs.declared.stream.Stream.TheVariants.{File, Output, Messages}
 use Rattle.stk_host.specs.Dialog.{Event, Frame, Said, sayings}
@@ -117,7 +117,7 @@ front_of {cause = cause} some more x = record {
 }
 
 -- a line of which a front was printed
-pub line_part : (old new : Option Record) (bytes : Bytes) → SendsPart Messages old new bytes → SaysFront OfPrinting old new (Line bytes ∷ [])
+pub line_part : (old new : Option Record) (bytes : Bytes) → SendsPart Messages (showing old 0) (showing new 0) bytes → SaysFront OfPrinting old new (Line bytes ∷ [])
 line_part old new bytes part = record {
   whole = [];
   begun = Line (take part.0 bytes) ∷ [];
@@ -129,7 +129,7 @@ line_part old new bytes part = record {
 }
 
 -- a file that was created, and of whose bytes a front was written
-pub file_part : (old mid new : Option Record) (file bytes : Bytes) → mid ≡ option_map (after_all (Creates file ∷ [])) old → SendsPart File mid new bytes
+pub file_part : (old mid new : Option Record) (file bytes : Bytes) → mid ≡ option_map (after_all (Creates file ∷ [])) old → SendsPart File (showing mid 0) (showing new 0) bytes
     → SaysFront (OfFile file NotWritten) old new (Creates file ∷ Writes bytes ∷ [])
 file_part old mid new file bytes created part = record {
   whole = Creates file ∷ [];
@@ -142,7 +142,7 @@ file_part old mid new file bytes created part = record {
 }
 
 -- bytes of the output of which a front was written
-pub output_part : (old new : Option Record) (file bytes : Bytes) → file ≡ codes "-" → SendsPart Output old new bytes → SaysFront (OfFile file NotWritten) old new (Outs bytes ∷ [])
+pub output_part : (old new : Option Record) (file bytes : Bytes) → file ≡ codes "-" → SendsPart Output (showing old 0) (showing new 0) bytes → SaysFront (OfFile file NotWritten) old new (Outs bytes ∷ [])
 output_part old new file bytes named part = record {
   whole = [];
   begun = Outs (take part.0 bytes) ∷ [];

@@ -19,7 +19,7 @@ pub print_stops_later : (a b c : DeskView) → a.failures ≤ b.failures → (ca
 print_stops_later a b c le OfSending told stops = absurd stops
 print_stops_later a b c le OfListening told stops = absurd stops
 print_stops_later a b c le (OfFile file trouble) told stops = absurd stops
-print_stops_later a b c le OfPrinting told stops = (failed_later a.failures b.failures c.failures le stops.0, stops.1)
+print_stops_later a b c le OfPrinting told stops = (failed_later a b c le stops.0, stops.1)
 print_stops_later a b c le OfMemory told stops = absurd stops
 
 pub print_is_desk : (a b : DeskView) (cause : Cause) (told : List ℕ) → PrintStops a b cause told → DeskStops a b cause told
@@ -30,7 +30,7 @@ print_is_desk a b OfPrinting told stops = stops
 print_is_desk a b OfMemory told stops = stops
 
 pub file_stops_in : (a b c d : DeskView) (file : List ℕ) (trouble : Trouble) (told : List ℕ) → a.failures ≤ b.failures → c.failures ≤ d.failures → FileStops b c file trouble told → FileStops a d file trouble told
-file_stops_in a b c d file trouble told first last stops = failure_in (cause_line (OfFile file trouble)) told a.failures b.failures c.failures d.failures first last stops
+file_stops_in a b c d file trouble told first last stops = failure_in (cause_line (OfFile file trouble)) told a b c d first last stops
 
 pub nothing_printed : (r : Record) → after_err [] r ≡ r
 nothing_printed r = ap (λ bytes. record r { messages = bytes }) (append-nil r.messages)
@@ -40,7 +40,7 @@ kept_nothing None = refl
 kept_nothing (Some r) = ap Some (sym (nothing_printed r))
 
 -- nothing more is printed where printing failed
-said_until : (old new : DeskView) (sayings : List Saying) → SaysFront OfPrinting old.kept new.kept sayings → HasFailed old.failures new.failures → SaidSome PrintStops old new sayings
+said_until : (old new : DeskView) (sayings : List Saying) → SaysFront OfPrinting old.kept new.kept sayings → HasFailed old new → SaidSome PrintStops old new sayings
 said_until old new sayings front failed = record {
   between = new.kept;
   cause = OfPrinting;
@@ -51,7 +51,7 @@ said_until old new sayings front failed = record {
 }
 
 line_said : (old new : DeskView) (bytes : List ℕ) (printed : Result (Unit {0}) DeskFault) (result : Result (Unit {0}) Stopped)
-    → IsPrinted old.kept new.kept bytes printed → Counts old.failures new.failures printed → IfErr printed (λ e. e ≡ Failed) → result ≡ stopped_of printed → SaysOrStops PrintStops old new (Line bytes ∷ []) result
+    → IsPrinted old new bytes printed → Counts old new printed → IfErr printed (λ e. e ≡ Failed) → result ≡ stopped_of printed → SaysOrStops PrintStops old new (Line bytes ∷ []) result
 line_said old new bytes (Ok done) (Ok ok) is counts only same = is
 line_said old new bytes (Ok done) (Err stopped) is counts only same = cc
 line_said old new bytes (Err fault) (Ok ok) is counts only same = cc
@@ -60,7 +60,7 @@ line_said old new bytes (Err Failed) (Err stopped) is counts only same = said_un
 
 -- a line that was printed, or not
 pub reports_line : (old new : DeskView) (bytes : List ℕ) (printed : Result (Unit {0}) DeskFault) (result : Result (Unit {0}) Stopped)
-    → IsPrinted old.kept new.kept bytes printed → Counts old.failures new.failures printed → IfErr printed (λ e. e ≡ Failed) → result ≡ stopped_of printed → Reports PrintStops old new (Line bytes ∷ []) result
+    → IsPrinted old new bytes printed → Counts old new printed → IfErr printed (λ e. e ≡ Failed) → result ≡ stopped_of printed → Reports PrintStops old new (Line bytes ∷ []) result
 reports_line old new bytes printed result is counts only same = record { says = line_said old new bytes printed result is counts only same; counted = counts.0 }
 
 -- nothing is said
@@ -127,31 +127,31 @@ one_line {d = d} {e = e} l front =
     (p.done, subst (IsPrefixOf p.done) one.1 p.front, subst (λ ss. e ≡ option_map (after_all ss) d) (ap (λ ss. ss ++ front.begun) one.0 ∙ begun) front.kept)
 
 told_line : (cause : Cause) (told l : List ℕ) (old new : DeskView) (between : Option Record) → SaysFront cause old.kept between (Line l ∷ []) → PrintStops old new cause told → new.kept ≡ option_map (after_err told) between
-    → Tells old.kept new.kept l old.failures new.failures
-told_line OfPrinting told l old new between front stops kept =
+    → old.failures ≤ new.failures → Tells old new l
+told_line OfPrinting told l old new between front stops kept counted =
     let same : new.kept ≡ between = kept ∙ (ap (λ told. option_map (after_err told) between) stops.1 ∙ sym (kept_nothing between)) in
     let some = one_line l front in
-    record { told = some.0; tells = inr (some.1, stops.0); kept = same ∙ some.2 }
-told_line OfSending told l old new between front stops kept = absurd stops
-told_line OfListening told l old new between front stops kept = absurd stops
-told_line (OfFile file trouble) told l old new between front stops kept = absurd stops
-told_line OfMemory told l old new between front stops kept = absurd stops
+    record { told = some.0; tells = inr (some.1, stops.0); kept = same ∙ some.2; follows = counted }
+told_line OfSending told l old new between front stops kept counted = absurd stops
+told_line OfListening told l old new between front stops kept counted = absurd stops
+told_line (OfFile file trouble) told l old new between front stops kept counted = absurd stops
+told_line OfMemory told l old new between front stops kept counted = absurd stops
 
 -- what was printed of a line that was told
-pub told_some : (old new : DeskView) (l : List ℕ) (result : Result (Unit {0}) Stopped) → SaysOrStops PrintStops old new (Line l ∷ []) result → Tells old.kept new.kept l old.failures new.failures
-told_some old new l (Ok done) kept = record { told = l; tells = inl refl; kept = kept }
-told_some old new l (Err stopped) some = told_line some.cause some.told l old new some.between some.front some.stops some.kept
+pub told_some : (old new : DeskView) (l : List ℕ) (result : Result (Unit {0}) Stopped) → SaysOrStops PrintStops old new (Line l ∷ []) result → old.failures ≤ new.failures → Tells old new l
+told_some old new l (Ok done) kept counted = record { told = l; tells = inl refl; kept = kept; follows = counted }
+told_some old new l (Err stopped) some counted = told_line some.cause some.told l old new some.between some.front some.stops some.kept counted
 
 -- a file's trouble is told behind what was done
 pub file_stops : (By : DeskView → DeskView → Cause → List ℕ → Type 0) (old mid new : DeskView) (sayings : List Saying) (file : List ℕ) (trouble : Trouble) → SaysFront (OfFile file trouble) old.kept mid.kept sayings
-    → HasFailed old.failures mid.failures → old.failures ≤ mid.failures → mid.failures ≤ new.failures → ((told : List ℕ) → FileStops old new file trouble told → By old new (OfFile file trouble) told)
-    → Tells mid.kept new.kept (cause_line (OfFile file trouble)) mid.failures new.failures → SaidSome By old new sayings
+    → HasFailed old mid → old.failures ≤ mid.failures → mid.failures ≤ new.failures → ((told : List ℕ) → FileStops old new file trouble told → By old new (OfFile file trouble) told)
+    → Tells mid new (cause_line (OfFile file trouble)) → SaidSome By old new sayings
 file_stops By old mid new sayings file trouble front failed first then why some = record {
   between = mid.kept;
   cause = OfFile file trouble;
   front = front;
   told = some.told;
-  stops = why some.told (record { count = mid.failures; failed = failed; tells = some.tells; since = first; until = then });
+  stops = why some.told (record { between = mid; failed = failed; tells = some.tells; since = first; until = then });
   kept = some.kept;
 }
 

@@ -77,12 +77,12 @@ pub saved_out : (old new : DeskView) (file text : List ℕ) (result : Result (Un
 saved_out old new file text result same writes counted = record { says = rw same (put_out old new file text result ((bytes_eq-Decides file (codes "-")).0 same) writes); counted = counted }
 
 -- what was told of a file behind a front of its bytes
-pub writes_some : (stream : Stream) (file text : List ℕ) (old mid new : DeskView) → SendsPart stream old.kept mid.kept text → HasFailed old.failures mid.failures → old.failures ≤ mid.failures → mid.failures ≤ new.failures
-    → Tells mid.kept new.kept (cause_line (OfFile file NotWritten)) mid.failures new.failures → WritesSome stream file old new text
+pub writes_some : (stream : Stream) (file text : List ℕ) (old mid new : DeskView) → SendsPart stream old mid text → HasFailed old mid → old.failures ≤ mid.failures → mid.failures ≤ new.failures
+    → Tells mid new (cause_line (OfFile file NotWritten)) → WritesSome stream file old new text
 writes_some stream file text old mid new part failed first then some = record {
   between = mid.kept;
   part = part;
   told = some.told;
-  stops = record { count = mid.failures; failed = failed; tells = some.tells; since = first; until = then };
+  stops = record { between = mid; failed = failed; tells = some.tells; since = first; until = then };
   kept = some.kept;
 }

@@ -1,7 +1,7 @@
 -- Where no device failed, a run was played whole, or its messages say that memory was refused.
 use Rattle.std.proofs.Common.{◌≡◌, ℕ, ◌≤◌, Bool, true, false, List, [], ◌∷◌, ◌++◌, refl, sym, ap, ◌∙◌, subst, append-nil, Option, Some, None, inl, inr}
 use Rattle.std.proofs.lemmas.List.{append_cancel_left}
-use Rattle.avr_desk.specs.Fault.{HasFailed}
+use Rattle.avr_desk.specs.Fault.{HasRisen}
 use Rattle.avr_desk.specs.Record.{Record, after_err}
 use Rattle.avr_plan.specs.Plan.{Plan}
 use Rattle.stk_host.specs.Operations as operations
@@ -15,19 +15,19 @@ use Rattle.avr_message.specs.Said.{Saying, Line, Creates, Writes, Outs, after_al
 use Rattle.avr_session.specs.Runs.{Cause, OfSending, OfListening, OfFile, OfPrinting, OfMemory, NotCreated, NotWritten, cause_line, tells_fault, TellsCause, StopsAt, Stops, BrokeOff, RunsTo}
 use Rattle.avr_session.specs.Session.{session, takes_memory}
 use Rattle.avr_session.specs.Stopping.{IsSound, LacksMemory, IsPlayed}
-use Rattle.avr_message.proofs.Telling.{failed_later, failed_before}
+use Rattle.avr_message.proofs.Telling.{risen_later, risen_before}
 
 -- of sound devices only memory is left, and its line was told whole
-told_of_memory : (flag : Bool) (told : Bytes) (a count b : ℕ) → a ≤ count → (HasFailed a b → ⊥) → TellsCause flag OfMemory told count b → told ≡ cause_line OfMemory
+told_of_memory : (flag : Bool) (told : Bytes) (a count b : ℕ) → a ≤ count → (HasRisen a b → ⊥) → TellsCause flag OfMemory told count b → told ≡ cause_line OfMemory
 told_of_memory false told a count b since sound (inl whole) = whole
-told_of_memory false told a count b since sound (inr part) = absurd (sound (failed_later a count b since part.1))
+told_of_memory false told a count b since sound (inr part) = absurd (sound (risen_later a count b since part.1))
 told_of_memory true told a count b since sound tells = absurd tells
 
 lacks : {takes : Bool} {k l a b : ℕ} {said : List Saying} {told : Bytes} (cause : Cause) → IsSound k l a b → Stops takes k l a b said cause told → told ≡ cause_line OfMemory
 lacks OfSending sound stops = absurd (sound.link stops.has_come)
 lacks OfListening sound stops = absurd (sound.link stops.has_come)
-lacks {a = a} {b = b} (OfFile file trouble) sound stops = absurd (sound.desk (failed_before a stops.count b stops.since stops.until stops.has_come))
-lacks {a = a} {b = b} OfPrinting sound stops = absurd (sound.desk (failed_before a stops.count b stops.since stops.until stops.has_come))
+lacks {a = a} {b = b} (OfFile file trouble) sound stops = absurd (sound.desk (risen_before a stops.count b stops.since stops.until stops.has_come))
+lacks {a = a} {b = b} OfPrinting sound stops = absurd (sound.desk (risen_before a stops.count b stops.since stops.until stops.has_come))
 lacks {a = a} {b = b} {said = said} {told = told} OfMemory sound stops = told_of_memory (tells_fault said) told a stops.count b stops.since sound.desk stops.tells
 
 -- a line told stands at the end of the messages
@@ -52,8 +52,8 @@ sound_run dialog old new before after takes k l a b status sound has_memory (inr
 never_lacks : {k l a b : ℕ} {said : List Saying} {told : Bytes} (cause : Cause) → IsSound k l a b → Stops false k l a b said cause told → ⊥
 never_lacks OfSending sound stops = sound.link stops.has_come
 never_lacks OfListening sound stops = sound.link stops.has_come
-never_lacks {a = a} {b = b} (OfFile file trouble) sound stops = sound.desk (failed_before a stops.count b stops.since stops.until stops.has_come)
-never_lacks {a = a} {b = b} OfPrinting sound stops = sound.desk (failed_before a stops.count b stops.since stops.until stops.has_come)
+never_lacks {a = a} {b = b} (OfFile file trouble) sound stops = sound.desk (risen_before a stops.count b stops.since stops.until stops.has_come)
+never_lacks {a = a} {b = b} OfPrinting sound stops = sound.desk (risen_before a stops.count b stops.since stops.until stops.has_come)
 never_lacks OfMemory sound stops = let e = stops.has_come in absurd (cc)
 
 abbrev pub Exact : Bool → Plan → Option Talk → Option Talk → Option Record → Option Record → ℕ → ℕ → ℕ → ℕ → ℕ → Type 0

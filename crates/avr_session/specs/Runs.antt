@@ -1,7 +1,7 @@
 -- What a call over a link and a desk comes to: its dialog played whole, or broken off.
 use Rattle.std.specs.Prelude.{ℕ, Bool, true, false, ◌||◌, List, [], ◌∷◌, ◌++◌, map, ◌≡◌, ◌<◌, ◌≤◌, ◌⊎◌, length, nat_eq, Option, None, option_map, Result, Ok, Err, codes, ⊤}
 use Rattle.std.specs.List.{list_any, starts_with}
-use Rattle.avr_desk.specs.Record.{Record, DeskView, after_err}
+use Rattle.avr_desk.specs.Record.{Record, DeskView, showing, after_err}
 use Rattle.avr_desk.specs.Fault as desk
 use Rattle.stk_host.specs.Talk as link
 use Rattle.stk_host.specs.Tape.{on_tape}
@@ -119,12 +119,12 @@ abbrev pub HasCome : Bool → ℕ → ℕ → ℕ → ℕ → Cause → Type 0
 HasCome takes link_before link_then desk_before desk_then OfSending = link.HasFailed link_before link_then
 HasCome takes link_before link_then desk_before desk_then OfListening = link.HasFailed link_before link_then
 HasCome takes link_before link_then desk_before desk_then OfMemory = takes ≡ true
-HasCome takes link_before link_then desk_before desk_then cause = desk.HasFailed desk_before desk_then
+HasCome takes link_before link_then desk_before desk_then cause = desk.HasRisen desk_before desk_then
 
 -- The cause's line was told. But behind the line of a fault only the link or the printing fails, and nothing more is
 -- told.
 abbrev pub TellsCause : Bool → Cause → Bytes → ℕ → ℕ → Type 0
-TellsCause false cause told before now = TellsLine (cause_line cause) told before now
+TellsCause false cause told before now = TellsLine (cause_line cause) told (showing None before) (showing None now)
 TellsCause true OfSending told before now = told ≡ []
 TellsCause true OfListening told before now = told ≡ []
 TellsCause true OfPrinting told before now = told ≡ []
@@ -219,13 +219,12 @@ pub record Reports (By : DeskView → DeskView → Cause → Bytes → Type 0) (
 
 -- the desk failed as it printed, and nothing is told of that
 abbrev pub PrintStops : DeskView → DeskView → Cause → Bytes → Type 0
-PrintStops old new OfPrinting told = desk.HasFailed old.failures new.failures × (told ≡ [])
+PrintStops old new OfPrinting told = desk.HasFailed old new × (told ≡ [])
 PrintStops old new cause told = ⊥
 
 -- the desk failed at a file, and from then on that was told
 abbrev pub FileStops : DeskView → DeskView → Bytes → Trouble → Bytes → Type 0
-FileStops old new file trouble told =
-    TellsFailure (cause_line (OfFile file trouble)) told old.failures new.failures
+FileStops old new file trouble told = TellsFailure (cause_line (OfFile file trouble)) told old new
 
 -- the desk failed, at a file or as it printed
 abbrev pub DeskStops : DeskView → DeskView → Cause → Bytes → Type 0

@@ -1,6 +1,6 @@
 -- Bytes that go to a file or to standard output. (For contracts inside this crate.)
 use Rattle.std.specs.Prelude.{ℕ, ◌≡◌, List, ◌++◌, Option, option_map, Result, Ok, Err, ⊤}
-use Rattle.avr_desk.specs.Record.{Record, DeskView, after_err}
+use Rattle.avr_desk.specs.Record.{Record, DeskView, showing, after_err}
 use Rattle.avr_desk.specs.Stream.{SendsPart, after_sent}
 use Rattle.avr_desk.specs.declared.stream.Stream.{Stream}
 use Rattle.avr_message.specs.Lines.{Bytes}
@@ -21,7 +21,7 @@ SaveStops file old new cause told = ⊥
 -- a front of the bytes went there, and then the desk failed and that was told of this file
 pub record WritesSome (stream : Stream) (file : Bytes) (old new : DeskView) (bytes : Bytes) : Type 0 where
   pub between : Option Record
-  pub part : SendsPart stream old.kept between bytes
+  pub part : SendsPart stream old (showing between new.failures) bytes
   pub told : Bytes
   pub stops : FileStops old new file NotWritten told
   pub kept : new.kept ≡ option_map (after_err told) between

@@ -12,7 +12,7 @@ use Rattle.avr_session.specs.Runs.{OfMemory, cause_line, Ran}
 -- no device failed, by the counts of failures before and now
 pub record IsSound (link_before link_now desk_before desk_now : ℕ) : Type 0 where
   pub link : link.HasFailed link_before link_now → ⊥
-  pub desk : desk.HasFailed desk_before desk_now → ⊥
+  pub desk : desk.HasRisen desk_before desk_now → ⊥
 
 -- the messages end with the line that memory was refused
 abbrev pub LacksMemory : Bytes → Type 0

@@ -22,8 +22,8 @@ fn make_room<D: Desk>(
     ensures sent { OnOk result
         (SendsFront stream (D.view desk.old).kept (D.view desk.new).kept waiting.old.items waiting.new.items) }
     ensures room { OnOk result (length waiting.new.items + count ≤ 4096) }
-    ensures part { OnErr result (SendsPart stream (D.view desk.old).kept (D.view desk.new).kept waiting.old.items) }
-    ensures counts { Counts (D.view desk.old).failures (D.view desk.new).failures result }
+    ensures part { OnErr result (SendsPart stream (D.view desk.old) (D.view desk.new) waiting.old.items) }
+    ensures counts { Counts (D.view desk.old) (D.view desk.new) result }
     ensures fault { IfErr result (λ e. e ≡ DeskFault.Failed) }
 {
     let room = waiting.remaining_capacity();
@@ -42,8 +42,8 @@ fn write_pieces<D: Desk, P: Pieces + Drop>(
     text: P,
 ) -> Result<(), DeskFault>
     ensures all { OnOk result ((D.view desk.new).kept ≡ option_map (after_sent stream (P.rest text)) (D.view desk.old).kept) }
-    ensures part { OnErr result (SendsPart stream (D.view desk.old).kept (D.view desk.new).kept (P.rest text)) }
-    ensures counts { Counts (D.view desk.old).failures (D.view desk.new).failures result }
+    ensures part { OnErr result (SendsPart stream (D.view desk.old) (D.view desk.new) (P.rest text)) }
+    ensures counts { Counts (D.view desk.old) (D.view desk.new) result }
     ensures fault { IfErr result (λ e. e ≡ DeskFault.Failed) }
 {
     let mut text = text;
@@ -68,8 +68,8 @@ pub(crate) fn write_text<D: Desk>(
     requires { length bytes.now ≤ 2 ^ 32 }
     ensures all { OnOk result
         ((D.view desk.new).kept ≡ option_map (after_sent stream (file_text format bytes.now)) (D.view desk.old).kept) }
-    ensures part { OnErr result (SendsPart stream (D.view desk.old).kept (D.view desk.new).kept (file_text format bytes.now)) }
-    ensures counts { Counts (D.view desk.old).failures (D.view desk.new).failures result }
+    ensures part { OnErr result (SendsPart stream (D.view desk.old) (D.view desk.new) (file_text format bytes.now)) }
+    ensures counts { Counts (D.view desk.old) (D.view desk.new) result }
     ensures fault { IfErr result (λ e. e ≡ DeskFault.Failed) }
 {
     match format {

@@ -27,9 +27,7 @@ pub(crate) struct Target<'a> {
 
 /// Prints what can't be done with a file, as far as the desk prints it.
 fn tell_trouble<D: Desk>(desk: &mut D, file: &str, trouble: &str)
-    ensures told { Tells (D.view desk.old).kept (D.view desk.new).kept (error (file.now ∷ trouble.now ∷ []))
-        (D.view desk.old).failures (D.view desk.new).failures }
-    ensures counted { (D.view desk.old).failures ≤ (D.view desk.new).failures }
+    ensures { Tells (D.view desk.old) (D.view desk.new) (error (file.now ∷ trouble.now ∷ [])) }
 {
     let _ = print_error(desk, &[Piece::Text(file), Piece::Text(trouble)]);
 }

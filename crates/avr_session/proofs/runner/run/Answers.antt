@@ -6,12 +6,12 @@ returns-in-Ok-clause-runs g c = inl (record {
   plan = c.in-Ok.plan;
   between = (g.D.Desk.view c.plan.new.desk).kept;
   count = (g.D.Desk.view c.plan.new.desk).failures;
-  made = rw c.in-Ok.is at c.plan.ensures.goes;
-  rises = c.plan.ensures.rises;
+  made = rw c.in-Ok.is at c.plan.ensures;
+  rises = (rw c.in-Ok.is at c.plan.ensures).follows;
   runs = c.drive.ensures.runs;
 })
 
 pub returns-in-Err-clause-runs : goal.returns-in-Err-clause-runs
 returns-in-Err-clause-runs g c =
-    let goes = rw c.in-Err.is at c.plan.ensures.goes in
+    let goes = rw c.in-Err.is at c.plan.ensures in
     inr (record { refused = goes.1; same = refl; status_is = goes.0 })

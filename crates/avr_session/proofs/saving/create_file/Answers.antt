@@ -16,10 +16,10 @@ returns-in-Ok g c =
 pub returns-in-Err : goal.returns-in-Err
 unfolding cause_line
 returns-in-Err g c =
-    let failed = failed_by _ _ c.create.result _ c.in-Err.is c.create.ensures.fault c.create.ensures.counts in
+    let failed = failed_by (g.D.Desk.view c.args.desk.now) (g.D.Desk.view c.create.new.self) c.create.result _ c.in-Err.is c.create.ensures.fault c.create.ensures.counts in
     record {
       says = file_stops (SaveStops c.args.target.file.now) _ (g.D.Desk.view c.create.new.self) _ _ c.args.target.file.now NotCreated
           (not_created _ _ c.args.target.file.now c.create.result _ (Writes (file_text c.args.target.format c.args.bytes.now) ∷ []) c.in-Err.is c.create.ensures.kept)
-          failed c.create.ensures.counts.0 c.tell_trouble.ensures.counted (λ told stops. (refl, stops)) c.tell_trouble.ensures.told;
-      counted = omega (arith, c.create.ensures.counts.0, c.tell_trouble.ensures.counted);
+          failed c.create.ensures.counts.0 c.tell_trouble.ensures.follows (λ told stops. (refl, stops)) c.tell_trouble.ensures;
+      counted = omega (arith, c.create.ensures.counts.0, c.tell_trouble.ensures.follows);
     }
