@@ -2,7 +2,7 @@
 use Rattle.std.proofs.Common.{◌≡◌, ◌≤◌, ℕ, List, [], ap₂, subst, Option, Result, Err}
 use Rattle.avr_chip.specs.Loading.{chip_stage}
 use Rattle.avr_cli.specs.declared.chosen.Settings.{Settings}
-use Rattle.avr_desk.specs.Record.{Record}
+use Rattle.avr_desk.specs.Record.{DeskView, Record}
 use Rattle.avr_message.specs.Lines.{Bytes}
 use Rattle.avr_part.specs.ChipFile.{chip_file}
 use Rattle.avr_part.specs.Part.{Part}
@@ -18,26 +18,25 @@ use Rattle.avr_serve.specs.declared.serving.Served.{Served}
 use Rattle.avr_serve.specs.Serving.{Serves, FailsBy}
 use Rattle.avr_serve.specs.ServedRun.{settings_part, settings_chip, fresh_machine, TellsEnd, IsSaved, ServesChip}
 
-pub goes_without_parts : (s : Settings) (old new : Option Record) (before now status : ℕ) → Goes (parts_stage s.parts) old new before now (Err status)
-    → Goes (settings_part s) old new before now (Err status)
-goes_without_parts s old new before now status goes = goes_no_further (parts_stage s.parts) (λ parts. part_stage s.part parts) old new before now status goes
+pub goes_without_parts : (s : Settings) (old new : DeskView) (status : ℕ) → Goes (parts_stage s.parts) old new (Err status)
+    → Goes (settings_part s) old new (Err status)
+goes_without_parts s old new status goes = goes_no_further (parts_stage s.parts) (λ parts. part_stage s.part parts) old new status goes
 
-pub goes_with_parts : (s : Settings) (id : Bytes) (old mid new : Option Record) (before between now : ℕ) (parts : List Part) (result : Result Part ℕ)
-    → id ≡ s.part → before ≤ between
-    → Went (parts_stage s.parts) old mid (Made parts) → Goes (part_stage id parts) mid new between now result → Goes (settings_part s) old new before now result
-goes_with_parts s id old mid new before between now parts result same rises went goes =
-    goes_on (parts_stage s.parts) (λ parts. part_stage s.part parts) old mid new parts before between now result went rises
-    (subst (λ (i : Bytes). Goes (part_stage i parts) mid new between now result) same goes)
+pub goes_with_parts : (s : Settings) (id : Bytes) (old mid new : DeskView) (parts : List Part) (result : Result Part ℕ)
+    → id ≡ s.part
+    → Went (parts_stage s.parts) old mid (Made parts) → Goes (part_stage id parts) mid new result → Goes (settings_part s) old new result
+goes_with_parts s id old mid new parts result same went goes =
+    goes_on (parts_stage s.parts) (λ parts. part_stage s.part parts) old mid new parts result went
+    (subst (λ (i : Bytes). Goes (part_stage i parts) mid new result) same goes)
 
-pub goes_without_part : (s : Settings) (file : Bytes) (old new : Option Record) (before now status : ℕ) → Goes (settings_part s) old new before now (Err status)
-    → Goes (settings_chip s file) old new before now (Err status)
-goes_without_part s file old new before now status goes = goes_no_further (settings_part s) (λ part. chip_stage part file) old new before now status goes
+pub goes_without_part : (s : Settings) (file : Bytes) (old new : DeskView) (status : ℕ) → Goes (settings_part s) old new (Err status)
+    → Goes (settings_chip s file) old new (Err status)
+goes_without_part s file old new status goes = goes_no_further (settings_part s) (λ part. chip_stage part file) old new status goes
 
-pub goes_with_part : (s : Settings) (file : Bytes) (old mid new : Option Record) (before between now : ℕ) (part : Part) (result : Result chips.State ℕ)
-    → before ≤ between
-    → Went (settings_part s) old mid (Made part) → Goes (chip_stage part file) mid new between now result → Goes (settings_chip s file) old new before now result
-goes_with_part s file old mid new before between now part result rises went goes =
-    goes_on (settings_part s) (λ part. chip_stage part file) old mid new part before between now result went rises goes
+pub goes_with_part : (s : Settings) (file : Bytes) (old mid new : DeskView) (part : Part) (result : Result chips.State ℕ)
+    → Went (settings_part s) old mid (Made part) → Goes (chip_stage part file) mid new result → Goes (settings_chip s file) old new result
+goes_with_part s file old mid new part result went goes =
+    goes_on (settings_part s) (λ part. chip_stage part file) old mid new part result went goes
 
 is_fresh : (chip : chips.State) (machine : Machine) → machine.held ≡ [] → machine.programmer ≡ fresh_programmer chip → machine ≡ fresh_machine chip
 is_fresh chip machine held programmer = ap₂ (λ h p. record { held = h; programmer = p }) held programmer

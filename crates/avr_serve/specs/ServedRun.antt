@@ -3,7 +3,7 @@ use Rattle.std.specs.Prelude.{◌≡◌, ◌≤◌, ◌⊎◌, ℕ, [], ◌∷�
 use Rattle.avr_chip.specs.Loading.{chip_stage}
 use Rattle.avr_chip.specs.Saving.{Saves}
 use Rattle.avr_cli.specs.declared.chosen.Settings.{Settings}
-use Rattle.avr_desk.specs.Record.{Record}
+use Rattle.avr_desk.specs.Record.{Record, showing}
 use Rattle.avr_message.specs.Lines.{Bytes, error}
 use Rattle.avr_message.specs.Said.{Tells}
 use Rattle.avr_part.specs.ChipFile.{chip_file}
@@ -35,9 +35,9 @@ fresh_machine chip = record { held = []; programmer = fresh_programmer chip }
 -- was.
 abbrev pub TellsEnd : Served → Option Record → Option Record → ℕ → ℕ → Type 0
 TellsEnd Ended old new before now = (new ≡ old) × (now ≡ before)
-TellsEnd RecvFailed old new before now = Tells old new (error (codes "link cannot be read" ∷ [])) before now
-TellsEnd SendFailed old new before now = Tells old new (error (codes "link cannot be written" ∷ [])) before now
-TellsEnd TooManyReads old new before now = Tells old new (error (codes "too many reads" ∷ [])) before now
+TellsEnd RecvFailed old new before now = Tells (showing old before) (showing new now) (error (codes "link cannot be read" ∷ []))
+TellsEnd SendFailed old new before now = Tells (showing old before) (showing new now) (error (codes "link cannot be written" ∷ []))
+TellsEnd TooManyReads old new before now = Tells (showing old before) (showing new now) (error (codes "too many reads" ∷ []))
 
 -- the status, where the chip was saved
 abbrev pub status_of : Served → ℕ
@@ -49,8 +49,8 @@ status_of TooManyReads = 1
 -- The chip's file was written, and the status is that of how serving ended; or it couldn't be, and the status is 1.
 abbrev pub IsSaved : Served → Option Record → Option Record → Bytes → Bytes → ℕ → ℕ → ℕ → Type 0
 IsSaved served old new file bytes before now status =
-    (Saves old new file bytes before now (Ok tt) × (status ≡ status_of served))
-    ⊎ ((fault : ℕ) × Saves old new file bytes before now (Err fault) × (status ≡ 1))
+    (Saves (showing old before) (showing new now) file bytes (Ok tt) × (status ≡ status_of served))
+    ⊎ ((fault : ℕ) × Saves (showing old before) (showing new now) file bytes (Err fault) × (status ≡ 1))
 
 -- A fresh emulator with this chip served a link in at most so many reads: what was sent are its answers to what was
 -- heard, all of them before the next read, unless a send failed. How that ended was told, and whatever it was, the chip
@@ -78,14 +78,14 @@ pub record ServesLoaded (settings : Settings) (file : Bytes) (turns : ℕ) (talk
   pub chip : chips.State
   pub loaded_desk : Option Record
   pub loaded_failures : ℕ
-  pub loaded : Went (settings_chip settings file) old loaded_desk (Made chip)
+  pub loaded : Went (settings_chip settings file) (showing old before) (showing loaded_desk loaded_failures) (Made chip)
   pub rises : before ≤ loaded_failures
   pub serves : ServesChip chip file turns talk talked link_before link_now loaded_desk new loaded_failures now status
 
 -- There is no chip, which was told: nothing was heard or sent.
 pub record LacksChip (settings : Settings) (file : Bytes) (talk talked : Option Talk) (link_before link_now : ℕ)
     (old new : Option Record) (before now status : ℕ) : Type 0 where
-  pub refused : Goes (settings_chip settings file) old new before now (Err status)
+  pub refused : Goes (settings_chip settings file) (showing old before) (showing new now) (Err status)
   pub silent : talked ≡ talk
   pub unfailed : link_now ≡ link_before
 

@@ -14,9 +14,7 @@ use std::alloc::Global;
 
 /// Prints an error, as far as the desk takes it.
 fn tell<D: Desk>(desk: &mut D, text: &str)
-    ensures told { Tells (D.view desk.old).kept (D.view desk.new).kept (error (text.now ∷ [])) (D.view desk.old).failures
-        (D.view desk.new).failures }
-    ensures rises { (D.view desk.old).failures ≤ (D.view desk.new).failures }
+    ensures { Tells (D.view desk.old) (D.view desk.new) (error (text.now ∷ [])) }
 {
     let _ = print_error(desk, &[Piece::Text(text)]);
 }

@@ -19,9 +19,7 @@ pub const READS: u32 = 16_777_216;
 
 /// The part of the settings: looked up in their part file, where they have one, before the built-in parts.
 fn find_part<D: Desk>(alloc: Global, desk: &mut D, settings: &Settings) -> Result<Part, u8>
-    ensures goes { Goes (settings_part settings.now) (D.view desk.old).kept (D.view desk.new).kept (D.view desk.old).failures
-        (D.view desk.new).failures result }
-    ensures rises { (D.view desk.old).failures ≤ (D.view desk.new).failures }
+    ensures { Goes (settings_part settings.now) (D.view desk.old) (D.view desk.new) result }
 {
     let parts = match given_parts(alloc, desk, &settings.parts) {
         Ok(parts) => parts,
@@ -41,9 +39,7 @@ pub fn find_chip<D: Desk>(
     file: &str,
     desk: &mut D,
 ) -> Result<Chip, u8>
-    ensures goes { Goes (settings_chip settings.now file.now) (D.view desk.old).kept (D.view desk.new).kept (D.view desk.old).failures
-        (D.view desk.new).failures result }
-    ensures rises { (D.view desk.old).failures ≤ (D.view desk.new).failures }
+    ensures { Goes (settings_chip settings.now file.now) (D.view desk.old) (D.view desk.new) result }
 {
     let part = match find_part(alloc, desk, settings) {
         Ok(part) => part,
