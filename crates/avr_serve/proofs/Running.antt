@@ -2,7 +2,8 @@
 use Rattle.std.proofs.Common.{◌≡◌, ◌≤◌, ℕ, List, [], ap₂, subst, Option, Result, Err}
 use Rattle.avr_chip.specs.Loading.{chip_stage}
 use Rattle.avr_cli.specs.declared.chosen.Settings.{Settings}
-use Rattle.avr_desk.specs.Record.{DeskView, Record}
+use Rattle.avr_desk.specs.Fault.{Follows}
+use Rattle.avr_desk.specs.Record.{DeskView}
 use Rattle.avr_message.specs.Lines.{Bytes}
 use Rattle.avr_part.specs.ChipFile.{chip_file}
 use Rattle.avr_part.specs.Part.{Part}
@@ -11,12 +12,12 @@ use Rattle.avr_plan.specs.Planning.{parts_stage, part_stage}
 use Rattle.avr_plan.specs.Playing.{Goes, Went}
 use Rattle.avr_plan.specs.Stage.{Made}
 use Rattle.avr_plan.proofs.Played.{goes_on, goes_no_further}
-use Rattle.stk_host.specs.Talk.{Talk}
+use Rattle.stk_host.specs.Talk.{LinkView}
 use Rattle.stk_emu.specs.Programmer.{fresh_programmer}
 use Rattle.stk_emu.specs.Emulator.{Machine, IsFed}
 use Rattle.avr_serve.specs.declared.serving.Served.{Served}
 use Rattle.avr_serve.specs.Serving.{Serves, FailsBy}
-use Rattle.avr_serve.specs.ServedRun.{settings_part, settings_chip, fresh_machine, TellsEnd, IsSaved, ServesChip}
+use Rattle.avr_serve.specs.ServedRun.{sides, settings_part, settings_chip, fresh_machine, TellsEnd, IsSaved, ServesChip}
 
 pub goes_without_parts : (s : Settings) (old new : DeskView) (status : ℕ) → Goes (parts_stage s.parts) old new (Err status)
     → Goes (settings_part s) old new (Err status)
@@ -42,21 +43,19 @@ is_fresh : (chip : chips.State) (machine : Machine) → machine.held ≡ [] → 
 is_fresh chip machine held programmer = ap₂ (λ h p. record { held = h; programmer = p }) held programmer
 
 -- an emulator that was fed nothing served, and that was told and saved
-pub serves_chip : (chip : chips.State) (machine left : Machine) (file : Bytes) (turns : ℕ) (served : Served) (talk talked : Option Talk) (link_before link_now : ℕ)
-    (old mid new : Option Record) (before between now status : ℕ)
+pub serves_chip : (chip : chips.State) (machine left : Machine) (file : Bytes) (turns : ℕ) (served : Served) (o p : LinkView) (old mid new : DeskView) (status : ℕ)
     → machine.held ≡ [] → machine.programmer ≡ fresh_programmer chip → IsFed (fresh_programmer chip) [] machine
-    → Serves machine turns served talk talked left → FailsBy served link_before link_now → TellsEnd served old mid before between → before ≤ between
-    → IsSaved served mid new file (chip_file left.programmer.chip) between now status → between ≤ now
-    → ServesChip chip file turns talk talked link_before link_now old new before now status
-serves_chip chip machine left file turns served talk talked link_before link_now old mid new before between now status held programmer fed serves fails told rises saved counted =
+    → Serves machine turns served o p left → FailsBy served o p → TellsEnd served old mid → Follows old mid
+    → IsSaved served mid new file (chip_file left.programmer.chip) status → Follows mid new
+    → ServesChip chip file turns (sides o old) (sides p new) status
+serves_chip chip machine left file turns served o p old mid new status held programmer fed serves fails told rises saved follows =
     let is = is_fresh chip machine held programmer in
-    let own = subst (λ (m : Machine). Serves m turns served talk talked left) is serves in
+    let own = subst (λ (m : Machine). Serves m turns served o p left) is serves in
     let none = subst (λ (m : Machine). IsFed (fresh_programmer chip) [] m) is fed in
     record {
       served = served;
       left = left;
       told_desk = mid;
-      told_failures = between;
       serves = own;
       in_turn = own.in_turn (fresh_programmer chip) [] none;
       leaves = own.leaves (fresh_programmer chip) [] none;
@@ -64,5 +63,5 @@ serves_chip chip machine left file turns served talk talked link_before link_now
       told = told;
       rises = rises;
       saved = saved;
-      counted = counted;
+      follows = follows;
     }
