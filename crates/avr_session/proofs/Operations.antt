@@ -1,6 +1,6 @@
 -- An operation of the host and its report, as a part of a session.
 use Rattle.std.proofs.Common.{◌≡◌, ℕ, ◌≤◌, Bool, true, false, List, [], ◌++◌, length, refl, sym, ap, ◌∙◌, ◌∷◌, subst, bytes_eq, if◌then◌else◌, Option, Some, None, Result, Ok, Err, inl, inr, ◌⊎◌}
-use Rattle.avr_desk.specs.Record.{Record}
+use Rattle.avr_desk.specs.Record.{DeskView}
 use Rattle.avr_part.specs.Part.{Part}
 use Rattle.stk_host.specs.declared.fault.HostFault.{HostFault}
 use Rattle.stk_host.specs.declared.fault.HostFault.TheVariants.{NoAnswer, LinkEnded, SendFailed, Babble, Refused, BadAnswer, WrongSignature, Differs, ReadOnly, Memory, RecvFailed}
@@ -27,9 +27,9 @@ use Rattle.avr_session.specs.declared.standing.Stopped.{Stopped}
 use Rattle.avr_session.specs.Concluding.{after_outcome, concluded}
 use Rattle.avr_session.specs.Lines.{fault_line}
 use Rattle.avr_session.specs.Session.{says, standing, reported, fault_or}
-use Rattle.avr_session.specs.Runs.{Cause, OfSending, OfListening, OfMemory, cause_line, HasCome, PrintStops, SaysFront, Reports, BrokeOff, Runs}
+use Rattle.avr_session.specs.Runs.{Cause, OfSending, OfListening, OfMemory, Devices, devices, Terms, cause_line, HasCome, PrintStops, SaysOrStops, Reports, BrokeOff, Runs}
 use Rattle.avr_session.proofs.Reporting.{told_some}
-use Rattle.avr_session.proofs.Running.{came_lifted, came_said, came_on, ran_from, broke_lifted, broke_saying, broke_operation, broke_lacking, broken_cause, ToldBy}
+use Rattle.avr_session.proofs.Running.{came_lifted, came_said, came_on, ran_from, broke_lifted, broke_saying, broke_operation, broke_lacking, broken_cause, StopsReport, ToldBy}
 
 -- the outcome stops the run
 abbrev pub IsStop : {A : Type 0} → Result A HostFault → Type 0
@@ -228,56 +228,55 @@ stop_goes (Err RecvFailed) (Ok ok) stop = refl
 stop_goes (Err RecvFailed) (Err stopped) stop = refl
 
 -- the line of a fault that stops the run tells why it does
-pub told_of : {A : Type 0} (old new : Option Record) (part : Part) (good : A → List Saying) (a b : ℕ) (outcome : Result A HostFault) (told : Result (Unit {0}) Stopped) → Reports old new (fault_or part good outcome) (PrintStops a b) told
-    → IsStop outcome → Tells old new (cause_line (cause_of outcome)) a b
+pub told_of : {A : Type 0} (old new : DeskView) (part : Part) (good : A → List Saying) (outcome : Result A HostFault) (told : Result (Unit {0}) Stopped) → Reports PrintStops old new (fault_or part good outcome) told
+    → IsStop outcome → Tells old new (cause_line (cause_of outcome))
 unfolding cause_line fault_line
-told_of old new part good a b (Ok x) told reports stop = absurd stop
-told_of old new part good a b (Err NoAnswer) told reports stop = absurd stop
-told_of old new part good a b (Err LinkEnded) told reports stop = absurd stop
-told_of old new part good a b (Err SendFailed) told reports stop = told_some old new (fault_line part SendFailed) a b told reports
-told_of old new part good a b (Err Babble) told reports stop = absurd stop
-told_of old new part good a b (Err (Refused command status)) told reports stop = absurd stop
-told_of old new part good a b (Err (BadAnswer command)) told reports stop = absurd stop
-told_of old new part good a b (Err (WrongSignature found)) told reports stop = absurd stop
-told_of old new part good a b (Err (Differs mem address want found)) told reports stop = absurd stop
-told_of old new part good a b (Err (ReadOnly mem)) told reports stop = absurd stop
-told_of old new part good a b (Err Memory) told reports stop = told_some old new (fault_line part Memory) a b told reports
-told_of old new part good a b (Err RecvFailed) told reports stop = told_some old new (fault_line part RecvFailed) a b told reports
+told_of old new part good (Ok x) told reports stop = absurd stop
+told_of old new part good (Err NoAnswer) told reports stop = absurd stop
+told_of old new part good (Err LinkEnded) told reports stop = absurd stop
+told_of old new part good (Err SendFailed) told reports stop = told_some old new (fault_line part SendFailed) told reports
+told_of old new part good (Err Babble) told reports stop = absurd stop
+told_of old new part good (Err (Refused command status)) told reports stop = absurd stop
+told_of old new part good (Err (BadAnswer command)) told reports stop = absurd stop
+told_of old new part good (Err (WrongSignature found)) told reports stop = absurd stop
+told_of old new part good (Err (Differs mem address want found)) told reports stop = absurd stop
+told_of old new part good (Err (ReadOnly mem)) told reports stop = absurd stop
+told_of old new part good (Err Memory) told reports stop = told_some old new (fault_line part Memory) told reports
+told_of old new part good (Err RecvFailed) told reports stop = told_some old new (fault_line part RecvFailed) told reports
 
 -- what stops a run is counted, or is want of memory
-pub stop_is : {A : Type 0} (outcome : Result A HostFault) (takes : Bool) (k l a b : ℕ) → (IsBroken outcome → link.HasRisen k l) → (IsMemory outcome → takes ≡ true) → IsStop outcome → HasCome takes k l a b (cause_of outcome)
-stop_is (Ok x) takes k l a b failed lacks stop = absurd stop
-stop_is (Err NoAnswer) takes k l a b failed lacks stop = absurd stop
-stop_is (Err LinkEnded) takes k l a b failed lacks stop = absurd stop
-stop_is (Err SendFailed) takes k l a b failed lacks stop = failed tt
-stop_is (Err Babble) takes k l a b failed lacks stop = absurd stop
-stop_is (Err (Refused command status)) takes k l a b failed lacks stop = absurd stop
-stop_is (Err (BadAnswer command)) takes k l a b failed lacks stop = absurd stop
-stop_is (Err (WrongSignature found)) takes k l a b failed lacks stop = absurd stop
-stop_is (Err (Differs mem address want found)) takes k l a b failed lacks stop = absurd stop
-stop_is (Err (ReadOnly mem)) takes k l a b failed lacks stop = absurd stop
-stop_is (Err Memory) takes k l a b failed lacks stop = lacks tt
-stop_is (Err RecvFailed) takes k l a b failed lacks stop = failed tt
+pub stop_is : {A : Type 0} (outcome : Result A HostFault) (takes : Bool) (o p : Devices) → (IsBroken outcome → link.HasFailed o.link p.link) → (IsMemory outcome → takes ≡ true) → IsStop outcome → HasCome takes o p (cause_of outcome)
+stop_is (Ok x) takes o p failed lacks stop = absurd stop
+stop_is (Err NoAnswer) takes o p failed lacks stop = absurd stop
+stop_is (Err LinkEnded) takes o p failed lacks stop = absurd stop
+stop_is (Err SendFailed) takes o p failed lacks stop = failed tt
+stop_is (Err Babble) takes o p failed lacks stop = absurd stop
+stop_is (Err (Refused command status)) takes o p failed lacks stop = absurd stop
+stop_is (Err (BadAnswer command)) takes o p failed lacks stop = absurd stop
+stop_is (Err (WrongSignature found)) takes o p failed lacks stop = absurd stop
+stop_is (Err (Differs mem address want found)) takes o p failed lacks stop = absurd stop
+stop_is (Err (ReadOnly mem)) takes o p failed lacks stop = absurd stop
+stop_is (Err Memory) takes o p failed lacks stop = lacks tt
+stop_is (Err RecvFailed) takes o p failed lacks stop = failed tt
 
 -- An operation and its report are a part of a session.
-pub operation_runs : {A : Type 0} {operation : Dialog ⊥ (Result A HostFault)} (takes : Bool) (outcome_says : Result A HostFault → List Saying) {m n : Progress} {o p : LinkView} (outcome : Result A HostFault) (d e : Option Record)
-    (said : Result (Unit {0}) Stopped) (S : List Saying → Cause → List ℕ → Type 0) (T : Cause → List ℕ → Type 0)
-    → ((mid : Option Record) (cause : Cause) (front : SaysFront cause d mid (outcome_says outcome)) (told : List ℕ) → T cause told → S (front.whole ++ front.begun) cause told)
-    → Ended takes operation m o p outcome n → length n.unread ≤ 281 → Reports d e (outcome_says outcome) T said → (IsStop outcome → ToldBy S (cause_of outcome) d e)
-    → Runs (reported operation outcome_says) m.next m.unread o.talk p.talk d e S (concluded outcome said) n.next n.unread
-operation_runs {operation = operation} takes outcome_says {m = m} {n = n} {o = o} {p = p} outcome d e (Ok done) S T why (inl played) few reports some =
-    subst (λ r. Runs (reported operation outcome_says) m.next m.unread o.talk p.talk d e S r n.next n.unread) (sym played.1)
-    (ran_from (came_on (came_lifted (λ outcome. says (outcome_says outcome) (Done (standing outcome))) d played.0 few) (came_said (outcome_says outcome) (Done (standing outcome)) n.next n.unread p.talk reports)))
-operation_runs {operation = operation} takes outcome_says {n = n} {p = p} outcome d e (Err stopped) S T why (inl played) few reports some =
-    broke_lifted (λ outcome. says (outcome_says outcome) (Done (standing outcome))) played.0 few
-    (broke_saying (outcome_says outcome) (Done (standing outcome)) n.next n.unread p.talk why reports)
-operation_runs {operation = operation} takes outcome_says {m = m} {n = n} {o = o} {p = p} outcome d e said S T why (inr (inl broke)) few reports some =
+pub operation_runs : {A : Type 0} {operation : Dialog ⊥ (Result A HostFault)} (takes : Bool) (outcome_says : Result A HostFault → List Saying) {m n : Progress} {o p : LinkView} {d e : DeskView} (outcome : Result A HostFault)
+    (said : Result (Unit {0}) Stopped) (terms : Terms) (By : DeskView → DeskView → Cause → List ℕ → Type 0) → StopsReport terms p d e (outcome_says outcome) By
+    → Ended takes operation m o p outcome n → length n.unread ≤ 281 → o.failures ≤ p.failures → SaysOrStops By d e (outcome_says outcome) said → (IsStop outcome → ToldBy terms (cause_of outcome) (devices o d) (devices p e))
+    → Runs (reported operation outcome_says) m (devices o d) (devices p e) terms (concluded outcome said) n
+operation_runs {operation = operation} takes outcome_says {m = m} {n = n} {o = o} {p = p} {d = d} {e = e} outcome (Ok done) terms By why (inl played) few link reports some =
+    subst (λ r. Runs (reported operation outcome_says) m (devices o d) (devices p e) terms r n) (sym played.1)
+    (ran_from (came_on (came_lifted (λ outcome. says (outcome_says outcome) (Done (standing outcome))) d played.0 few) (came_said (outcome_says outcome) (Done (standing outcome)) n p reports)))
+operation_runs {operation = operation} takes outcome_says {m = m} {n = n} {o = o} {p = p} {d = d} {e = e} outcome (Err stopped) terms By why (inl played) few link reports some =
+    broke_lifted (λ outcome. says (outcome_says outcome) (Done (standing outcome))) played.0 few link
+    (broke_saying (outcome_says outcome) (Done (standing outcome)) n p why reports)
+operation_runs {operation = operation} takes outcome_says {m = m} {n = n} {o = o} {p = p} {d = d} {e = e} outcome said terms By why (inr (inl broke)) few link reports some =
     let stop = link_stops broke.0 outcome broke.1 in
-    let why_not : ToldBy S (broken_cause broke.0) d e = subst (λ cause. ToldBy S cause d e) (link_cause broke.0 outcome broke.1) (some stop) in
-    subst (λ r. Runs (reported operation outcome_says) m.next m.unread o.talk p.talk d e S r n.next n.unread) (sym (stop_goes outcome said stop))
+    let why_not : ToldBy terms (broken_cause broke.0) (devices o d) (devices p e) = subst (λ cause. ToldBy terms cause (devices o d) (devices p e)) (link_cause broke.0 outcome broke.1) (some stop) in
+    subst (λ r. Runs (reported operation outcome_says) m (devices o d) (devices p e) terms r n) (sym (stop_goes outcome said stop))
     (broke_operation broke.0 (λ outcome. says (outcome_says outcome) (Done (standing outcome))) broke.2 why_not)
-operation_runs {operation = operation} takes outcome_says {m = m} {n = n} {o = o} {p = p} outcome d e said S T why (inr (inr lacks)) few reports some =
+operation_runs {operation = operation} takes outcome_says {m = m} {n = n} {o = o} {p = p} {d = d} {e = e} outcome said terms By why (inr (inr lacks)) few link reports some =
     let stop = memory_stops outcome lacks.1 in
-    let why_not : ToldBy S OfMemory d e = subst (λ cause. ToldBy S cause d e) (ap cause_of (memory_is outcome lacks.1)) (some stop) in
-    subst (λ r. Runs (reported operation outcome_says) m.next m.unread o.talk p.talk d e S r n.next n.unread) (sym (stop_goes outcome said stop))
-    (subst (λ q. BrokeOff (reported operation outcome_says) m.next m.unread o.talk q.talk d e S) (sym lacks.2) (broke_lacking (reported operation outcome_says) m.next m.unread o.talk why_not))
+    let why_not : ToldBy terms OfMemory (devices o d) (devices p e) = subst (λ cause. ToldBy terms cause (devices o d) (devices p e)) (ap cause_of (memory_is outcome lacks.1)) (some stop) in
+    subst (λ r. Runs (reported operation outcome_says) m (devices o d) (devices p e) terms r n) (sym (stop_goes outcome said stop))
+    (broke_lacking (reported operation outcome_says) m lacks.2 why_not)

@@ -7,7 +7,7 @@ use Rattle.avr_serve.proofs.serving.answer_piece.Goals as goal
 pub loop-used-init : goal.loop-used-init
 loop-used-init g c = record {
   in_range = omega arith;
-  replies = replies_none c.args.emulator.now (g.L.Link.view c.args.link.now).talk;
+  replies = replies_none c.args.emulator.now (g.L.Link.view c.args.link.now);
   counted = refl;
 }
 
