@@ -2,6 +2,7 @@
 -- programmer, whatever the line loses, delays and spoils.
 use Rattle.std.specs.Prelude.{ℕ, ◌+◌, ◌*◌, ◌≡◌, ◌≤◌, ◌⊎◌, true, false, List, [], ◌∷◌, ◌++◌, map, length, Some}
 use Rattle.avr_desk.specs.Record.{DeskView}
+use Rattle.avr_message.specs.Said.{Saying}
 use Rattle.avr_plan.specs.Plan.{Plan}
 use Rattle.avr_session.specs.Runs.{BrokeOff, Stops}
 use Rattle.avr_session.specs.Session.{session, is_erase_due, takes_memory}
@@ -14,6 +15,7 @@ use Rattle.stk_emu.specs.Wired.{State}
 use Rattle.stk_frame.specs.Commands.{body}
 use Rattle.stk_frame.specs.Cut.{body_of, frames}
 use Rattle.stk_frame.specs.declared.command.Command.{Command}
+use Rattle.stk_host.specs.Dialog.{Event}
 use Rattle.stk_host.specs.Talk.{sent}
 use Rattle.avr_emulated.specs.Again.{AgreesAnyway}
 use Rattle.avr_emulated.specs.Bound.{run_steps}
@@ -48,14 +50,17 @@ Stopped plan before after old now =
     BrokeOff (session plan) 1 [] (Some before.talk) (Some after.talk) old.kept now.kept
     (Stops (takes_memory plan) before.failures after.failures old.failures now.failures)
 
--- Played or stopped, whatever it told whole was true of the chip as the frames sent before had left it.
+-- Whatever was told among these events was true of the chip as the frames sent before had left it.
+abbrev pub WereTrue : Plan → State → List (Event Saying) → Type 0
+WereTrue plan before events =
+    SaidTrue device (λ q saying. IsTrue plan (memories before) (memories_of q.chip) saying) events before.wire
+
+-- So it was of all of a session that was played to its end, and of what one that stopped did whole.
 abbrev pub ToldTruly : Plan → State → State → DeskView → DeskView → ℕ → Type 0
 ToldTruly plan before after old now status =
     ((played : IsPlayed (session plan) (Some before.talk) (Some after.talk) old.kept now.kept status)
-    × SaidTrue device (λ q saying. IsTrue plan (memories before) (memories_of q.chip) saying) played.2.events before.wire)
-    ⊎ ((stopped : Stopped plan before after old now) × (status ≡ 1)
-    × SaidTrue device (λ q saying. IsTrue plan (memories before) (memories_of q.chip) saying)
-    stopped.breaks.front.whole before.wire)
+    × WereTrue plan before played.2.events)
+    ⊎ ((stopped : Stopped plan before after old now) × (status ≡ 1) × WereTrue plan before stopped.breaks.front.whole)
 
 -- What a session of this plan did from one state of a wire to another, whatever the fates of its frames. A course is
 -- what is said, the status and the memories of the same plan over a perfect line.

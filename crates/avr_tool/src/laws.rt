@@ -74,7 +74,8 @@ pub fn a_wrong_outcome_is_refused()
     ensures memories { (plan : Plan) (w v : State) (d e : DeskView)
         → (memories v ≡ effects plan.part (items plan) (memories w) → ⊥) → OverAnyLine plan w v d e 0 → ⊥ }
     ensures sayings { (plan : Plan) (w v : State) (d e : DeskView)
-        → (e.kept ≡ option_map (after_all (course plan (memories w)).says) d.kept → ⊥) → OverAnyLine plan w v d e 0 → ⊥ }
+        → (e.kept ≡ option_map (after_all (course plan (memories w)).says) d.kept → ⊥)
+        → OverAnyLine plan w v d e 0 → ⊥ }
     ensures silence { (plan : Plan) (w v : State) (d e : DeskView) (status : ℕ)
         → frames_over v ≡ [] → (memories v ≡ memories w → ⊥) → OverAnyLine plan w v d e status → ⊥ }
     ensures frames { (plan : Plan) (w v : State) (d e : DeskView) (status : ℕ) (weight : Weight)
@@ -82,9 +83,9 @@ pub fn a_wrong_outcome_is_refused()
         → OverAnyLine plan w v d e status → ⊥ }
 {}
 
-/// Where of any seven frames in a row at most three go wrong (a reset counts four), no device fails, and the messages do
-/// not say that memory was refused: a session is its course; and that of a plan that erases, and agrees on a chip of 00
-/// and on one of FF, has status 0 and, verified, leaves its images, whatever the chip was.
+/// Where of any seven frames in a row at most three go wrong (a reset counts four), no device fails, and the messages
+/// do not say that memory was refused: a session is its course; and that of a plan that erases, and agrees on a chip of
+/// 00 and on one of FF, has status 0 and, verified, leaves its images, whatever the chip was.
 pub fn a_sound_run_is_its_course()
     ensures course { (plan : Plan) (w v : State) (d e : Record) (a b status : ℕ)
         → AreFew w.wire.fates → IsSound w.failures v.failures a b → (LacksMemory e.messages → ⊥)
@@ -118,10 +119,11 @@ pub fn a_worked_run_has_one_outcome()
     ensures status { (talk : Talk) (k l : LinkView) (d e : DeskView) → k.talk ≡ Some [] → l.talk ≡ Some talk
         → heard talk ≡ answers → IsRun asked k l d e 1 → ⊥ }
     ensures frames { (talk : Talk) (k l : LinkView) (d e : DeskView) (status : ℕ)
-        → k.talk ≡ Some [] → l.talk ≡ Some talk → heard talk ≡ answers → (sent talk ≡ frames_due → ⊥) → IsRun asked k l d e status → ⊥ }
-    ensures lines { (talk : Talk) (k l : LinkView) (d e : DeskView) (status : ℕ)
-        → k.talk ≡ Some [] → l.talk ≡ Some talk → heard talk ≡ answers → (e.kept ≡ option_map (after_all lines_due) d.kept → ⊥)
+        → k.talk ≡ Some [] → l.talk ≡ Some talk → heard talk ≡ answers → (sent talk ≡ frames_due → ⊥)
         → IsRun asked k l d e status → ⊥ }
+    ensures lines { (talk : Talk) (k l : LinkView) (d e : DeskView) (status : ℕ)
+        → k.talk ≡ Some [] → l.talk ≡ Some talk → heard talk ≡ answers
+        → (e.kept ≡ option_map (after_all lines_due) d.kept → ⊥) → IsRun asked k l d e status → ⊥ }
 {}
 
 /// Over any link that behaves as the definition of a line with fates has it, a session that was played whole did what

@@ -21,7 +21,8 @@ use stk_host::Link;
 /// and the one that is saved.
 pub fn run_emu<D: Desk>(alloc: Global, settings: &Settings, desk: &mut D) -> u8
     requires port { IsEmulated settings.now.port }
-    ensures runs { RunsEmulator settings.now (chip_file_of settings.now.port) (D.view desk.old) (D.view desk.new) result }
+    ensures runs { RunsEmulator settings.now (chip_file_of settings.now.port)
+        (D.view desk.old) (D.view desk.new) result }
 {
     let Port::Emulated(file) = &settings.port else {
         unreachable!()
