@@ -33,7 +33,7 @@ module _ (settings : Settings) (file : Bytes) (plan : Plan) (chip : Chip) (w v :
   is_new = as_new chip w held begun waits silent unfailed
 
   pub runs_over_emulator : (old planned_desk loaded_desk played_desk now : DeskView) (ran status : ℕ)
-      → Went (planned settings) old.kept planned_desk.kept (Made plan) → Went (chip_stage plan.part file) planned_desk.kept loaded_desk.kept (Made chip)
+      → Went (planned settings) old planned_desk (Made plan) → Went (chip_stage plan.part file) planned_desk loaded_desk (Made chip)
       → old.failures ≤ planned_desk.failures → planned_desk.failures ≤ loaded_desk.failures → loaded_desk.failures ≤ played_desk.failures → played_desk.failures ≤ now.failures
       → Stays ComesOf w v → (w.wire.programmer.chip.part ≡ plan.part → OverAnyLine plan w v loaded_desk played_desk ran)
       → IsSaved (sent v.talk) played_desk now file (chip_file v.wire.programmer.chip) ran status

@@ -1,7 +1,7 @@
 -- A run over a port of the network, from settings to status.
 use Rattle.std.specs.Prelude.{ℕ, ◌≡◌, ◌≤◌, ◌⊎◌, Option, None, Err, codes}
 use Rattle.avr_cli.specs.declared.chosen.Settings.{Settings}
-use Rattle.avr_desk.specs.Record.{Record}
+use Rattle.avr_desk.specs.Record.{Record, showing}
 use Rattle.avr_message.specs.Lines.{Bytes}
 use Rattle.avr_message.specs.Said.{Tells}
 use Rattle.avr_plan.specs.Plan.{Plan}
@@ -19,7 +19,7 @@ pub record PlaysOverNet (settings : Settings) (old new : Option Record) (before 
   pub planned_desk : Option Record
   pub planned_failures : ℕ
   pub link_failures : ℕ
-  pub made : Went (planned settings) old planned_desk (Made plan)
+  pub made : Went (planned settings) (showing old before) (showing planned_desk planned_failures) (Made plan)
   pub rises : before ≤ planned_failures
   pub runs : RunsTo (session plan) None None planned_desk new
       (Stops (takes_memory plan) 0 link_failures planned_failures now) status
@@ -31,13 +31,14 @@ pub record LacksPort (settings : Settings) (address : Bytes) (old new : Option R
   pub plan : Plan
   pub planned_desk : Option Record
   pub planned_failures : ℕ
-  pub made : Went (planned settings) old planned_desk (Made plan)
+  pub made : Went (planned settings) (showing old before) (showing planned_desk planned_failures) (Made plan)
   pub rises : before ≤ planned_failures
-  pub told : Tells planned_desk new (unopened_line (codes "net:") address) planned_failures now
+  pub told : Tells (showing planned_desk planned_failures) (showing new now) (unopened_line (codes "net:") address)
   pub status_is : status ≡ 1
 
 -- the one or the other, or there is no plan (that the port was left alone then, no clause says)
 abbrev pub RunsOverNet : Settings → Bytes → Option Record → Option Record → ℕ → ℕ → ℕ → Type 0
 RunsOverNet settings address old new before now status =
     PlaysOverNet settings old new before now status
-    ⊎ (LacksPort settings address old new before now status ⊎ Goes (planned settings) old new before now (Err status))
+    ⊎ (LacksPort settings address old new before now status
+    ⊎ Goes (planned settings) (showing old before) (showing new now) (Err status))

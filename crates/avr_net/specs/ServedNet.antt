@@ -2,7 +2,7 @@
 use Rattle.std.specs.Prelude.{ℕ, ◌≡◌, ◌≤◌, ◌⊎◌, [], Option, Some, None, Err}
 use Rattle.avr_cli.specs.Port.{port_number}
 use Rattle.avr_cli.specs.declared.chosen.Settings.{Settings}
-use Rattle.avr_desk.specs.Record.{Record}
+use Rattle.avr_desk.specs.Record.{Record, showing}
 use Rattle.avr_message.specs.Lines.{Bytes}
 use Rattle.avr_message.specs.Said.{Tells}
 use Rattle.avr_part.specs.State as chips
@@ -19,7 +19,7 @@ pub record ServesCaller (chip : chips.State) (file : Bytes) (old new : Option Re
 
 -- No connection could be accepted: that was told, nothing else was done at the desk, and the status is 1.
 pub record LacksCaller (port : Bytes) (old new : Option Record) (before now status : ℕ) : Type 0 where
-  pub told : Tells old new (unopened_line [] port) before now
+  pub told : Tells (showing old before) (showing new now) (unopened_line [] port)
   pub status_is : status ≡ 1
 
 -- the one or the other
@@ -38,12 +38,12 @@ pub record ServesLoaded (settings : Settings) (port file : Bytes) (old new : Opt
   pub chip : chips.State
   pub loaded_desk : Option Record
   pub loaded_failures : ℕ
-  pub loaded : Went (settings_chip settings file) old loaded_desk (Made chip)
+  pub loaded : Went (settings_chip settings file) (showing old before) (showing loaded_desk loaded_failures) (Made chip)
   pub rises : before ≤ loaded_failures
   pub serves : ServesAt (port_number port) chip port file loaded_desk new loaded_failures now status
 
 -- so it was, or there is no chip (that the port was left alone then, no clause says)
 abbrev pub ServesNet : Settings → Bytes → Bytes → Option Record → Option Record → ℕ → ℕ → ℕ → Type 0
 ServesNet settings port file old new before now status =
-    ServesLoaded settings port file old new before now status ⊎ Goes (settings_chip settings file) old new before now
-    (Err status)
+    ServesLoaded settings port file old new before now status
+    ⊎ Goes (settings_chip settings file) (showing old before) (showing new now) (Err status)

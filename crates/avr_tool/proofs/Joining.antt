@@ -41,7 +41,7 @@ turns settings openings says left plan is tape bytes (Got items ∷ talk) due =
 
 -- what a plan made, and its session whole
 pub ran_whole : (settings : Settings) (plan : Plan) (k l : LinkView) (d between e : DeskView) (status : ℕ)
-    → Went (planned settings) d.kept between.kept (Made plan) → IsPlayed (session plan) k.talk l.talk between.kept e.kept status → IsRun settings k l d e status
+    → Went (planned settings) d between (Made plan) → IsPlayed (session plan) k.talk l.talk between.kept e.kept status → IsRun settings k l d e status
 ran_whole settings plan k l d between e status went whole =
     let ran = whole.2 in
     record {
@@ -58,12 +58,12 @@ ran_whole settings plan k l d between e status went whole =
       few = ran.few (omega arith);
     }
 
-pub ran_openings : (settings : Settings) (plan : Plan) (k l : LinkView) (d between e : DeskView) (status : ℕ) (went : Went (planned settings) d.kept between.kept (Made plan))
+pub ran_openings : (settings : Settings) (plan : Plan) (k l : LinkView) (d between e : DeskView) (status : ℕ) (went : Went (planned settings) d between (Made plan))
     (whole : IsPlayed (session plan) k.talk l.talk between.kept e.kept status) → (ran_whole settings plan k l d between e status went whole).openings ≡ went.passed
 unfolding ran_whole
 ran_openings settings plan k l d between e status went whole = refl
 
-pub refused_whole : (settings : Settings) (k l : LinkView) (d e : DeskView) → l.talk ≡ k.talk → Went (planned settings) d.kept e.kept Refused → IsRun settings k l d e 1
+pub refused_whole : (settings : Settings) (k l : LinkView) (d e : DeskView) → l.talk ≡ k.talk → Went (planned settings) d e Refused → IsRun settings k l d e 1
 refused_whole settings k l d e same went = record {
   openings = went.passed;
   during = [];

@@ -40,7 +40,7 @@ is_fresh w new = record {
 
 module _ (settings : Settings) (old now : DeskView) (status : ℕ) where
   -- a plan that was made, and its session
-  module _ (plan : Plan) (w v : State) (between : DeskView) (made : Went (planned settings) old.kept between.kept (Made plan)) (rises : old.failures ≤ between.failures) (until : between.failures ≤ now.failures) where
+  module _ (plan : Plan) (w v : State) (between : DeskView) (made : Went (planned settings) old between (Made plan)) (rises : old.failures ≤ between.failures) (until : between.failures ≤ now.failures) where
     run_or_stop : RunsTo (session plan) (Some w.talk) (Some v.talk) between.kept now.kept (Stops (takes_memory plan) w.failures v.failures between.failures now.failures) status
         → ((r : IsRun settings (shown_by w) (shown_by v) old now status) × (r.openings ≡ made.passed))
         ⊎ ((s : StoppedPlaying settings (shown_by w) (shown_by v) old now status) × (s.plan ≡ plan) × (s.between ≡ between))
@@ -59,10 +59,10 @@ module _ (settings : Settings) (old now : DeskView) (status : ℕ) where
     }
 
   -- no plan
-  pub runs_nowhere : (w : State) → (status ≡ 1) × (Went (planned settings) old.kept now.kept Refused ⊎ planning.BrokeOff (planned settings) old.kept now.kept old.failures now.failures) → RunsNowhere settings w w old now status
+  pub runs_nowhere : (w : State) → (status ≡ 1) × (Went (planned settings) old now Refused ⊎ planning.BrokeOff (planned settings) old now) → RunsNowhere settings w w old now status
   runs_nowhere w none = record { runs = either none.1; untouched = refl; status_is = none.0 }
     where
-      either : Went (planned settings) old.kept now.kept Refused ⊎ planning.BrokeOff (planned settings) old.kept now.kept old.failures now.failures
+      either : Went (planned settings) old now Refused ⊎ planning.BrokeOff (planned settings) old now
           → IsRun settings (shown_by w) (shown_by w) old now status ⊎ StoppedPlanning settings (shown_by w) (shown_by w) old now status
       either (inl went) = inl (subst (IsRun settings (shown_by w) (shown_by w) old now) (sym none.0) (refused_whole settings (shown_by w) (shown_by w) old now refl went))
       either (inr broke) = inr (record { broke = broke; same = refl; status_is = none.0 })

@@ -91,7 +91,7 @@ pub record StoppedPlaying (settings : Settings) (link_before link_now : LinkView
     (status : ℕ) : Type 0 where
   pub plan : Plan
   pub between : DeskView
-  pub made : Went (planned settings) desk_before.kept between.kept (Made plan)
+  pub made : Went (planned settings) desk_before between (Made plan)
   pub rises : desk_before.failures ≤ between.failures
   pub broke : BrokeOff (session plan) 1 [] link_before.talk link_now.talk between.kept desk_now.kept
       (Stops (takes_memory plan) link_before.failures link_now.failures between.failures desk_now.failures)
@@ -100,7 +100,7 @@ pub record StoppedPlaying (settings : Settings) (link_before link_now : LinkView
 -- As it was planned: a front of what planning says was done, and nothing was sent or heard.
 pub record StoppedPlanning (settings : Settings) (link_before link_now : LinkView) (desk_before desk_now : DeskView)
     (status : ℕ) : Type 0 where
-  pub broke : planning.BrokeOff (planned settings) desk_before.kept desk_now.kept desk_before.failures desk_now.failures
+  pub broke : planning.BrokeOff (planned settings) desk_before desk_now
   pub same : link_now.talk ≡ link_before.talk
   pub status_is : status ≡ 1
 
@@ -150,7 +150,7 @@ pub record RunsOverWire (settings : Settings) (before after : State) (desk_befor
     (status : ℕ) : Type 0 where
   pub plan : Plan
   pub between : DeskView
-  pub made : Went (planned settings) desk_before.kept between.kept (Made plan)
+  pub made : Went (planned settings) desk_before between (Made plan)
   pub in_order : (desk_before.failures ≤ between.failures) × (between.failures ≤ desk_now.failures)
   pub runs : ((r : IsRun settings (shown_by before) (shown_by after) desk_before desk_now status)
       × (r.openings ≡ made.passed))
