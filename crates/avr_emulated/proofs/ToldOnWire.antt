@@ -72,17 +72,16 @@ played_more (Say e d) n t u = let g = played_more d n t u in (g.0, ap (λ es. Sa
 played_more (Ask bytes go_on) n t u = more_asking bytes go_on n t u (answer n t) refl (λ reading left. played_more (go_on reading) (next n) left u)
 
 -- in a talk, over what was heard of what the wire brings
-pub told_over : {E R : Type 0} (T : Programmer → E → Type 0) (d : Dialog E R) (n : ℕ) (p : Programmer) (fates : List Fate) (talk : Talk) (waits : Tape) (whole later : List (Event E))
-    → AsksBodies d → AreLawful fates → brought p fates (sent talk) ≡ heard talk ++ waits → (played d n (heard talk)).events ≡ whole ++ later
+pub told_over : {E R : Type 0} (T : Programmer → E → Type 0) (d : Dialog E R) (n : ℕ) (p : Programmer) (fates : List Fate) (talk : Talk) (waits : Tape)
+    → AsksBodies d → AreLawful fates → brought p fates (sent talk) ≡ heard talk ++ waits
     → IsPrefixOf (sent talk) (bytes_sent (played d n (heard talk)).events) → TellsTrue device T (length (frames (sent talk))) d p fates
-    → SaidTrue device T whole (fresh p fates)
-told_over T d n p fates talk waits whole later asks lawful brings split front told =
+    → SaidTrue device T (played d n (heard talk)).events (fresh p fates)
+told_over T d n p fates talk waits asks lawful brings front told =
     let f = frames_front (played d n (heard talk)).events (sent talk) front.0 (sends_whole d n (heard talk) asks) front.1 in
     let g = played_goes d n (heard talk) waits in
     let more = played_more d n (heard talk) waits in
     let all : SaidTrue device T (played d n (brought p fates (sent talk))).events (fresh p fates) =
     true_over device answers_bodies T d n (fresh p fates) (frames (sent talk)) (f.0 ++ g.0) asks (none_clear n) lawful
     (ap (λ t. frames_in (played d n t).events) brings ∙ (g.1 ∙ (ap (λ fs. fs ++ g.0) f.1 ∙ append_assoc (frames (sent talk)) f.0 g.0))) told in
-    said_front device T whole later (fresh p fates)
-    (said_front device T (whole ++ later) more.0 (fresh p fates)
-    (subst (λ es. SaidTrue device T es (fresh p fates)) (ap (λ t. (played d n t).events) brings ∙ (more.1 ∙ ap (λ es. es ++ more.0) split)) all))
+    said_front device T (played d n (heard talk)).events more.0 (fresh p fates)
+    (subst (λ es. SaidTrue device T es (fresh p fates)) (ap (λ t. (played d n t).events) brings ∙ more.1) all)

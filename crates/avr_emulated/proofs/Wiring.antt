@@ -21,12 +21,12 @@ use Rattle.stk_emu.specs.Leads.{Leads, GoesAlong}
 use Rattle.stk_emu.specs.Programmer.{Programmer, fresh_programmer}
 use Rattle.stk_emu.specs.Settled.{Idle, FitsPart}
 use Rattle.stk_emu.specs.Wire as line
-use Rattle.stk_emu.specs.Wired.{State, Keeps, ComesOf, IsFresh, brought}
+use Rattle.stk_emu.specs.Wired.{State, Keeps, ComesOf, IsFresh}
 use Rattle.stk_emu.proofs.Beginning.{fresh_idle, fresh_fits}
 use Rattle.stk_emu.proofs.SaidAlong.{whole_said}
 use Rattle.stk_emu.proofs.Turning.{whole_along, broken_along, never_idle, shown_front}
 use Rattle.avr_emulated.specs.Again.{AgreesAnyway}
-use Rattle.avr_emulated.specs.AnyLine.{weighed, bodies_in, memories, frames_over, Stopped, ToldTruly, OverAnyLine}
+use Rattle.avr_emulated.specs.AnyLine.{weighed, bodies_in, memories, frames_over, Stopped, WereTrue, OverAnyLine}
 use Rattle.avr_emulated.specs.Bound.{run_steps}
 use Rattle.avr_emulated.specs.Course.{course}
 use Rattle.avr_emulated.specs.Told.{IsTrue, SaidTrue}
@@ -40,7 +40,7 @@ use Rattle.avr_emulated.proofs.FewBadEnds.{Came}
 use Rattle.avr_emulated.proofs.FramesWeighed.{front_weighs}
 use Rattle.avr_emulated.proofs.Success.{session_succeeds}
 use Rattle.avr_emulated.proofs.TellingTrue.{session_tells}
-use Rattle.avr_emulated.proofs.ToldOnWire.{told_over}
+use Rattle.avr_emulated.proofs.ToldOnWire.{said_front, told_over}
 use Rattle.avr_emulated.proofs.Weighing.{session_weighs}
 use Rattle.avr_emulated.proofs.WrittenRuns.{run_written}
 
@@ -182,41 +182,19 @@ module _ (plan : Plan) (w v : State) (fresh : IsFresh w) (stays : Stays ComesOf 
   abbrev IsSaidTrue : Programmer → Saying → Type 0
   IsSaidTrue q saying = IsTrue plan before (memories_of q.chip) saying
 
-  brings_for : (talk : Talk) → talk ≡ v.talk → InTurn (session plan) 1 [] talk → brought begun w.wire.fates (sent talk) ≡ heard talk ++ v.waits
-  brings_for talk same turns =
-      subst (λ t. brought begun w.wire.fates (sent t) ≡ heard t ++ v.waits) (sym same)
-      (keeps.brings (never_idle (session plan) 1 begun w.wire.fates v.talk asks fresh.lawful (subst (InTurn (session plan) 1 []) same turns)))
+  in_turn : Either → InTurn (session plan) 1 [] v.talk
+  in_turn (inl whole) = (plays whole).in_turn
+  in_turn (inr broke) = (breaks broke.0).in_turn
 
   -- the wire as it was when it began
   as_begun : line.fresh begun w.wire.fates ≡ w.wire
   as_begun = sym (fresh.begins.stands ∙ ap (λ talk. line.wire_after device (frames (sent talk)) (line.fresh begun w.wire.fates)) fresh.silent)
 
-  tells : Either → ToldTruly plan w v old now status
-  tells (inl whole) =
-      let r = whole.2 in
-      let over = ap (played (session plan) 1) (sym (append-nil (heard r.during))) ∙ r.plays.plays [] in
-      inl (
-        whole,
-        subst (SaidTrue device IsSaidTrue r.events) as_begun
-            (told_over IsSaidTrue (session plan) 1 begun w.wire.fates r.during v.waits r.events [] asks fresh.lawful
-            (brings_for r.during (all_passed w.talk v.talk r.during fresh.silent r.grows) r.plays.in_turn)
-            (ap (λ x. x.events) over ∙ sym (append-nil r.events))
-            ([], append-nil (sent r.during) ∙ (sym r.plays.all_sent ∙ ap (λ x. bytes_sent x.events) (sym over)))
-            (session_tells plan sound before sizes fitted (length (frames (sent r.during))) begun w.wire.fates idle)),
-      )
-  tells (inr broke) =
-      let b = broke.0 in
-      let front = shown_front SaidPart b.shown (played (session plan) 1 (heard b.during)).events b.breaks.front in
-      inr (
-        b,
-        broke.1,
-        subst (SaidTrue device IsSaidTrue b.breaks.front.whole) as_begun
-            (told_over IsSaidTrue (session plan) 1 begun w.wire.fates b.during v.waits b.breaks.front.whole b.breaks.front.later asks fresh.lawful
-            (brings_for b.during (all_passed w.talk v.talk b.during fresh.silent b.grows) b.breaks.in_turn)
-            b.breaks.front.events_are
-            (front.0, ap (λ bs. bs ++ front.0) (sym b.breaks.all_sent) ∙ front.1)
-            (session_tells plan sound before sizes fitted (length (frames (sent b.during))) begun w.wire.fates idle)),
-      )
+  tells : Either → WereTrue plan w (played (session plan) 1 (heard v.talk)).events
+  tells runs = subst (SaidTrue device IsSaidTrue (played (session plan) 1 (heard v.talk)).events) as_begun
+      (told_over IsSaidTrue (session plan) 1 begun w.wire.fates v.talk v.waits asks fresh.lawful
+      (keeps.brings (never_idle (session plan) 1 begun w.wire.fates v.talk asks fresh.lawful (in_turn runs)))
+      (is_front runs) (session_tells plan sound before sizes fitted count begun w.wire.fates idle))
 
   pub over_any_line : Either → OverAnyLine plan w v old now status
   over_any_line runs = record {
@@ -230,3 +208,16 @@ module _ (plan : Plan) (w v : State) (fresh : IsFresh w) (stays : Stays ComesOf 
     few_bad = goes_well runs;
     again = succeeds_again runs;
   }
+
+-- what was told is a front of what the session tells over what was heard
+module _ (plan : Plan) (w v : State) (d e : DeskView) (status : ℕ) (silent : w.talk ≡ []) (over : OverAnyLine plan w v d e status) where
+  pub played_truly : (whole : IsPlayed (session plan) (Some w.talk) (Some v.talk) d.kept e.kept status) → WereTrue plan w whole.2.events
+  played_truly whole =
+      let over_heard = ap (λ t. (played (session plan) 1 t).events) (ap heard (sym (all_passed w.talk v.talk whole.2.during silent whole.2.grows)) ∙ sym (append-nil (heard whole.2.during))) in
+      subst (WereTrue plan w) (over_heard ∙ ap (λ x. x.events) (whole.2.plays.plays [])) over.believable
+
+  pub stopped_truly : (stopped : Stopped plan w v d e) → WereTrue plan w stopped.breaks.front.whole
+  stopped_truly stopped =
+      let over_heard = ap (λ t. (played (session plan) 1 t).events) (ap heard (sym (all_passed w.talk v.talk stopped.during silent stopped.grows))) in
+      said_front device (λ q saying. IsTrue plan (memories w) (memories_of q.chip) saying) stopped.breaks.front.whole stopped.breaks.front.later w.wire
+      (subst (WereTrue plan w) (over_heard ∙ stopped.breaks.front.events_are) over.believable)

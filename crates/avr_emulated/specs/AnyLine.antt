@@ -6,7 +6,6 @@ use Rattle.avr_message.specs.Said.{Saying}
 use Rattle.avr_plan.specs.Plan.{Plan}
 use Rattle.avr_session.specs.Runs.{BrokeOff, Stops}
 use Rattle.avr_session.specs.Session.{session, is_erase_due, takes_memory}
-use Rattle.avr_session.specs.Stopping.{IsPlayed}
 use Rattle.stk_emu.specs.Device.{device}
 use Rattle.stk_emu.specs.Effect.{Memories, memories_of}
 use Rattle.stk_emu.specs.Few.{AreFew}
@@ -15,8 +14,8 @@ use Rattle.stk_emu.specs.Wired.{State}
 use Rattle.stk_frame.specs.Commands.{body}
 use Rattle.stk_frame.specs.Cut.{body_of, frames}
 use Rattle.stk_frame.specs.declared.command.Command.{Command}
-use Rattle.stk_host.specs.Dialog.{Event}
-use Rattle.stk_host.specs.Talk.{sent}
+use Rattle.stk_host.specs.Dialog.{Event, played}
+use Rattle.stk_host.specs.Talk.{sent, heard}
 use Rattle.avr_emulated.specs.Again.{AgreesAnyway}
 use Rattle.avr_emulated.specs.Bound.{run_steps}
 use Rattle.avr_emulated.specs.Outcome.{IsCourse, IsDone, MakesStrokes}
@@ -50,17 +49,10 @@ Stopped plan before after old now =
     BrokeOff (session plan) 1 [] (Some before.talk) (Some after.talk) old.kept now.kept
     (Stops (takes_memory plan) before.failures after.failures old.failures now.failures)
 
--- Whatever was told among these events was true of the chip as the frames sent before had left it.
+-- Whatever is told among these events was true of the chip as the frames sent before had left it.
 abbrev pub WereTrue : Plan → State → List (Event Saying) → Type 0
 WereTrue plan before events =
     SaidTrue device (λ q saying. IsTrue plan (memories before) (memories_of q.chip) saying) events before.wire
-
--- So it was of all of a session that was played to its end, and of what one that stopped did whole.
-abbrev pub ToldTruly : Plan → State → State → DeskView → DeskView → ℕ → Type 0
-ToldTruly plan before after old now status =
-    ((played : IsPlayed (session plan) (Some before.talk) (Some after.talk) old.kept now.kept status)
-    × WereTrue plan before played.2.events)
-    ⊎ ((stopped : Stopped plan before after old now) × (status ≡ 1) × WereTrue plan before stopped.breaks.front.whole)
 
 -- What a session of this plan did from one state of a wire to another, whatever the fates of its frames. A course is
 -- what is said, the status and the memories of the same plan over a perfect line.
@@ -80,8 +72,9 @@ pub record OverAnyLine (plan : Plan) (before after : State) (old now : DeskView)
   -- at most four frames for each command of the plan's steps, by every weight of bodies
   pub four : (weight : Weight) → weighed weight (map body_of (frames_over after))
       ≤ 4 * weighed weight (bodies_in (run_steps plan))
-  -- whatever the status: each line that was told and each file that was written was true of the chip at that moment
-  pub believable : ToldTruly plan before after old now status
+  -- whatever the status: each line that the session tells and each file that it writes, over what was heard, was true of
+  -- the chip at that moment; and what was told and written is a front of that
+  pub believable : WereTrue plan before (played (session plan) 1 (heard after.talk)).events
   -- a line that is bad, but not too bad, changes nothing: where of any seven frames in a row at most three go wrong,
   -- of which a reset counts four, the session is its course, unless it stopped
   pub few_bad : AreFew before.wire.fates

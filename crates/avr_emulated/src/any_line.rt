@@ -1,11 +1,13 @@
 //! What a run leaves in a chip, whatever the line does, and in which order; and how much it sends. No code.
 #![tactic(auto)]
 
-ghost use Rattle.std.specs.Prelude.{◌≡◌, ◌*◌, ℕ, List, All, take};
+ghost use Rattle.std.specs.Prelude.{◌≡◌, ◌*◌, ℕ, List, [], All, Some, take};
+ghost use Rattle.avr_desk.specs.Record.{DeskView};
 ghost use Rattle.avr_message.specs.Said.{SaidPart};
 ghost use Rattle.avr_part.specs.Part.{IsPart};
 ghost use Rattle.avr_plan.specs.Plan.{Plan, IsFitted};
 ghost use Rattle.avr_session.specs.Session.{session};
+ghost use Rattle.avr_session.specs.Stopping.{IsPlayed};
 ghost use Rattle.stk_emu.specs.Along.{AsksBodies};
 ghost use Rattle.stk_emu.specs.Device.{device};
 ghost use Rattle.stk_emu.specs.Effect.{Memories, effects, memories_of};
@@ -13,8 +15,10 @@ ghost use Rattle.stk_emu.specs.Leads.{Leads};
 ghost use Rattle.stk_emu.specs.Programmer.{Programmer};
 ghost use Rattle.stk_emu.specs.Settled.{Idle, FitsPart};
 ghost use Rattle.stk_emu.specs.Tallies.{Tallies};
+ghost use Rattle.stk_emu.specs.Wired.{State};
 ghost use Rattle.stk_emu.specs.declared.fate.Fate.{Fate};
 ghost use Rattle.stk_host.specs.Bound.{SendsAtMost, commands_in};
+ghost use Rattle.avr_emulated.specs.AnyLine.{OverAnyLine, Stopped, WereTrue};
 ghost use Rattle.avr_emulated.specs.Bound.{run_steps, ListensAtMost};
 ghost use Rattle.avr_emulated.specs.Made.{made_by};
 ghost use Rattle.avr_emulated.specs.Told.{TellsTrue, IsTrue};
@@ -59,4 +63,16 @@ pub fn what_a_run_tells_is_true()
     ensures { (plan : Plan) (m : Memories) (k : ℕ) (p : Programmer) (fates : List Fate)
         → IsPart plan.part → All (IsFitted plan.part) plan.tasks → FitsPart plan.part m → Idle plan.part m p
         → TellsTrue device (λ q saying. IsTrue plan m (memories_of q.chip) saying) k (session plan) p fates }
+{}
+
+/// Whatever was told over a wire was true of the chip when it was told: of a session that was played to its end all of
+/// it, and of one that stopped all that it did whole.
+pub fn what_was_told_was_true()
+    ensures played { (plan : Plan) (w v : State) (d e : DeskView) (status : ℕ)
+        → w.talk ≡ [] → OverAnyLine plan w v d e status
+        → (whole : IsPlayed (session plan) (Some w.talk) (Some v.talk) d.kept e.kept status)
+        → WereTrue plan w whole.2.events }
+    ensures stopped { (plan : Plan) (w v : State) (d e : DeskView) (status : ℕ)
+        → w.talk ≡ [] → OverAnyLine plan w v d e status
+        → (stopped : Stopped plan w v d e) → WereTrue plan w stopped.breaks.front.whole }
 {}

@@ -18,8 +18,8 @@ use Rattle.stk_emu.specs.Programmer.{Programmer, fresh_programmer}
 use Rattle.stk_emu.specs.Wire as wire
 use Rattle.stk_emu.specs.Wire.{Wire, wire_after}
 use Rattle.stk_emu.specs.Wired.{State, IsFresh}
-use Rattle.avr_emulated.specs.AnyLine.{OverAnyLine}
-use Rattle.avr_tool.specs.Headline.{IsRun, StoppedPlaying, StoppedPlanning, IsNew, shown_by, RunsOverWire, RunsNowhere}
+use Rattle.avr_emulated.specs.AnyLine.{Stopped, OverAnyLine}
+use Rattle.avr_tool.specs.Headline.{IsRun, StoppedPlanning, IsNew, shown_by, RunsOverWire, RunsNowhere}
 use Rattle.avr_tool.proofs.Joining.{ran_whole, ran_openings, refused_whole}
 
 -- a new wire keeps what its frames have brought, as there are none
@@ -43,9 +43,9 @@ module _ (settings : Settings) (old now : DeskView) (status : ℕ) where
   module _ (plan : Plan) (w v : State) (between : DeskView) (made : Went (planned settings) old between (Made plan)) (rises : old.failures ≤ between.failures) (until : between.failures ≤ now.failures) where
     run_or_stop : RunsTo (session plan) (Some w.talk) (Some v.talk) between.kept now.kept (Stops (takes_memory plan) w.failures v.failures between.failures now.failures) status
         → ((r : IsRun settings (shown_by w) (shown_by v) old now status) × (r.openings ≡ made.passed))
-        ⊎ ((s : StoppedPlaying settings (shown_by w) (shown_by v) old now status) × (s.plan ≡ plan) × (s.between ≡ between))
+        ⊎ (Stopped plan w v between now × (status ≡ 1))
     run_or_stop (inl whole) = inl (ran_whole settings plan (shown_by w) (shown_by v) old between now status made whole, ran_openings settings plan (shown_by w) (shown_by v) old between now status made whole)
-    run_or_stop (inr broke) = inr (record { plan = plan; between = between; made = made; rises = rises; broke = broke.0; status_is = broke.1 }, refl, refl)
+    run_or_stop (inr broke) = inr broke
 
     pub runs_over_wire : RunsTo (session plan) (Some w.talk) (Some v.talk) between.kept now.kept (Stops (takes_memory plan) w.failures v.failures between.failures now.failures) status
         → (w.wire.programmer.chip.part ≡ plan.part → OverAnyLine plan w v between now status) → RunsOverWire settings w v old now status

@@ -21,7 +21,7 @@ use Rattle.avr_plan.specs.Stage as stage
 use Rattle.avr_plan.specs.Stage.{Answer, Made, Refused, Unread}
 use Rattle.avr_session.specs.Runs.{BrokeOff, Stops}
 use Rattle.avr_session.specs.Session.{session, takes_memory}
-use Rattle.avr_emulated.specs.AnyLine.{Weight, weighed, bodies_in, OverAnyLine}
+use Rattle.avr_emulated.specs.AnyLine.{Weight, weighed, bodies_in, Stopped, OverAnyLine}
 use Rattle.avr_emulated.specs.Bound.{run_steps}
 use Rattle.avr_emulated.specs.Course.{course}
 use Rattle.avr_emulated.specs.Outcome.{IsDone, MakesStrokes}
@@ -154,8 +154,7 @@ pub record RunsOverWire (settings : Settings) (before after : State) (desk_befor
   pub in_order : (desk_before.failures ≤ between.failures) × (between.failures ≤ desk_now.failures)
   pub runs : ((r : IsRun settings (shown_by before) (shown_by after) desk_before desk_now status)
       × (r.openings ≡ made.passed))
-      ⊎ ((s : StoppedPlaying settings (shown_by before) (shown_by after) desk_before desk_now status)
-      × (s.plan ≡ plan) × (s.between ≡ between))
+      ⊎ (Stopped plan before after between desk_now × (status ≡ 1))
   pub line : before.wire.programmer.chip.part ≡ plan.part → OverAnyLine plan before after between desk_now status
 
 -- There is no plan: that was told, or planning stopped, and the wire is untouched.
