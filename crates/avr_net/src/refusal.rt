@@ -9,7 +9,7 @@ use avr_message::{Piece, print_error};
 /// The status of a run whose port cannot be opened.
 const UNOPENED: u8 = 1;
 
-/// Tells that a port opened, as far as the desk takes it, and answers the status, 1.
+/// Tells that a port cannot be opened, as far as the desk takes it, and answers the status, 1.
 ///
 /// The port was given as `scheme` and behind it `name`: `net:` and `HOST:PORT`, or nothing and a number.
 #[tactic(auto, unfolding(crate::specs::Lines::unopened_line))]
