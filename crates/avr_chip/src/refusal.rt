@@ -8,7 +8,7 @@ use avr_desk::Desk;
 use avr_message::Piece;
 use avr_plan::refuse;
 
-/// Tells what can't be with a file.
+/// Tells what can't be done with a file.
 pub(crate) fn refuse_saving<'a, D: Desk>(desk: &mut D, file: &'a str, trouble: &'a str) -> u8
     ensures status { result ≡ 1 }
     ensures told { Tells (D.view desk.old) (D.view desk.new) (error (file.now ∷ trouble.now ∷ [])) }
@@ -16,7 +16,7 @@ pub(crate) fn refuse_saving<'a, D: Desk>(desk: &mut D, file: &'a str, trouble: &
     refuse(desk, &[Piece::Text(file), Piece::Text(trouble)])
 }
 
-/// Tells that a file number of bytes than is expected.
+/// Tells that a file has another number of bytes than is expected.
 pub(crate) fn refuse_length<D: Desk>(desk: &mut D, file: &str, found: u32, expected: u32) -> u8
     ensures status { result ≡ 1 }
     ensures told { Tells (D.view desk.old) (D.view desk.new) (length_line file.now found expected) }

@@ -23,7 +23,7 @@ pub fn refuse<D: Desk>(desk: &mut D, pieces: &[Piece<'_>]) -> u8
     1
 }
 
-/// Tells that memory was, `out of memory`, and answers 1.
+/// Tells that memory was refused, `out of memory`, and answers 1.
 pub fn refuse_memory<D: Desk>(desk: &mut D) -> u8
     ensures status { result ≡ 1 }
     ensures told { Tells (D.view desk.old) (D.view desk.new) memory_line }
@@ -31,7 +31,7 @@ pub fn refuse_memory<D: Desk>(desk: &mut D) -> u8
     refuse(desk, &[Piece::Text("out of memory")])
 }
 
-/// Tells that a file be opened.
+/// Tells that a file could not be opened.
 fn refuse_unopened<D: Desk>(desk: &mut D, file: &str) -> u8
     ensures status { result ≡ 1 }
     ensures told { Tells (D.view desk.old) (D.view desk.new) (not_opened_line file.now) }
@@ -42,7 +42,7 @@ fn refuse_unopened<D: Desk>(desk: &mut D, file: &str) -> u8
     )
 }
 
-/// Tells why a file read, and answers 1: `FILE: cannot be opened`, also where it is not there, `FILE: cannot be
+/// Tells why a file was not read, and answers 1: `FILE: cannot be opened`, also where it is not there, `FILE: cannot be
 /// read` or `out of memory`.
 pub fn refuse_file<D: Desk>(desk: &mut D, file: &str, fault: FileFault) -> u8
     ensures status { result ≡ 1 }
@@ -56,7 +56,7 @@ pub fn refuse_file<D: Desk>(desk: &mut D, file: &str, fault: FileFault) -> u8
     }
 }
 
-/// Tells that a file bytes than `limit`, `FILE: longer than 65536 bytes`, and answers 1.
+/// Tells that a file has more bytes than `limit`, `FILE: longer than 65536 bytes`, and answers 1.
 pub fn refuse_too_long<D: Desk>(desk: &mut D, file: &str, limit: u32) -> u8
     ensures status { result ≡ 1 }
     ensures told { Tells (D.view desk.old) (D.view desk.new) (too_long_line file.now limit) }
@@ -107,7 +107,7 @@ pub(crate) fn refuse_part_file<D: Desk>(desk: &mut D, file: &str, fault: PartFau
     }
 }
 
-/// Tells that there is of this id.
+/// Tells that there is no part of this id.
 pub(crate) fn refuse_part<D: Desk>(desk: &mut D, id: &str) -> u8
     ensures status { result ≡ 1 }
     ensures told { Tells (D.view desk.old) (D.view desk.new) (no_part_line id.now) }
@@ -168,7 +168,7 @@ fn refuse_record<D: Desk>(desk: &mut D, file: &str, fault: RecordFault) -> u8
     }
 }
 
-/// Tells that an address a memory.
+/// Tells that an address lies outside a memory.
 fn refuse_range<D: Desk>(desk: &mut D, name: &str, address: u32) -> u8
     ensures status { result ≡ 1 }
     ensures told { Tells (D.view desk.old) (D.view desk.new) (range_line name.now address) }
@@ -196,7 +196,7 @@ fn refuse_raw<D: Desk>(desk: &mut D, file: &str, fault: ImageFault) -> u8
     }
 }
 
-/// Tells why a file image.
+/// Tells why a file is no image.
 fn refuse_bad_file<D: Desk>(desk: &mut D, file: &str, fault: BadFile) -> u8
     ensures status { result ≡ 1 }
     ensures told { Tells (D.view desk.old) (D.view desk.new) (bad_file_line file.now fault) }
@@ -209,7 +209,7 @@ fn refuse_bad_file<D: Desk>(desk: &mut D, file: &str, fault: BadFile) -> u8
     }
 }
 
-/// Tells why no image of a file.
+/// Tells why no image came of a file.
 pub(crate) fn refuse_image<D: Desk>(desk: &mut D, file: &str, fault: ReadFault) -> u8
     ensures status { result ≡ 1 }
     ensures told { Tells (D.view desk.old) (D.view desk.new) (read_fault_line file.now fault) }
@@ -251,7 +251,7 @@ pub(crate) fn refuse_values<D: Desk>(desk: &mut D, memory: Mem, fault: ImageFaul
     }
 }
 
-/// Tells that a memory written.
+/// Tells that a memory can't be written.
 pub(crate) fn refuse_write<D: Desk>(desk: &mut D, memory: Mem) -> u8
     ensures status { result ≡ 1 }
     ensures told { Tells (D.view desk.old) (D.view desk.new) (read_only_line memory) }
