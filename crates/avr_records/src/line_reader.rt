@@ -44,7 +44,7 @@ impl LineReader {
         }
     }
 
-    /// Takes in the line that is kept, and begins the next.
+    /// Takes in the line that is kept, and begins the next. Few lines lie over two pieces: it stays a call.
     #[inline(never)]
     fn take_part(&mut self) -> Result<(), RecordFault>
         requires range { InRange self.old.kind (seen self.old.progress) }
