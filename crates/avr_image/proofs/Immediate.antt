@@ -7,11 +7,22 @@ use Rattle.std.proofs.lemmas.Bool.Decides.{nat_tests}
 use Rattle.std.specs.List.{enumerate_from, slice_split, position_or_len, onto_first}
 use Rattle.avr_image.specs.Image.{empty, from_zero, with_byte}
 use Rattle.avr_image.specs.Values.{is_separator, fitting, judged, value_of, all_ok, onto_ok, image_of, pieces, values}
-use Rattle.avr_image.specs.Placing.{with_value, with_piece, with_pieces, then_on}
+use Rattle.avr_image.specs.Placing.{with_value, with_piece}
 use Rattle.avr_image.specs.declared.fault.ImageFault.{ImageFault}
 use Rattle.avr_image.specs.declared.fault.ImageFault.TheVariants.{BadNumber}
 use Rattle.avr_image.proofs.Numerals.{ne_test, lt_test}
 use Rattle.avr_image.proofs.Laying.{from_zero-next, length-from_zero}
+
+-- what follows an image, if it came
+abbrev pub then_on : Result (List (Option ℕ)) ImageFault → (List (Option ℕ) → Result (List (Option ℕ)) ImageFault)
+    → Result (List (Option ℕ)) ImageFault
+then_on (Ok image) more = more image
+then_on (Err fault) more = Err fault
+
+-- an image with the values of some pieces, from an address on
+abbrev pub with_pieces : List (Option ℕ) → ℕ → List (List ℕ) → Result (List (Option ℕ)) ImageFault
+with_pieces image addr [] = Ok image
+with_pieces image addr (piece ∷ more) = then_on (with_piece image addr piece) (λ next. with_pieces next (addr + 1) more)
 
 -- bytes before those that follow
 abbrev pub before : List ℕ → Result (List ℕ) ImageFault → Result (List ℕ) ImageFault

@@ -2,7 +2,7 @@
 use Rattle.std.proofs.Common.{◌≡◌, ◌≢◌, ◌∙◌, sym, ap, ap₂, refl, arith, ℕ, suc, zero, ◌+◌, ◌*◌, ◌/◌, ◌%◌, ◌^◌, ◌<◌, ◌≤◌, List, [], ◌∷◌, length, get_or, set, Bool, true, false, cond, Option, Some, None, replicate, bit_or, is_some, count_by, inl, inr, w64, min, take, drop, ◌++◌, ◌-◌}
 use Rattle.std.proofs.Math.ListN.{get_or-eq_default}
 use Rattle.std.proofs.lemmas.Bool.{cases_eq, cases_lt, cases_Bool, true≢false}
-use Rattle.std.proofs.lemmas.List.{get_or-set_same, get_or-set_other, length-set, length-drop, length-take, get_or_append_left, get_or-append_right, get_or-take, get_or-drop, get_or-replicate, drop_all}
+use Rattle.std.proofs.lemmas.List.{get_or-set_same, get_or-set_other, length-set, length-drop, length-take, get_or-take, get_or-drop, drop_all}
 use Rattle.std.proofs.lemmas.Nat.Bits.{bit_at_set_same, bit_at_set_other, bit_at-zero}
 use Rattle.std.proofs.lemmas.List.Sums.{prefix_len_is}
 use Rattle.std.specs.List.{position_from, prefix_len}
@@ -153,29 +153,6 @@ presence words bytes {image} a seen l = rw (← seen) (elim (cases_Bool (is_pres
   | inl held_bit ↦ rw (byte_at-shown words bytes a l, held_bit) refl
   | inr no_bit ↦ rw (byte_at-shown words bytes a l, no_bit) refl
 ])
-
--- the bytes from a place on, and FF behind their end
-pub padded : (bytes copy blank : List ℕ) (start from count n i : ℕ) → from ≡ min start (length bytes) → count ≡ min n (length bytes - from)
-    → copy ≡ take (from + count - from) (drop from bytes) → blank ≡ replicate n 255 → i < n
-    → get_or (copy ++ drop count blank) i 0 ≡ get_or bytes (start + i) 255
-padded bytes copy blank start from count n i f c copied blanks l =
-    let rest : length (drop from bytes) ≡ length bytes - from = length-drop from bytes in
-    let taken : from + count - from ≡ count = omega arith in
-    let enough : count ≤ length (drop from bytes) = omega (arith, c, rest) in
-    let copy_is : copy ≡ take count (drop from bytes) = copied ∙ ap (λ (k : ℕ). take k (drop from bytes)) taken in
-    let size : length copy ≡ count = ap length copy_is ∙ length-take count (drop from bytes) ∙ omega (arith, enough) in
-    elim (cases_lt i count) [
-      | inl inside ↦
-          let start_is : from ≡ start = omega (arith, f, c, inside) in
-          get_or_append_left copy (drop count blank) 0 i (omega (arith, size, inside))
-          ∙ ap (λ (xs : List ℕ). get_or xs i 0) copy_is ∙ get_or-take count (drop from bytes) i 0 inside ∙ get_or-drop from bytes i 0
-          ∙ ap (λ (k : ℕ). get_or bytes (k + i) 0) start_is ∙ same_default bytes (start + i) 0 255 (omega (arith, c, inside, start_is))
-      | inr past ↦
-          let gone : length bytes ≤ start + i = omega (arith, f, c, past, l) in
-          get_or-append_right copy (drop count blank) count i 0 size past ∙ get_or-drop count blank (i - count) 0
-          ∙ ap₂ (λ (xs : List ℕ) (k : ℕ). get_or xs k 0) blanks (omega (arith, past)) ∙ get_or-replicate n i 255 0 l
-          ∙ sym (get_or-eq_default bytes 255 gone)
-    ]
 
 -- a run of places of a list, found by its first and its last
 position-at : {X : Type 0} (p : X → Bool) (xs : List X) (i n : ℕ) (d : X) → n < length xs

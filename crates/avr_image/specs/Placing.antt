@@ -1,5 +1,5 @@
--- Values laid down one after the other, each onto the image that those before it left.
-use Rattle.std.specs.Prelude.{ℕ, ◌+◌, List, [], ◌∷◌, length, Option, Result, Ok, Err}
+-- A value laid down onto the image that those before it left.
+use Rattle.std.specs.Prelude.{ℕ, List, length, Option, Result, Ok, Err}
 use Rattle.avr_image.specs.Image.{with_byte}
 use Rattle.avr_image.specs.Values.{judged}
 use Rattle.avr_image.specs.declared.fault.ImageFault.{ImageFault}
@@ -12,14 +12,3 @@ with_value image addr (Err fault) = Err fault
 -- an image with the value that a piece writes for an address
 abbrev pub with_piece : List (Option ℕ) → ℕ → List ℕ → Result (List (Option ℕ)) ImageFault
 with_piece image addr piece = with_value image addr (judged (length image) (addr, piece))
-
--- what follows an image, if it came
-abbrev pub then_on : Result (List (Option ℕ)) ImageFault → (List (Option ℕ) → Result (List (Option ℕ)) ImageFault)
-    → Result (List (Option ℕ)) ImageFault
-then_on (Ok image) more = more image
-then_on (Err fault) more = Err fault
-
--- an image with the values of some pieces, from an address on
-abbrev pub with_pieces : List (Option ℕ) → ℕ → List (List ℕ) → Result (List (Option ℕ)) ImageFault
-with_pieces image addr [] = Ok image
-with_pieces image addr (piece ∷ more) = then_on (with_piece image addr piece) (λ next. with_pieces next (addr + 1) more)

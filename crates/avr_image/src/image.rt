@@ -60,8 +60,9 @@ fn copy_padded(bytes: &[u8], start: usize, out: &mut [u8])
 {
     let from = start.min(bytes.len());
     let count = out.len().min(bytes.len() - from);
-    out.fill(255);
-    out[..count].copy_from_slice(&bytes[from..from + count]);
+    let (copied, blank) = out.split_at_mut(count);
+    copied.copy_from_slice(&bytes[from..from + count]);
+    blank.fill(255);
 }
 
 /// Copies a span over the bytes from `start` on.

@@ -6,6 +6,10 @@ use std::fmt;
 use thiserror::Error;
 
 /// What a fault of a part file is about.
+///
+/// ```text
+/// assert_eq!(rt; Field::Id.name(), "id");
+/// ```
 #[derive(Clone, Copy, Debug, PartialEq, Eq)]
 pub enum Field {
     /// The table of parts, or a member of it that is no table.

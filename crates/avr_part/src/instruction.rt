@@ -3,6 +3,11 @@ ghost use Rattle.std.specs.Prelude.{◌≡◌};
 ghost use Rattle.avr_part.specs.Instruction.{instruction_of, write_of};
 
 /// One of the two bytes of a word of flash.
+///
+/// ```text
+/// let read = Instruction::of([0x28, 0x01, 0x02, 0]);
+/// assert_eq!(rt; read, Instruction::ReadFlash { half: Half::High, word: 0x0102 });
+/// ```
 #[derive(Clone, Copy, Debug, PartialEq, Eq)]
 pub enum Half {
     /// The byte at the word's even address.
@@ -12,6 +17,11 @@ pub enum Half {
 }
 
 /// One of the three fuse bytes.
+///
+/// ```text
+/// let write = Instruction::of([0xAC, 0xA8, 0, 0xD9]);
+/// assert_eq!(rt; write, Instruction::WriteFuse { fuse: Fuse::High, byte: 0xD9 });
+/// ```
 #[derive(Clone, Copy, Debug, PartialEq, Eq)]
 pub enum Fuse {
     Low,
@@ -22,6 +32,10 @@ pub enum Fuse {
 /// What four bytes ask of the chip (ATmega328P data sheet, table "Serial Programming Instruction Set").
 ///
 /// A `word`, an `address` and a `place` are as they stand in the bytes: how they wrap depends on the part.
+///
+/// ```text
+/// assert_eq!(rt; Instruction::of([0xAC, 0x53, 0, 0]), Instruction::Enable);
+/// ```
 #[derive(Clone, Copy, Debug, PartialEq, Eq)]
 pub enum Instruction {
     /// AC 53: programming enable.

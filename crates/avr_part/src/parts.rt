@@ -94,6 +94,10 @@ impl Parts {
 }
 
 /// Goes over parts. Contracts see it as the list of those that are left.
+///
+/// ```text
+/// assert_eq!(rt; Parts::none().iter().count(), 3);
+/// ```
 #[derive(Debug, Drop)]
 pub struct PartIter<'a> {
     file: &'a [Part],

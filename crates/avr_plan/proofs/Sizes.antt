@@ -5,10 +5,10 @@ use Rattle.std.proofs.lemmas.Bool.{cases_Bool, cases_lt}
 use Rattle.std.proofs.lemmas.Bool.Decides.{nat_tests}
 use Rattle.std.proofs.lemmas.List.{length-replicate}
 use Rattle.avr_cli.specs.declared.update.Format.{Format}
-use Rattle.avr_image.proofs.Immediate.{values_are, no_values}
+use Rattle.avr_image.proofs.Immediate.{values_are, no_values, with_pieces, then_on}
 use Rattle.avr_image.proofs.Laying.{length-laid_over, length-from_zero}
 use Rattle.avr_image.specs.Image.{empty, from_zero, laid, with_byte}
-use Rattle.avr_image.specs.Placing.{with_pieces, with_value, then_on}
+use Rattle.avr_image.specs.Placing.{with_value}
 use Rattle.avr_image.specs.Raw as raw_file
 use Rattle.avr_image.specs.Values.{values, judged, pieces}
 use Rattle.avr_image.specs.declared.fault.ImageFault.{ImageFault}

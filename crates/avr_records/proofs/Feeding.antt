@@ -4,11 +4,11 @@ use Rattle.std.proofs.lemmas.Bool.{cases_Bool, cond-true, cond-false}
 use Rattle.std.proofs.lemmas.Bool.Decides.{nat_tests}
 use Rattle.std.proofs.lemmas.List.{length-append, length-replicate}
 use Rattle.avr_image.specs.Image.{empty}
-use Rattle.avr_records.proofs.Holding.{leaves-next, step-good, step-bad, done-more, done-of, held-of, leaves-done}
+use Rattle.avr_records.proofs.Holding.{Leaves, leaves-next, step-good, step-bad, done-more, done-of, held-of, leaves-done}
 use Rattle.avr_records.proofs.Laws.{append-nil, append-assoc, parts-some, pasted-last, slice_split-append, up_to_end-open}
 use Rattle.avr_records.specs.Closed.{all_but_last, fault_among, closed_fault, unless_fault}
 use Rattle.avr_records.specs.Lines.{lines, is_line_end}
-use Rattle.avr_records.specs.Progress.{Progress, fresh, Held, Done, Leaves, size_of}
+use Rattle.avr_records.specs.Progress.{Progress, fresh, Held, Done, size_of}
 use Rattle.avr_records.specs.Reader.{kept, Reads}
 use Rattle.avr_records.specs.Reading.{Said, says, up_to_end, together, read}
 use Rattle.avr_records.specs.Meaning.{Nothing}

@@ -7,7 +7,7 @@ use Rattle.std.specs.List.{list_any}
 use Rattle.avr_image.specs.Image.{laid, laid_over, with_byte, empty}
 use Rattle.avr_records.specs.Reading.{Said, is_end, is_data, up_to_end, in_place, first_fault, fault_in, or_later, in_line, places, placed, rebased, base_after}
 use Rattle.avr_records.specs.Closed.{fault_among}
-use Rattle.avr_records.specs.Progress.{Progress, Held, Done, Leaves, size_of}
+use Rattle.avr_records.specs.Progress.{Progress, Held, Done, size_of}
 use Rattle.avr_records.specs.Meaning.{Nothing, Data, Rebase, Counted, End}
 use Rattle.avr_records.specs.Steps.{fault_behind, with_line, counted, unless, step}
 use Rattle.avr_records.specs.declared.fault.LineFault.{LineFault}
@@ -104,6 +104,10 @@ done-more s said more done =
       no_fault = rw same done.no_fault;
       image = rw same done.image;
     }
+
+-- It holds what these lines leave, none of them at fault.
+abbrev pub Leaves : List Said → Progress → Type 0
+Leaves said p = MatchBool p.ended (Done p said) (Held p said)
 
 pub leaves-open : (p : Progress) (said : List Said) → p.ended ≡ false → Held p said → Leaves said p
 leaves-open p said open' held = let P : Bool → Type 0 = λ b. MatchBool b (Done p said) (Held p said) in subst P (sym open') held

@@ -1,5 +1,5 @@
 -- What the lines of a record file leave that have ended, as a reader holds it.
-use Rattle.std.specs.Prelude.{ℕ, Bool, true, false, ◌≡◌, List, [], length, count_by, Option, None, flat_map, MatchBool}
+use Rattle.std.specs.Prelude.{ℕ, Bool, true, false, ◌≡◌, List, [], length, count_by, Option, None, flat_map}
 use Rattle.std.specs.List.{list_any}
 use Rattle.avr_image.specs.Image.{laid, empty}
 use Rattle.avr_records.specs.Reading.{Said, is_end, is_data, up_to_end, in_place, placed, first_fault, base_after}
@@ -34,7 +34,3 @@ pub record Done (p : Progress) (said : List Said) : Type 0 where
   pub end : list_any is_end said ≡ true
   pub no_fault : first_fault (size_of p) (in_place [] (up_to_end said)) ≡ None
   pub image : p.image ≡ laid (size_of p) (flat_map placed (in_place [] (up_to_end said)))
-
--- It holds what these lines leave, none of them at fault.
-abbrev pub Leaves : List Said → Progress → Type 0
-Leaves said p = MatchBool p.ended (Done p said) (Held p said)

@@ -1,5 +1,4 @@
 //! Sums of the bytes of a record.
-#![tactic(auto)]
 
 ghost use Rattle.std.specs.Prelude.{◌≡◌, ◌%◌, sum};
 ghost use Rattle.avr_records.specs.Judging.{low_sum};

@@ -1,7 +1,6 @@
 //! A writer of Intel HEX for an image with gaps: only the bytes that are there.
 //!
 //! Rows of at most 32 bytes that cross neither a gap nor a multiple of 65,536; else as `IhexWriter`.
-#![tactic(auto)]
 
 ghost use Rattle.std.specs.Prelude.{◌≡◌, ◌+◌, ◌<◌, ◌≤◌, ◌↔◌, ◌++◌, length, drop, min, IsTrue, Ok};
 ghost use Rattle.avr_image.specs.Runs.{lead};

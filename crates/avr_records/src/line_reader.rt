@@ -44,7 +44,8 @@ impl LineReader {
         }
     }
 
-    /// Takes in the line that is kept, and begins the next.
+    /// Takes in the line that is kept, and begins the next. Few lines lie over two pieces: it stays a call.
+    #[inline(never)]
     fn take_part(&mut self) -> Result<(), RecordFault>
         requires range { InRange self.old.kind (seen self.old.progress) }
         requires few { self.old.progress.lines + 1 < 2 ^ 32 }
@@ -67,6 +68,7 @@ impl LineReader {
     }
 
     /// Takes the last bytes of a line, once its end came. A line of which nothing is kept is judged where it lies.
+    #[inline(always)]
     fn end_line(&mut self, rest: &[u8]) -> Result<(), RecordFault>
         requires range { InRange self.old.kind (seen self.old.progress) }
         requires few { self.old.progress.lines + 1 < 2 ^ 32 }

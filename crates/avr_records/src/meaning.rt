@@ -1,5 +1,4 @@
 //! What a record means for the file that it stands in.
-#![tactic(auto)]
 
 ghost use Rattle.std.specs.Prelude.{◌≡◌};
 ghost use Rattle.avr_records.specs.Judging.{record_of, meaning_of, Fits, IsNarrow};

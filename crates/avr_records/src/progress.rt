@@ -131,6 +131,7 @@ impl Progress {
     }
 
     /// Takes in the next line. Its bytes are put into the room.
+    #[inline(always)]
     pub(crate) fn take_line(
         &mut self,
         kind: Kind,

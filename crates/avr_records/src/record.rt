@@ -1,5 +1,4 @@
 //! The record of one line, as its fields.
-#![tactic(auto)]
 
 ghost use Rattle.std.specs.Prelude.{◌≡◌, ◌≤◌, length, Ok, Err, MatchResult};
 ghost use Rattle.avr_records.specs.Judging.{record_of};

@@ -2,7 +2,6 @@
 //!
 //! Rows of at most 32 bytes that cross no gap, with addresses as short as the last byte that is there allows; else as
 //! `SrecWriter`.
-#![tactic(auto)]
 
 ghost use Rattle.std.specs.Prelude.{◌≡◌, ◌-◌, ◌<◌, ◌↔◌, ◌++◌, length, drop, IsTrue, Ok};
 ghost use Rattle.avr_records.specs.Reading.{read};

@@ -2,7 +2,6 @@
 //!
 //! Rows of 32 bytes; S1, S2 or S3, the narrowest that holds the last address, and S9, S8 or S7 at the end; no header
 //! record; upper-case digits; each line ends with LF.
-#![tactic(auto)]
 
 ghost use Rattle.std.specs.Prelude.{◌≡◌, ◌+◌, ◌-◌, ◌*◌, ◌^◌, ◌<◌, ◌≤◌, ◌↔◌, ◌++◌, length, IsTrue};
 ghost use Rattle.avr_records.specs.Text.{IsLine, srec_text, srec_record as spec_record, low_bytes, address_size};

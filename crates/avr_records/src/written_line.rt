@@ -1,5 +1,4 @@
 //! A line that is written: the fields of a record as digits, behind its marks.
-#![tactic(auto)]
 
 ghost use Rattle.std.specs.Prelude.{◌≡◌, ◌+◌, ◌*◌, ◌<◌, ◌≤◌, [], ◌∷◌, ◌++◌, length, map, not, true};
 ghost use Rattle.std.specs.List.{list_all};

@@ -1,8 +1,7 @@
 -- The numbers by which C knows formats and faults.
 use Rattle.std.specs.Prelude.{ℕ, true, false, ◌==◌, Option, Some, None, unwrap_or, if◌then◌else◌}
-use Rattle.avr_records.specs.Fault.{fault_number, fault_line}
+use Rattle.avr_records.specs.Fault.{fault_number, fault_line, fault_address}
 use Rattle.avr_records.specs.declared.fault.RecordFault.{RecordFault}
-use Rattle.avr_records.specs.declared.fault.RecordFault.TheVariants.{OutOfRange}
 use Rattle.avr_records.specs.declared.kind.Kind.{Kind}
 use Rattle.avr_records.specs.declared.kind.Kind.TheVariants as kind
 use Rattle.avr_records.specs.declared.kind.Ending.{Ending}
@@ -22,11 +21,6 @@ found_number found.Elf = 3
 abbrev pub kind_numbered : ℕ → Option Kind
 kind_numbered number = if number == 1 then Some kind.Ihex else if number == 2 then Some kind.Srec else None
 
--- the address outside the memory, or 0
-abbrev pub fault_address : RecordFault → ℕ
-fault_address (OutOfRange line addr) = addr
-fault_address fault = 0
-
 -- a file was read to its end
 abbrev pub done : Ending → Outcome
 done Ended = record { line = 0; address = 0; fault = 0; ended = true }
@@ -37,7 +31,7 @@ abbrev pub refused : RecordFault → Outcome
 refused fault =
     record {
       line = unwrap_or (fault_line fault) 0;
-      address = fault_address fault;
+      address = unwrap_or (fault_address fault) 0;
       fault = fault_number fault;
       ended = false;
     }

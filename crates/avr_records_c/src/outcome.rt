@@ -1,6 +1,6 @@
 //! How a read ended.
 ghost use Rattle.std.specs.Prelude.{◌≡◌};
-ghost use Rattle.avr_records_c.specs.Numbers.{done, fault_address as spec_fault_address, misfit, refused};
+ghost use Rattle.avr_records_c.specs.Numbers.{done, misfit, refused};
 
 use avr_records::{Ending, RecordFault};
 
@@ -19,16 +19,6 @@ pub struct Outcome {
     pub fault: u8,
     /// Whether the end record came.
     pub ended: bool,
-}
-
-/// The address outside the memory, or 0.
-fn fault_address(fault: &RecordFault) -> u32
-    ensures { result ≡ spec_fault_address fault.now }
-{
-    match fault {
-        RecordFault::OutOfRange(_, addr) => *addr,
-        _ => 0,
-    }
 }
 
 impl Outcome {
@@ -50,7 +40,7 @@ impl Outcome {
     {
         Outcome {
             line: fault.line().unwrap_or(0),
-            address: fault_address(&fault),
+            address: fault.address().unwrap_or(0),
             fault: fault.number(),
             ended: false,
         }

@@ -1,5 +1,4 @@
 //! Each call as a caller in C has it.
-#![tactic(auto)]
 
 use crate::{Outcome, Piece, avr_records_detect, avr_records_read, avr_records_write};
 use std::alloc::Global;

@@ -5,6 +5,8 @@
 #![tactic(auto)]
 
 #[cfg(test)]
+mod firmware;
+#[cfg(test)]
 mod image_examples;
 #[cfg(test)]
 mod images;

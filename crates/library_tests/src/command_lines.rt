@@ -3,7 +3,7 @@ use avr_cli::{
     Format, Op, Port, Settings, SettingsFault, make_command, parse_update, port_number, read_words,
     settings,
 };
-use avr_part::Mem;
+use avr_part::{Mem, Parts};
 use clap::Error;
 use clap::error::ErrorKind;
 use std::alloc::Global;
@@ -151,5 +151,15 @@ fn help_is_the_command_s_own(rt: HostRuntime) -> Result<(), Fail> {
     let error = refusal(alloc, "avrstk --help")?;
     let text = format!(in alloc; "{error}")?;
     assert!(rt; help.as_str() == text.as_str());
+    Ok(())
+}
+
+#[test]
+fn help_names_every_built_in_part(rt: HostRuntime) -> Result<(), Fail> {
+    let mut command = make_command(rt.alloc())?;
+    let help = command.render_help()?;
+    for part in Parts::none().iter() {
+        assert!(rt; help.as_str().contains(part.id()));
+    }
     Ok(())
 }

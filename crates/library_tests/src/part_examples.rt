@@ -1,6 +1,6 @@
 //! The examples of the documentation.
 
-use avr_part::{Chip, Field, Instruction, Mem, PartFault, Parts, parse_parts};
+use avr_part::{Chip, Field, Fuse, Half, Instruction, Mem, PartFault, Parts, parse_parts};
 use std::test::Fail;
 
 #[test]
@@ -71,6 +71,7 @@ fn faults_are_told_apart(rt: HostRuntime) -> Result<(), Fail> {
     assert_eq!(rt; fault, Some(PartFault::Missing(Field::Signature)));
     assert_eq!(rt; PartFault::Missing(Field::Signature).number(), 2);
     assert_eq!(rt; Field::FlashSize.name(), "flash_size");
+    assert_eq!(rt; Field::Id.name(), "id");
     Ok(())
 }
 
@@ -81,6 +82,23 @@ fn bytes_are_an_instruction(rt: HostRuntime) -> Result<(), Fail> {
         Instruction::ReadEeprom { address: 0x0102 }
     );
     assert_eq!(rt; Instruction::of([0xFF; 4]), Instruction::Nothing);
+    assert_eq!(rt; Instruction::of([0xAC, 0x53, 0, 0]), Instruction::Enable);
+    let read = Instruction::of([0x28, 0x01, 0x02, 0]);
+    assert_eq!(rt;
+        read,
+        Instruction::ReadFlash {
+            half: Half::High,
+            word: 0x0102
+        }
+    );
+    let write = Instruction::of([0xAC, 0xA8, 0, 0xD9]);
+    assert_eq!(rt;
+        write,
+        Instruction::WriteFuse {
+            fuse: Fuse::High,
+            byte: 0xD9
+        }
+    );
     Ok(())
 }
 

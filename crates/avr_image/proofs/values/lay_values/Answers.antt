@@ -2,8 +2,7 @@ use Rattle.std.proofs.Common.{◌≡◌, ◌∙◌, ◌∷◌, sym, ap, ap₂, a
 use Rattle.std.proofs.lemmas.Result.{err_from_is_err_and}
 use Rattle.std.proofs.lemmas.Bool.Decides.{nat_tests}
 use Rattle.avr_image.specs.Values.{pieces}
-use Rattle.avr_image.specs.Placing.{with_pieces}
-use Rattle.avr_image.proofs.Immediate.{pieces_front, no_pieces, values_from, piece_bad, piece_good}
+use Rattle.avr_image.proofs.Immediate.{with_pieces, pieces_front, no_pieces, values_from, piece_bad, piece_good}
 use Rattle.avr_image.proofs.values.lay_values.Goals as goal
 
 pub returns-in_err-lay_value : goal.returns-in_err-lay_value
