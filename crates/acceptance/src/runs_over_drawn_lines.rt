@@ -1,39 +1,80 @@
-//! Whole runs over lines whose fates are drawn, compared with a plain rule.
+//! Whole runs over lines whose fates are drawn, by the call of the headline, compared with a plain rule.
 ghost use Rattle.std.specs.Prelude.{IfOk};
 ghost use Rattle.stk_emu.specs.Wire.{AreLawful, IsLawfulFate};
 
-use crate::support::{Over, add, desk_with, is_blank, run_on, wire_to};
-use avr_desk::MemDesk;
+use crate::support::{Over, add, desk_with, is_blank, run_wired_on};
 use avr_part::{Chip, Mem};
+use avr_tool::{Fate, MemDesk, Wired, noise_is_lawful};
 use std::alloc::{AllocError, Global};
 use std::process::Abort;
 use std::test::Fail;
-use stk_emu::{Fate, Wired};
 
-/// The fate that a number draws: two of three are good.
-fn fate_drawn(number: u32) -> Fate
-    ensures { IsLawfulFate result }
+/// The numbers from here on draw good fates.
+const GOOD: u32 = 13;
+
+/// The number that draws a reset.
+const RESET: u32 = 12;
+
+/// A frame with this XOR in place of the answer; 07 would be right, and is not drawn.
+fn spoiled(alloc: Global, xor: u8) -> Result<Fate, AllocError>
+    ensures { IfOk result IsLawfulFate }
 {
-    match number % 12 {
-        0 => Fate::LostCommand,
-        1 => Fate::LostAnswer,
-        2 => Fate::LateAnswer,
-        3 => Fate::CommandRefused,
-        _ => Fate::Good,
+    let noise = [0x1B, 0x06, 0x00, 0x03, 0x0E, 0x17, 0x00, 0x00, xor];
+    if noise_is_lawful(&noise) {
+        Ok(Fate::AnswerSpoiled(Vec::from_slice(alloc, &noise)?))
+    } else {
+        Ok(Fate::LostAnswer)
     }
 }
 
-/// Sixty fates, drawn by a linear congruential generator.
-fn fates_drawn(alloc: Global, seed: u32) -> Result<Vec<Fate>, AllocError>
-    ensures { IfOk result (λ v. AreLawful v.items) }
+/// The fate that a number draws.
+fn fate_drawn(alloc: Global, number: u32) -> Result<Fate, AllocError>
+    ensures { IfOk result IsLawfulFate }
 {
+    match number {
+        0 | 1 => Ok(Fate::LostCommand),
+        2 | 3 => Ok(Fate::LostAnswer),
+        4 | 5 => Ok(Fate::LateAnswer),
+        6 | 7 => Ok(Fate::HeldAnswer),
+        8 | 9 => Ok(Fate::CommandRefused),
+        10 => spoiled(alloc, 0x08),
+        11 => spoiled(alloc, 0x00),
+        RESET => Ok(Fate::Reset),
+        _ => Ok(Fate::Good),
+    }
+}
+
+/// Sixty numbers, by a linear congruential generator: of the even seeds 13 of 48 draw a bad fate, of the odd ones 13
+/// of 192.
+fn numbers_drawn(alloc: Global, seed: u32) -> Result<Vec<u32>, AllocError> {
+    let all = if seed % 2 == 0 { 48 } else { 192 };
     let mut state = seed.wrapping_mul(0x9E37_79B9);
-    let mut fates = Vec::new(alloc);
+    let mut numbers = Vec::new(alloc);
     for _drawn in 0..60 {
         state = state.wrapping_mul(1_664_525).wrapping_add(1_013_904_223);
-        add(&mut fates, fate_drawn(state / 0x10000))?;
+        numbers.push(state / 0x10000 % all)?;
+    }
+    Ok(numbers)
+}
+
+/// The fates that these numbers draw.
+fn fates_drawn(alloc: Global, numbers: &[u32]) -> Result<Vec<Fate>, AllocError>
+    ensures { IfOk result (λ v. AreLawful v.items) }
+{
+    let mut fates = Vec::new(alloc);
+    for number in numbers {
+        add(&mut fates, fate_drawn(alloc, *number)?)?;
     }
     Ok(fates)
+}
+
+/// Whether no number draws a reset, and of any seven in a row at most three draw a bad fate.
+fn are_few(numbers: &[u32]) -> bool {
+    !numbers.contains(&RESET) && numbers.windows(7).all(|seven| bad_in(seven) <= 3)
+}
+
+fn bad_in(numbers: &[u32]) -> usize {
+    numbers.iter().filter(|number| **number < GOOD).count()
 }
 
 /// Sixteen bytes, none of them FF.
@@ -41,10 +82,19 @@ const IMAGE: [u8; 16] = [
     0x10, 0x21, 0x32, 0x43, 0x54, 0x65, 0x76, 0x87, 0x98, 0xA9, 0xBA, 0xCB, 0xDC, 0xED, 0xFE, 0x0F,
 ];
 
-/// A run on an ATtiny85 that writes and reads back the image and a fuse.
-fn run_drawn(alloc: Global, seed: u32) -> Result<Over<MemDesk, Wired>, Fail> {
-    let desk = desk_with(alloc, &[("e.bin", IMAGE.as_slice())])?;
-    let wire = wire_to(alloc, "t85", fates_drawn(alloc, seed)?)?;
+/// What is said where all is done.
+const DONE: &[u8] = b"avrstk: device signature = 1E 93 0B
+avrstk: eeprom: 16 bytes written
+avrstk: eeprom: 16 bytes verified
+avrstk: lfuse: 1 bytes written
+avrstk: lfuse: 1 bytes verified
+avrstk: done
+";
+
+/// A run on an ATtiny85, over a line of these fates, that writes and reads back the image and a fuse.
+fn run_over(alloc: Global, fates: Vec<Fate>) -> Result<Over<MemDesk, Wired>, Fail>
+    requires { AreLawful fates.items }
+{
     let words = [
         "-p",
         "t85",
@@ -53,7 +103,8 @@ fn run_drawn(alloc: Global, seed: u32) -> Result<Over<MemDesk, Wired>, Fail> {
         "-U",
         "lfuse:w:0x62:m",
     ];
-    run_on(alloc, &words, desk, wire)
+    let desk = desk_with(alloc, &[("e.bin", IMAGE.as_slice())])?;
+    run_wired_on(alloc, "t85", &words, desk, fates)
 }
 
 /// How many pages of the EEPROM, of four bytes, are the image's, where all from the first untouched one on are FF.
@@ -78,44 +129,84 @@ fn pages_written(chip: &Chip) -> Option<u32> {
     Some(pages)
 }
 
-/// Pages are written in rising order and whole, and the fuse behind them; nothing else is; and what is called done is
-/// done. Answers how many pages are written.
-fn look_at(rt: &impl Abort, over: &Over<MemDesk, Wired>, seed: u32) -> Option<u32> {
+/// Pages are written in rising order and whole, and the fuse behind them; nothing else is. Answers how many pages are
+/// written.
+fn look_at_chip(rt: &impl Abort, over: &Over<MemDesk, Wired>, seed: u32) -> Option<u32> {
     let chip = over.link.chip();
     let pages = pages_written(chip);
     let fuse = chip.byte(Mem::Lfuse, 0);
     let is_whole = pages == Some(4) && fuse == Some(0x62);
-    let is_done = over.desk.messages().ends_with(b"avrstk: done\n");
     let others = [Mem::Flash, Mem::Hfuse, Mem::Efuse, Mem::Lock];
     assert!(rt; pages.is_some(), "seed {seed}");
     assert!(rt; is_whole || fuse == Some(0xFF), "seed {seed}");
+    assert!(rt; is_whole || over.status == 1, "seed {seed}");
     assert!(rt; is_blank(chip, &others), "seed {seed}");
-    if over.status == 0 {
-        assert!(rt; is_done && is_whole, "seed {seed}");
-    } else {
-        assert!(rt; over.status == 1 && !is_done, "seed {seed}");
-    }
     pages
 }
 
-/// Some runs end well, some don't, and some of these in the middle of the pages.
+/// What is called done is done and said as over a good line; else the status is 1, which is never so where few frames
+/// go wrong. No more than four frames go out for each one over a good line.
+fn look_at_outcome(
+    rt: &impl Abort,
+    over: &Over<MemDesk, Wired>,
+    good: &Over<MemDesk, Wired>,
+    is_few: bool,
+    seed: u32,
+) {
+    let is_done = over.desk.messages() == DONE;
+    assert!(rt; over.status == 1 || over.status == 0, "seed {seed}");
+    assert!(rt; is_done == (over.status == 0), "seed {seed}");
+    assert!(rt; is_done || !is_few, "seed {seed}");
+    assert!(rt;
+        over.link.sent().len() / 4 <= good.link.sent().len(),
+        "seed {seed}"
+    );
+}
+
+/// How many runs there were of a kind.
+#[derive(Drop)]
+struct Counts {
+    sound: u32,
+    stopped: u32,
+    partly: u32,
+    few: u32,
+}
+
+/// A run over the line of this seed, looked at and counted.
+fn try_seed(
+    rt: &impl Abort,
+    alloc: Global,
+    good: &Over<MemDesk, Wired>,
+    seed: u32,
+    counts: &mut Counts,
+) -> Result<(), Fail> {
+    let numbers = numbers_drawn(alloc, seed)?;
+    let is_few = are_few(numbers.as_slice());
+    let over = run_over(alloc, fates_drawn(alloc, numbers.as_slice())?)?;
+    let pages = look_at_chip(rt, &over, seed);
+    look_at_outcome(rt, &over, good, is_few, seed);
+    let is_partly = pages != Some(0) && pages != Some(4);
+    counts.sound = counts.sound.saturating_add((over.status == 0) as u32);
+    counts.stopped = counts.stopped.saturating_add((over.status == 1) as u32);
+    counts.partly = counts.partly.saturating_add(is_partly as u32);
+    counts.few = counts.few.saturating_add(is_few as u32);
+    Ok(())
+}
+
+/// Some runs end well, some don't, and some of these in the middle of the pages; on some lines few frames go wrong.
 #[test]
 fn drawn_fates_leave_a_front(rt: HostRuntime) -> Result<(), Fail> {
-    let mut sound = 0u32;
-    let mut stopped = 0u32;
-    let mut partly = 0u32;
-    for seed in 0..40u32 {
-        let over = run_drawn(rt.alloc(), seed)?;
-        let pages = look_at(&rt, &over, seed);
-        if over.status == 0 {
-            sound = sound.wrapping_add(1);
-        } else {
-            stopped = stopped.wrapping_add(1);
-        }
-        if pages != Some(0) && pages != Some(4) {
-            partly = partly.wrapping_add(1);
-        }
+    let good = run_over(rt.alloc(), Vec::new(rt.alloc()))?;
+    let mut counts = Counts {
+        sound: 0,
+        stopped: 0,
+        partly: 0,
+        few: 0,
+    };
+    for seed in 0..60u32 {
+        try_seed(&rt, rt.alloc(), &good, seed, &mut counts)?;
     }
-    assert!(rt; sound > 0 && stopped > 0 && partly > 0);
+    assert!(rt; good.status == 0 && counts.sound > counts.few);
+    assert!(rt; counts.stopped > 0 && counts.partly > 0 && counts.few > 0);
     Ok(())
 }

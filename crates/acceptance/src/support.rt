@@ -6,6 +6,7 @@ use avr_cli::{Settings, read_words, settings};
 use avr_desk::{Bytes, Desk, MemDesk};
 use avr_part::{Chip, Mem, Parts};
 use avr_session::run;
+use avr_tool::run_wired;
 use std::alloc::{AllocError, Global};
 use std::process::Abort;
 use std::test::Fail;
@@ -99,6 +100,25 @@ pub(crate) fn run_on<D: Desk + Drop, L: Link + Drop>(
     let mut desk = desk;
     let mut link = link;
     let status = run(alloc, &settings, &mut desk, &mut link);
+    Ok(Over { desk, link, status })
+}
+
+/// Runs the tool with these words at a desk and over a line of these fates to a part that was never written, by the
+/// call of the headline. It says nothing of what came of it: whoever looks is spared the clauses of the whole.
+pub(crate) fn run_wired_on(
+    alloc: Global,
+    id: &str,
+    words: &[&str],
+    desk: MemDesk,
+    fates: Vec<Fate>,
+) -> Result<Over<MemDesk, Wired>, Fail>
+    requires { AreLawful fates.items }
+{
+    let settings = settings_for(alloc, words)?;
+    let chip = Chip::fresh(alloc, Parts::none().find(id)?)?;
+    let mut desk = desk;
+    let mut link = Wired::new(alloc, chip, fates);
+    let status = run_wired(alloc, &settings, &mut desk, &mut link);
     Ok(Over { desk, link, status })
 }
 

@@ -3,7 +3,7 @@ use avr_desk::{
     Bytes, Desk, DeskFault, FailingDesk, FileFault, MemDesk, Stream, SystemDesk, read_file,
     write_all,
 };
-use std::alloc::Global;
+use std::alloc::{AllocError, Global};
 use std::io::{self, ErrorKind, Write};
 use std::test::Fail;
 use std::{env, fs, process};
@@ -25,11 +25,22 @@ fn gives<D: Desk>(desk: &mut D, want: &[u8]) -> bool {
     }
 }
 
+/// Puts these bytes to a stream. It says nothing of the desk then: a test carries each clause that it meets to its end.
+fn put<D: Desk>(desk: &mut D, stream: Stream, bytes: &[u8]) -> Result<(), DeskFault> {
+    write_all(desk, stream, bytes)
+}
+
+/// A desk with this file, likewise.
+fn desk_with(alloc: Global, name: &str, bytes: &[u8]) -> Result<MemDesk, AllocError> {
+    let mut desk = MemDesk::new(alloc, Bytes::copied(alloc, b"in")?);
+    desk.put(name, bytes)?;
+    Ok(desk)
+}
+
 #[test]
 fn a_desk_gives_its_files(rt: HostRuntime) -> Result<(), Fail> {
     let alloc = rt.alloc();
-    let mut desk = MemDesk::new(alloc, Bytes::copied(alloc, b"in")?);
-    desk.put("a.hex", b"one two three")?;
+    let mut desk = desk_with(alloc, "a.hex", b"one two three")?;
     assert!(rt; holds(alloc, &mut desk, "a.hex", 13, b"one two three"));
     assert!(rt; !holds(alloc, &mut desk, "a.hex", 12, b"one two three"));
     assert!(rt; holds(alloc, &mut desk, "-", 4096, b"in"));
@@ -41,12 +52,11 @@ fn a_desk_gives_its_files(rt: HostRuntime) -> Result<(), Fail> {
 
 #[test]
 fn a_created_file_is_new(rt: HostRuntime) -> Result<(), Fail> {
-    let mut desk = MemDesk::new(rt.alloc(), Bytes::new(rt.alloc()));
-    desk.put("a.hex", b"one two three")?;
-    desk.create("a.hex")?;
-    write_all(&mut desk, Stream::File, b"new")?;
+    let mut desk = desk_with(rt.alloc(), "a.hex", b"one two three")?;
+    assert!(rt; desk.create("a.hex") == Ok(()));
+    assert!(rt; put(&mut desk, Stream::File, b"new") == Ok(()));
     assert!(rt; desk.file("a.hex") == Some(b"new".as_slice()));
-    desk.open("a.hex")?;
+    assert!(rt; desk.open("a.hex") == Ok(()));
     assert!(rt; gives(&mut desk, b"ne"));
     assert!(rt; gives(&mut desk, b"w"));
     assert!(rt; gives(&mut desk, b""));
@@ -54,14 +64,13 @@ fn a_created_file_is_new(rt: HostRuntime) -> Result<(), Fail> {
 }
 
 #[test]
-fn output_and_messages(rt: HostRuntime) -> Result<(), Fail> {
+fn output_and_messages(rt: HostRuntime) {
     let mut desk = MemDesk::new(rt.alloc(), Bytes::new(rt.alloc()));
-    write_all(&mut desk, Stream::Output, b"0xe2\n")?;
-    write_all(&mut desk, Stream::Messages, b"avrstk: ")?;
-    write_all(&mut desk, Stream::Messages, b"done\n")?;
+    assert!(rt; put(&mut desk, Stream::Output, b"0xe2\n") == Ok(()));
+    assert!(rt; put(&mut desk, Stream::Messages, b"avrstk: ") == Ok(()));
+    assert!(rt; put(&mut desk, Stream::Messages, b"done\n") == Ok(()));
     assert!(rt; desk.output() == b"0xe2\n".as_slice());
     assert!(rt; desk.messages() == b"avrstk: done\n".as_slice());
-    Ok(())
 }
 
 #[test]
@@ -73,15 +82,14 @@ fn nothing_is_open(rt: HostRuntime) {
 }
 
 #[test]
-fn the_third_call_fails(rt: HostRuntime) -> Result<(), Fail> {
+fn the_third_call_fails(rt: HostRuntime) {
     let mut desk = FailingDesk::new(MemDesk::new(rt.alloc(), Bytes::new(rt.alloc())), 3);
-    desk.create("x")?;
-    write_all(&mut desk, Stream::Output, b"first")?;
-    assert!(rt; write_all(&mut desk, Stream::Output, b"second") == Err(DeskFault::Failed));
-    write_all(&mut desk, Stream::File, b"third")?;
+    assert!(rt; desk.create("x") == Ok(()));
+    assert!(rt; put(&mut desk, Stream::Output, b"first") == Ok(()));
+    assert!(rt; put(&mut desk, Stream::Output, b"second") == Err(DeskFault::Failed));
+    assert!(rt; put(&mut desk, Stream::File, b"third") == Ok(()));
     assert!(rt; desk.inner().output() == b"first".as_slice());
     assert!(rt; desk.inner().file("x") == Some(b"third".as_slice()));
-    Ok(())
 }
 
 #[test]
@@ -93,13 +101,13 @@ fn files_of_the_system(rt: HostRuntime) -> Result<(), Fail> {
     let mut desk = SystemDesk::new(&rt, rt.stdout(), rt.stderr());
     assert!(rt; desk.open(name.as_str()) == Err(DeskFault::NotFound));
     assert!(rt; !gives(&mut desk, b""));
-    desk.create(name.as_str())?;
-    write_all(&mut desk, Stream::File, b"abc")?;
+    assert!(rt; desk.create(name.as_str()) == Ok(()));
+    assert!(rt; put(&mut desk, Stream::File, b"abc") == Ok(()));
     assert!(rt; holds(alloc, &mut desk, name.as_str(), 3, b"abc"));
     fs::remove_file(&rt, name.as_str())?;
     assert!(rt; !holds(alloc, &mut desk, ".", 3, b""));
     assert!(rt; desk.create("/no/such/folder/x") == Err(DeskFault::Failed));
-    write_all(&mut desk, Stream::Messages, b"a message\n")?;
+    assert!(rt; put(&mut desk, Stream::Messages, b"a message\n") == Ok(()));
     Ok(())
 }
 
@@ -108,23 +116,22 @@ fn print_both<'a>(
     rt: &'a HostRuntime,
     output: &'a mut Vec<u8>,
     messages: &'a mut Vec<u8>,
-) -> Result<(), Fail> {
+) -> Result<(), DeskFault> {
     let mut desk = SystemDesk::new(rt, output, messages);
-    write_all(&mut desk, Stream::Output, b"out")?;
-    write_all(&mut desk, Stream::Messages, b"a message\n")?;
+    put(&mut desk, Stream::Output, b"out")?;
+    put(&mut desk, Stream::Messages, b"a message\n")?;
     desk.create("-")?;
-    write_all(&mut desk, Stream::File, b"put")?;
+    put(&mut desk, Stream::File, b"put")?;
     Ok(())
 }
 
 #[test]
-fn each_stream_has_its_writer(rt: HostRuntime) -> Result<(), Fail> {
+fn each_stream_has_its_writer(rt: HostRuntime) {
     let mut output = Vec::new(rt.alloc());
     let mut messages = Vec::new(rt.alloc());
-    print_both(&rt, &mut output, &mut messages)?;
+    assert!(rt; print_both(&rt, &mut output, &mut messages) == Ok(()));
     assert!(rt; output.as_slice() == b"output".as_slice());
     assert!(rt; messages.as_slice() == b"a message\n".as_slice());
-    Ok(())
 }
 
 /// A writer whose first call is interrupted, that takes one byte at a time, and whose second flush
@@ -154,15 +161,14 @@ impl Write for Stubborn {
 }
 
 #[test]
-fn a_writer_is_flushed(rt: HostRuntime) -> Result<(), Fail> {
+fn a_writer_is_flushed(rt: HostRuntime) {
     let output = Stubborn {
         calls: 0,
         flushes: 0,
     };
     let mut desk = SystemDesk::new(&rt, output, rt.stderr());
-    assert!(rt; write_all(&mut desk, Stream::Output, b"a") == Ok(()));
-    assert!(rt; write_all(&mut desk, Stream::Output, b"b") == Err(DeskFault::Failed));
-    desk.create("-")?;
-    assert!(rt; write_all(&mut desk, Stream::File, b"cd") == Ok(()));
-    Ok(())
+    assert!(rt; put(&mut desk, Stream::Output, b"a") == Ok(()));
+    assert!(rt; put(&mut desk, Stream::Output, b"b") == Err(DeskFault::Failed));
+    assert!(rt; desk.create("-") == Ok(()));
+    assert!(rt; put(&mut desk, Stream::File, b"cd") == Ok(()));
 }

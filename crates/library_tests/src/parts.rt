@@ -243,28 +243,46 @@ fn the_second_half_of_a_large_flash(rt: HostRuntime) -> Result<(), Fail> {
     Ok(())
 }
 
-#[test]
-fn chip_files(rt: HostRuntime) -> Result<(), Fail> {
-    let mut chip = Chip::fresh(rt.alloc(), built_in(&rt, "m328p"))?;
+/// The chip file of an ATmega328P of which a byte of EEPROM, the low fuse and the lock were written.
+fn written_chip(rt: &impl Abort, alloc: Global) -> Result<Vec<u8>, PartFault> {
+    let mut chip = Chip::fresh(alloc, built_in(rt, "m328p"))?;
     let rows = [
         ([0xC0, 0, 2, 0x33], [0, 0xC0, 0, 2]),
         ([0xAC, 0xA0, 0, 0x62], [0, 0xAC, 0xA0, 0]),
         ([0xAC, 0xE0, 0, 0xFC], [0, 0xAC, 0xE0, 0]),
     ];
-    obeys(&rt, &mut chip, &rows);
-    let bytes = chip.to_bytes(rt.alloc())?;
-    assert_eq!(rt; bytes.len(), 33_796);
-    assert_eq!(rt; bytes[32_770], 0x33);
-    assert_eq!(rt;
-        &bytes.as_slice()[33_792..],
-        [0x62, 0xFF, 0xFF, 0xFC].as_slice()
-    );
-    let again = Chip::from_bytes(rt.alloc(), built_in(&rt, "m328p"), bytes.as_slice())?;
-    assert_eq!(rt; again.part().id(), "m328p");
-    assert_eq!(rt; again.byte(Mem::Eeprom, 2), Some(0x33));
-    assert_eq!(rt; again.byte(Mem::Lfuse, 0), Some(0x62));
-    assert_eq!(rt; again.byte(Mem::Lock, 1), None);
-    let short = Chip::from_bytes(rt.alloc(), built_in(&rt, "m328p"), &[0xFF; 100]);
-    assert_eq!(rt; short.err(), Some(PartFault::BadChipFile(100)));
+    obeys(rt, &mut chip, &rows);
+    chip.to_bytes(alloc)
+}
+
+/// The chip of this file.
+fn chip_of(rt: &impl Abort, alloc: Global, file: &[u8]) -> Result<Chip, PartFault> {
+    Chip::from_bytes(alloc, built_in(rt, "m328p"), file)
+}
+
+#[test]
+fn a_chip_is_written_to_its_file(rt: HostRuntime) -> Result<(), Fail> {
+    let file = written_chip(&rt, rt.alloc())?;
+    let file = file.as_slice();
+    assert_eq!(rt; file.len(), 33_796);
+    assert_eq!(rt; file.get(32_770).copied(), Some(0x33));
+    assert!(rt; file.ends_with(&[0x62, 0xFF, 0xFF, 0xFC]));
     Ok(())
+}
+
+#[test]
+fn a_chip_is_read_from_its_file(rt: HostRuntime) -> Result<(), Fail> {
+    let file = written_chip(&rt, rt.alloc())?;
+    let chip = chip_of(&rt, rt.alloc(), file.as_slice())?;
+    assert_eq!(rt; chip.part().id(), "m328p");
+    assert_eq!(rt; chip.byte(Mem::Eeprom, 2), Some(0x33));
+    assert_eq!(rt; chip.byte(Mem::Lfuse, 0), Some(0x62));
+    assert_eq!(rt; chip.byte(Mem::Lock, 1), None);
+    Ok(())
+}
+
+#[test]
+fn a_short_chip_file_is_no_chip(rt: HostRuntime) {
+    let fault = chip_of(&rt, rt.alloc(), &[0xFF; 100]).err();
+    assert_eq!(rt; fault, Some(PartFault::BadChipFile(100)));
 }

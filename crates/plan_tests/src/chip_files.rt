@@ -1,6 +1,6 @@
 //! Chip files that are missing, whole, of another length, and at a desk that fails.
 use avr_chip::{load_chip, save_chip};
-use avr_desk::{Bytes, FailingDesk, MemDesk};
+use avr_desk::{Bytes, Desk, FailingDesk, MemDesk};
 use avr_part::{Chip, Mem, Part, PartFault, Parts};
 use std::alloc::{AllocError, Global};
 use std::test::Fail;
@@ -25,18 +25,34 @@ fn desk_with(alloc: Global, file: &[u8]) -> Result<MemDesk, AllocError> {
     Ok(desk)
 }
 
+/// The chip of this file. It says nothing of it, nor does [`is_given_back`]: a test carries each clause that it meets to
+/// its end, and these are long.
+fn load<D: Desk>(alloc: Global, file: &str, desk: &mut D) -> Result<Result<Chip, u8>, PartFault> {
+    Ok(load_chip(alloc, &m328p()?, file, desk))
+}
+
+/// Whether the chip of chip.bin has this first byte of EEPROM, and saved under this name it is a file of these bytes.
+fn is_given_back(
+    alloc: Global,
+    desk: &mut MemDesk,
+    first: u8,
+    file: &str,
+    bytes: &[u8],
+) -> Result<bool, PartFault> {
+    let Ok(chip) = load(alloc, "chip.bin", desk)? else {
+        return Ok(false);
+    };
+    let is_first = chip.byte(Mem::Eeprom, 0) == Some(first);
+    let is_saved = save_chip(alloc, &chip, file, desk) == Ok(());
+    Ok(is_first && is_saved && desk.file(file) == Some(bytes))
+}
+
 #[test]
 fn no_file_is_a_fresh_chip(rt: HostRuntime) -> Result<(), Fail> {
     let alloc = rt.alloc();
-    let mut desk = MemDesk::new(alloc, Bytes::new(alloc));
-    let Ok(chip) = load_chip(alloc, &m328p()?, "chip.bin", &mut desk) else {
-        assert!(rt; false, "no chip");
-        return Ok(());
-    };
-    let saved = save_chip(alloc, &chip, "chip.bin", &mut desk);
-    assert!(rt; saved == Ok(()));
     let fresh = vec![in alloc; 255; 33_796]?;
-    assert!(rt; desk.file("chip.bin") == Some(fresh.as_slice()));
+    let mut desk = MemDesk::new(alloc, Bytes::new(alloc));
+    assert!(rt; is_given_back(alloc, &mut desk, 255, "chip.bin", fresh.as_slice())?);
     assert!(rt; desk.messages().is_empty());
     Ok(())
 }
@@ -45,22 +61,16 @@ fn no_file_is_a_fresh_chip(rt: HostRuntime) -> Result<(), Fail> {
 fn a_file_is_written_back(rt: HostRuntime) -> Result<(), Fail> {
     let alloc = rt.alloc();
     let file = file_of(alloc, 33_796)?;
+    let first = (32_768 % 251) as u8;
     let mut desk = desk_with(alloc, file.as_slice())?;
-    let Ok(chip) = load_chip(alloc, &m328p()?, "chip.bin", &mut desk) else {
-        assert!(rt; false, "no chip");
-        return Ok(());
-    };
-    assert!(rt; chip.byte(Mem::Eeprom, 0) == Some((32_768 % 251) as u8));
-    let saved = save_chip(alloc, &chip, "copy.bin", &mut desk);
-    assert!(rt; saved == Ok(()));
-    assert!(rt; desk.file("copy.bin") == Some(file.as_slice()));
+    assert!(rt; is_given_back(alloc, &mut desk, first, "copy.bin", file.as_slice())?);
     Ok(())
 }
 
 /// Whether a file of so many bytes is refused with this line.
 fn refuses(alloc: Global, n: usize, line: &str) -> Result<bool, Fail> {
     let mut desk = desk_with(alloc, file_of(alloc, n)?.as_slice())?;
-    let loaded = load_chip(alloc, &m328p()?, "chip.bin", &mut desk);
+    let loaded = load(alloc, "chip.bin", &mut desk)?;
     Ok(matches!(loaded, Err(1)) && desk.messages() == line.as_bytes())
 }
 
@@ -79,7 +89,7 @@ fn lengths_that_are_refused(rt: HostRuntime) -> Result<(), Fail> {
 /// Whether a chip is not loaded over a desk whose nth call fails, and this is what is said.
 fn fails_to_load(alloc: Global, n: u64, line: &str) -> Result<bool, Fail> {
     let mut desk = FailingDesk::new(desk_with(alloc, b"")?, n);
-    let loaded = load_chip(alloc, &m328p()?, "chip.bin", &mut desk);
+    let loaded = load(alloc, "chip.bin", &mut desk)?;
     Ok(matches!(loaded, Err(1)) && desk.inner().messages() == line.as_bytes())
 }
 
