@@ -6,6 +6,7 @@ pub mod PartFile
 pub mod Instruction
 pub mod Memory
 pub mod State
+pub mod Block
 pub mod Sound
 pub mod Chip
 pub mod ChipFile

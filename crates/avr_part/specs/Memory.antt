@@ -1,5 +1,5 @@
 -- The bytes of a memory, and how they change.
-use Rattle.std.specs.Prelude.{ℕ, Bool, suc, ◌+◌, ◌*◌, ◌/◌, ◌-◌, ◌&&◌, nat_le, nat_lt, List, [], ◌∷◌, length, slice_index, bit_and, Option, None, unwrap_or, slice_index_or, replicate, All, IfSome, ◌<◌, if◌then◌else◌}
+use Rattle.std.specs.Prelude.{ℕ, Bool, suc, ◌+◌, ◌*◌, ◌/◌, ◌-◌, ◌&&◌, nat_le, nat_lt, List, [], ◌∷◌, ◌++◌, length, take, drop, slice_index, bit_and, Option, None, unwrap_or, slice_index_or, replicate, All, IfSome, ◌<◌, if◌then◌else◌}
 
 abbrev pub AreBytes : List ℕ → Type 0
 AreBytes xs = All (λ b. b < 256) xs
@@ -37,3 +37,7 @@ overlaid start loads i x =
 -- the first address of the page in which an address lies
 abbrev pub page_start : ℕ → ℕ → ℕ
 page_start page i = i / page * page
+
+-- bytes in place of those from start on
+abbrev pub pasted : ℕ → List ℕ → List ℕ → List ℕ
+pasted start bytes xs = take start xs ++ (bytes ++ drop (start + length bytes) xs)

@@ -1,5 +1,6 @@
 //! The chip as a machine of serial programming instructions.
-ghost use Rattle.std.specs.Prelude.{◌≡◌, ◌+◌, ◌*◌, ◌%◌, ◌<◌, ◌≤◌, IfOk, slice_get, Ok};
+ghost use Rattle.std.specs.Prelude.{◌≡◌, ◌+◌, ◌*◌, ◌%◌, ◌<◌, ◌≤◌, IfOk, slice_get, Ok, length, true, ◌/◌};
+ghost use Rattle.std.specs.Option.{option_copied};
 ghost use Rattle.avr_part.specs.Memory.{page_start};
 
 use crate::fault::PartFault;
@@ -67,6 +68,7 @@ fn page_start(at: usize, page: usize, size: usize) -> usize
 impl Chip {
     ghost use Rattle.avr_part.specs.State.{fresh_state, with_empty_buffers, with_erased, with_load, with_flash_page, with_eeprom_byte, with_eeprom_load, with_eeprom_page, with_fuse, with_lock, word_address, eeprom_address, flash_byte, eeprom_byte, signature_byte, fuse_of, answer_of, after, spi_of, keeps_eeprom, is_locked, memory_of};
     ghost use Rattle.avr_part.specs.Instruction.{instruction_of};
+    ghost use Rattle.avr_part.specs.Block.{load_block, is_in_page, loaded_in_turn, flash_block, is_in_flash, read_in_turn};
     ghost use Rattle.avr_part.specs.Sound.{IsSound};
     ghost use Rattle.avr_part.specs.PartFile.{GivesOrMemory};
 
@@ -125,7 +127,8 @@ impl Chip {
     }
 
     fn flash_page(&self) -> usize
-        ensures { result ≡ self.now.part.flash_page }
+        ensures value { result ≡ self.now.part.flash_page }
+        ensures some { 2 ≤ result }
     {
         self.part.page_of(Mem::Flash) as usize
     }
@@ -172,11 +175,18 @@ impl Chip {
         }
     }
 
+    /// The place of a word in the page buffer.
+    fn buffer_place(&self, word: u8) -> usize
+        ensures value { result ≡ word % (self.now.part.flash_page / 2) * 2 }
+        ensures inside { result + 1 < self.now.part.flash_page }
+    {
+        usize::from(word) % (self.flash_page() / 2) * 2
+    }
+
     fn load(&mut self, half: Half, word: u8, byte: u8)
         ensures { self.new ≡ with_load half word byte self.old }
     {
-        let words = self.flash_page() / 2;
-        let place = usize::from(word) % words * 2;
+        let place = self.buffer_place(word);
         match half {
             Half::Low => self.flash_buffer.set(place, byte),
             Half::High => self.flash_buffer.set(place + 1, byte),
@@ -358,6 +368,75 @@ impl Chip {
         let answer = self.answer(instruction, bytes[2]);
         self.obey(instruction);
         [0, bytes[0], bytes[1], answer]
+    }
+
+    /// Loads the bytes of a block as so many instructions 40 and 48 do, the low and the high byte of each word in turn
+    /// from a word of the page on, and says whether it did. A block that reaches over the end of the page changes
+    /// nothing.
+    ///
+    /// ```text
+    /// let mut chip = Chip::fresh(alloc, Parts::none().find("m328p")?)?;
+    /// assert!(rt; chip.load_block(0, &[0x0C, 0x94]));
+    /// chip.spi([0x4C, 0, 0, 0]);
+    /// assert_eq!(rt; chip.byte(Mem::Flash, 1), Some(0x94));
+    /// assert!(rt; !chip.load_block(63, &[0; 3]));
+    /// ```
+    pub fn load_block(&mut self, word: u8, bytes: &[u8]) -> bool
+        ensures { (result, self.new) ≡ load_block word bytes.now self.old }
+    {
+        let is_in_page = self.is_in_page(word, bytes.len());
+        if is_in_page {
+            self.load_bytes(word, bytes);
+        }
+        is_in_page
+    }
+
+    fn is_in_page(&self, word: u8, count: usize) -> bool
+        ensures { result ≡ is_in_page word count self.now }
+    {
+        count <= self.flash_page() - self.buffer_place(word)
+    }
+
+    fn load_bytes(&mut self, word: u8, bytes: &[u8])
+        requires { is_in_page word (length bytes.now) self.old ≡ true }
+        ensures { self.new ≡ loaded_in_turn word 0 bytes.now self.old }
+    {
+        let place = self.buffer_place(word);
+        self.flash_buffer.paste(place, bytes);
+    }
+
+    /// The bytes of a block, as so many instructions 20 and 28 read them, the low and the high byte of each word in
+    /// turn from a word on; `None` for a block that reaches over the end of flash, or over the last word that can be
+    /// read without another extended address.
+    ///
+    /// ```text
+    /// let chip = Chip::fresh(alloc, Parts::none().find("t85")?)?;
+    /// assert_eq!(rt; chip.flash_block(4094, 4), Some([0xFF; 4].as_slice()));
+    /// assert_eq!(rt; chip.flash_block(4094, 5), None);
+    /// ```
+    pub fn flash_block(&self, word: u16, count: u16) -> Option<&[u8]>
+        ensures { option_copied result ≡ flash_block word count self.now }
+    {
+        if self.is_in_flash(word, count) {
+            Some(self.flash_bytes(word, count))
+        } else {
+            None
+        }
+    }
+
+    fn is_in_flash(&self, word: u16, count: u16) -> bool
+        ensures { result ≡ is_in_flash word count self.now }
+    {
+        usize::from(word) * 2 + usize::from(count) <= 131_072
+            && usize::from(count) <= self.flash_size() - self.word_address(word)
+    }
+
+    fn flash_bytes(&self, word: u16, count: u16) -> &[u8]
+        requires { is_in_flash word count self.now ≡ true }
+        ensures { result.now ≡ read_in_turn word 0 count self.now }
+    {
+        let start = self.word_address(word);
+        &self.flash.as_slice()[start..start + usize::from(count)]
     }
 
     /// The bytes of a memory, that of address 0 first.

@@ -1,6 +1,6 @@
 //! The bytes of a memory.
 ghost use Rattle.std.specs.Prelude.{◌≡◌, ◌+◌, ◌<◌, ◌≤◌, ℕ, List, IfOk, length, slice_index, slice_set, slice_get, replicate};
-ghost use Rattle.avr_part.specs.Memory.{AreBytes, changed, anded, overlaid, blank};
+ghost use Rattle.avr_part.specs.Memory.{AreBytes, changed, anded, overlaid, blank, pasted};
 
 use crate::loads::Loads;
 use std::alloc::{AllocError, Global};
@@ -66,6 +66,16 @@ impl Memory {
         ensures small { AreBytes self.new }
     {
         self.bytes[at] = byte;
+    }
+
+    /// The bytes from `start` on become these.
+    pub fn paste(&mut self, start: usize, bytes: &[u8])
+        requires { start + length bytes.now ≤ length self.old }
+        ensures bytes { self.new ≡ pasted start bytes.now self.old }
+        ensures len { length self.new ≡ length self.old }
+        ensures small { AreBytes self.new }
+    {
+        self.bytes[start..start + bytes.len()].copy_from_slice(bytes);
     }
 
     /// Each byte from `start` on becomes itself AND the page's byte.

@@ -114,6 +114,24 @@ fn a_chip_answers(rt: HostRuntime) -> Result<(), Fail> {
 }
 
 #[test]
+fn a_block_is_loaded(rt: HostRuntime) -> Result<(), Fail> {
+    let mut chip = Chip::fresh(rt.alloc(), Parts::none().find("m328p")?)?;
+    assert!(rt; chip.load_block(0, &[0x0C, 0x94]));
+    chip.spi([0x4C, 0, 0, 0]);
+    assert_eq!(rt; chip.byte(Mem::Flash, 1), Some(0x94));
+    assert!(rt; !chip.load_block(63, &[0; 3]));
+    Ok(())
+}
+
+#[test]
+fn a_block_is_read(rt: HostRuntime) -> Result<(), Fail> {
+    let chip = Chip::fresh(rt.alloc(), Parts::none().find("t85")?)?;
+    assert_eq!(rt; chip.flash_block(4094, 4), Some([0xFF; 4].as_slice()));
+    assert_eq!(rt; chip.flash_block(4094, 5), None);
+    Ok(())
+}
+
+#[test]
 fn a_fresh_chip_is_read(rt: HostRuntime) -> Result<(), Fail> {
     let chip = Chip::fresh(rt.alloc(), Parts::none().find("m328p")?)?;
     assert_eq!(rt; chip.memory(Mem::Signature), [0x1E, 0x95, 0x0F].as_slice());

@@ -13,7 +13,7 @@ one_more : (xs : List ℕ) (j n : ℕ) → j < length xs → get_or xs j 0 ∷ t
 one_more xs j n l = ap (take (suc n)) (sym (drop-cons xs j 0 l))
 
 -- one byte of flash is read
-look_byte : (i h lo : ℕ) (s : chip.State) → chip.spi_of (for_half 0x20 i ∷ h ∷ lo ∷ 0 ∷ []) s
+pub look_byte : (i h lo : ℕ) (s : chip.State) → chip.spi_of (for_half 0x20 i ∷ h ∷ lo ∷ 0 ∷ []) s
     ≡ (0 ∷ for_half 0x20 i ∷ h ∷ get_or s.flash ((s.extended * 65536 + (h * 256 + lo)) % (s.part.flash_size / 2) * 2 + i % 2) 0 ∷ [], s)
 look_byte i h lo s = elim (cases_Bool (i % 2 == 0)) [
   | inl e ↦

@@ -8,7 +8,6 @@ use Rattle.stk_frame.specs.declared.command.Command.TheVariants.{LoadAddress}
 use Rattle.stk_frame.specs.declared.host_command.Fuse.{Fuse}
 use Rattle.stk_frame.specs.declared.host_command.Fuse.TheVariants.{Low, High, Extended}
 use Rattle.stk_frame.specs.Commands.{body}
-use Rattle.stk_frame.specs.Decoding as decoding
 use Rattle.stk_frame.specs.HostCommands.{erase, program_page, program_eeprom, program_fuse, program_lock, read_flash, read_eeprom, read_fuse, read_lock, read_signature, read_calibration}
 use Rattle.stk_frame.proofs.Cut.{refused}
 use Rattle.stk_host.proofs.Pages.{page_most}

@@ -81,7 +81,7 @@ extended_is true a s = refl
 extended_is false a s = refl
 
 -- one byte is loaded
-load_byte : (i h lo d : ℕ) (s : chip.State) → (chip.spi_of (for_half 0x40 i ∷ h ∷ lo ∷ d ∷ []) s).1 ≡ record s { flash_buffer = set s.flash_buffer (lo % (s.part.flash_page / 2) * 2 + i % 2) d }
+pub load_byte : (i h lo d : ℕ) (s : chip.State) → (chip.spi_of (for_half 0x40 i ∷ h ∷ lo ∷ d ∷ []) s).1 ≡ record s { flash_buffer = set s.flash_buffer (lo % (s.part.flash_page / 2) * 2 + i % 2) d }
 load_byte i h lo d s = elim (cases_Bool (i % 2 == 0)) [
   | inl e ↦
       let even : 0 ≡ i % 2 = sym (eqb-true (i % 2) 0 e) in

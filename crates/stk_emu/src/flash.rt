@@ -1,14 +1,47 @@
 //! Blocks of flash.
 
-ghost use Rattle.std.specs.Prelude.{◌≡◌, ◌<◌, ◌≤◌, ◌+◌, ◌++◌, length};
+ghost use Rattle.std.specs.Prelude.{◌≡◌, ◌<◌, ◌≤◌, ◌+◌, ◌++◌, length, true, false};
 ghost use Rattle.stk_emu.specs.Programmer.{bit_31, sent_to, flash_loads, flash_writes, flash_looks};
 
 use crate::spi::{at_address, extend, for_half, word_at};
 use arrayvec::ArrayVec;
 use avr_part::Chip;
 
+/// The instructions of which the chip obeys a block at once: load a byte of the page buffer, and read one of flash.
+const LOAD: u8 = 0x40;
+
+const READ: u8 = 0x20;
+
 /// Loads the bytes of a page.
 pub(crate) fn load_page(chip: &mut Chip, wide: bool, command: u8, address: u32, bytes: &[u8])
+    requires address { address < bit_31 }
+    requires count { length bytes.now < 65536 }
+    ensures { chip.new ≡ sent_to (flash_loads wide command address 0 bytes.now) chip.old }
+{
+    if !load_at_once(chip, wide, command, address, bytes) {
+        load_in_turn(chip, wide, command, address, bytes);
+    }
+}
+
+/// Loads all the bytes at once, where the chip can, and says whether it did: else nothing changes.
+fn load_at_once(chip: &mut Chip, wide: bool, command: u8, address: u32, bytes: &[u8]) -> bool
+    requires address { address < bit_31 }
+    requires count { length bytes.now < 65536 }
+    ensures loaded { result ≡ true → chip.new ≡ sent_to (flash_loads wide command address 0 bytes.now) chip.old }
+    ensures kept { result ≡ false → chip.new ≡ chip.old }
+{
+    if command != LOAD || bytes.is_empty() {
+        return false;
+    }
+    let is_loaded = chip.load_block((address % 256) as u8, bytes);
+    if is_loaded {
+        extend(chip, wide, word_at(address, (bytes.len() - 1) as u16));
+    }
+    is_loaded
+}
+
+/// Loads the bytes one by one.
+fn load_in_turn(chip: &mut Chip, wide: bool, command: u8, address: u32, bytes: &[u8])
     requires address { address < bit_31 }
     requires count { length bytes.now < 65536 }
     ensures { chip.new ≡ sent_to (flash_loads wide command address 0 bytes.now) chip.old }
@@ -33,6 +66,65 @@ pub(crate) fn write_page(chip: &mut Chip, wide: bool, command: u8, address: u32,
 
 /// Reads so many bytes, and puts them behind those of `out`.
 pub(crate) fn read(
+    chip: &mut Chip,
+    wide: bool,
+    command: u8,
+    address: u32,
+    count: u16,
+    out: &mut ArrayVec<u8, 275>,
+)
+    requires address { address < bit_31 }
+    requires room { length out.old.items + count ≤ 275 }
+    ensures bytes { out.new.items ≡ out.old.items ++ (flash_looks wide command address 0 count chip.old).0 }
+    ensures chip { chip.new ≡ (flash_looks wide command address 0 count chip.old).1 }
+    ensures len { length out.new.items ≡ length out.old.items + count }
+{
+    if !read_at_once(chip, wide, command, address, count, out) {
+        read_in_turn(chip, wide, command, address, count, out);
+    }
+}
+
+/// Puts bytes behind those of `out`.
+fn put_behind(out: &mut ArrayVec<u8, 275>, bytes: &[u8])
+    requires { length out.old.items + length bytes.now ≤ 275 }
+    ensures { out.new.items ≡ out.old.items ++ bytes.now }
+{
+    let _ = out.try_extend_from_slice(bytes);
+}
+
+/// Reads all the bytes at once, where the chip can, and says whether it did: else nothing changes but the extended
+/// address, which is sent again with the first instruction.
+fn read_at_once(
+    chip: &mut Chip,
+    wide: bool,
+    command: u8,
+    address: u32,
+    count: u16,
+    out: &mut ArrayVec<u8, 275>,
+) -> bool
+    requires address { address < bit_31 }
+    requires room { length out.old.items + count ≤ 275 }
+    ensures bytes { result ≡ true
+        → out.new.items ≡ out.old.items ++ (flash_looks wide command address 0 count chip.old).0 }
+    ensures chip { result ≡ true → chip.new ≡ (flash_looks wide command address 0 count chip.old).1 }
+    ensures len { result ≡ true → length out.new.items ≡ length out.old.items + count }
+    ensures kept { result ≡ false → out.new.items ≡ out.old.items }
+    ensures same { result ≡ false
+        → flash_looks wide command address 0 count chip.new ≡ flash_looks wide command address 0 count chip.old }
+{
+    if command != READ || count == 0 {
+        return false;
+    }
+    extend(chip, wide, address);
+    let Some(bytes) = chip.flash_block((address % 65_536) as u16, count) else {
+        return false;
+    };
+    put_behind(out, bytes);
+    true
+}
+
+/// Reads the bytes one by one.
+fn read_in_turn(
     chip: &mut Chip,
     wide: bool,
     command: u8,

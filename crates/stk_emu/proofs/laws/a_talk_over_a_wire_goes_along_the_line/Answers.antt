@@ -1,4 +1,3 @@
-use Rattle.stk_host.specs.Play.{NoPart}
 use Rattle.stk_emu.proofs.Turning.{whole_along, broken_along}
 use Rattle.stk_emu.proofs.laws.a_talk_over_a_wire_goes_along_the_line.Goals as goal
 

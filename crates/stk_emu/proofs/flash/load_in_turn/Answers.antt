@@ -1,6 +1,6 @@
 use Rattle.std.proofs.Common.{arith}
 use Rattle.stk_emu.proofs.Blocks.{flash_load}
-use Rattle.stk_emu.proofs.flash.load_page.Goals as goal
+use Rattle.stk_emu.proofs.flash.load_in_turn.Goals as goal
 
 pub loop-i-preserved : goal.loop-i-preserved
 loop-i-preserved c =

@@ -1,6 +1,6 @@
 use Rattle.std.proofs.Common.{◌+◌, ◌-◌, arith, length-append}
 use Rattle.stk_emu.proofs.Blocks.{flash_look}
-use Rattle.stk_emu.proofs.flash.read.Goals as goal
+use Rattle.stk_emu.proofs.flash.read_in_turn.Goals as goal
 
 pub loop-place-preserved : goal.loop-place-preserved
 loop-place-preserved c = record {

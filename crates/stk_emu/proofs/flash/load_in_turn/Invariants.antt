@@ -1,6 +1,6 @@
 use Rattle.std.proofs.Common.{◌≡◌, drop}
 use Rattle.stk_emu.specs.Programmer.{sent_to, flash_loads}
-use Rattle.stk_emu.proofs.flash.load_page.Given as goal
+use Rattle.stk_emu.proofs.flash.load_in_turn.Given as goal
 
 abbrev pub invariant-loop-i : goal.invariant-loop-i
 invariant-loop-i l =

@@ -1,0 +1,129 @@
+-- A block at once is a block byte by byte.
+use Rattle.std.proofs.Common.{◌≡◌, ℕ, zero, suc, ◌+◌, ◌*◌, ◌/◌, ◌%◌, ◌≤◌, ◌<◌, List, [], ◌∷◌, ◌++◌, length, get_or, set, take, drop, refl, sym, ap, ap₂, ◌∙◌, arith, inl, inr, Bool, true, false, cond, drop-cons, append_assoc}
+use Rattle.std.proofs.Math.Nat.{mod-mod_of_dvd, mod-add-div', dvd-mul_right, dvd_trans}
+use Rattle.std.proofs.lemmas.Nat.Gcd.{dvd_of_mod-eq-zero, mod-eq-zero_of_dvd}
+use Rattle.std.proofs.Math.Seq.{take-suc-set}
+use Rattle.std.proofs.lemmas.Nat.{mod-mul-add}
+use Rattle.std.proofs.lemmas.List.{take-append-drop, drop-set-lt, length-set}
+use Rattle.std.proofs.lemmas.Bool.{eqb-true, eqb-false, cases_Bool, leb-true}
+use Rattle.std.specs.Prelude.{◌==◌, ◌&&◌, ◌-◌, nat_le}
+use Rattle.avr_part.specs.Part.{Part, IsPart}
+use Rattle.avr_part.specs.Memory.{pasted}
+use Rattle.avr_part.specs.State.{State, half_offset, word_address}
+use Rattle.avr_part.specs.Block.{half_at, loaded_in_turn, read_in_turn, is_in_page, is_in_flash}
+use Rattle.avr_part.specs.Sound.{IsSound}
+use Rattle.avr_part.specs.declared.instruction.Half.TheVariants as half
+
+chosen : {A : Type 0} (b : Bool) (x y : A) → b ≡ true → cond b x y ≡ x
+chosen true x y e = refl
+chosen false x y e = absurd (cc)
+
+refused : {A : Type 0} (b : Bool) (x y : A) → b ≡ false → cond b x y ≡ y
+refused true x y e = absurd (cc)
+refused false x y e = refl
+
+pub offset_at : (i : ℕ) → half_offset (half_at i) ≡ i % 2
+offset_at i = elim (cases_Bool (i % 2 == 0)) [
+  | inl e ↦ ap half_offset (chosen (i % 2 == 0) half.Low half.High e) ∙ sym (eqb-true (i % 2) 0 e)
+  | inr e ↦
+      let odd : 1 ≡ i % 2 = let ne = eqb-false (i % 2) 0 e in omega arith in
+      ap half_offset (refused (i % 2 == 0) half.Low half.High e) ∙ odd
+]
+
+-- a remainder that stays below the end
+mod_on : (word k half : ℕ) → word % half + k < half → (word + k) % half ≡ word % half + k
+mod_on word k half small =
+    let parts = mod-add-div' word half in
+    let whole : word + k ≡ word / half * half + (word % half + k) = omega arith in
+    ap (λ x. x % half) whole ∙ mod-mul-add (word / half) half (word % half + k) small
+
+-- where the byte i of a block lies
+place_on : (word i half : ℕ) → word % half * 2 + i < half * 2 → (word + i / 2) % half * 2 + i % 2 ≡ word % half * 2 + i
+place_on word i half inside =
+    ap (λ x. x * 2 + i % 2) (mod_on word (i / 2) half (omega arith)) ∙ omega arith
+
+-- one byte more
+paste_on : (p : ℕ) (d : ℕ) (ds xs : List ℕ) → p < length xs → pasted (suc p) ds (set xs p d) ≡ pasted p (d ∷ ds) xs
+paste_on p d ds xs inside =
+    ap₂ (λ front back. front ++ (ds ++ back)) (take-suc-set xs p d inside) (drop-set-lt (suc p + length ds) xs p d (omega arith))
+    ∙ (append_assoc (take p xs) (d ∷ []) (ds ++ drop (suc p + length ds) xs)
+    ∙ ap (λ k. take p xs ++ (d ∷ (ds ++ drop k xs))) (let e : suc p + length ds ≡ p + suc (length ds) = omega arith in e))
+
+pub loaded_at_once : (word i half : ℕ) (bytes : List ℕ) (s : State) → s.part.flash_page / 2 ≡ half → ((x : ℕ) → x % 256 % half ≡ x % half)
+    → word % half * 2 + i + length bytes ≤ half * 2 → half * 2 ≤ length s.flash_buffer
+    → loaded_in_turn word i bytes s ≡ record s { flash_buffer = pasted (word % half * 2 + i) bytes s.flash_buffer }
+loaded_at_once word i half [] s is wraps inside long =
+    let p = word % half * 2 + i in
+    ap (λ b. record s { flash_buffer = b })
+    (sym (ap (λ k. take p s.flash_buffer ++ drop k s.flash_buffer) (let e : p + 0 ≡ p = omega arith in e) ∙ take-append-drop p s.flash_buffer))
+loaded_at_once word i half (d ∷ ds) s is wraps inside long =
+    let p = word % half * 2 + i in
+    let s₂ : State = record s { flash_buffer = set s.flash_buffer p d } in
+    let place : (word + i / 2) % 256 % (s.part.flash_page / 2) * 2 + half_offset (half_at i) ≡ p =
+    ap₂ (λ h o. (word + i / 2) % 256 % h * 2 + o) is (offset_at i)
+    ∙ (ap (λ x. x * 2 + i % 2) (wraps (word + i / 2)) ∙ place_on word i half (omega arith)) in
+    let long₂ : half * 2 ≤ length (set s.flash_buffer p d) = rw (length-set s.flash_buffer p d) long in
+    ap (λ q. loaded_in_turn word (suc i) ds (record s { flash_buffer = set s.flash_buffer q d })) place
+    ∙ (loaded_at_once word (suc i) half ds s₂ is wraps (omega arith) long₂
+    ∙ ap (λ b. record s { flash_buffer = b })
+    (ap (λ q. pasted q ds (set s.flash_buffer p d)) (let e : word % half * 2 + suc i ≡ suc p = omega arith in e)
+    ∙ paste_on p d ds s.flash_buffer (omega arith)))
+
+pub read_at_once : (word i n half : ℕ) (s : State) → s.part.flash_size / 2 ≡ half
+    → (s.extended * 65536 + word) % half * 2 + i + n ≤ half * 2 → half * 2 ≤ length s.flash
+    → read_in_turn word i n s ≡ take n (drop ((s.extended * 65536 + word) % half * 2 + i) s.flash)
+read_at_once word i zero half s is inside long = refl
+read_at_once word i (suc n) half s is inside long =
+    let w = s.extended * 65536 + word in
+    let p = w % half * 2 + i in
+    let place : (s.extended * 65536 + (word + i / 2)) % (s.part.flash_size / 2) * 2 + half_offset (half_at i) ≡ p =
+    ap₂ (λ h o. (s.extended * 65536 + (word + i / 2)) % h * 2 + o) is (offset_at i)
+    ∙ (ap (λ x. x % half * 2 + i % 2) (let e : s.extended * 65536 + (word + i / 2) ≡ w + i / 2 = omega arith in e)
+    ∙ place_on w i half (omega arith)) in
+    ap₂ (λ b bs. b ∷ bs) (ap (λ q. get_or s.flash q 0) place)
+    (read_at_once word (suc i) n half s is (omega arith) long
+    ∙ ap (λ q. take n (drop q s.flash)) (let e : w % half * 2 + suc i ≡ suc p = omega arith in e))
+    ∙ ap (take (suc n)) (sym (drop-cons s.flash p 0 (omega arith)))
+
+-- a word of the page buffer, by a number of 256
+wraps_in_page : (half : ℕ) → 256 % (half * 2) ≡ 0 → (x : ℕ) → x % 256 % half ≡ x % half
+wraps_in_page half whole x =
+    mod-mod_of_dvd half x (dvd_trans half (dvd-mul_right half 2) (dvd_of_mod-eq-zero (half * 2) whole))
+
+pub block_loaded : (word place : ℕ) (bytes : List ℕ) (s : State) → IsSound s → is_in_page word (length bytes) s ≡ true
+    → place ≡ word % (s.part.flash_page / 2) * 2
+    → record s { flash_buffer = pasted place bytes s.flash_buffer } ≡ loaded_in_turn word 0 bytes s
+block_loaded word place bytes s sound inside at =
+    let half = s.part.flash_page / 2 in
+    let even = sound.part.flash_halves in
+    let whole : s.part.flash_page ≡ half * 2 = omega arith in
+    let fits = leb-true (word % half * 2 + length bytes) s.part.flash_page inside in
+    let long = sound.flash_buffer_size in
+    let first : place ≡ word % half * 2 + 0 = omega arith in
+    ap (λ p. record s { flash_buffer = pasted p bytes s.flash_buffer }) first
+    ∙ sym (loaded_at_once word 0 half bytes s refl
+    (wraps_in_page half (ap (λ x. 256 % x) (sym whole) ∙ sound.part.flash_fits)) (omega arith) (omega arith))
+
+flash_even : (part : Part) → IsPart part → part.flash_size % 2 ≡ 0
+flash_even part sound =
+    mod-eq-zero_of_dvd 2 (dvd_trans 2 (dvd_of_mod-eq-zero 2 sound.flash_halves) (dvd_of_mod-eq-zero part.flash_page sound.flash_pages))
+
+right : (a b : Bool) → (a && b) ≡ true → b ≡ true
+right true b e = e
+right false b e = absurd (cc)
+
+pub block_read : (word n start len : ℕ) (bytes : List ℕ) (s : State) → IsSound s → is_in_flash word n s ≡ true
+    → start ≡ word_address s word → len ≡ n → bytes ≡ s.flash
+    → take (start + len - start) (drop start bytes) ≡ read_in_turn word 0 n s
+block_read word n start len bytes s sound inside at count is =
+    let half = s.part.flash_size / 2 in
+    let even = flash_even s.part sound.part in
+    let whole : half * 2 ≡ s.part.flash_size = omega arith in
+    let p = (s.extended * 65536 + word) % half * 2 in
+    let fits = leb-true (p + n) s.part.flash_size (right (nat_le (word * 2 + n) 131072) _ inside) in
+    let long = sound.flash_size in
+    let first : start ≡ p + 0 = omega arith in
+    let size : start + len - start ≡ n = omega arith in
+    ap₂ (λ k bs. take k (drop start bs)) size is
+    ∙ (ap (λ k. take n (drop k s.flash)) first
+    ∙ sym (read_at_once word 0 n half s refl (omega arith) (omega arith)))
