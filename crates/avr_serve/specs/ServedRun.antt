@@ -35,9 +35,12 @@ fresh_machine chip = record { held = []; programmer = fresh_programmer chip }
 -- was.
 abbrev pub TellsEnd : Served → Option Record → Option Record → ℕ → ℕ → Type 0
 TellsEnd Ended old new before now = (new ≡ old) × (now ≡ before)
-TellsEnd RecvFailed old new before now = Tells (showing old before) (showing new now) (error (codes "link cannot be read" ∷ []))
-TellsEnd SendFailed old new before now = Tells (showing old before) (showing new now) (error (codes "link cannot be written" ∷ []))
-TellsEnd TooManyReads old new before now = Tells (showing old before) (showing new now) (error (codes "too many reads" ∷ []))
+TellsEnd RecvFailed old new before now =
+    Tells (showing old before) (showing new now) (error (codes "link cannot be read" ∷ []))
+TellsEnd SendFailed old new before now =
+    Tells (showing old before) (showing new now) (error (codes "link cannot be written" ∷ []))
+TellsEnd TooManyReads old new before now =
+    Tells (showing old before) (showing new now) (error (codes "too many reads" ∷ []))
 
 -- the status, where the chip was saved
 abbrev pub status_of : Served → ℕ

@@ -21,7 +21,8 @@ fn tell<D: Desk>(desk: &mut D, text: &str)
 
 /// Tells how serving ended, if not with an end that was heard.
 pub(crate) fn tell_end<D: Desk>(desk: &mut D, served: Served)
-    ensures told { TellsEnd served (D.view desk.old).kept (D.view desk.new).kept (D.view desk.old).failures (D.view desk.new).failures }
+    ensures told { TellsEnd served (D.view desk.old).kept (D.view desk.new).kept (D.view desk.old).failures
+        (D.view desk.new).failures }
     ensures rises { (D.view desk.old).failures ≤ (D.view desk.new).failures }
 {
     match served {
