@@ -1,5 +1,4 @@
 //! Blocks of EEPROM.
-#![tactic(auto)]
 
 ghost use Rattle.std.specs.Prelude.{◌≡◌, ◌<◌, ◌≤◌, ◌+◌, ◌++◌, length};
 ghost use Rattle.stk_emu.specs.Programmer.{bit_31, sent_to, eeprom_loads, eeprom_writes, eeprom_looks};

@@ -1,5 +1,4 @@
 //! The programmer behind its frames.
-#![tactic(auto)]
 
 ghost use Rattle.std.specs.Prelude.{◌≡◌, ◌<◌, ◌≤◌, ◌++◌, ◌∷◌, [], ℕ, List, length, take};
 ghost use Rattle.stk_frame.specs.Frame.{frame};

@@ -1,5 +1,4 @@
 //! Blocks of flash.
-#![tactic(auto)]
 
 ghost use Rattle.std.specs.Prelude.{◌≡◌, ◌<◌, ◌≤◌, ◌+◌, ◌++◌, length};
 ghost use Rattle.stk_emu.specs.Programmer.{bit_31, sent_to, flash_loads, flash_writes, flash_looks};

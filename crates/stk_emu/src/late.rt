@@ -1,5 +1,4 @@
 //! The answers that wait.
-#![tactic(auto)]
 
 ghost use Rattle.std.specs.Prelude.{◌≡◌, ◌≤◌, [], length};
 ghost use Rattle.stk_host.specs.Tape.{on_tape};

@@ -1,6 +1,5 @@
 //! Laws of a conversation over a bad wire, over the definitions alone: what the programmer's memories are at each
 //! moment, and what is read of them. No code.
-#![tactic(auto)]
 
 ghost use Rattle.std.specs.Prelude.{◌≡◌, ◌++◌, ℕ, List, [], ◌∷◌, Some, Ok, Result, Bool, None, length, take, replicate, slice_index, ◌<◌, ◌≤◌, ◌↔◌, Err};
 ghost use Rattle.avr_image.specs.Image.{byte_at, or_blank};

@@ -1,5 +1,4 @@
 //! The wire, frame by frame.
-#![tactic(auto)]
 
 ghost use Rattle.std.specs.Prelude.{◌≡◌, ◌≤◌, ◌++◌, [], length, if◌then◌else◌};
 ghost use Rattle.stk_frame.specs.Frame.{frame};

@@ -1,5 +1,4 @@
 //! Noise on the line.
-#![tactic(auto)]
 
 ghost use Rattle.std.specs.Prelude.{◌≡◌, ◌≢◌, ◌↔◌, [], ◌∷◌, IsTrue, true, false, filter};
 ghost use Rattle.stk_frame.specs.Cut.{cut, is_good};

@@ -1,5 +1,4 @@
 //! What a frame brings, and what waits to be heard: bytes, and a `None` for each silence.
-#![tactic(auto)]
 
 ghost use Rattle.std.specs.Prelude.{◌≡◌, ◌+◌, ◌<◌, ◌≤◌, ◌++◌, ◌∷◌, [], length, take};
 ghost use Rattle.stk_host.specs.declared.link.Item.TheVariants as item;

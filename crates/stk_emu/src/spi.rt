@@ -1,5 +1,4 @@
 //! Serial programming instructions for an address.
-#![tactic(auto)]
 
 ghost use Rattle.std.specs.Prelude.{◌≡◌, ◌<◌, ◌≤◌};
 ghost use Rattle.stk_emu.specs.Programmer.{bit_31, at_address, word_at, byte_at, for_half, extension, sent_to};

@@ -42,14 +42,6 @@ pub run_goes_on : (addr i : ℕ) (run found : List ℕ) → i < length run → i
     → difference_from (addr + i) (held_as (drop i run)) (drop i found) ≡ difference_from (addr + (i + 1)) (held_as (drop (i + 1) run)) (drop (i + 1) found)
 run_goes_on addr i run found within there same = run_byte addr i run found within there ∙ rw same refl
 
-pub run_differs : (addr i : ℕ) (run found : List ℕ) → i < length run → i < length found → (get_or found i 0 == get_or run i 0) ≡ false
-    → difference_from (addr + i) (held_as (drop i run)) (drop i found) ≡ Some (record { addr = addr + i; want = get_or run i 0; found = get_or found i 0 })
-run_differs addr i run found within there other = run_byte addr i run found within there ∙ rw other refl
-
--- behind the run nothing differs
-pub run_ends : (addr : ℕ) (run found : List ℕ) → run ≡ [] → difference_from addr (held_as run) found ≡ None
-run_ends addr run found is = rw is refl
-
 -- ---- the runs of an image
 
 abbrev pub earlier : Option Difference → Option Difference → Option Difference

@@ -1,5 +1,5 @@
 -- How far a call has come, over a link.
-use Rattle.std.proofs.Common.{ℕ, List, [], ◌++◌, Option}
+use Rattle.std.proofs.Common.{[], ◌++◌}
 use Rattle.stk_host.specs.declared.fault.Broken.{Broken}
 use Rattle.stk_host.specs.Talk.{LinkView}
 use Rattle.stk_host.specs.Dialog.{Dialog, Done, ◌>>=◌}

@@ -1,7 +1,7 @@
 -- Words for the contracts of calls.
-use Rattle.std.specs.Prelude.{ℕ, Bool, List, [], ◌∷◌, ◌≡◌, ◌<◌, ◌≤◌, length, Option, Result, Ok, Err}
+use Rattle.std.specs.Prelude.{ℕ, Bool, List, [], ◌∷◌, ◌≡◌, ◌<◌, ◌≤◌, length, Option, None, Some, Result, Ok, Err}
 use Rattle.avr_part.specs.declared.mem.Mem.{Mem}
-use Rattle.stk_frame.specs.declared.protocol.TheConstants.{LARGEST_BODY}
+use Rattle.stk_frame.specs.declared.protocol.TheConstants.{LARGEST_BODY, LARGEST_FRAME}
 use Rattle.stk_frame.specs.declared.command.Command.{Command}
 use Rattle.stk_frame.specs.declared.answer.Shape.{Shape}
 use Rattle.stk_frame.specs.declared.answer.Shape.TheVariants.{Name, Bytes, Closed}
@@ -29,6 +29,11 @@ use Rattle.stk_host.specs.Talk.{LinkView, Got, Grows, HasFailed}
 use Rattle.stk_host.specs.Dialog.{Dialog}
 use Rattle.stk_host.specs.Play.{Progress, PlaysOver, FailsOver}
 use Rattle.stk_host.specs.Reach.{Reaches}
+use Rattle.stk_host.specs.State.{HostState, left_by}
+
+-- of what was heard at most one piece is left
+abbrev pub HasFewUnread : Progress → Type 0
+HasFewUnread progress = length progress.unread ≤ LARGEST_FRAME
 
 -- what was heard; bytes are unread now
 abbrev pub HearsPiece : Heard → List ℕ → LinkView → LinkView → Type 0
@@ -149,6 +154,30 @@ FitsFrame command = length (body command) ≤ LARGEST_BODY
 pub record BringsNoData (command : Command) : Type 0 where
   pub fits : FitsFrame command
   pub quiet : shape command ≡ Bytes 0
+
+-- A call of a host that says and hears what ends so.
+pub record CallsBy {A : Type 0} (Ends : Progress → LinkView → LinkView → Result A HostFault → Progress → Type 0)
+    (old new : HostState) (before after : LinkView) (result : Result A HostFault) : Type 0 where
+  -- After the link's end or a fault of it the same fault is answered, and the host stays as it is.
+  pub stays : (fault : HostFault) → old.broken ≡ Some fault → (result ≡ Err fault) × (new ≡ old) × (after ≡ before)
+  pub played : old.broken ≡ None → Ends old.progress before after result new.progress
+  pub lasts : old.broken ≡ None → new.broken ≡ left_by result
+  pub part : new.part ≡ old.part
+  -- A fault of the link is told where the link has failed, and only there.
+  pub failed : old.broken ≡ None → IsBroken result → HasFailed before after
+  pub sound : old.broken ≡ None → UnlessBroken result (after.failures ≡ before.failures)
+  pub counted : before.failures ≤ after.failures
+  pub bound : old.broken ≡ None → HasFewUnread new.progress
+
+-- A call of this dialog: its play, or after a fault of the link a front of it.
+abbrev pub Calls : {A : Type 0} → Dialog ⊥ (Result A HostFault) → HostState → HostState → LinkView → LinkView
+    → Result A HostFault → Type 0
+Calls dialog old new before after result = CallsBy (EndsCall dialog) old new before after result
+
+-- A call of it that takes its memory first.
+abbrev pub CallsOrLacks : {A : Type 0} → Dialog ⊥ (Result A HostFault) → HostState → HostState → LinkView → LinkView
+    → Result A HostFault → Type 0
+CallsOrLacks dialog old new before after result = CallsBy (EndsOrLacks dialog) old new before after result
 
 -- the faults' numbers
 abbrev pub host_fault_number : HostFault → ℕ

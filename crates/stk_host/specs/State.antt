@@ -14,10 +14,9 @@ pub record State : Type 0 where
   pub progress : Progress
   pub held : List ℕ
 
--- a host: its part and the part's signature, its conversation, and the fault that every further call answers
+-- a host: its part, its conversation, and the fault that every further call answers
 pub record HostState : Type 0 where
   pub part : Part
-  pub signature : List ℕ
   pub progress : Progress
   pub broken : Option HostFault
 

@@ -1,12 +1,11 @@
 //! The host: operations over a link, and the fault after which it says nothing more.
-ghost use Rattle.std.specs.Prelude.{◌≡◌, ◌<◌, ◌≤◌, ◌^◌, [], length, Some, None, Err, OnOk, OnErr};
+ghost use Rattle.std.specs.Prelude.{◌≡◌, ◌<◌, ◌≤◌, ◌^◌, [], length, Some, None, OnOk, OnErr};
 ghost use Rattle.avr_part.specs.Part.{size_of};
-ghost use Rattle.stk_frame.specs.declared.protocol.TheConstants.{LARGEST_FRAME};
 ghost use Rattle.stk_host.specs.declared.fault.HostFault.{HostFault};
-ghost use Rattle.stk_host.specs.Talk.{HasFailed, Stays};
+ghost use Rattle.stk_host.specs.Talk.{Stays};
 ghost use Rattle.stk_host.specs.Operations.{opening, closing, erasing, writing, reading, verifying};
 ghost use Rattle.stk_host.specs.State.{left_by};
-ghost use Rattle.stk_host.specs.Calls.{EndsCall, EndsOrLacks, IsBroken, UnlessBroken, told, opened, closed, given, kept, verified};
+ghost use Rattle.stk_host.specs.Calls.{Calls, CallsOrLacks, told, opened, closed, given, kept, verified};
 
 use crate::comparing::compare;
 use crate::conversation::Conversation;
@@ -57,7 +56,6 @@ impl Model for Host {
 
     ghost view = { λ host. record {
       part = host.part;
-      signature = host.part.signature;
       progress = host.conversation.progress;
       broken = host.broken;
     } };
@@ -142,10 +140,7 @@ fn lasting<T>(outcome: &Result<T, HostFault>) -> Option<HostFault>
 impl Host {
     /// A host that has said nothing, for work on this part.
     pub fn new(part: &Part) -> Self
-        ensures part { result.part ≡ part.now }
-        ensures signature { result.signature ≡ part.now.signature }
-        ensures progress { result.progress ≡ record { next = 1; unread = [] } }
-        ensures sound { result.broken ≡ None }
+        ensures { result ≡ record { part = part.now; progress = record { next = 1; unread = [] }; broken = None } }
     {
         Host {
             part: part.copied(),
@@ -160,23 +155,10 @@ impl Host {
     /// Where the signature is another than the part's the fault is [`HostFault::WrongSignature`], unless `force` takes
     /// any.
     pub fn open<L: Link>(&mut self, link: &mut L, force: bool) -> Result<[u8; 3], HostFault>
-        // After the link's end or a fault of it the same fault is answered, and the link stays as it is.
-        ensures stays { (fault : HostFault) → self.old.broken ≡ Some fault → (result ≡ Err fault)
-            × (self.new ≡ self.old) × (link.new ≡ link.old) }
-        // Else the call is the play of the steps that open a session, or after a fault of the link a front of it.
-        ensures played { self.old.broken ≡ None → EndsCall (opening self.old.signature force) self.old.progress
-            (L.view link.old) (L.view link.new) result self.new.progress }
-        ensures lasts { self.old.broken ≡ None → self.new.broken ≡ left_by result }
-        ensures part { self.new.part ≡ self.old.part }
-        ensures signature { self.new.signature ≡ self.old.signature }
-        // A fault of the link is told where the link has failed, and only there.
-        ensures failed { self.old.broken ≡ None → IsBroken result
-            → HasFailed (L.view link.old) (L.view link.new) }
-        ensures sound { self.old.broken ≡ None → UnlessBroken result ((L.view link.new).failures ≡ (L.view link.old).failures) }
-        ensures counted { (L.view link.old).failures ≤ (L.view link.new).failures }
+        ensures calls { Calls (opening self.old.part.signature force) self.old self.new
+            (L.view link.old) (L.view link.new) result }
+        ensures stays { (fault : HostFault) → self.old.broken ≡ Some fault → link.new ≡ link.old }
         ensures comes { Stays L.comes_of link.old link.new }
-        // Of what was heard at most one piece is left.
-        ensures bound { self.old.broken ≡ None → length self.new.progress.unread ≤ LARGEST_FRAME }
     {
         if let Some(fault) = self.broken {
             return Err(fault);
@@ -189,23 +171,9 @@ impl Host {
 
     /// Erases the chip: flash and lock, and EEPROM too unless the part's EESAVE fuse keeps it.
     pub fn erase<L: Link>(&mut self, link: &mut L) -> Result<(), HostFault>
-        // After the link's end or a fault of it the same fault is answered, and the link stays as it is.
-        ensures stays { (fault : HostFault) → self.old.broken ≡ Some fault → (result ≡ Err fault)
-            × (self.new ≡ self.old) × (link.new ≡ link.old) }
-        // Else the call is the play of the step that erases the chip, or after a fault of the link a front of it.
-        ensures played { self.old.broken ≡ None → EndsCall erasing self.old.progress
-            (L.view link.old) (L.view link.new) result self.new.progress }
-        ensures lasts { self.old.broken ≡ None → self.new.broken ≡ left_by result }
-        ensures part { self.new.part ≡ self.old.part }
-        ensures signature { self.new.signature ≡ self.old.signature }
-        // A fault of the link is told where the link has failed, and only there.
-        ensures failed { self.old.broken ≡ None → IsBroken result
-            → HasFailed (L.view link.old) (L.view link.new) }
-        ensures sound { self.old.broken ≡ None → UnlessBroken result ((L.view link.new).failures ≡ (L.view link.old).failures) }
-        ensures counted { (L.view link.old).failures ≤ (L.view link.new).failures }
+        ensures calls { Calls erasing self.old self.new (L.view link.old) (L.view link.new) result }
+        ensures stays { (fault : HostFault) → self.old.broken ≡ Some fault → link.new ≡ link.old }
         ensures comes { Stays L.comes_of link.old link.new }
-        // Of what was heard at most one piece is left.
-        ensures bound { self.old.broken ≡ None → length self.new.progress.unread ≤ LARGEST_FRAME }
     {
         if let Some(fault) = self.broken {
             return Err(fault);
@@ -223,23 +191,10 @@ impl Host {
     /// memory. The call never answers [`HostFault::Memory`].
     pub fn write<L: Link>(&mut self, link: &mut L, mem: Mem, image: &Image) -> Result<(), HostFault>
         requires { length image.now ≤ size_of mem self.old.part }
-        // After the link's end or a fault of it the same fault is answered, and the link stays as it is.
-        ensures stays { (fault : HostFault) → self.old.broken ≡ Some fault → (result ≡ Err fault)
-            × (self.new ≡ self.old) × (link.new ≡ link.old) }
-        // Else the call is the play of the steps that write the image, or after a fault of the link a front of it.
-        ensures played { self.old.broken ≡ None → EndsCall (writing self.old.part mem image.now) self.old.progress
-            (L.view link.old) (L.view link.new) result self.new.progress }
-        ensures lasts { self.old.broken ≡ None → self.new.broken ≡ left_by result }
-        ensures part { self.new.part ≡ self.old.part }
-        ensures signature { self.new.signature ≡ self.old.signature }
-        // A fault of the link is told where the link has failed, and only there.
-        ensures failed { self.old.broken ≡ None → IsBroken result
-            → HasFailed (L.view link.old) (L.view link.new) }
-        ensures sound { self.old.broken ≡ None → UnlessBroken result ((L.view link.new).failures ≡ (L.view link.old).failures) }
-        ensures counted { (L.view link.old).failures ≤ (L.view link.new).failures }
+        ensures calls { Calls (writing self.old.part mem image.now) self.old self.new
+            (L.view link.old) (L.view link.new) result }
+        ensures stays { (fault : HostFault) → self.old.broken ≡ Some fault → link.new ≡ link.old }
         ensures comes { Stays L.comes_of link.old link.new }
-        // Of what was heard at most one piece is left.
-        ensures bound { self.old.broken ≡ None → length self.new.progress.unread ≤ LARGEST_FRAME }
     {
         if let Some(fault) = self.broken {
             return Err(fault);
@@ -262,27 +217,14 @@ impl Host {
         mem: Mem,
         out: &mut Vec<u8>,
     ) -> Result<(), HostFault>
-        // After the link's end or a fault of it the same fault is answered, and the link stays as it is.
-        ensures stays { (fault : HostFault) → self.old.broken ≡ Some fault → (result ≡ Err fault)
-            × (self.new ≡ self.old) × (link.new ≡ link.old) }
-        // Else the call is the play of the steps that read the memory, or after a fault of the link a front of it.
         // Where memory was refused nothing was sent or heard.
-        ensures played { self.old.broken ≡ None → EndsOrLacks (reading self.old.part mem) self.old.progress
-            (L.view link.old) (L.view link.new) (given out.new.items result) self.new.progress }
+        ensures calls { CallsOrLacks (reading self.old.part mem) self.old self.new (L.view link.old) (L.view link.new)
+            (given out.new.items result) }
         ensures empty { OnErr result (out.new.items ≡ []) }
         ensures sized { OnOk result (length out.new.items ≡ size_of mem self.old.part) }
         ensures short { length out.new.items < 2 ^ 32 }
-        ensures lasts { self.old.broken ≡ None → self.new.broken ≡ left_by result }
-        ensures part { self.new.part ≡ self.old.part }
-        ensures signature { self.new.signature ≡ self.old.signature }
-        // A fault of the link is told where the link has failed, and only there.
-        ensures failed { self.old.broken ≡ None → IsBroken result
-            → HasFailed (L.view link.old) (L.view link.new) }
-        ensures sound { self.old.broken ≡ None → UnlessBroken result ((L.view link.new).failures ≡ (L.view link.old).failures) }
-        ensures counted { (L.view link.old).failures ≤ (L.view link.new).failures }
+        ensures stays { (fault : HostFault) → self.old.broken ≡ Some fault → link.new ≡ link.old }
         ensures comes { Stays L.comes_of link.old link.new }
-        // Of what was heard at most one piece is left.
-        ensures bound { self.old.broken ≡ None → length self.new.progress.unread ≤ LARGEST_FRAME }
     {
         out.clear();
         if let Some(fault) = self.broken {
@@ -310,24 +252,11 @@ impl Host {
         image: &Image,
     ) -> Result<(), HostFault>
         requires { length image.now ≤ size_of mem self.old.part }
-        // After the link's end or a fault of it the same fault is answered, and the link stays as it is.
-        ensures stays { (fault : HostFault) → self.old.broken ≡ Some fault → (result ≡ Err fault)
-            × (self.new ≡ self.old) × (link.new ≡ link.old) }
-        // Else the call is the play of the steps that read the memory and the comparison, or after a fault of the link
-        // a front of it. Where memory was refused nothing was sent or heard.
-        ensures played { self.old.broken ≡ None → EndsOrLacks (verifying self.old.part mem image.now) self.old.progress
-            (L.view link.old) (L.view link.new) result self.new.progress }
-        ensures lasts { self.old.broken ≡ None → self.new.broken ≡ left_by result }
-        ensures part { self.new.part ≡ self.old.part }
-        ensures signature { self.new.signature ≡ self.old.signature }
-        // A fault of the link is told where the link has failed, and only there.
-        ensures failed { self.old.broken ≡ None → IsBroken result
-            → HasFailed (L.view link.old) (L.view link.new) }
-        ensures sound { self.old.broken ≡ None → UnlessBroken result ((L.view link.new).failures ≡ (L.view link.old).failures) }
-        ensures counted { (L.view link.old).failures ≤ (L.view link.new).failures }
+        // Where memory was refused nothing was sent or heard.
+        ensures calls { CallsOrLacks (verifying self.old.part mem image.now) self.old self.new
+            (L.view link.old) (L.view link.new) result }
+        ensures stays { (fault : HostFault) → self.old.broken ≡ Some fault → link.new ≡ link.old }
         ensures comes { Stays L.comes_of link.old link.new }
-        // Of what was heard at most one piece is left.
-        ensures bound { self.old.broken ≡ None → length self.new.progress.unread ≤ LARGEST_FRAME }
     {
         if let Some(fault) = self.broken {
             return Err(fault);
@@ -344,24 +273,9 @@ impl Host {
 
     /// Closes the session: leaves programming mode.
     pub fn close<L: Link>(&mut self, link: &mut L) -> Result<(), HostFault>
-        // After the link's end or a fault of it the same fault is answered, and the link stays as it is.
-        ensures stays { (fault : HostFault) → self.old.broken ≡ Some fault → (result ≡ Err fault)
-            × (self.new ≡ self.old) × (link.new ≡ link.old) }
-        // Else the call is the play of the step that leaves programming mode, or after a fault of the link a front of
-        // it.
-        ensures played { self.old.broken ≡ None → EndsCall closing self.old.progress
-            (L.view link.old) (L.view link.new) result self.new.progress }
-        ensures lasts { self.old.broken ≡ None → self.new.broken ≡ left_by result }
-        ensures part { self.new.part ≡ self.old.part }
-        ensures signature { self.new.signature ≡ self.old.signature }
-        // A fault of the link is told where the link has failed, and only there.
-        ensures failed { self.old.broken ≡ None → IsBroken result
-            → HasFailed (L.view link.old) (L.view link.new) }
-        ensures sound { self.old.broken ≡ None → UnlessBroken result ((L.view link.new).failures ≡ (L.view link.old).failures) }
-        ensures counted { (L.view link.old).failures ≤ (L.view link.new).failures }
+        ensures calls { Calls closing self.old self.new (L.view link.old) (L.view link.new) result }
+        ensures stays { (fault : HostFault) → self.old.broken ≡ Some fault → link.new ≡ link.old }
         ensures comes { Stays L.comes_of link.old link.new }
-        // Of what was heard at most one piece is left.
-        ensures bound { self.old.broken ≡ None → length self.new.progress.unread ≤ LARGEST_FRAME }
     {
         if let Some(fault) = self.broken {
             return Err(fault);

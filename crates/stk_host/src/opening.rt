@@ -1,10 +1,9 @@
 //! The steps that open and close a session.
 ghost use Rattle.std.specs.Prelude.{◌≡◌, ◌≤◌, ◌∷◌, [], length};
-ghost use Rattle.stk_frame.specs.declared.protocol.TheConstants.{LARGEST_FRAME};
 ghost use Rattle.stk_frame.specs.HostCommands.{leave, read_signature};
 ghost use Rattle.stk_host.specs.Steps.{step};
 ghost use Rattle.stk_host.specs.Operations.{beginning};
-ghost use Rattle.stk_host.specs.Calls.{EndsSteps, CountsLink};
+ghost use Rattle.stk_host.specs.Calls.{EndsSteps, CountsLink, HasFewUnread};
 ghost use Rattle.stk_host.specs.Talk.{Stays};
 
 use crate::conversation::Conversation;
@@ -19,11 +18,10 @@ fn signature_byte<L: Link>(
     place: u8,
 ) -> Result<u8, Stop>
     ensures played { EndsSteps (step (read_signature place ∷ [])) conversation.old.progress
-        (L.view link.old) (L.view link.new)
-        (λ byte. byte ∷ []) result conversation.new.progress }
+        (L.view link.old) (L.view link.new) (λ byte. byte ∷ []) result conversation.new.progress }
     ensures counted { CountsLink (L.view link.old) (L.view link.new) result }
     ensures comes { Stays L.comes_of link.old link.new }
-    ensures bound { length conversation.new.progress.unread ≤ LARGEST_FRAME }
+    ensures bound { HasFewUnread conversation.new.progress }
 {
     let command = Command::read_signature(place);
     conversation.step(link, &[], &command)?;
@@ -32,12 +30,11 @@ fn signature_byte<L: Link>(
 
 /// Signs on, enters programming mode and reads the signature, byte 0 first.
 pub(crate) fn begin<L: Link>(conversation: &mut Conversation, link: &mut L) -> Result<[u8; 3], Stop>
-    ensures played { EndsSteps beginning conversation.old.progress (L.view link.old)
-        (L.view link.new)
-        (λ found. found) result conversation.new.progress }
+    ensures played { EndsSteps beginning conversation.old.progress (L.view link.old) (L.view link.new) (λ found. found)
+        result conversation.new.progress }
     ensures counted { CountsLink (L.view link.old) (L.view link.new) result }
     ensures comes { Stays L.comes_of link.old link.new }
-    ensures bound { length conversation.new.progress.unread ≤ LARGEST_FRAME }
+    ensures bound { HasFewUnread conversation.new.progress }
 {
     conversation.step(link, &[], &Command::SignOn)?;
     conversation.step(link, &[], &Command::enter())?;
@@ -49,12 +46,11 @@ pub(crate) fn begin<L: Link>(conversation: &mut Conversation, link: &mut L) -> R
 
 /// Leaves programming mode.
 pub(crate) fn end<L: Link>(conversation: &mut Conversation, link: &mut L) -> Result<(), Stop>
-    ensures played { EndsSteps (step (leave ∷ [])) conversation.old.progress (L.view link.old)
-        (L.view link.new)
+    ensures played { EndsSteps (step (leave ∷ [])) conversation.old.progress (L.view link.old) (L.view link.new)
         (λ done. []) result conversation.new.progress }
     ensures counted { CountsLink (L.view link.old) (L.view link.new) result }
     ensures comes { Stays L.comes_of link.old link.new }
-    ensures bound { length conversation.new.progress.unread ≤ LARGEST_FRAME }
+    ensures bound { HasFewUnread conversation.new.progress }
 {
     conversation.step(link, &[], &Command::leave())
 }

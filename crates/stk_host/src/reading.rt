@@ -1,12 +1,11 @@
 //! The steps that read a whole memory.
 ghost use Rattle.std.specs.Prelude.{◌≡◌, ◌+◌, ◌<◌, ◌≤◌, ◌^◌, ◌∷◌, [], length, OnOk, vec_capacity};
 ghost use Rattle.avr_part.specs.Part as parts;
-ghost use Rattle.stk_frame.specs.declared.protocol.TheConstants.{LARGEST_FRAME};
 ghost use Rattle.stk_frame.specs.Commands.{shape};
 ghost use Rattle.stk_host.specs.Places.{each_from};
 ghost use Rattle.stk_host.specs.ReadSteps.{block_count, block_size, load_block, read_block, block_steps, signature_steps, read_steps};
 ghost use Rattle.stk_host.specs.Steps.{play};
-ghost use Rattle.stk_host.specs.Calls.{EndsSteps, CountsLink, FitsFrame, BringsNoData, IsCounted, data_count};
+ghost use Rattle.stk_host.specs.Calls.{EndsSteps, CountsLink, HasFewUnread, FitsFrame, BringsNoData, IsCounted, data_count};
 ghost use Rattle.stk_host.specs.Talk.{Stays};
 
 use crate::conversation::Conversation;
@@ -63,12 +62,13 @@ fn read_blocks<L: Link>(
 ) -> Result<(), Stop>
     requires empty { out.old.items ≡ [] }
     requires room { parts.size_of mem part.now ≤ vec_capacity out.old }
-    ensures played { EndsSteps (play (each_from (block_steps part.now mem) 0 (block_count (parts.size_of mem part.now)))
-        []) conversation.old.progress (L.view link.old) (L.view link.new)
-        (λ done. out.new.items) result conversation.new.progress }
+    ensures played { EndsSteps
+        (play (each_from (block_steps part.now mem) 0 (block_count (parts.size_of mem part.now))) [])
+        conversation.old.progress (L.view link.old) (L.view link.new) (λ done. out.new.items) result
+        conversation.new.progress }
     ensures counted { CountsLink (L.view link.old) (L.view link.new) result }
     ensures comes { Stays L.comes_of link.old link.new }
-    ensures bound { length conversation.old.progress.unread ≤ LARGEST_FRAME → length conversation.new.progress.unread ≤ LARGEST_FRAME }
+    ensures bound { HasFewUnread conversation.old.progress → HasFewUnread conversation.new.progress }
     ensures size { OnOk result (length out.new.items ≡ parts.size_of mem part.now) }
 {
     let size = part.size_of(mem);
@@ -89,12 +89,11 @@ fn read_signature<L: Link>(
 ) -> Result<(), Stop>
     requires empty { out.old.items ≡ [] }
     requires room { 3 ≤ vec_capacity out.old }
-    ensures played { EndsSteps (play signature_steps []) conversation.old.progress (L.view link.old)
-        (L.view link.new)
+    ensures played { EndsSteps (play signature_steps []) conversation.old.progress (L.view link.old) (L.view link.new)
         (λ done. out.new.items) result conversation.new.progress }
     ensures counted { CountsLink (L.view link.old) (L.view link.new) result }
     ensures comes { Stays L.comes_of link.old link.new }
-    ensures bound { length conversation.old.progress.unread ≤ LARGEST_FRAME → length conversation.new.progress.unread ≤ LARGEST_FRAME }
+    ensures bound { HasFewUnread conversation.old.progress → HasFewUnread conversation.new.progress }
     ensures size { OnOk result (length out.new.items ≡ 3) }
 {
     for place in 0..3 {
@@ -122,11 +121,10 @@ fn read_byte<L: Link>(
     requires empty { out.old.items ≡ [] }
     requires room { 1 ≤ vec_capacity out.old }
     ensures played { EndsSteps (play ((command.now ∷ []) ∷ []) []) conversation.old.progress
-        (L.view link.old) (L.view link.new)
-        (λ done. out.new.items) result conversation.new.progress }
+        (L.view link.old) (L.view link.new) (λ done. out.new.items) result conversation.new.progress }
     ensures counted { CountsLink (L.view link.old) (L.view link.new) result }
     ensures comes { Stays L.comes_of link.old link.new }
-    ensures bound { length conversation.new.progress.unread ≤ LARGEST_FRAME }
+    ensures bound { HasFewUnread conversation.new.progress }
     ensures size { OnOk result (length out.new.items ≡ 1) }
 {
     read_step(conversation, link, &[], command, out)
@@ -143,11 +141,10 @@ pub(crate) fn read_memory<L: Link>(
     requires empty { out.old.items ≡ [] }
     requires room { parts.size_of mem part.now ≤ vec_capacity out.old }
     ensures played { EndsSteps (play (read_steps part.now mem) []) conversation.old.progress
-        (L.view link.old) (L.view link.new)
-        (λ done. out.new.items) result conversation.new.progress }
+        (L.view link.old) (L.view link.new) (λ done. out.new.items) result conversation.new.progress }
     ensures counted { CountsLink (L.view link.old) (L.view link.new) result }
     ensures comes { Stays L.comes_of link.old link.new }
-    ensures bound { length conversation.old.progress.unread ≤ LARGEST_FRAME → length conversation.new.progress.unread ≤ LARGEST_FRAME }
+    ensures bound { HasFewUnread conversation.old.progress → HasFewUnread conversation.new.progress }
     ensures size { OnOk result (length out.new.items ≡ parts.size_of mem part.now) }
 {
     let command = match mem {

@@ -2,12 +2,11 @@
 ghost use Rattle.std.specs.Prelude.{◌≡◌, ◌<◌, ◌≤◌, ◌-◌, ◌^◌, ◌∷◌, [], length};
 ghost use Rattle.avr_image.specs.Image.{byte_at, filled};
 ghost use Rattle.avr_part.specs.Part.{size_of};
-ghost use Rattle.stk_frame.specs.declared.protocol.TheConstants.{LARGEST_FRAME};
 ghost use Rattle.stk_frame.specs.HostCommands as host;
 ghost use Rattle.stk_host.specs.Places as places;
 ghost use Rattle.stk_host.specs.WriteSteps.{page_step, byte_steps, write_steps};
 ghost use Rattle.stk_host.specs.Steps.{play};
-ghost use Rattle.stk_host.specs.Calls.{with_step, without_step, EndsInnerStep, EndsSteps, CountsLink};
+ghost use Rattle.stk_host.specs.Calls.{with_step, without_step, EndsInnerStep, EndsSteps, CountsLink, HasFewUnread};
 ghost use Rattle.stk_host.specs.Talk.{Stays};
 
 use crate::conversation::Conversation;
@@ -32,11 +31,10 @@ fn program_page<L: Link>(
 ) -> Result<(), Stop>
     requires { start < 2 ^ 20 }
     ensures played { EndsInnerStep (with_step (page_step part.now image.now start) []) (without_step [])
-        conversation.old.progress (L.view link.old) (L.view link.new)
-        result conversation.new.progress }
+        conversation.old.progress (L.view link.old) (L.view link.new) result conversation.new.progress }
     ensures counted { CountsLink (L.view link.old) (L.view link.new) result }
     ensures comes { Stays L.comes_of link.old link.new }
-    ensures bound { length conversation.new.progress.unread ≤ LARGEST_FRAME }
+    ensures bound { HasFewUnread conversation.new.progress }
 {
     let size = page_size(part, Mem::Flash) as usize;
     let mut page = [0; LARGEST_PAGE];
@@ -54,11 +52,11 @@ fn write_flash<L: Link>(
     image: &Image,
 ) -> Result<(), Stop>
     requires { length image.now ≤ size_of Mem.Flash part.now }
-    ensures played { EndsSteps (play (write_steps part.now Mem.Flash image.now) []) conversation.old.progress (L.view link.old) (L.view link.new)
-        (λ done. []) result conversation.new.progress }
+    ensures played { EndsSteps (play (write_steps part.now Mem.Flash image.now) []) conversation.old.progress
+        (L.view link.old) (L.view link.new) (λ done. []) result conversation.new.progress }
     ensures counted { CountsLink (L.view link.old) (L.view link.new) result }
     ensures comes { Stays L.comes_of link.old link.new }
-    ensures bound { length conversation.old.progress.unread ≤ LARGEST_FRAME → length conversation.new.progress.unread ≤ LARGEST_FRAME }
+    ensures bound { HasFewUnread conversation.old.progress → HasFewUnread conversation.new.progress }
 {
     let size = page_size(part, Mem::Flash);
     let mut next = 0;
@@ -82,11 +80,11 @@ fn program_run<L: Link>(
     requires fits { end - start ≤ 256 }
     ensures played { EndsInnerStep
         (with_step (places.load_eeprom start ∷ host.program_eeprom (filled image.now start (end - start)) ∷ []) [])
-        (without_step []) conversation.old.progress (L.view link.old) (L.view link.new)
-        result conversation.new.progress }
+        (without_step []) conversation.old.progress (L.view link.old) (L.view link.new) result
+        conversation.new.progress }
     ensures counted { CountsLink (L.view link.old) (L.view link.new) result }
     ensures comes { Stays L.comes_of link.old link.new }
-    ensures bound { length conversation.new.progress.unread ≤ LARGEST_FRAME }
+    ensures bound { HasFewUnread conversation.new.progress }
 {
     let size = (end - start) as usize;
     let mut run = [0; LARGEST_PAGE];
@@ -104,11 +102,11 @@ fn write_eeprom<L: Link>(
     image: &Image,
 ) -> Result<(), Stop>
     requires { length image.now ≤ size_of Mem.Eeprom part.now }
-    ensures played { EndsSteps (play (write_steps part.now Mem.Eeprom image.now) []) conversation.old.progress (L.view link.old) (L.view link.new)
-        (λ done. []) result conversation.new.progress }
+    ensures played { EndsSteps (play (write_steps part.now Mem.Eeprom image.now) []) conversation.old.progress
+        (L.view link.old) (L.view link.new) (λ done. []) result conversation.new.progress }
     ensures counted { CountsLink (L.view link.old) (L.view link.new) result }
     ensures comes { Stays L.comes_of link.old link.new }
-    ensures bound { length conversation.old.progress.unread ≤ LARGEST_FRAME → length conversation.new.progress.unread ≤ LARGEST_FRAME }
+    ensures bound { HasFewUnread conversation.old.progress → HasFewUnread conversation.new.progress }
 {
     let size = page_size(part, Mem::Eeprom);
     let mut next = 0;
@@ -127,11 +125,11 @@ fn write_fuse<L: Link>(
     fuse: Fuse,
     byte: Option<u8>,
 ) -> Result<(), Stop>
-    ensures played { EndsSteps (play (byte_steps (host.program_fuse fuse) byte) []) conversation.old.progress (L.view link.old) (L.view link.new)
-        (λ done. []) result conversation.new.progress }
+    ensures played { EndsSteps (play (byte_steps (host.program_fuse fuse) byte) []) conversation.old.progress
+        (L.view link.old) (L.view link.new) (λ done. []) result conversation.new.progress }
     ensures counted { CountsLink (L.view link.old) (L.view link.new) result }
     ensures comes { Stays L.comes_of link.old link.new }
-    ensures bound { length conversation.old.progress.unread ≤ LARGEST_FRAME → length conversation.new.progress.unread ≤ LARGEST_FRAME }
+    ensures bound { HasFewUnread conversation.old.progress → HasFewUnread conversation.new.progress }
 {
     match byte {
         Some(value) => play_step(conversation, link, &[], &Command::program_fuse(fuse, value)),
@@ -145,11 +143,11 @@ fn write_lock<L: Link>(
     link: &mut L,
     byte: Option<u8>,
 ) -> Result<(), Stop>
-    ensures played { EndsSteps (play (byte_steps host.program_lock byte) []) conversation.old.progress (L.view link.old) (L.view link.new)
-        (λ done. []) result conversation.new.progress }
+    ensures played { EndsSteps (play (byte_steps host.program_lock byte) []) conversation.old.progress
+        (L.view link.old) (L.view link.new) (λ done. []) result conversation.new.progress }
     ensures counted { CountsLink (L.view link.old) (L.view link.new) result }
     ensures comes { Stays L.comes_of link.old link.new }
-    ensures bound { length conversation.old.progress.unread ≤ LARGEST_FRAME → length conversation.new.progress.unread ≤ LARGEST_FRAME }
+    ensures bound { HasFewUnread conversation.old.progress → HasFewUnread conversation.new.progress }
 {
     match byte {
         Some(value) => play_step(conversation, link, &[], &Command::program_lock(value)),
@@ -166,11 +164,11 @@ pub(crate) fn write_memory<L: Link>(
     image: &Image,
 ) -> Result<(), Stop>
     requires { length image.now ≤ size_of mem part.now }
-    ensures played { EndsSteps (play (write_steps part.now mem image.now) []) conversation.old.progress (L.view link.old) (L.view link.new)
-        (λ done. []) result conversation.new.progress }
+    ensures played { EndsSteps (play (write_steps part.now mem image.now) []) conversation.old.progress
+        (L.view link.old) (L.view link.new) (λ done. []) result conversation.new.progress }
     ensures counted { CountsLink (L.view link.old) (L.view link.new) result }
     ensures comes { Stays L.comes_of link.old link.new }
-    ensures bound { length conversation.old.progress.unread ≤ LARGEST_FRAME → length conversation.new.progress.unread ≤ LARGEST_FRAME }
+    ensures bound { HasFewUnread conversation.old.progress → HasFewUnread conversation.new.progress }
 {
     match mem {
         Mem::Flash => write_flash(conversation, link, part, image),

@@ -3,7 +3,7 @@ use Rattle.avr_session.specs.Session.{fault_or, read_says}
 use Rattle.stk_host.specs.Calls.{given}
 use Rattle.avr_session.specs.Runs.{ReadStops}
 use Rattle.avr_session.proofs.Operations.{lack_ended}
-use Rattle.avr_session.proofs.Performing.{operation_performs, given_concluded, given_left, given_broken, given_told, read_stops_report}
+use Rattle.avr_session.proofs.Performing.{operation_performs, given_concluded, given_told, read_stops_report}
 use Rattle.avr_session.proofs.parts.read.Goals as goal
 
 pub report_read-reported-requires : goal.report_read-reported-requires
@@ -16,8 +16,8 @@ returns-clause-performs g c =
     operation_performs true (fault_or c.args.plan.now.part (read_says c.args.plan.now.switches c.args.mem c.args.target.format c.args.target.file.now)) (given items c.read-outcome.result) c.report_read-reported.result c.conclude.result (ReadStops c.read-outcome.result)
     (read_stops_report c.args.plan.now.part c.args.plan.now.switches c.args.mem c.args.target.format c.args.target.file.now items c.read-outcome.result _ _ reports)
     (c.conclude.ensures ∙ sym (given_concluded items c.read-outcome.result c.report_read-reported.result))
-    (lack_ended _ _ _ _ (given items c.read-outcome.result) _ (rw c.requires.part at (c.read-outcome.ensures.played c.requires.sound))) (c.read-outcome.ensures.bound c.requires.sound)
+    (lack_ended _ _ _ _ (given items c.read-outcome.result) _ (rw c.requires.part at (c.read-outcome.ensures.calls.played c.requires.sound))) (c.read-outcome.ensures.calls.bound c.requires.sound)
     reports
     (given_told items (read_says c.args.plan.now.switches c.args.mem c.args.target.format c.args.target.file.now) _ _ c.args.plan.now.part c.read-outcome.result c.report_read-reported.result reports)
-    (λ broken. c.read-outcome.ensures.failed c.requires.sound (given_broken items c.read-outcome.result broken)) (c.read-outcome.ensures.lasts c.requires.sound ∙ sym (given_left items c.read-outcome.result)) c.read-outcome.ensures.part
-    c.read-outcome.ensures.counted
+    (c.read-outcome.ensures.calls.failed c.requires.sound) (c.read-outcome.ensures.calls.lasts c.requires.sound) c.read-outcome.ensures.calls.part
+    c.read-outcome.ensures.calls.counted

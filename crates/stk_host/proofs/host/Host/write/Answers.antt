@@ -1,9 +1,27 @@
-use Rattle.std.proofs.Common.{◌∙◌, sym}
+use Rattle.std.proofs.Common.{◌∙◌, sym, rules}
 use Rattle.stk_host.proofs.Going.{writing_ends, writes_nothing}
 use Rattle.stk_host.proofs.host.Host.write.Goals as goal
 
-pub returns-then-not-writable-clause-played : goal.returns-then-not-writable-clause-played
-returns-then-not-writable-clause-played g c = λ sound. writes_nothing c.args.self.now.part c.args.mem c.args.image.now _ _ (sym c.writable.ensures ∙ c.if-not-writable.true)
+pub returns-then-not-writable-clause-calls : goal.returns-then-not-writable-clause-calls
+returns-then-not-writable-clause-calls g c = record {
+  stays = search rules;
+  played = λ sound. writes_nothing c.args.self.now.part c.args.mem c.args.image.now _ _ (sym c.writable.ensures ∙ c.if-not-writable.true);
+  lasts = search rules;
+  part = search rules;
+  failed = search rules;
+  sound = search rules;
+  counted = search rules;
+  bound = search rules;
+}
 
-pub returns-clause-played : goal.returns-clause-played
-returns-clause-played g c = λ sound. rw (← c.self.view_is) (rw c.judge_end-outcome.ensures (writing_ends c.self.inside.part c.args.mem c.args.image.now c.write_memory-written.result _ _ _ _ (sym c.writable.ensures ∙ c.if-not-writable.false) c.write_memory-written.ensures.played))
+pub returns-clause-calls : goal.returns-clause-calls
+returns-clause-calls g c = record {
+  stays = search rules;
+  played = λ sound. rw (← c.self.view_is) (rw c.judge_end-outcome.ensures (writing_ends c.self.inside.part c.args.mem c.args.image.now c.write_memory-written.result _ _ _ _ (sym c.writable.ensures ∙ c.if-not-writable.false) c.write_memory-written.ensures.played));
+  lasts = search rules;
+  part = search rules;
+  failed = search rules;
+  sound = search rules;
+  counted = search rules;
+  bound = search rules;
+}
