@@ -224,34 +224,6 @@ pub given_concluded : {A : Type 0} (a : A) (outcome : Result (Unit {0}) HostFaul
 given_concluded a outcome (Ok ok) = given_goes a outcome
 given_concluded a outcome (Err stopped) = refl
 
-pub given_left : {A : Type 0} (a : A) (outcome : Result (Unit {0}) HostFault) → left_by (given a outcome) ≡ left_by outcome
-given_left a (Ok ok) = refl
-given_left a (Err NoAnswer) = refl
-given_left a (Err LinkEnded) = refl
-given_left a (Err SendFailed) = refl
-given_left a (Err Babble) = refl
-given_left a (Err (Refused command status)) = refl
-given_left a (Err (BadAnswer command)) = refl
-given_left a (Err (WrongSignature found)) = refl
-given_left a (Err (Differs mem address want found)) = refl
-given_left a (Err (ReadOnly mem)) = refl
-given_left a (Err Memory) = refl
-given_left a (Err RecvFailed) = refl
-
-pub given_broken : {A : Type 0} (a : A) (outcome : Result (Unit {0}) HostFault) → IsBroken (given a outcome) → IsBroken outcome
-given_broken a (Ok ok) broken = broken
-given_broken a (Err NoAnswer) broken = broken
-given_broken a (Err LinkEnded) broken = broken
-given_broken a (Err SendFailed) broken = broken
-given_broken a (Err Babble) broken = broken
-given_broken a (Err (Refused command status)) broken = broken
-given_broken a (Err (BadAnswer command)) broken = broken
-given_broken a (Err (WrongSignature found)) broken = broken
-given_broken a (Err (Differs mem address want found)) broken = broken
-given_broken a (Err (ReadOnly mem)) broken = broken
-given_broken a (Err Memory) broken = broken
-given_broken a (Err RecvFailed) broken = broken
-
 -- a fault alone tells why a run stops
 pub given_told : {A : Type 0} (a : A) (good : A → List Saying) (old new : DeskView) (part : Part) (outcome : Result (Unit {0}) HostFault) (told : Result (Unit {0}) Stopped)
     → Reports (ReadStops outcome) old new (fault_or part good (given a outcome)) told → IsStop (given a outcome) → Tells old new (cause_line (cause_of (given a outcome)))

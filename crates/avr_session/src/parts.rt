@@ -29,7 +29,7 @@ pub(crate) fn open_session<D: Desk, L: Link>(
     plan: &Plan,
 ) -> Result<Standing, Stopped>
     requires sound { host.old.broken ≡ None }
-    requires signature { host.old.part.signature ≡ plan.now.part.signature }
+    requires part { host.old.part ≡ plan.now.part }
     ensures performs { Performs false (opening_part plan.now.part plan.now.switches) host.old host.new
         (devices (L.view link.old) (D.view desk.old)) (devices (L.view link.new) (D.view desk.new)) result }
     ensures comes { Stays L.comes_of link.old link.new }

@@ -24,7 +24,7 @@ fn open_and_erase<D: Desk, L: Link>(
     plan: &Plan,
 ) -> Result<Standing, Stopped>
     requires sound { host.old.broken ≡ None }
-    requires signature { host.old.part.signature ≡ plan.now.part.signature }
+    requires part { host.old.part ≡ plan.now.part }
     ensures performs { Performs false (beginning plan.now) host.old host.new
         (devices (L.view link.old) (D.view desk.old)) (devices (L.view link.new) (D.view desk.new)) result }
     ensures comes { Stays L.comes_of link.old link.new }
@@ -44,7 +44,6 @@ fn work<D: Desk, L: Link>(
     plan: &Plan,
 ) -> Result<Standing, Stopped>
     requires sound { host.old.broken ≡ None }
-    requires signature { host.old.part.signature ≡ plan.now.part.signature }
     requires part { host.old.part ≡ plan.now.part }
     ensures performs { Performs (takes_memory plan.now) (working plan.now) host.old host.new
         (devices (L.view link.old) (D.view desk.old)) (devices (L.view link.new) (D.view desk.new)) result }
@@ -121,7 +120,6 @@ fn play<D: Desk, L: Link>(
     plan: &Plan,
 ) -> Result<Standing, Stopped>
     requires sound { host.old.broken ≡ None }
-    requires signature { host.old.part.signature ≡ plan.now.part.signature }
     requires part { host.old.part ≡ plan.now.part }
     ensures performs { Performs (takes_memory plan.now) (playing plan.now) host.old host.new
         (devices (L.view link.old) (D.view desk.old)) (devices (L.view link.new) (D.view desk.new)) result }

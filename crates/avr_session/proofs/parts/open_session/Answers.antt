@@ -9,5 +9,5 @@ pub returns-clause-performs : goal.returns-clause-performs
 returns-clause-performs g c =
     let reports = rw (c.part.ensures, c.switches-switches.ensures) at c.report_opening-reported.ensures in
     operation_performs false (opening_says c.args.plan.now.switches.quiet c.args.plan.now.part) c.open-opened.result c.report_opening-reported.result c.conclude.result PrintStops (print_stops_report _ _ reports) c.conclude.ensures
-    (call_ended _ _ _ _ c.open-opened.result _ (opening_lacks_none _ _) (rw (c.requires.signature, c.switches-switches.ensures) at (c.open-opened.ensures.calls.played c.requires.sound))) (c.open-opened.ensures.calls.bound c.requires.sound) reports
+    (call_ended _ _ _ _ c.open-opened.result _ (opening_lacks_none _ _) (rw (c.requires.part, c.switches-switches.ensures) at (c.open-opened.ensures.calls.played c.requires.sound))) (c.open-opened.ensures.calls.bound c.requires.sound) reports
     (opening_told _ _ c.args.plan.now.switches.quiet c.args.plan.now.part c.open-opened.result c.report_opening-reported.result reports) (c.open-opened.ensures.calls.failed c.requires.sound) (c.open-opened.ensures.calls.lasts c.requires.sound) c.open-opened.ensures.calls.part c.open-opened.ensures.calls.counted

@@ -1,4 +1,4 @@
-use Rattle.std.proofs.Common.{refl, ap}
+use Rattle.std.proofs.Common.{ap, refl}
 use Rattle.avr_session.proofs.Performing.{session_runs}
 use Rattle.avr_session.proofs.session.drive.Goals as goal
 
