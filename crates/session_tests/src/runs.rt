@@ -1,13 +1,13 @@
 //! Worked runs: what is sent, what is printed, and the status. The frames are those of the STK500 protocol, version 2
 //! (AVR068), written out by hand.
 use avr_cli::{Settings, read_words, settings};
-use avr_desk::{Bytes, FailingDesk, MemDesk};
+use avr_desk::{Bytes, Desk, FailingDesk, MemDesk};
 use avr_session::run;
 use std::alloc::Global;
 use std::ops::Range;
 use std::process::Abort;
 use std::test::Fail;
-use stk_host::{FailingLink, Item, TapeLink};
+use stk_host::{FailingLink, Item, Link, TapeLink};
 
 /// What a programmer with this part answers to SIGN_ON, ENTER_PROGMODE_ISP, three of READ_SIGNATURE_ISP and
 /// LEAVE_PROGMODE_ISP.
@@ -70,12 +70,23 @@ struct Over {
     status: u8,
 }
 
+/// Runs at this desk and over this link. It says nothing of them: a test carries each clause that it meets to its end,
+/// and these are long.
+fn status_of<D: Desk, L: Link>(
+    alloc: Global,
+    settings: &Settings,
+    desk: &mut D,
+    link: &mut L,
+) -> u8 {
+    run(alloc, settings, desk, link)
+}
+
 /// Runs over a tape that is given in pieces of at most this many bytes.
 fn run_over(alloc: Global, part: &str, items: Vec<Item>, cut: usize) -> Result<Over, Fail> {
     let settings = settings_for(alloc, part)?;
     let mut desk = MemDesk::new(alloc, Bytes::new(alloc));
     let mut link = TapeLink::new(alloc, items, cut.max(1));
-    let status = run(alloc, &settings, &mut desk, &mut link);
+    let status = status_of(alloc, &settings, &mut desk, &mut link);
     Ok(Over { desk, link, status })
 }
 
@@ -94,8 +105,8 @@ fn shows(
 }
 
 fn look(rt: &impl Abort, alloc: Global, row: &Row, cut: usize) -> Result<(), Fail> {
-    let over = run_over(alloc, row.part, tape(alloc, row.answers)?, cut)?;
     let sent = joined(alloc, row.frames)?;
+    let over = run_over(alloc, row.part, tape(alloc, row.answers)?, cut)?;
     shows(rt, &over, sent.as_slice(), row.messages, row.status)
 }
 
@@ -285,7 +296,6 @@ fn rubbish(alloc: Global) -> Result<Vec<Item>, Fail> {
 /// Of the start bytes 4,096 are read for the first answer and 904 for the second.
 #[test]
 fn rubbish_on_the_line(rt: HostRuntime) -> Result<(), Fail> {
-    let over = run_over(rt.alloc(), "m328p", rubbish(rt.alloc())?, 281)?;
     let sent = joined(
         rt.alloc(),
         &[
@@ -293,6 +303,7 @@ fn rubbish_on_the_line(rt: HostRuntime) -> Result<(), Fail> {
             "1B04000C0E10C8641920005303AC53000037",
         ],
     )?;
+    let over = run_over(rt.alloc(), "m328p", rubbish(rt.alloc())?, 281)?;
     shows(
         &rt,
         &over,
@@ -305,10 +316,11 @@ fn rubbish_on_the_line(rt: HostRuntime) -> Result<(), Fail> {
 #[test]
 fn a_link_that_fails(rt: HostRuntime) -> Result<(), Fail> {
     let alloc = rt.alloc();
+    let items = tape(alloc, M328P)?;
     let settings = settings_for(alloc, "m328p")?;
     let mut desk = MemDesk::new(alloc, Bytes::new(alloc));
-    let mut link = FailingLink::new(TapeLink::new(alloc, tape(alloc, M328P)?, 281), 1, 281);
-    assert!(rt; run(alloc, &settings, &mut desk, &mut link) == 1);
+    let mut link = FailingLink::new(TapeLink::new(alloc, items, 281), 1, 281);
+    assert!(rt; status_of(alloc, &settings, &mut desk, &mut link) == 1);
     assert!(rt; desk.messages() == b"avrstk: error: link cannot be written\n".as_slice());
     Ok(())
 }
@@ -317,11 +329,13 @@ fn a_link_that_fails(rt: HostRuntime) -> Result<(), Fail> {
 #[test]
 fn a_desk_that_fails(rt: HostRuntime) -> Result<(), Fail> {
     let alloc = rt.alloc();
+    let opening = joined(alloc, &[OPENING])?;
+    let items = tape(alloc, M328P)?;
     let settings = settings_for(alloc, "m328p")?;
     let mut desk = FailingDesk::new(MemDesk::new(alloc, Bytes::new(alloc)), 1);
-    let mut link = TapeLink::new(alloc, tape(alloc, M328P)?, 281);
-    assert!(rt; run(alloc, &settings, &mut desk, &mut link) == 1);
-    assert!(rt; link.sent() == joined(alloc, &[OPENING])?.as_slice());
+    let mut link = TapeLink::new(alloc, items, 281);
+    assert!(rt; status_of(alloc, &settings, &mut desk, &mut link) == 1);
+    assert!(rt; link.sent() == opening.as_slice());
     assert!(rt; desk.inner().messages() == b"".as_slice());
     Ok(())
 }

@@ -4,7 +4,7 @@ use avr_desk::{Bytes, MemDesk};
 use avr_serve::{serve, serve_for};
 use std::alloc::{AllocError, Global};
 use std::test::Fail;
-use stk_host::{FailingLink, Item, TapeLink};
+use stk_host::{FailingLink, Item, Link, TapeLink};
 
 /// A frame with a command that no programmer knows.
 const FRAME: [u8; 7] = [0x1B, 0x09, 0x00, 0x01, 0x0E, 0x05, 0x18];
@@ -35,6 +35,22 @@ fn settings_to_serve(alloc: Global) -> Result<Settings, Fail> {
     Ok(settings(alloc, &matches)?)
 }
 
+/// Serves at this desk and over this link, for so many reads. It says nothing of them, nor does [`served`]: a test
+/// carries each clause that it meets to its end, and these are long.
+fn served_for<L: Link>(
+    alloc: Global,
+    settings: &Settings,
+    desk: &mut MemDesk,
+    link: &mut L,
+    reads: u32,
+) -> u8 {
+    serve_for(alloc, settings, "chip.bin", desk, link, reads)
+}
+
+fn served<L: Link>(alloc: Global, settings: &Settings, desk: &mut MemDesk, link: &mut L) -> u8 {
+    serve(alloc, settings, "chip.bin", desk, link)
+}
+
 fn empty_desk(alloc: Global) -> MemDesk {
     MemDesk::new(alloc, Bytes::new(alloc))
 }
@@ -46,11 +62,11 @@ fn saved_size(desk: &MemDesk) -> Option<usize> {
 #[test]
 fn an_end_that_is_heard_saves_the_chip(rt: HostRuntime) -> Result<(), Fail> {
     let alloc = rt.alloc();
+    let items = frame_and_end(alloc)?;
     let settings = settings_to_serve(alloc)?;
-    let mut link = TapeLink::new(alloc, frame_and_end(alloc)?, 281);
+    let mut link = TapeLink::new(alloc, items, 281);
     let mut desk = empty_desk(alloc);
-    let status = serve_for(alloc, &settings, "chip.bin", &mut desk, &mut link, 100);
-    assert_eq!(rt; status, 0);
+    assert_eq!(rt; served_for(alloc, &settings, &mut desk, &mut link, 100), 0);
     assert_eq!(rt; link.sent(), ANSWER.as_slice());
     assert_eq!(rt; saved_size(&desk), Some(33_796));
     assert!(rt; desk.messages().is_empty());
@@ -60,12 +76,11 @@ fn an_end_that_is_heard_saves_the_chip(rt: HostRuntime) -> Result<(), Fail> {
 #[test]
 fn too_many_reads_are_told_and_the_chip_is_saved(rt: HostRuntime) -> Result<(), Fail> {
     let alloc = rt.alloc();
-    let settings = settings_to_serve(alloc)?;
     let items = vec![in alloc; Item::Silence; 5]?;
+    let settings = settings_to_serve(alloc)?;
     let mut link = TapeLink::new(alloc, items, 281);
     let mut desk = empty_desk(alloc);
-    let status = serve_for(alloc, &settings, "chip.bin", &mut desk, &mut link, 3);
-    assert_eq!(rt; status, 1);
+    assert_eq!(rt; served_for(alloc, &settings, &mut desk, &mut link, 3), 1);
     let line = "avrstk: error: too many reads\n";
     assert_eq!(rt; desk.messages(), line.as_bytes());
     assert_eq!(rt; saved_size(&desk), Some(33_796));
@@ -78,8 +93,7 @@ fn a_link_that_fails_is_told_and_the_chip_is_saved(rt: HostRuntime) -> Result<()
     let settings = settings_to_serve(alloc)?;
     let mut link = FailingLink::new(TapeLink::new(alloc, Vec::new(alloc), 281), 1, 5);
     let mut desk = empty_desk(alloc);
-    let status = serve(alloc, &settings, "chip.bin", &mut desk, &mut link);
-    assert_eq!(rt; status, 1);
+    assert_eq!(rt; served(alloc, &settings, &mut desk, &mut link), 1);
     let line = "avrstk: error: link cannot be read\n";
     assert_eq!(rt; desk.messages(), line.as_bytes());
     assert_eq!(rt; saved_size(&desk), Some(33_796));
@@ -89,13 +103,13 @@ fn a_link_that_fails_is_told_and_the_chip_is_saved(rt: HostRuntime) -> Result<()
 #[test]
 fn a_chip_file_of_another_length_is_not_served(rt: HostRuntime) -> Result<(), Fail> {
     let alloc = rt.alloc();
+    let items = frame_and_end(alloc)?;
     let settings = settings_to_serve(alloc)?;
-    let mut link = TapeLink::new(alloc, frame_and_end(alloc)?, 281);
+    let mut link = TapeLink::new(alloc, items, 281);
     let mut desk = empty_desk(alloc);
     let short = [7; 100];
-    desk.put("chip.bin", &short)?;
-    let status = serve(alloc, &settings, "chip.bin", &mut desk, &mut link);
-    assert_eq!(rt; status, 1);
+    assert!(rt; desk.put("chip.bin", &short).is_ok());
+    assert_eq!(rt; served(alloc, &settings, &mut desk, &mut link), 1);
     let line = "avrstk: error: chip.bin: 100 bytes, 33796 expected\n";
     assert_eq!(rt; desk.messages(), line.as_bytes());
     assert!(rt; link.sent().is_empty());
