@@ -45,7 +45,8 @@ fn chip_of<D: Desk>(
     desk: &mut D,
 ) -> Result<Chip, u8>
     requires { length bytes.now ≤ 4194304 }
-    ensures goes { Goes (settled (chip_or_line part.now file.now bytes.now)) (D.view desk.old) (D.view desk.new) result }
+    ensures goes { Goes (settled (chip_or_line part.now file.now bytes.now)) (D.view desk.old) (D.view desk.new)
+        result }
     ensures part { IfOk result (λ c. c.part ≡ part.now) }
 {
     match Chip::from_bytes(alloc, part.copied(), bytes) {

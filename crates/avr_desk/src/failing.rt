@@ -70,7 +70,8 @@ impl<D: Desk> Desk for FailingDesk<D> {
 
     fn open(&mut self, name: &str) -> Result<(), DeskFault>
         ensures kept { Passes (after_open name.now result) (D.view self.old.inner) (D.view self.new.inner) }
-        ensures counts { Counts (failing_view (D.view self.old.inner) self.old) (failing_view (D.view self.new.inner) self.new) result }
+        ensures counts { Counts (failing_view (D.view self.old.inner) self.old)
+            (failing_view (D.view self.new.inner) self.new) result }
         ensures when_due { FailsWhenDue (Counts (D.view self.old.inner) (D.view self.new.inner) result) self.old
             self.new result }
     {
@@ -82,7 +83,8 @@ impl<D: Desk> Desk for FailingDesk<D> {
 
     fn create(&mut self, name: &str) -> Result<(), DeskFault>
         ensures kept { Passes (after_create name.now result) (D.view self.old.inner) (D.view self.new.inner) }
-        ensures counts { Counts (failing_view (D.view self.old.inner) self.old) (failing_view (D.view self.new.inner) self.new) result }
+        ensures counts { Counts (failing_view (D.view self.old.inner) self.old)
+            (failing_view (D.view self.new.inner) self.new) result }
         ensures fault { IfErr result (λ e. e ≡ DeskFault.Failed) }
         ensures when_due { FailsWhenDue (Counts (D.view self.old.inner) (D.view self.new.inner) result) self.old
             self.new result }
@@ -97,7 +99,8 @@ impl<D: Desk> Desk for FailingDesk<D> {
         ensures bound { IfOk result (λ n. n ≤ length buf.new) }
         ensures kept { Passes (after_read buf.new result) (D.view self.old.inner) (D.view self.new.inner) }
         ensures has_file { HasOpen is_to_read (D.view self.old.inner) result }
-        ensures counts { Counts (failing_view (D.view self.old.inner) self.old) (failing_view (D.view self.new.inner) self.new) result }
+        ensures counts { Counts (failing_view (D.view self.old.inner) self.old)
+            (failing_view (D.view self.new.inner) self.new) result }
         ensures fault { IfErr result (λ e. e ≡ DeskFault.Failed) }
         ensures when_due { FailsWhenDue (Counts (D.view self.old.inner) (D.view self.new.inner) result) self.old
             self.new result }

@@ -216,9 +216,11 @@ impl<'a, R: Files + Input, O: Write + Drop, E: Write + Drop> Desk for SystemDesk
 
     fn write(&mut self, bytes: &[u8]) -> Result<usize, DeskFault>
         ensures bound { IfOk result (λ n. n ≤ length bytes.now) }
-        ensures shown { SendsTaken File bytes.now (showing None self.old.failures) (showing None self.new.failures) result }
+        ensures shown { SendsTaken File bytes.now (showing None self.old.failures)
+            (showing None self.new.failures) result }
         ensures has_file { HasOpen is_to_write (showing None self.old.failures) result }
-        ensures counts { WriteCounts bytes.now (showing None self.old.failures) (showing None self.new.failures) result }
+        ensures counts { WriteCounts bytes.now (showing None self.old.failures)
+            (showing None self.new.failures) result }
         ensures fault { IfErr result (λ e. e ≡ Failed) }
         ensures output { self.old.to_output ≡ true → AppendsTaken (O.contents self.old.output)
             (O.contents self.new.output) bytes.now result }
@@ -237,8 +239,10 @@ impl<'a, R: Files + Input, O: Write + Drop, E: Write + Drop> Desk for SystemDesk
 
     fn out(&mut self, bytes: &[u8]) -> Result<usize, DeskFault>
         ensures bound { IfOk result (λ n. n ≤ length bytes.now) }
-        ensures shown { SendsTaken Output bytes.now (showing None self.old.failures) (showing None self.new.failures) result }
-        ensures counts { WriteCounts bytes.now (showing None self.old.failures) (showing None self.new.failures) result }
+        ensures shown { SendsTaken Output bytes.now (showing None self.old.failures)
+            (showing None self.new.failures) result }
+        ensures counts { WriteCounts bytes.now (showing None self.old.failures)
+            (showing None self.new.failures) result }
         ensures fault { IfErr result (λ e. e ≡ Failed) }
         ensures output { AppendsTaken (O.contents self.old.output) (O.contents self.new.output) bytes.now result }
         ensures quiet { self.new ≡ record self.old { output = self.new.output; failures = self.new.failures } }
@@ -248,8 +252,10 @@ impl<'a, R: Files + Input, O: Write + Drop, E: Write + Drop> Desk for SystemDesk
 
     fn err(&mut self, bytes: &[u8]) -> Result<usize, DeskFault>
         ensures bound { IfOk result (λ n. n ≤ length bytes.now) }
-        ensures shown { SendsTaken Messages bytes.now (showing None self.old.failures) (showing None self.new.failures) result }
-        ensures counts { WriteCounts bytes.now (showing None self.old.failures) (showing None self.new.failures) result }
+        ensures shown { SendsTaken Messages bytes.now (showing None self.old.failures)
+            (showing None self.new.failures) result }
+        ensures counts { WriteCounts bytes.now (showing None self.old.failures)
+            (showing None self.new.failures) result }
         ensures fault { IfErr result (λ e. e ≡ Failed) }
         ensures messages { AppendsTaken (E.contents self.old.messages) (E.contents self.new.messages) bytes.now result }
         ensures quiet { self.new ≡ record self.old { messages = self.new.messages; failures = self.new.failures } }

@@ -59,8 +59,6 @@ done_again plan before left after sound fitted f kept touched all =
     all.memories ∙ (ap (effects plan.part (items plan)) touched.memories ∙ plan_again plan touched.count before sound fitted f kept)
 
 -- a course that succeeds, whatever the chip was
-pub succeeds : (plan : Plan) (before after : Memories) (status : ℕ) → FitsPart plan.part before → plan.switches.dry ≡ false → is_erase_due plan.switches plan.tasks ≡ true → AgreesAnyway plan
-    → status ≡ (course plan before).status → after ≡ (course plan before).memories → (status ≡ 0) × IsDone plan before after
-succeeds plan before after status f wet due both status_is memories_are =
-    let agrees : Agrees plan before = agrees_anyway plan before f wet due both in
-    (status_is ∙ (course_status plan before).1 agrees, record { memories = memories_are ∙ course_memories plan before agrees; agrees = agrees })
+pub succeeds : (plan : Plan) (before : Memories) (status : ℕ) → FitsPart plan.part before → plan.switches.dry ≡ false → is_erase_due plan.switches plan.tasks ≡ true → AgreesAnyway plan
+    → status ≡ (course plan before).status → status ≡ 0
+succeeds plan before status f wet due both status_is = status_is ∙ (course_status plan before).1 (agrees_anyway plan before f wet due both)

@@ -1,69 +1,58 @@
 -- A run over the emulated programmer, from its stages.
-use Rattle.std.proofs.Common.{◌≡◌, ◌≤◌, ℕ, [], All, sym, ap, subst, Option, Some}
+use Rattle.std.proofs.Common.{◌≡◌, ◌≤◌, ℕ, [], All, ap, subst, ◌∙◌}
 use Rattle.avr_chip.specs.Loading.{chip_stage}
 use Rattle.avr_cli.specs.declared.chosen.Settings.{Settings}
-use Rattle.avr_desk.specs.Record.{Record}
+use Rattle.avr_desk.specs.Record.{DeskView}
 use Rattle.avr_message.specs.Lines.{Bytes}
 use Rattle.avr_part.specs.ChipFile.{chip_file}
 use Rattle.avr_part.specs.Sound.{IsSound}
-use Rattle.avr_part.specs.State as chips
+use Rattle.avr_part.specs.State.{State as Chip}
 use Rattle.avr_plan.specs.Plan.{Plan, IsFitted}
 use Rattle.avr_plan.specs.Planning.{planned}
 use Rattle.avr_plan.specs.Playing.{Went}
 use Rattle.avr_plan.specs.Stage.{Made}
-use Rattle.avr_session.specs.Runs.{Stops, RunsTo}
-use Rattle.avr_session.specs.Session.{session, takes_memory}
 use Rattle.stk_host.specs.Talk.{Stays, sent}
-use Rattle.stk_emu.specs.Effect.{memories_of}
-use Rattle.stk_emu.specs.Few.{AreFew}
 use Rattle.stk_emu.specs.Programmer.{fresh_programmer}
 use Rattle.stk_emu.specs.Wire.{fresh}
-use Rattle.stk_emu.specs.Wired.{State, Keeps, ComesOf, IsFresh}
-use Rattle.avr_emulated.specs.Emulated.{IsSaved, PlaysEmulated}
-use Rattle.avr_emulated.specs.Outcome.{Leaves, GoesWell}
+use Rattle.stk_emu.specs.Wired.{State, ComesOf}
+use Rattle.avr_emulated.specs.AnyLine.{OverAnyLine}
+use Rattle.avr_emulated.specs.Emulated.{IsSaved, new_wire, RunsOverEmulator}
 
-module _ (settings : Settings) (file : Bytes) (plan : Plan) (chip : chips.State) (w v : State) (silent : w.talk ≡ []) (unfailed : w.failures ≡ 0) (begun : w.wire ≡ fresh (fresh_programmer chip) []) (is_fresh : IsFresh w) (stays : Stays ComesOf w v)
+-- a wire that holds, brings and has passed nothing is a new one
+as_new : (chip : Chip) (w : State) → w.held ≡ [] → w.wire ≡ fresh (fresh_programmer chip) [] → w.waits ≡ [] → w.talk ≡ [] → w.failures ≡ 0 → w ≡ new_wire chip []
+as_new chip w held wire waits talk failures =
+    ap (λ x. record w { held = x }) held
+    ∙ (ap (λ x. record w { held = []; wire = x }) wire
+    ∙ (ap (λ x. record w { held = []; wire = fresh (fresh_programmer chip) []; waits = x }) waits
+    ∙ (ap (λ x. record w { held = []; wire = fresh (fresh_programmer chip) []; waits = []; talk = x }) talk
+    ∙ ap (λ x. record { held = []; wire = fresh (fresh_programmer chip) []; waits = []; talk = []; failures = x }) failures)))
+
+module _ (settings : Settings) (file : Bytes) (plan : Plan) (chip : Chip) (w v : State) (held : w.held ≡ []) (begun : w.wire ≡ fresh (fresh_programmer chip) []) (waits : w.waits ≡ []) (silent : w.talk ≡ []) (unfailed : w.failures ≡ 0)
     (fitted : All (IsFitted plan.part) plan.tasks) (part_is : chip.part ≡ plan.part) (is_sound : IsSound chip) where
-  its_chip : w.wire.programmer.chip ≡ chip
-  its_chip = ap (λ x. x.programmer.chip) begun
+  is_new : w ≡ new_wire chip []
+  is_new = as_new chip w held begun waits silent unfailed
 
-  all_good : AreFew w.wire.fates
-  all_good = subst AreFew (sym (ap (λ x. x.fates) begun)) tt
-
-  comes : Keeps (fresh_programmer chip) [] v
-  comes = stays (record { programmer = fresh_programmer chip; fates = [] })
-      (subst (λ fates. Keeps (fresh_programmer chip) fates w) (ap (λ x. x.fates) begun) (subst (λ (c : chips.State). Keeps (fresh_programmer c) w.wire.fates w) its_chip is_fresh.begins))
-
-  pub plays_emulated : (old planned_desk loaded_desk played_desk new : Option Record) (before loaded played now ran status : ℕ)
-      → Went (planned settings) old planned_desk (Made plan) → Went (chip_stage plan.part file) planned_desk loaded_desk (Made chip) → before ≤ loaded → loaded ≤ played
-      → RunsTo (session plan) (Some w.talk) (Some v.talk) loaded_desk played_desk (Stops (takes_memory plan) w.failures v.failures loaded played) ran
-      → Leaves plan (memories_of w.wire.programmer.chip) (memories_of v.wire.programmer.chip) ran
-      → (AreFew w.wire.fates → GoesWell plan (memories_of w.wire.programmer.chip) (memories_of v.wire.programmer.chip) loaded_desk played_desk (Some v.talk) (Stops (takes_memory plan) w.failures v.failures loaded played) ran)
-      → IsSaved (sent v.talk) played_desk new file (chip_file v.wire.programmer.chip) played now ran status → played ≤ now
-      → PlaysEmulated settings file old new before now status
-  plays_emulated old planned_desk loaded_desk played_desk new before loaded played now ran status made is_loaded rises since runs leaves goes_well saved counted = record {
+  pub runs_over_emulator : (old planned_desk loaded_desk played_desk now : DeskView) (ran status : ℕ)
+      → Went (planned settings) old planned_desk (Made plan) → Went (chip_stage plan.part file) planned_desk loaded_desk (Made chip)
+      → old.failures ≤ planned_desk.failures → planned_desk.failures ≤ loaded_desk.failures → loaded_desk.failures ≤ played_desk.failures → played_desk.failures ≤ now.failures
+      → Stays ComesOf w v → (w.wire.programmer.chip.part ≡ plan.part → OverAnyLine plan w v loaded_desk played_desk ran)
+      → IsSaved (sent v.talk) played_desk now file (chip_file v.wire.programmer.chip) ran status
+      → RunsOverEmulator settings file old now status
+  runs_over_emulator old planned_desk loaded_desk played_desk now ran status made is_loaded by_planning by_loading by_playing by_saving comes line saved = record {
     plan = plan;
     chip = chip;
+    after = v;
+    ran = ran;
     planned_desk = planned_desk;
     loaded_desk = loaded_desk;
     played_desk = played_desk;
-    loaded_failures = loaded;
-    played_failures = played;
     made = made;
-    loaded = is_loaded;
     fitted = fitted;
+    loaded = is_loaded;
     part = part_is;
     sound = is_sound;
-    rises = rises;
-    since_loaded = since;
-    wire = v;
-    comes = comes;
-    ran = ran;
-    runs = subst (λ talk. RunsTo (session plan) (Some talk) (Some v.talk) loaded_desk played_desk (Stops (takes_memory plan) 0 v.failures loaded played) ran) silent
-        (subst (λ n. RunsTo (session plan) (Some w.talk) (Some v.talk) loaded_desk played_desk (Stops (takes_memory plan) n v.failures loaded played) ran) unfailed runs);
-    leaves = subst (λ (c : chips.State). Leaves plan (memories_of c) (memories_of v.wire.programmer.chip) ran) its_chip leaves;
-    goes_well = subst (λ n. GoesWell plan (memories_of chip) (memories_of v.wire.programmer.chip) loaded_desk played_desk (Some v.talk) (Stops (takes_memory plan) n v.failures loaded played) ran) unfailed
-        (subst (λ (c : chips.State). GoesWell plan (memories_of c) (memories_of v.wire.programmer.chip) loaded_desk played_desk (Some v.talk) (Stops (takes_memory plan) w.failures v.failures loaded played) ran) its_chip (goes_well all_good));
+    comes = subst (λ (x : State). Stays ComesOf x v) is_new comes;
+    line = subst (λ (x : State). OverAnyLine plan x v loaded_desk played_desk ran) is_new (line (ap (λ x. x.programmer.chip.part) begun ∙ part_is));
     saved = saved;
-    counted = counted;
+    in_order = (by_planning, by_loading, by_playing, by_saving);
   }

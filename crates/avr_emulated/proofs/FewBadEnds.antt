@@ -25,10 +25,10 @@ pub record Ends {E R : Type 0} (d : Dialog E R) (r : R) (said : List E) (After :
   pub ends : (k : ℕ) (got : R) → (along device k d p fates).dialog ≡ Done got
       → Came got r (said_along device k d p fates) said (After (along device k d p fates).programmer)
 
-done_is : {E R : Type 0} (a b : R) → ◌≡◌ {A = Dialog E R} (Done a) (Done b) → a ≡ b
+pub done_is : {E R : Type 0} (a b : R) → ◌≡◌ {A = Dialog E R} (Done a) (Done b) → a ≡ b
 done_is a b e = cc
 
-say_no : {E R : Type 0} (s : E) (d : Dialog E R) (r : R) → ◌≡◌ {A = Dialog E R} (Say s d) (Done r) → ⊥
+pub say_no : {E R : Type 0} (s : E) (d : Dialog E R) (r : R) → ◌≡◌ {A = Dialog E R} (Say s d) (Done r) → ⊥
 say_no s d r e = cc
 
 pub ends_done : {E R : Type 0} (r : R) (After : Programmer → Type 0) (p : Programmer) (fates : List Fate) → After p → Ends {E = E} (Done r) r [] After p fates

@@ -1,75 +1,70 @@
--- A run over the emulated programmer, from settings to status.
-use Rattle.std.specs.Prelude.{◌≡◌, ◌≤◌, ◌⊎◌, ℕ, List, [], ◌∷◌, All, Option, Some, Ok, Err}
+-- Section 6 of the page (avr_tool's specs/Headline): a run over the emulator, whose chip has a file.
+use Rattle.std.specs.Prelude.{◌≡◌, ◌≤◌, ◌⊎◌, ℕ, List, [], ◌∷◌, All, Ok, Err}
 use Rattle.avr_chip.specs.Loading.{chip_stage}
 use Rattle.avr_chip.specs.Saving.{Saves}
 use Rattle.avr_cli.specs.declared.chosen.Settings.{Settings}
-use Rattle.avr_desk.specs.Record.{Record}
+use Rattle.avr_desk.specs.Record.{DeskView}
 use Rattle.avr_message.specs.Lines.{Bytes}
 use Rattle.avr_part.specs.ChipFile.{chip_file}
 use Rattle.avr_part.specs.Sound.{IsSound}
-use Rattle.avr_part.specs.State as chips
+use Rattle.avr_part.specs.State.{State as Chip}
 use Rattle.avr_plan.specs.Plan.{Plan, IsFitted}
 use Rattle.avr_plan.specs.Planning.{planned}
 use Rattle.avr_plan.specs.Playing.{Goes, Went}
 use Rattle.avr_plan.specs.Stage.{Made}
-use Rattle.avr_session.specs.Runs.{Stops, RunsTo}
-use Rattle.avr_session.specs.Session.{session, takes_memory}
-use Rattle.stk_host.specs.Talk.{sent}
-use Rattle.stk_emu.specs.Effect.{memories_of}
+use Rattle.stk_host.specs.Talk.{Stays, sent}
 use Rattle.stk_emu.specs.Programmer.{fresh_programmer}
-use Rattle.stk_emu.specs.Wired.{State, Keeps}
-use Rattle.avr_emulated.specs.Outcome.{Leaves, GoesWell}
+use Rattle.stk_emu.specs.Wire.{fresh}
+use Rattle.stk_emu.specs.Wired.{State, ComesOf}
+use Rattle.stk_emu.specs.declared.fate.Fate.{Fate}
+use Rattle.avr_emulated.specs.AnyLine.{OverAnyLine}
 
 -- The chip's file is written again if anything was sent; where it can't be, the status is 1.
-abbrev pub IsSaved : List ℕ → Option Record → Option Record → Bytes → Bytes → ℕ → ℕ → ℕ → ℕ → Type 0
-IsSaved [] old new file bytes before now ran status = (new ≡ old) × (status ≡ ran)
-IsSaved (byte ∷ sent) old new file bytes before now ran status =
-    (Saves old new file bytes before now (Ok tt) × (status ≡ ran))
-    ⊎ ((fault : ℕ) × Saves old new file bytes before now (Err fault) × (status ≡ 1))
+abbrev pub IsSaved : List ℕ → DeskView → DeskView → Bytes → Bytes → ℕ → ℕ → Type 0
+IsSaved [] old now file bytes ran status = (now.kept ≡ old.kept) × (status ≡ ran)
+IsSaved (byte ∷ sent) old now file bytes ran status =
+    (Saves old now file bytes (Ok tt) × (status ≡ ran))
+    ⊎ ((fault : ℕ) × Saves old now file bytes (Err fault) × (status ≡ 1))
 
--- The plan was made, whose images have the sizes of their memories, and its chip was loaded, whose memories have those
--- of the plan's part; the session was played over a wire to it, whose fates are all good; and the chip was saved. A
--- failure of the desk that is told anywhere is counted since the stage before it; one of the link is counted by the
--- wire, from 0.
-pub record PlaysEmulated (settings : Settings) (file : Bytes) (old new : Option Record)
-    (before now status : ℕ) : Type 0 where
+-- a wire to a chip as it begins: nothing is held, waits or has passed, and these are the fates of its frames
+abbrev pub new_wire : Chip → List Fate → State
+new_wire chip fates =
+    record { held = []; wire = fresh (fresh_programmer chip) fates; waits = []; talk = []; failures = 0 }
+
+-- A plan was made, whose images have the sizes of their memories, and a chip of its part, with memories of its sizes,
+-- was loaded from the file. The session was run, to a status, over a new wire to that chip, on which no frame goes
+-- wrong: so it is its course, unless it stopped. Then, if anything was sent, the chip as the wire left it was saved to
+-- the file, else nothing more was done. A failure of the desk in a stage is one since the stage before it.
+pub record RunsOverEmulator (settings : Settings) (file : Bytes) (old now : DeskView) (status : ℕ) : Type 0 where
   pub plan : Plan
-  pub chip : chips.State
-  pub planned_desk : Option Record
-  pub loaded_desk : Option Record
-  pub played_desk : Option Record
-  pub loaded_failures : ℕ
-  pub played_failures : ℕ
+  pub chip : Chip
+  pub after : State
+  pub ran : ℕ
+  pub planned_desk : DeskView
+  pub loaded_desk : DeskView
+  pub played_desk : DeskView
   pub made : Went (planned settings) old planned_desk (Made plan)
-  pub loaded : Went (chip_stage plan.part file) planned_desk loaded_desk (Made chip)
   pub fitted : All (IsFitted plan.part) plan.tasks
+  pub loaded : Went (chip_stage plan.part file) planned_desk loaded_desk (Made chip)
   pub part : chip.part ≡ plan.part
   pub sound : IsSound chip
-  pub rises : before ≤ loaded_failures
-  pub since_loaded : loaded_failures ≤ played_failures
-  pub wire : State
-  pub comes : Keeps (fresh_programmer chip) [] wire
-  pub ran : ℕ
-  pub runs : RunsTo (session plan) (Some []) (Some wire.talk) loaded_desk played_desk
-      (Stops (takes_memory plan) 0 wire.failures loaded_failures played_failures) ran
-  pub leaves : Leaves plan (memories_of chip) (memories_of wire.wire.programmer.chip) ran
-  pub goes_well : GoesWell plan (memories_of chip) (memories_of wire.wire.programmer.chip) loaded_desk played_desk
-      (Some wire.talk) (Stops (takes_memory plan) 0 wire.failures loaded_failures played_failures) ran
-  pub saved : IsSaved (sent wire.talk) played_desk new file (chip_file wire.wire.programmer.chip) played_failures now
-      ran status
-  pub counted : played_failures ≤ now
+  pub comes : Stays ComesOf (new_wire chip []) after
+  pub line : OverAnyLine plan (new_wire chip []) after loaded_desk played_desk ran
+  pub saved : IsSaved (sent after.talk) played_desk now file (chip_file after.wire.programmer.chip) ran status
+  pub in_order : (old.failures ≤ planned_desk.failures) × (planned_desk.failures ≤ loaded_desk.failures)
+      × (loaded_desk.failures ≤ played_desk.failures) × (played_desk.failures ≤ now.failures)
 
 -- there is a plan, but no chip: nothing was sent
-pub record LacksChip (settings : Settings) (file : Bytes) (old new : Option Record)
-    (before now status : ℕ) : Type 0 where
+pub record LacksChip (settings : Settings) (file : Bytes) (old now : DeskView) (status : ℕ) : Type 0 where
   pub plan : Plan
-  pub planned_desk : Option Record
-  pub planned_failures : ℕ
-  pub made : Went (planned settings) old planned_desk (Made plan)
-  pub rises : before ≤ planned_failures
-  pub refused : Goes (chip_stage plan.part file) planned_desk new planned_failures now (Err status)
+  pub between : DeskView
+  pub made : Went (planned settings) old between (Made plan)
+  pub in_order : old.failures ≤ between.failures
+  pub refused : Goes (chip_stage plan.part file) between now (Err status)
 
-abbrev pub RunsEmulated : Settings → Bytes → Option Record → Option Record → ℕ → ℕ → ℕ → Type 0
-RunsEmulated settings file old new before now status =
-    PlaysEmulated settings file old new before now status
-    ⊎ (LacksChip settings file old new before now status ⊎ Goes (planned settings) old new before now (Err status))
+-- a whole run; or there is no chip, or no plan, and the status is 1
+abbrev pub RunsEmulator : Settings → Bytes → DeskView → DeskView → ℕ → Type 0
+RunsEmulator settings file old now status =
+    RunsOverEmulator settings file old now status
+    ⊎ (LacksChip settings file old now status
+    ⊎ Goes (planned settings) old now (Err status))

@@ -1,11 +1,8 @@
 -- What a run leaves in a chip, whatever the line did.
-use Rattle.std.specs.Prelude.{ℕ, suc, ◌≡◌, ◌≤◌, ◌-◌, ◌⊎◌, false, List, [], Option, Some, option_map, take}
-use Rattle.avr_desk.specs.Record.{Record}
-use Rattle.avr_message.specs.Said.{Bytes, Saying, after_all}
+use Rattle.std.specs.Prelude.{ℕ, suc, ◌≡◌, ◌≤◌, ◌-◌, List, option_map, take}
+use Rattle.avr_desk.specs.Record.{DeskView}
+use Rattle.avr_message.specs.Said.{after_all}
 use Rattle.avr_plan.specs.Plan.{Plan}
-use Rattle.avr_session.specs.Runs.{Cause, BrokeOff}
-use Rattle.avr_session.specs.Session.{session}
-use Rattle.stk_host.specs.Talk.{Talk}
 use Rattle.stk_emu.specs.declared.fate.Fate.{Fate}
 use Rattle.stk_emu.specs.Effect.{Item, Memories, effects}
 use Rattle.stk_emu.specs.Programmer.{Programmer}
@@ -14,7 +11,6 @@ use Rattle.avr_emulated.specs.Items.{items}
 use Rattle.avr_emulated.specs.Agrees.{Agrees}
 use Rattle.avr_emulated.specs.Course.{course}
 use Rattle.avr_emulated.specs.Made.{made_by}
-use Rattle.avr_emulated.specs.Written.{IsWritten}
 
 -- what the steps of a plan write, one after another: its erase, and the parts of its writes
 abbrev pub strokes : Plan → List Item
@@ -39,21 +35,8 @@ pub record IsDone (plan : Plan) (before after : Memories) : Type 0 where
   pub memories : after ≡ effects plan.part (items plan) before
   pub agrees : Agrees plan before
 
--- A run of this status, from the one memories to the other, whatever the line did: some first strokes of its plan were
--- made; with status 0 all of them, and all that was compared agreed; so a verified run has left its images.
-pub record Leaves (plan : Plan) (before after : Memories) (status : ℕ) : Type 0 where
-  pub touched : IsTouched plan before after
-  pub done : status ≡ 0 → IsDone plan before after
-  pub written : plan.switches.dry ≡ false → plan.switches.no_verify ≡ false → status ≡ 0 → IsWritten plan before after
-
 -- A run that went as its course says: what was said at the desk, its status, and the memories.
-pub record IsCourse (plan : Plan) (before after : Memories) (old new : Option Record) (status : ℕ) : Type 0 where
-  pub said : new ≡ option_map (after_all (course plan before).says) old
+pub record IsCourse (plan : Plan) (before after : Memories) (old new : DeskView) (status : ℕ) : Type 0 where
+  pub said : new.kept ≡ option_map (after_all (course plan before).says) old.kept
   pub status_is : status ≡ (course plan before).status
   pub memories : after ≡ (course plan before).memories
-
--- over a line on which few frames go wrong: its course, unless a device failed or memory was refused
-abbrev pub GoesWell : Plan → Memories → Memories → Option Record → Option Record → Option Talk
-    → (List Saying → Cause → Bytes → Type 0) → ℕ → Type 0
-GoesWell plan before after old new talk StopsBy status =
-    IsCourse plan before after old new status ⊎ BrokeOff (session plan) 1 [] (Some []) talk old new StopsBy

@@ -1,7 +1,6 @@
 -- That what a run tells is true of the chip where it tells it.
-use Rattle.std.specs.Prelude.{ℕ, zero, suc, true, ◌≡◌, ◌⊎◌, List, [], ◌∷◌, ◌++◌, length, Contains, Option, Err, ⊤, codes, decimal}
+use Rattle.std.specs.Prelude.{ℕ, zero, suc, true, ◌≡◌, ◌⊎◌, List, [], ◌∷◌, ◌++◌, length, Contains, Err, ⊤, codes, decimal}
 use Rattle.avr_cli.specs.declared.update.Format.{Format}
-use Rattle.avr_desk.specs.Record.{Record}
 use Rattle.avr_image.specs.Image.{held}
 use Rattle.avr_message.specs.Lines.{Bytes, spaced, information, warning}
 use Rattle.avr_message.specs.Said.{Saying, Line, Creates, Writes, Outs}
@@ -11,17 +10,14 @@ use Rattle.avr_plan.specs.Plan.{Plan}
 use Rattle.avr_plan.specs.declared.task.Task.TheVariants as task
 use Rattle.avr_session.specs.FileText.{file_text}
 use Rattle.avr_session.specs.Lines.{fault_line}
-use Rattle.avr_session.specs.Runs.{Cause, Ran, BrokeOff}
-use Rattle.avr_session.specs.Session.{kept_of, session}
+use Rattle.avr_session.specs.Session.{kept_of}
 use Rattle.stk_host.specs.Dialog.{Dialog, Done, Say, Ask, Event, Frame, Said}
 use Rattle.stk_host.specs.Operations.{compared, host_fault}
-use Rattle.stk_host.specs.Talk.{Talk}
 use Rattle.stk_host.specs.declared.fault.HostFault.{HostFault}
 use Rattle.stk_host.specs.declared.fault.StepFault.{StepFault}
 use Rattle.stk_emu.specs.Along.{reading_of}
 use Rattle.stk_emu.specs.Device.{Device, device}
-use Rattle.stk_emu.specs.Effect.{Image, Item, Erase, Write, Memories, effect, effects, memories_of, memory_in}
-use Rattle.stk_emu.specs.Programmer.{Programmer}
+use Rattle.stk_emu.specs.Effect.{Image, Item, Erase, Write, Memories, effect, effects, memory_in}
 use Rattle.stk_emu.specs.Wire.{first_fate, other_fates, after_fate, Wire, passed}
 use Rattle.stk_emu.specs.declared.fate.Fate.{Fate}
 use Rattle.avr_emulated.specs.Agrees.{Shows}
@@ -85,14 +81,3 @@ abbrev pub SaidTrue : {E P : Type 0} → Device P → (P → E → Type 0) → L
 SaidTrue m IsTrue [] w = ⊤
 SaidTrue m IsTrue (Frame bytes ∷ events) w = SaidTrue m IsTrue events (passed m bytes w)
 SaidTrue m IsTrue (Said e ∷ events) w = IsTrue w.programmer e × SaidTrue m IsTrue events w
-
--- What a run comes to, and that whatever it told whole was true of the chip when it was told: all of a run that was
--- played to its end, and of one that broke off all but what was cut.
-abbrev pub RunsTruly : (plan : Plan) → Memories → Wire Programmer → (old new : Option Talk)
-    → (old_desk new_desk : Option Record) → (StopsBy : List Saying → Cause → Bytes → Type 0) → (status : ℕ) → Type 0
-RunsTruly plan before w old new old_desk new_desk StopsBy status =
-    ((next : ℕ) × (left : List ℕ) × (ran : Ran (session plan) 1 [] old new old_desk new_desk status next left)
-    × SaidTrue device (λ q saying. IsTrue plan before (memories_of q.chip) saying) ran.events w)
-    ⊎ ((broke : BrokeOff (session plan) 1 [] old new old_desk new_desk StopsBy)
-    × (status ≡ 1) × SaidTrue device (λ q saying. IsTrue plan before (memories_of q.chip) saying)
-    broke.breaks.front.whole w)

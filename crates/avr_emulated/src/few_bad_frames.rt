@@ -1,15 +1,11 @@
 //! What a run does over a line on which few frames go wrong. No code.
 #![tactic(auto)]
 
-ghost use Rattle.std.specs.Prelude.{◌≡◌, ◌≤◌, ◌*◌, ℕ, Bool, List, All, Option, Some};
-ghost use Rattle.avr_desk.specs.Record.{Record};
+ghost use Rattle.std.specs.Prelude.{◌≡◌, ◌≤◌, ◌*◌, ℕ, List, All};
 ghost use Rattle.avr_part.specs.Part.{IsPart};
 ghost use Rattle.avr_plan.specs.Plan.{Plan, IsFitted};
-ghost use Rattle.avr_session.specs.Runs.{Stops};
 ghost use Rattle.avr_session.specs.Session.{session};
-ghost use Rattle.avr_session.specs.Stopping.{IsSound, LacksMemory};
 ghost use Rattle.stk_host.specs.Bound.{commands_in};
-ghost use Rattle.stk_host.specs.Talk.{Talk};
 ghost use Rattle.stk_host.specs.Dialog.{Done};
 ghost use Rattle.stk_emu.specs.Along.{along, said_along};
 ghost use Rattle.stk_emu.specs.Device.{device};
@@ -20,10 +16,10 @@ ghost use Rattle.stk_emu.specs.Settled.{Idle, FitsPart};
 ghost use Rattle.stk_emu.specs.declared.fate.Fate.{Fate};
 ghost use Rattle.avr_emulated.specs.Bound.{run_steps};
 ghost use Rattle.avr_emulated.specs.Course.{course};
-ghost use Rattle.avr_emulated.specs.Outcome.{IsCourse, GoesWell};
 
-/// Where of any seven frames in a row at most three go wrong, a session is done after at most four times its commands,
-/// and one that is done has said what its course says, and no more, with its status and its memories.
+/// Where of any seven frames in a row at most three go wrong (a reset of the programmer counts four), a session is done
+/// after at most four times its commands, and one that is done has said what its course says, and no more, with its
+/// status and its memories.
 pub fn a_run_with_few_bad_frames_has_its_course()
     ensures done { (plan : Plan) (m : Memories) (k : ℕ) (p : Programmer) (fates : List Fate)
         → IsPart plan.part → All (IsFitted plan.part) plan.tasks → FitsPart plan.part m → Idle plan.part m p
@@ -44,14 +40,4 @@ pub fn a_run_with_few_bad_frames_has_its_course()
         → AreFew fates
         → (along device k (session plan) p fates).dialog ≡ Done status
         → said_along device k (session plan) p fates ≡ (course plan m).says }
-{}
-
-/// Where no device failed, and the messages do not say that memory was refused, a run over such a line went as its
-/// course says.
-pub fn a_sound_run_with_few_bad_frames_is_its_course()
-    ensures course { (plan : Plan) (before after : Memories) (desk_before desk_after : Record) (talk : Option Talk)
-        (takes : Bool) (k l a b status : ℕ)
-        → IsSound k l a b → (LacksMemory desk_after.messages → ⊥)
-        → GoesWell plan before after (Some desk_before) (Some desk_after) talk (Stops takes k l a b) status
-        → IsCourse plan before after (Some desk_before) (Some desk_after) status }
 {}

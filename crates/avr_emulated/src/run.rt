@@ -2,7 +2,7 @@
 ghost use Rattle.std.specs.Prelude.{◌≤◌};
 ghost use Rattle.avr_part.specs.ChipFile.{chip_file};
 ghost use Rattle.stk_host.specs.Talk.{sent};
-ghost use Rattle.avr_emulated.specs.Emulated.{IsSaved, RunsEmulated};
+ghost use Rattle.avr_emulated.specs.Emulated.{IsSaved, RunsEmulator};
 
 use crate::wired_run::drive_wired;
 use avr_chip::{load_chip, save_chip};
@@ -14,9 +14,8 @@ use stk_emu::Wired;
 
 /// Saves the chip of a wire if anything was sent over it, and answers the status of a run of this one.
 fn save_if_sent<D: Desk>(alloc: Global, wire: &Wired, file: &str, desk: &mut D, status: u8) -> u8
-    ensures saved { IsSaved (sent wire.now.talk) (D.view desk.old).kept (D.view desk.new).kept file.now
-        (chip_file wire.now.wire.programmer.chip)
-        (D.view desk.old).failures (D.view desk.new).failures status result }
+    ensures saved { IsSaved (sent wire.now.talk) (D.view desk.old) (D.view desk.new) file.now
+        (chip_file wire.now.wire.programmer.chip) status result }
     ensures rises { (D.view desk.old).failures ≤ (D.view desk.new).failures }
 {
     if wire.sent().is_empty() {
@@ -34,8 +33,7 @@ fn save_if_sent<D: Desk>(alloc: Global, wire: &Wired, file: &str, desk: &mut D, 
 /// The status is 0 where no fault came, else 1. Every fault has its line; what is refused is told before any frame is
 /// sent.
 pub fn run_emulated<D: Desk>(alloc: Global, settings: &Settings, file: &str, desk: &mut D) -> u8
-    ensures runs { RunsEmulated settings.now file.now (D.view desk.old).kept (D.view desk.new).kept (D.view desk.old).failures
-        (D.view desk.new).failures result }
+    ensures runs { RunsEmulator settings.now file.now (D.view desk.old) (D.view desk.new) result }
 {
     let plan = match plan(alloc, settings, desk) {
         Ok(plan) => plan,

@@ -12,7 +12,8 @@ use avr_desk::{Desk, DeskFault, Stream, write_all};
 
 /// Writes the pieces one after the other.
 fn write_pieces<D: Desk>(desk: &mut D, pieces: &[Piece<'_>]) -> Result<(), DeskFault>
-    ensures all { OnOk result (Passes (after_err (concat (map text_of pieces.now))) (D.view desk.old) (D.view desk.new)) }
+    ensures all { OnOk result (Passes (after_err (concat (map text_of pieces.now))) (D.view desk.old)
+        (D.view desk.new)) }
     ensures part { OnErr result (SendsPart Stream.Messages (D.view desk.old) (D.view desk.new)
         (concat (map text_of pieces.now))) }
     ensures counts { Counts (D.view desk.old) (D.view desk.new) result }

@@ -49,8 +49,8 @@ IsBreak (NotRead name bytes) more later = IsNext (Opens (next_opening name more)
 IsBreak NoMemory more later = Unit {0}
 IsBreak (NoMemoryFor reading) more later = IsNext (Opens (next_opening reading.name more)) later
 
--- The desk failed at the file, and from then on the line of that was told; or the line that memory was refused was told.
--- Of a line that could not be printed a front was, and the desk has failed; nothing else is told.
+-- The desk failed at the file, and from then on the line of that was told; or the line that memory was refused was
+-- told. Of a line that could not be printed a front was, and the desk has failed; nothing else is told.
 abbrev pub TellsBreak : Break → Bytes → DeskView → DeskView → Type 0
 TellsBreak (InLine line) told old new = IsPrefixOf told line × HasFailed old new
 TellsBreak (NotOpened name) told old new = TellsFailure (not_opened_line name) told old new

@@ -223,8 +223,8 @@ pub(crate) fn refuse_image<D: Desk>(desk: &mut D, file: &str, fault: ReadFault) 
 /// Tells what is wrong with the value at this place.
 fn refuse_value<D: Desk>(desk: &mut D, memory: Mem, place: u32, wrong: &str) -> u8
     ensures status { result ≡ 1 }
-    ensures told { Tells
-        (D.view desk.old) (D.view desk.new) (error (name_of memory ∷ codes ": value " ∷ decimal place ∷ wrong.now ∷ [])) }
+    ensures told { Tells (D.view desk.old) (D.view desk.new)
+        (error (name_of memory ∷ codes ": value " ∷ decimal place ∷ wrong.now ∷ [])) }
 {
     refuse(
         desk,

@@ -1,6 +1,6 @@
 -- A run over a line on which few frames go wrong, and the same one once more, over the chip that a first one left.
-use Rattle.std.proofs.Common.{◌≡◌, ◌⊎◌, ℕ, All, ◌∙◌, inl, inr, true, false, Option, Some, []}
-use Rattle.avr_desk.specs.Record.{Record}
+use Rattle.std.proofs.Common.{◌≡◌, ◌⊎◌, ℕ, All, ◌∙◌, inl, inr, true, false, Some, []}
+use Rattle.avr_desk.specs.Record.{DeskView, Record}
 use Rattle.avr_part.specs.Part.{IsPart}
 use Rattle.avr_plan.specs.Plan.{Plan, IsFitted}
 use Rattle.avr_session.specs.Session.{session, is_erase_due, takes_memory}
@@ -11,32 +11,38 @@ use Rattle.stk_emu.specs.Few.{AreFew}
 use Rattle.stk_emu.specs.Settled.{FitsPart}
 use Rattle.stk_emu.specs.Wired.{State}
 use Rattle.avr_emulated.specs.Again.{AreKeeping, AgreesAnyway}
+use Rattle.avr_emulated.specs.AnyLine.{Stopped, OverAnyLine, memories}
 use Rattle.avr_emulated.specs.Items.{items}
 use Rattle.avr_emulated.specs.Outcome.{IsTouched, IsDone, IsCourse}
 use Rattle.avr_emulated.specs.Written.{IsWritten}
 use Rattle.avr_emulated.proofs.AgainAgrees.{agrees_anyway}
 use Rattle.avr_emulated.proofs.AgainHeals.{done_again}
-use Rattle.avr_tool.specs.Headline.{Stopped, OverAnyLine, memories}
 
 module _ (plan : Plan) (w v : State) (d e : Record) (a b status : ℕ) (few : AreFew w.wire.fates) (sound : IsSound w.failures v.failures a b) (has_memory : LacksMemory e.messages → ⊥) where
-  goes_on : Stopped plan w v (Some d) (Some e) a b → ⊥
+  abbrev old : DeskView
+  old = record { kept = Some d; failures = a }
+
+  abbrev now : DeskView
+  now = record { kept = Some e; failures = b }
+
+  goes_on : Stopped plan w v old now → ⊥
   goes_on broke = has_memory (broke_lacks (session plan) 1 [] (Some w.talk) (Some v.talk) d e (takes_memory plan) w.failures v.failures a b sound broke)
 
-  pub sound_course : OverAnyLine plan w v (Some d) (Some e) a b status → IsCourse plan (memories w) (memories v) (Some d) (Some e) status
+  pub sound_course : OverAnyLine plan w v old now status → IsCourse plan (memories w) (memories v) old now status
   sound_course over = elim (over.few_bad few) [ inl is ↦ is | inr stopped ↦ absurd (goes_on stopped) ]
 
   pub sound_images : plan.switches.dry ≡ false → plan.switches.no_verify ≡ false → is_erase_due plan.switches plan.tasks ≡ true → AgreesAnyway plan
-      → OverAnyLine plan w v (Some d) (Some e) a b status → (status ≡ 0) × IsWritten plan (memories w) (memories v)
+      → OverAnyLine plan w v old now status → (status ≡ 0) × IsWritten plan (memories w) (memories v)
   sound_images wet verified due both over = elim (over.again few wet due both) [ inl zero ↦ (zero, over.images zero wet verified) | inr stopped ↦ absurd (goes_on stopped) ]
 
-pub further_heals : (plan : Plan) (w v x y : State) (d e f g : Option Record) (a b status k n further : ℕ)
+pub further_heals : (plan : Plan) (w v x y : State) (d e f g : DeskView) (status further : ℕ)
     → IsPart plan.part → All (IsFitted plan.part) plan.tasks → FitsPart plan.part (memories w)
     → plan.switches.dry ≡ false → is_erase_due plan.switches plan.tasks ≡ true → AgreesAnyway plan
     → (keeps_eeprom plan.part (memories w) ≡ true → AreKeeping plan.part (items plan))
-    → OverAnyLine plan w v d e a b status
-    → memories x ≡ memories v → AreFew x.wire.fates → OverAnyLine plan x y f g k n further
-    → ((further ≡ 0) × IsDone plan (memories w) (memories y)) ⊎ Stopped plan x y f g k n
-further_heals plan w v x y d e f g a b status k n further sound fitted fits wet due both kept first same few second =
+    → OverAnyLine plan w v d e status
+    → memories x ≡ memories v → AreFew x.wire.fates → OverAnyLine plan x y f g further
+    → ((further ≡ 0) × IsDone plan (memories w) (memories y)) ⊎ Stopped plan x y f g
+further_heals plan w v x y d e f g status further sound fitted fits wet due both kept first same few second =
     let touched : IsTouched plan (memories w) (memories x) = record { count = first.strokes.count; memories = same ∙ first.strokes.memories } in
     elim (second.again few wet due both) [
       | inl zero ↦ inl (

@@ -1,8 +1,8 @@
 -- Planning and playing as one run.
-use Rattle.std.proofs.Common.{◌≡◌, ℕ, ◌⊎◌, inl, inr, List, [], ◌∷◌, ◌++◌, map, Option, option_map, Some, refl, sym, ap, ◌∙◌, subst, arith, append_assoc}
+use Rattle.std.proofs.Common.{◌≡◌, ℕ, ◌⊎◌, inl, inr, List, [], ◌∷◌, ◌++◌, map, option_map, Some, refl, sym, ap, ◌∙◌, subst, arith, append_assoc}
 use Rattle.std.proofs.lemmas.List.{append-nil}
 use Rattle.avr_cli.specs.declared.chosen.Settings.{Settings}
-use Rattle.avr_desk.specs.Record.{Record}
+use Rattle.avr_desk.specs.Record.{DeskView}
 use Rattle.avr_desk.specs.declared.record.Opening.{Opening}
 use Rattle.avr_message.specs.Said.{Saying, SaidPart, after_all}
 use Rattle.avr_message.proofs.Saying.{kept_append}
@@ -11,13 +11,13 @@ use Rattle.avr_plan.specs.Planning.{planned}
 use Rattle.avr_plan.specs.Playing.{Went}
 use Rattle.avr_plan.specs.Stage.{Made, Refused}
 use Rattle.stk_host.specs.Dialog.{Event, Said, played, behind, bytes_sent, sayings}
-use Rattle.stk_host.specs.Talk.{Talk, Sent, Got, heard}
+use Rattle.stk_host.specs.Talk.{LinkView, Talk, Sent, Got, heard, Grows}
 use Rattle.stk_host.specs.Tape.{Tape, on_tape}
 use Rattle.stk_host.specs.Play.{TurnsFrom, IsFront}
 use Rattle.stk_host.proofs.Talks.{grows_none}
 use Rattle.avr_session.specs.Run.{RunsSettings}
-use Rattle.avr_session.specs.Runs.{Ran}
 use Rattle.avr_session.specs.Session.{session}
+use Rattle.avr_session.specs.Stopping.{IsPlayed}
 use Rattle.avr_tool.specs.Headline.{run, after_planning, IsInTurn, IsRun, IsFrontOfRun, StoppedPlaying, IsStopped}
 
 said_sayings : (says : List Saying) (events : List (Event Saying)) → sayings (map Said says ++ events) ≡ says ++ sayings events
@@ -39,29 +39,32 @@ turns settings openings says left plan is tape bytes (Got items ∷ talk) due =
       turns settings openings says left plan is (tape ++ items) bytes talk due.1,
     )
 
-pub ran_whole : (settings : Settings) (plan : Plan) (o p : Option Talk) (d e f : Option Record) (status next : ℕ) (left : List ℕ)
-    → Went (planned settings) d e (Made plan) → Ran (session plan) 1 [] o p e f status next left → IsRun settings o p d f status
-ran_whole settings plan o p d e f status next left went ran = record {
-  openings = went.passed;
-  during = ran.during;
-  events = map Said went.says ++ ran.events;
-  next = next;
-  left = left;
-  is = λ later more. ap (λ q. after_planning q (heard ran.during ++ more)) (went.comes later) ∙ ap (behind (map Said went.says)) (ran.plays.plays more);
-  in_turn = λ later. turns settings (went.passed ++ later) went.says later plan (went.comes later) [] [] ran.during ran.plays.in_turn;
-  all_sent = said_bytes went.says ran.events ∙ ran.plays.all_sent;
-  grows = ran.grows;
-  kept = kept_append went.says (sayings ran.events) d e f went.kept ran.kept ∙ ap (λ says. option_map (after_all says) d) (sym (said_sayings went.says ran.events));
-  few = ran.few (omega arith);
-}
+-- what a plan made, and its session whole
+pub ran_whole : (settings : Settings) (plan : Plan) (k l : LinkView) (d between e : DeskView) (status : ℕ)
+    → Went (planned settings) d between (Made plan) → IsPlayed (session plan) k.talk l.talk between.kept e.kept status → IsRun settings k l d e status
+ran_whole settings plan k l d between e status went whole =
+    let ran = whole.2 in
+    record {
+      openings = went.passed;
+      during = ran.during;
+      events = map Said went.says ++ ran.events;
+      next = whole.0;
+      left = whole.1;
+      is = λ later more. ap (λ q. after_planning q (heard ran.during ++ more)) (went.comes later) ∙ ap (behind (map Said went.says)) (ran.plays.plays more);
+      in_turn = λ later. turns settings (went.passed ++ later) went.says later plan (went.comes later) [] [] ran.during ran.plays.in_turn;
+      all_sent = said_bytes went.says ran.events ∙ ran.plays.all_sent;
+      grows = ran.grows;
+      kept = kept_append went.says (sayings ran.events) d.kept between.kept e.kept went.kept ran.kept ∙ ap (λ says. option_map (after_all says) d.kept) (sym (said_sayings went.says ran.events));
+      few = ran.few (omega arith);
+    }
 
-pub ran_openings : (settings : Settings) (plan : Plan) (o p : Option Talk) (d e f : Option Record) (status next : ℕ) (left : List ℕ) (went : Went (planned settings) d e (Made plan))
-    (ran : Ran (session plan) 1 [] o p e f status next left) → (ran_whole settings plan o p d e f status next left went ran).openings ≡ went.passed
+pub ran_openings : (settings : Settings) (plan : Plan) (k l : LinkView) (d between e : DeskView) (status : ℕ) (went : Went (planned settings) d between (Made plan))
+    (whole : IsPlayed (session plan) k.talk l.talk between.kept e.kept status) → (ran_whole settings plan k l d between e status went whole).openings ≡ went.passed
 unfolding ran_whole
-ran_openings settings plan o p d e f status next left went ran = refl
+ran_openings settings plan k l d between e status went whole = refl
 
-pub refused_whole : (settings : Settings) (o : Option Talk) (d f : Option Record) → Went (planned settings) d f Refused → IsRun settings o o d f 1
-refused_whole settings o d f went = record {
+pub refused_whole : (settings : Settings) (k l : LinkView) (d e : DeskView) → l.talk ≡ k.talk → Went (planned settings) d e Refused → IsRun settings k l d e 1
+refused_whole settings k l d e same went = record {
   openings = went.passed;
   during = [];
   events = map Said went.says ++ [];
@@ -70,18 +73,21 @@ refused_whole settings o d f went = record {
   is = λ later more. ap (λ q. after_planning q more) (went.comes later);
   in_turn = λ later. tt;
   all_sent = said_bytes went.says [];
-  grows = grows_none o;
-  kept = went.kept ∙ ap (λ says. option_map (after_all says) d) (sym (said_sayings went.says [] ∙ append-nil went.says));
+  grows = subst (Grows k.talk []) (sym same) (grows_none k.talk);
+  kept = went.kept ∙ ap (λ says. option_map (after_all says) d.kept) (sym (said_sayings went.says [] ∙ append-nil went.says));
   few = omega arith;
 }
 
-pub is_run : (settings : Settings) (o p : Option Talk) (d f : Option Record) (k l a b status : ℕ) → RunsSettings settings o p d f k l a b status → IsRun settings o p d f status ⊎ IsStopped settings o p d f k l a b status
-is_run settings o p d f k l a b status (inl runs) = elim runs.runs [
-  | inl ran ↦ inl (ran_whole settings runs.plan o p d runs.between f status ran.0 ran.1 runs.made ran.2)
-  | inr broke ↦ inr (inl (record { plan = runs.plan; between = runs.between; count = runs.count; made = runs.made; rises = runs.rises; broke = broke.0; status_is = broke.1 }))
-]
-is_run settings o p d f k l a b status (inr none) = elim none.refused [
-  | inl went ↦ inl (subst (λ q. IsRun settings o q d f status) (sym none.same) (subst (λ s. IsRun settings o o d f s) (sym none.status_is) (refused_whole settings o d f went)))
+pub is_run : (settings : Settings) (k l : LinkView) (d e : DeskView) (status : ℕ) → RunsSettings settings k.talk l.talk d.kept e.kept k.failures l.failures d.failures e.failures status
+    → IsRun settings k l d e status ⊎ IsStopped settings k l d e status
+is_run settings k l d e status (inl runs) =
+    let between : DeskView = record { kept = runs.between; failures = runs.count } in
+    elim runs.runs [
+      | inl whole ↦ inl (ran_whole settings runs.plan k l d between e status runs.made whole)
+      | inr broke ↦ inr (inl (record { plan = runs.plan; between = between; made = runs.made; rises = runs.rises; broke = broke.0; status_is = broke.1 }))
+    ]
+is_run settings k l d e status (inr none) = elim none.refused [
+  | inl went ↦ inl (subst (IsRun settings k l d e) (sym none.status_is) (refused_whole settings k l d e none.same went))
   | inr broke ↦ inr (inr (record { broke = broke; same = none.same; status_is = none.status_is }))
 ]
 
@@ -95,8 +101,8 @@ behind_front says f = record {
   part = f.part;
 }
 
-pub stopped_front : (settings : Settings) (o p : Option Talk) (d f : Option Record) (k l a b status : ℕ) → StoppedPlaying settings o p d f k l a b status → IsFrontOfRun settings o p
-stopped_front settings o p d f k l a b status stopped = record {
+pub stopped_front : (settings : Settings) (k l : LinkView) (d e : DeskView) (status : ℕ) → StoppedPlaying settings k l d e status → IsFrontOfRun settings k l
+stopped_front settings k l d e status stopped = record {
   openings = stopped.made.passed;
   during = stopped.broke.during;
   shown = map Said stopped.made.says ++ stopped.broke.shown;
@@ -111,8 +117,8 @@ some_is : {A : Type 0} (a b : A) → Some a ≡ Some b → a ≡ b
 some_is a b e = cc
 
 -- the same openings and the same items heard come to one status
-pub one_status : (settings : Settings) (o p q r : Option Talk) (d e f g : Option Record) (m n : ℕ) (x : IsRun settings o p d e m) (y : IsRun settings q r f g n) → x.openings ≡ y.openings → heard x.during ≡ heard y.during → m ≡ n
-one_status settings o p q r d e f g m n x y same alike =
+pub one_status : (settings : Settings) (i j k l : LinkView) (d e f g : DeskView) (m n : ℕ) (x : IsRun settings i j d e m) (y : IsRun settings k l f g n) → x.openings ≡ y.openings → heard x.during ≡ heard y.during → m ≡ n
+one_status settings i j k l d e f g m n x y same alike =
     let both : run settings (x.openings ++ []) (heard x.during ++ []) ≡ run settings (y.openings ++ []) (heard y.during ++ []) = ap (λ os. run settings (os ++ []) (heard x.during ++ [])) same ∙ ap (λ t. run settings (y.openings ++ []) (t ++ [])) alike in
     let outcomes = sym (ap (λ z. z.outcome) (x.is [] [])) ∙ (ap (λ z. z.outcome) both ∙ ap (λ z. z.outcome) (y.is [] [])) in
     ap (λ z. z.0) (some_is (m, x.next, on_tape x.left ++ []) (n, y.next, on_tape y.left ++ []) outcomes)

@@ -1,5 +1,5 @@
 -- A session over any link that behaves as a line with fates does.
-use Rattle.std.proofs.Common.{◌≡◌, ◌*◌, ℕ, List, [], ◌++◌, All, length, refl, sym, ap, ◌∙◌, subst, Some}
+use Rattle.std.proofs.Common.{◌≡◌, ◌*◌, ℕ, List, [], ◌++◌, All, length, sym, ap, ◌∙◌, subst, Some}
 use Rattle.std.proofs.lemmas.List.{append-nil}
 use Rattle.avr_message.specs.Said.{Saying}
 use Rattle.avr_part.specs.Part.{IsPart}
@@ -24,6 +24,7 @@ use Rattle.stk_emu.proofs.Fused.{fused}
 use Rattle.stk_emu.proofs.SaidAlong.{said_over}
 use Rattle.stk_emu.proofs.Segments.{none_clear}
 use Rattle.stk_emu.proofs.Turning.{AreWhole, sends_whole, frames_front}
+use Rattle.avr_emulated.specs.AnyLine.{weighed, bodies_in}
 use Rattle.avr_emulated.specs.Bound.{run_steps}
 use Rattle.avr_emulated.specs.Course.{course}
 use Rattle.avr_emulated.specs.Outcome.{IsDone}
@@ -31,11 +32,11 @@ use Rattle.avr_emulated.proofs.AnyLine.{session_leaves}
 use Rattle.avr_emulated.proofs.AnyLineAsks.{session_asks}
 use Rattle.avr_emulated.proofs.AnyLineOrder.{session_makes}
 use Rattle.avr_emulated.proofs.WrittenRuns.{run_written}
-use Rattle.avr_tool.specs.Headline.{weighed, bodies_in, OverAnyLink}
-use Rattle.avr_tool.proofs.FramesWeighed.{front_weighs}
-use Rattle.avr_tool.proofs.Success.{session_succeeds}
-use Rattle.avr_tool.proofs.SuccessEnds.{Came}
-use Rattle.avr_tool.proofs.Weighing.{session_weighs}
+use Rattle.avr_tool.specs.Headline.{OverAnyLink}
+use Rattle.avr_emulated.proofs.FramesWeighed.{front_weighs}
+use Rattle.avr_emulated.proofs.Success.{session_succeeds}
+use Rattle.avr_emulated.proofs.FewBadEnds.{Came}
+use Rattle.avr_emulated.proofs.Weighing.{session_weighs}
 
 module _ (plan : Plan) (s : chips.State) (q : Programmer) (fates : List Fate) (bytes : List ℕ) (tape left : Tape) (events : List (Event Saying)) (status next : ℕ)
     (is_sound : IsSound s) (part_is : s.part ≡ plan.part) (fitted : All (IsFitted plan.part) plan.tasks) (lawful : AreLawful fates)

@@ -1,6 +1,6 @@
 -- Outcomes that the page refuses.
-use Rattle.std.proofs.Common.{◌≡◌, ◌<◌, ◌*◌, ℕ, List, [], ◌++◌, map, ap, sym, ◌∙◌, subst, refl, arith, Option, Some}
-use Rattle.avr_desk.specs.Record.{Record}
+use Rattle.std.proofs.Common.{◌≡◌, ◌<◌, ◌*◌, ℕ, List, [], ◌++◌, map, ap, sym, ◌∙◌, subst, refl, arith, Option, option_map, Some}
+use Rattle.avr_desk.specs.Record.{DeskView}
 use Rattle.avr_desk.specs.declared.record.Opening.{Opening}
 use Rattle.avr_message.specs.Said.{after_all}
 use Rattle.avr_plan.specs.Plan.{Plan}
@@ -9,31 +9,32 @@ use Rattle.stk_frame.specs.Cut.{body_of}
 use Rattle.stk_host.specs.Dialog.{bytes_sent, sayings}
 use Rattle.stk_host.specs.Operations.{beginning, opening, closing, operation}
 use Rattle.stk_host.specs.Steps.{exchange, attempt, tries, play}
-use Rattle.stk_host.specs.Talk.{Talk, sent, heard}
+use Rattle.stk_host.specs.Talk.{LinkView, Talk, sent, heard, Grows}
 use Rattle.stk_host.specs.Tape.{answer, on_tape}
 use Rattle.stk_emu.specs.Effect.{effects}
 use Rattle.stk_emu.specs.Wired.{State}
+use Rattle.avr_emulated.specs.AnyLine.{OverAnyLine, Weight, weighed, bodies_in, memories, frames_over}
 use Rattle.avr_emulated.specs.Bound.{run_steps}
 use Rattle.avr_emulated.specs.Course.{course}
 use Rattle.avr_emulated.specs.Items.{items}
-use Rattle.avr_tool.specs.Headline.{run, IsRun, OverAnyLine, Weight, weighed, bodies_in, memories, frames_over}
+use Rattle.avr_tool.specs.Headline.{run, IsRun}
 use Rattle.avr_tool.specs.Worked.{asked, answers, frames_due, lines_due}
 
 some_is : {A : Type 0} (a b : A) → ◌≡◌ {A = Option A} (Some a) (Some b) → a ≡ b
 some_is a b e = cc
 
-pub too_much : (plan : Plan) (w v : State) (d e : Option Record) (a b status : ℕ) (weight : Weight)
-    → 4 * weighed weight (bodies_in (run_steps plan)) < weighed weight (map body_of (frames_over v)) → OverAnyLine plan w v d e a b status → ⊥
-too_much plan w v d e a b status weight more over = let most = over.four weight in absurd (omega (arith, more, most))
+pub too_much : (plan : Plan) (w v : State) (d e : DeskView) (status : ℕ) (weight : Weight)
+    → 4 * weighed weight (bodies_in (run_steps plan)) < weighed weight (map body_of (frames_over v)) → OverAnyLine plan w v d e status → ⊥
+too_much plan w v d e status weight more over = let most = over.four weight in absurd (omega (arith, more, most))
 
-pub not_all_written : (plan : Plan) (w v : State) (d e : Option Record) (a b : ℕ) → (memories v ≡ effects plan.part (items plan) (memories w) → ⊥) → OverAnyLine plan w v d e a b 0 → ⊥
-not_all_written plan w v d e a b other over = other (over.done refl).memories
+pub not_all_written : (plan : Plan) (w v : State) (d e : DeskView) → (memories v ≡ effects plan.part (items plan) (memories w) → ⊥) → OverAnyLine plan w v d e 0 → ⊥
+not_all_written plan w v d e other over = other (over.done refl).memories
 
-pub said_otherwise : (plan : Plan) (w v : State) (d e : Record) (a b : ℕ) → (e ≡ after_all (course plan (memories w)).says d → ⊥) → OverAnyLine plan w v (Some d) (Some e) a b 0 → ⊥
-said_otherwise plan w v d e a b other over = other (some_is e (after_all (course plan (memories w)).says d) (over.success refl).said)
+pub said_otherwise : (plan : Plan) (w v : State) (d e : DeskView) → (e.kept ≡ option_map (after_all (course plan (memories w)).says) d.kept → ⊥) → OverAnyLine plan w v d e 0 → ⊥
+said_otherwise plan w v d e other over = other (over.success refl).said
 
-pub touched_in_silence : (plan : Plan) (w v : State) (d e : Option Record) (a b status : ℕ) → frames_over v ≡ [] → (memories v ≡ memories w → ⊥) → OverAnyLine plan w v d e a b status → ⊥
-touched_in_silence plan w v d e a b status none other over = other (over.untouched none)
+pub touched_in_silence : (plan : Plan) (w v : State) (d e : DeskView) (status : ℕ) → frames_over v ≡ [] → (memories v ≡ memories w → ⊥) → OverAnyLine plan w v d e status → ⊥
+touched_in_silence plan w v d e status none other over = other (over.untouched none)
 
 -- ---- the worked run
 
@@ -49,9 +50,9 @@ said_due : (openings : List Opening) → sayings (run asked openings answers).ev
 unfolding session opening beginning operation closing play tries attempt exchange answer
 said_due openings = refl
 
-module _ (talk : Talk) (d e : Option Record) (status : ℕ) (x : IsRun asked (Some []) (Some talk) d e status) (all : heard talk ≡ answers) where
+module _ (talk : Talk) (k l : LinkView) (d e : DeskView) (status : ℕ) (silent : k.talk ≡ Some []) (shown : l.talk ≡ Some talk) (all : heard talk ≡ answers) (x : IsRun asked k l d e status) where
   passed : x.during ≡ talk
-  passed = sym (some_is talk x.during x.grows)
+  passed = sym (some_is talk x.during (subst (λ o. Grows o x.during (Some talk)) silent (subst (Grows k.talk x.during) shown x.grows)))
 
   played_over : run asked (x.openings ++ []) (answers ++ []) ≡ record { events = x.events; outcome = Some (status, x.next, on_tape x.left ++ []) }
   played_over = subst (λ tape. run asked (x.openings ++ []) (tape ++ []) ≡ record { events = x.events; outcome = Some (status, x.next, on_tape x.left ++ []) }) (ap heard passed ∙ all) (x.is [] [])
@@ -65,14 +66,15 @@ module _ (talk : Talk) (d e : Option Record) (status : ℕ) (x : IsRun asked (So
   worked_said : sayings x.events ≡ lines_due
   worked_said = sym (ap (λ p. sayings p.events) played_over) ∙ said_due (x.openings ++ [])
 
-pub another_status : (talk : Talk) (d e : Option Record) → heard talk ≡ answers → IsRun asked (Some []) (Some talk) d e 1 → ⊥
-another_status talk d e all x = absurd (one_no (worked_status talk d e 1 x all))
+pub another_status : (talk : Talk) (k l : LinkView) (d e : DeskView) → k.talk ≡ Some [] → l.talk ≡ Some talk → heard talk ≡ answers → IsRun asked k l d e 1 → ⊥
+another_status talk k l d e silent shown all x = absurd (one_no (worked_status talk k l d e 1 silent shown all x))
   where
     one_no : ◌≡◌ {A = ℕ} 1 0 → ⊥
     one_no e = cc
 
-pub another_frame : (talk : Talk) (d e : Option Record) (status : ℕ) → heard talk ≡ answers → (sent talk ≡ frames_due → ⊥) → IsRun asked (Some []) (Some talk) d e status → ⊥
-another_frame talk d e status all other x = other (worked_sent talk d e status x all)
+pub another_frame : (talk : Talk) (k l : LinkView) (d e : DeskView) (status : ℕ) → k.talk ≡ Some [] → l.talk ≡ Some talk → heard talk ≡ answers → (sent talk ≡ frames_due → ⊥) → IsRun asked k l d e status → ⊥
+another_frame talk k l d e status silent shown all other x = other (worked_sent talk k l d e status silent shown all x)
 
-pub another_line : (talk : Talk) (d e : Record) (status : ℕ) → heard talk ≡ answers → (e ≡ after_all lines_due d → ⊥) → IsRun asked (Some []) (Some talk) (Some d) (Some e) status → ⊥
-another_line talk d e status all other x = other (some_is e (after_all lines_due d) (x.kept ∙ ap (λ said. Some (after_all said d)) (worked_said talk (Some d) (Some e) status x all)))
+pub another_line : (talk : Talk) (k l : LinkView) (d e : DeskView) (status : ℕ) → k.talk ≡ Some [] → l.talk ≡ Some talk → heard talk ≡ answers
+    → (e.kept ≡ option_map (after_all lines_due) d.kept → ⊥) → IsRun asked k l d e status → ⊥
+another_line talk k l d e status silent shown all other x = other (x.kept ∙ ap (λ said. option_map (after_all said) d.kept) (worked_said talk k l d e status silent shown all x))

@@ -6,7 +6,7 @@ use Rattle.avr_cli.specs.Command.{avrstk, asked_by}
 use Rattle.avr_cli.specs.Settings.{GivesOrMemory, TellsAnyway}
 use Rattle.avr_cli.specs.declared.chosen.Settings.{Settings}
 use Rattle.avr_cli.specs.declared.chosen.SettingsFault.{SettingsFault}
-use Rattle.avr_desk.specs.Record.{Record}
+use Rattle.avr_desk.specs.Record.{Record, showing}
 use Rattle.avr_message.specs.Lines.{Bytes}
 use Rattle.avr_message.specs.Said.{Tells}
 use Rattle.avr_session.specs.Refusal.{refusal_line}
@@ -18,7 +18,7 @@ pub record IsRefused (words : List Bytes) (old new : Option Record) (before now 
   pub fault : SettingsFault
   pub is : GivesOrMemory (asked_by words) (Err fault)
   pub anyway : TellsAnyway (asked_by words) (Err fault)
-  pub told : Tells old new (refusal_line fault) before now
+  pub told : Tells (showing old before) (showing new now) (refusal_line fault)
   pub status_is : status ≡ 1
 
 -- Settings are those of words that the command takes. A fault of them was told. Other words have an error of a kind

@@ -1,5 +1,6 @@
 -- what callers of the front door cite
 pub use Rattle.avr_desk.specs.Record
+pub use Rattle.avr_emulated.specs.AnyLine
 pub use Rattle.avr_emulated.specs.Emulated
 pub use Rattle.avr_net.specs.OverNet
 pub use Rattle.avr_net.specs.ServedNet

@@ -1,7 +1,7 @@
 -- Serving an emulated programmer to the first caller of a listener, from settings to status.
 use Rattle.std.specs.Prelude.{ℕ, ◌≤◌, ◌⊎◌, Option, Err}
 use Rattle.avr_cli.specs.declared.chosen.Settings.{Settings}
-use Rattle.avr_desk.specs.Record.{Record}
+use Rattle.avr_desk.specs.Record.{Record, showing}
 use Rattle.avr_message.specs.Lines.{Bytes}
 use Rattle.avr_part.specs.State as chips
 use Rattle.avr_plan.specs.Playing.{Goes, Went}
@@ -15,12 +15,12 @@ pub record ServesFirst (settings : Settings) (port file : Bytes) (old new : Opti
   pub chip : chips.State
   pub loaded_desk : Option Record
   pub loaded_failures : ℕ
-  pub loaded : Went (settings_chip settings file) old loaded_desk (Made chip)
+  pub loaded : Went (settings_chip settings file) (showing old before) (showing loaded_desk loaded_failures) (Made chip)
   pub rises : before ≤ loaded_failures
   pub serves : ServesOn chip port file loaded_desk new loaded_failures now status
 
 -- so it was, or there is no chip
 abbrev pub ServesListener : Settings → Bytes → Bytes → Option Record → Option Record → ℕ → ℕ → ℕ → Type 0
 ServesListener settings port file old new before now status =
-    ServesFirst settings port file old new before now status ⊎ Goes (settings_chip settings file) old new before now
-    (Err status)
+    ServesFirst settings port file old new before now status
+    ⊎ Goes (settings_chip settings file) (showing old before) (showing new now) (Err status)

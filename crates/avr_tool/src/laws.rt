@@ -1,9 +1,10 @@
 //! Laws of runs. No code.
 
-ghost use Rattle.std.specs.Prelude.{◌≡◌, ◌<◌, ◌*◌, ◌⊎◌, ℕ, true, false, List, [], All, Option, Some, map};
+ghost use Rattle.std.specs.Prelude.{◌≡◌, ◌<◌, ◌*◌, ◌⊎◌, ℕ, true, false, List, [], All, Some, map, option_map};
 ghost use Rattle.avr_cli.specs.declared.chosen.Settings.{Settings as AnySettings};
-ghost use Rattle.avr_desk.specs.Record.{Record};
+ghost use Rattle.avr_desk.specs.Record.{DeskView, Record};
 ghost use Rattle.avr_emulated.specs.Again.{AgreesAnyway, AreKeeping};
+ghost use Rattle.avr_emulated.specs.AnyLine.{Stopped, OverAnyLine, Weight, weighed, bodies_in, memories, frames_over};
 ghost use Rattle.avr_emulated.specs.Bound.{run_steps};
 ghost use Rattle.avr_emulated.specs.Course.{course};
 ghost use Rattle.avr_emulated.specs.Items.{items};
@@ -17,7 +18,7 @@ ghost use Rattle.avr_plan.specs.Plan.{Plan, IsFitted};
 ghost use Rattle.avr_session.specs.Run.{RunsSettings};
 ghost use Rattle.avr_session.specs.Session.{session, is_erase_due};
 ghost use Rattle.avr_session.specs.Stopping.{IsSound, LacksMemory};
-ghost use Rattle.avr_tool.specs.Headline.{IsRun, IsStopped, StoppedPlaying, IsFrontOfRun, Stopped, OverAnyLine, Weight, weighed, bodies_in, memories, frames_over, OverAnyLink};
+ghost use Rattle.avr_tool.specs.Headline.{IsRun, IsStopped, StoppedPlaying, IsFrontOfRun, OverAnyLink};
 ghost use Rattle.avr_tool.specs.Worked.{asked, answers, frames_due, lines_due};
 ghost use Rattle.stk_emu.specs.Along.{along, said_along};
 ghost use Rattle.stk_emu.specs.Device.{device};
@@ -30,7 +31,7 @@ ghost use Rattle.stk_emu.specs.Wired.{State};
 ghost use Rattle.stk_frame.specs.Cut.{body_of};
 ghost use Rattle.stk_emu.specs.declared.fate.Fate.{Fate};
 ghost use Rattle.stk_host.specs.Dialog.{Done, Event, played, bytes_sent};
-ghost use Rattle.stk_host.specs.Talk.{Talk, heard, sent};
+ghost use Rattle.stk_host.specs.Talk.{LinkView, Talk, heard, sent};
 ghost use Rattle.stk_host.specs.Tape.{Tape};
 
 /// Whatever the line does, a session that comes to status 0 has said what its course says, and no more, and leaves the
@@ -52,16 +53,17 @@ pub fn a_run_of_status_0_is_its_course()
 /// What runs as the settings say is the one function, or it stopped.
 #[tactic(auto, using(crate::proofs::Joining::is_run))]
 pub fn a_run_is_one_function()
-    ensures { (s : AnySettings) (o p : Option Talk) (d f : Option Record) (k l a b status : ℕ)
-        → RunsSettings s o p d f k l a b status → IsRun s o p d f status ⊎ IsStopped s o p d f k l a b status }
+    ensures { (s : AnySettings) (k l : LinkView) (d e : DeskView) (status : ℕ)
+        → RunsSettings s k.talk l.talk d.kept e.kept k.failures l.failures d.failures e.failures status
+        → IsRun s k l d e status ⊎ IsStopped s k l d e status }
 {}
 
 /// What stopped as it was played did a front of the run; and a run comes to one status.
 pub fn a_stop_is_a_front()
-    ensures front { (s : AnySettings) (o p : Option Talk) (d f : Option Record) (k l a b status : ℕ)
-        → StoppedPlaying s o p d f k l a b status → IsFrontOfRun s o p }
-    ensures one { (s : AnySettings) (o p q r : Option Talk) (d e f g : Option Record) (m n : ℕ) (x : IsRun s o p d e m)
-        (y : IsRun s q r f g n)
+    ensures front { (s : AnySettings) (k l : LinkView) (d e : DeskView) (status : ℕ)
+        → StoppedPlaying s k l d e status → IsFrontOfRun s k l }
+    ensures one { (s : AnySettings) (i j k l : LinkView) (d e f g : DeskView) (m n : ℕ) (x : IsRun s i j d e m)
+        (y : IsRun s k l f g n)
         → x.openings ≡ y.openings → heard x.during ≡ heard y.during → m ≡ n }
 {}
 
@@ -69,56 +71,59 @@ pub fn a_stop_is_a_front()
 /// other sayings than those of a perfect line; with any status a chip that changed though no frame went out, or more
 /// frames than four for each command, by any weight of them.
 pub fn a_wrong_outcome_is_refused()
-    ensures memories { (plan : Plan) (w v : State) (d e : Option Record) (a b : ℕ)
-        → (memories v ≡ effects plan.part (items plan) (memories w) → ⊥) → OverAnyLine plan w v d e a b 0 → ⊥ }
-    ensures sayings { (plan : Plan) (w v : State) (d e : Record) (a b : ℕ)
-        → (e ≡ after_all (course plan (memories w)).says d → ⊥) → OverAnyLine plan w v (Some d) (Some e) a b 0 → ⊥ }
-    ensures silence { (plan : Plan) (w v : State) (d e : Option Record) (a b status : ℕ)
-        → frames_over v ≡ [] → (memories v ≡ memories w → ⊥) → OverAnyLine plan w v d e a b status → ⊥ }
-    ensures frames { (plan : Plan) (w v : State) (d e : Option Record) (a b status : ℕ) (weight : Weight)
+    ensures memories { (plan : Plan) (w v : State) (d e : DeskView)
+        → (memories v ≡ effects plan.part (items plan) (memories w) → ⊥) → OverAnyLine plan w v d e 0 → ⊥ }
+    ensures sayings { (plan : Plan) (w v : State) (d e : DeskView)
+        → (e.kept ≡ option_map (after_all (course plan (memories w)).says) d.kept → ⊥)
+        → OverAnyLine plan w v d e 0 → ⊥ }
+    ensures silence { (plan : Plan) (w v : State) (d e : DeskView) (status : ℕ)
+        → frames_over v ≡ [] → (memories v ≡ memories w → ⊥) → OverAnyLine plan w v d e status → ⊥ }
+    ensures frames { (plan : Plan) (w v : State) (d e : DeskView) (status : ℕ) (weight : Weight)
         → 4 * weighed weight (bodies_in (run_steps plan)) < weighed weight (map body_of (frames_over v))
-        → OverAnyLine plan w v d e a b status → ⊥ }
+        → OverAnyLine plan w v d e status → ⊥ }
 {}
 
-/// Where of any seven frames in a row at most three go wrong, no device fails, and the messages do not say that memory
-/// was refused: a session is its course; and that of a plan that erases, and agrees on a chip of 00 and on one of FF,
-/// has status 0 and, verified, leaves its images, whatever the chip was.
+/// Where of any seven frames in a row at most three go wrong (a reset counts four), no device fails, and the messages
+/// do not say that memory was refused: a session is its course; and that of a plan that erases, and agrees on a chip of
+/// 00 and on one of FF, has status 0 and, verified, leaves its images, whatever the chip was.
 pub fn a_sound_run_is_its_course()
     ensures course { (plan : Plan) (w v : State) (d e : Record) (a b status : ℕ)
         → AreFew w.wire.fates → IsSound w.failures v.failures a b → (LacksMemory e.messages → ⊥)
-        → OverAnyLine plan w v (Some d) (Some e) a b status
-        → IsCourse plan (memories w) (memories v) (Some d) (Some e) status }
+        → OverAnyLine plan w v (record { kept = Some d; failures = a }) (record { kept = Some e; failures = b }) status
+        → IsCourse plan (memories w) (memories v)
+        (record { kept = Some d; failures = a }) (record { kept = Some e; failures = b }) status }
     ensures images { (plan : Plan) (w v : State) (d e : Record) (a b status : ℕ)
         → AreFew w.wire.fates → IsSound w.failures v.failures a b → (LacksMemory e.messages → ⊥)
         → plan.switches.dry ≡ false → plan.switches.no_verify ≡ false
         → is_erase_due plan.switches plan.tasks ≡ true → AgreesAnyway plan
-        → OverAnyLine plan w v (Some d) (Some e) a b status
+        → OverAnyLine plan w v (record { kept = Some d; failures = a }) (record { kept = Some e; failures = b }) status
         → (status ≡ 0) × IsWritten plan (memories w) (memories v) }
 {}
 
 /// The same run once more, over the chip that a first one left, whatever became of that one: where of any seven frames
-/// in a row at most three go wrong, a plan that erases, and agrees on a chip of 00 and on one of FF, comes to status 0,
-/// and leaves what one run would have left of the chip before both. Only where the chip keeps EEPROM at an erase must
-/// each byte that the plan writes to the high fuse keep it too.
+/// in a row at most three go wrong (a reset counts four), a plan that erases, and agrees on a chip of 00 and on one of
+/// FF, comes to status 0, and leaves what one run would have left of the chip before both. Only where the chip keeps
+/// EEPROM at an erase must each byte that the plan writes to the high fuse keep it too.
 pub fn a_further_run_heals()
-    ensures { (plan : Plan) (w v x y : State) (d e f g : Option Record) (a b status k n further : ℕ)
+    ensures { (plan : Plan) (w v x y : State) (d e f g : DeskView) (status further : ℕ)
         → IsPart plan.part → All (IsFitted plan.part) plan.tasks → FitsPart plan.part (memories w)
         → plan.switches.dry ≡ false → is_erase_due plan.switches plan.tasks ≡ true → AgreesAnyway plan
         → (keeps_eeprom plan.part (memories w) ≡ true → AreKeeping plan.part (items plan))
-        → OverAnyLine plan w v d e a b status
-        → memories x ≡ memories v → AreFew x.wire.fates → OverAnyLine plan x y f g k n further
-        → ((further ≡ 0) × IsDone plan (memories w) (memories y)) ⊎ Stopped plan x y f g k n }
+        → OverAnyLine plan w v d e status
+        → memories x ≡ memories v → AreFew x.wire.fates → OverAnyLine plan x y f g further
+        → ((further ≡ 0) × IsDone plan (memories w) (memories y)) ⊎ Stopped plan x y f g }
 {}
 
 /// A worked run, `-p m328p`, to which all answers came: another status, another frame or another line is no run.
 pub fn a_worked_run_has_one_outcome()
-    ensures status { (talk : Talk) (d e : Option Record) → heard talk ≡ answers
-        → IsRun asked (Some []) (Some talk) d e 1 → ⊥ }
-    ensures frames { (talk : Talk) (d e : Option Record) (status : ℕ)
-        → heard talk ≡ answers → (sent talk ≡ frames_due → ⊥) → IsRun asked (Some []) (Some talk) d e status → ⊥ }
-    ensures lines { (talk : Talk) (d e : Record) (status : ℕ)
-        → heard talk ≡ answers → (e ≡ after_all lines_due d → ⊥)
-        → IsRun asked (Some []) (Some talk) (Some d) (Some e) status → ⊥ }
+    ensures status { (talk : Talk) (k l : LinkView) (d e : DeskView) → k.talk ≡ Some [] → l.talk ≡ Some talk
+        → heard talk ≡ answers → IsRun asked k l d e 1 → ⊥ }
+    ensures frames { (talk : Talk) (k l : LinkView) (d e : DeskView) (status : ℕ)
+        → k.talk ≡ Some [] → l.talk ≡ Some talk → heard talk ≡ answers → (sent talk ≡ frames_due → ⊥)
+        → IsRun asked k l d e status → ⊥ }
+    ensures lines { (talk : Talk) (k l : LinkView) (d e : DeskView) (status : ℕ)
+        → k.talk ≡ Some [] → l.talk ≡ Some talk → heard talk ≡ answers
+        → (e.kept ≡ option_map (after_all lines_due) d.kept → ⊥) → IsRun asked k l d e status → ⊥ }
 {}
 
 /// Over any link that behaves as the definition of a line with fates has it, a session that was played whole did what

@@ -2,7 +2,7 @@
 ghost use Rattle.avr_net.specs.OverNet.{RunsOverNet};
 ghost use Rattle.avr_net.specs.ServedNet.{ServesNet};
 ghost use Rattle.avr_serve.specs.ServedRun.{RunsServed};
-ghost use Rattle.avr_tool.specs.Headline.{RunsEmulator};
+ghost use Rattle.avr_emulated.specs.Emulated.{RunsEmulator};
 ghost use Rattle.avr_tool.specs.Ports.{IsEmulated, IsNetwork, IsServed, name_of, chip_file_of};
 ghost use Rattle.avr_tool.specs.ServedOn.{ServesListener};
 
@@ -21,8 +21,8 @@ use stk_host::Link;
 /// and the one that is saved.
 pub fn run_emu<D: Desk>(alloc: Global, settings: &Settings, desk: &mut D) -> u8
     requires port { IsEmulated settings.now.port }
-    ensures runs { RunsEmulator settings.now (chip_file_of settings.now.port) (D.view desk.old).kept (D.view desk.new).kept
-        (D.view desk.old).failures (D.view desk.new).failures result }
+    ensures runs { RunsEmulator settings.now (chip_file_of settings.now.port)
+        (D.view desk.old) (D.view desk.new) result }
 {
     let Port::Emulated(file) = &settings.port else {
         unreachable!()

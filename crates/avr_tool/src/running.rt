@@ -1,12 +1,13 @@
 //! Runs by the words of the headline: over any line, and over the emulated programmer behind a line of any fates.
-ghost use Rattle.std.specs.Prelude.{◌⊎◌, Some};
+ghost use Rattle.std.specs.Prelude.{◌⊎◌};
 ghost use Rattle.avr_tool.specs.Headline.{IsNew, IsRun, IsStopped, RunsWired};
 ghost use Rattle.stk_host.specs.Talk.{Stays};
 
 use avr_cli::Settings;
 use avr_desk::Desk;
+use avr_emulated::drive_wired;
 use avr_plan::plan;
-use avr_session::{drive, run as run_over};
+use avr_session::run as run_over;
 use std::alloc::Global;
 use stk_emu::Wired;
 use stk_host::Link;
@@ -15,9 +16,8 @@ use stk_host::Link;
 /// fault came, else 1. What is refused is told before any frame is sent or file created.
 #[tactic(auto, using(crate::proofs::Joining::is_run))]
 pub fn run<D: Desk, L: Link>(alloc: Global, settings: &Settings, desk: &mut D, link: &mut L) -> u8
-    ensures runs { IsRun settings.now (L.view link.old).talk (L.view link.new).talk (D.view desk.old).kept (D.view desk.new).kept result
-        ⊎ IsStopped settings.now (L.view link.old).talk (L.view link.new).talk (D.view desk.old).kept (D.view desk.new).kept
-        (L.view link.old).failures (L.view link.new).failures (D.view desk.old).failures (D.view desk.new).failures result }
+    ensures runs { IsRun settings.now (L.view link.old) (L.view link.new) (D.view desk.old) (D.view desk.new) result
+        ⊎ IsStopped settings.now (L.view link.old) (L.view link.new) (D.view desk.old) (D.view desk.new) result }
     ensures comes { Stays L.comes_of link.old link.new }
 {
     run_over(alloc, settings, desk, link)
@@ -29,15 +29,11 @@ pub fn run<D: Desk, L: Link>(alloc: Global, settings: &Settings, desk: &mut D, l
 /// another part is met as any programmer is.
 pub fn run_wired<D: Desk>(alloc: Global, settings: &Settings, desk: &mut D, wire: &mut Wired) -> u8
     requires new { IsNew wire.old }
-    ensures runs { RunsWired settings.now wire.old wire.new (D.view desk.old).kept (D.view desk.new).kept
-        (D.view desk.old).failures (D.view desk.new).failures result }
+    ensures runs { RunsWired settings.now wire.old wire.new (D.view desk.old) (D.view desk.new) result }
 {
     let plan = match plan(alloc, settings, desk) {
         Ok(plan) => plan,
         Err(status) => return status,
     };
-    // What the clause rests on: each image has the size of its memory, and the chip's memories those of its part.
-    let _tasks = plan.tasks();
-    let _part = wire.chip().part();
-    drive(alloc, &plan, desk, wire)
+    drive_wired(alloc, &plan, desk, wire)
 }

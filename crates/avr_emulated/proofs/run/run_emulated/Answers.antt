@@ -1,26 +1,25 @@
-use Rattle.std.proofs.Common.{◌∙◌, ap, arith, inl, inr}
+use Rattle.std.proofs.Common.{◌∙◌, ap, inl, inr}
 use Rattle.stk_emu.specs.Programmer.{fresh_programmer}
 use Rattle.stk_emu.specs.Wire.{fresh}
-use Rattle.avr_emulated.proofs.Emulating.{plays_emulated}
+use Rattle.avr_emulated.proofs.Emulating.{runs_over_emulator}
 use Rattle.avr_emulated.proofs.run.run_emulated.Goals as goal
 
 pub returns-in-Err-load_chip : goal.returns-in-Err-load_chip
 returns-in-Err-load_chip g c = record {
   runs = inr (inl (record {
     plan = c.in-Ok.plan;
-    planned_desk = (g.D.Desk.view c.plan.new.desk).kept;
-    planned_failures = (g.D.Desk.view c.plan.new.desk).failures;
-    made = rw c.in-Ok.is at c.plan.ensures.goes;
-    rises = c.plan.ensures.rises;
+    between = g.D.Desk.view c.plan.new.desk;
+    made = rw c.in-Ok.is at c.plan.ensures;
+    in_order = (rw c.in-Ok.is at c.plan.ensures).follows;
     refused = rw (c.part.ensures, c.in-Err-load_chip.is) at c.load_chip.ensures.goes;
   }));
 }
 
 pub returns : goal.returns
 returns g c = record {
-  runs = inl (plays_emulated c.args.settings.now c.args.file.now c.in-Ok.plan c.in-Ok-load_chip.chip c.new-wire.result c.drive_wired-status.new.wire c.new-wire.ensures.talk c.new-wire.ensures.sound
-      (c.new-wire.ensures.wire ∙ ap (λ fates. fresh (fresh_programmer c.in-Ok-load_chip.chip) fates) c.new.ensures.items) c.new-wire.ensures.fresh c.drive_wired-status.ensures.comes
+  runs = inl (runs_over_emulator c.args.settings.now c.args.file.now c.in-Ok.plan c.in-Ok-load_chip.chip c.new-wire.result c.drive_wired-status.new.wire c.new-wire.ensures.held
+      (c.new-wire.ensures.wire ∙ ap (λ fates. fresh (fresh_programmer c.in-Ok-load_chip.chip) fates) c.new.ensures.items) c.new-wire.ensures.waits c.new-wire.ensures.talk c.new-wire.ensures.sound
       c.tasks-tasks.ensures.fitted (rw (c.part.ensures, c.in-Ok-load_chip.is) at c.load_chip.ensures.part) c.part-part.ensures.sound
-      _ _ _ _ _ _ _ _ _ _ _ (rw c.in-Ok.is at c.plan.ensures.goes) (rw (c.part.ensures, c.in-Ok-load_chip.is) at c.load_chip.ensures.goes) (omega (arith, c.plan.ensures.rises, c.load_chip.ensures.rises)) c.drive_wired-status.ensures.rises
-      c.drive_wired-status.ensures.runs c.drive_wired-status.ensures.leaves c.drive_wired-status.ensures.few_bad c.save_if_sent.ensures.saved c.save_if_sent.ensures.rises);
+      _ _ _ _ _ _ _ (rw c.in-Ok.is at c.plan.ensures) (rw (c.part.ensures, c.in-Ok-load_chip.is) at c.load_chip.ensures.goes) (rw c.in-Ok.is at c.plan.ensures).follows (rw (c.part.ensures, c.in-Ok-load_chip.is) at c.load_chip.ensures.goes).follows c.drive_wired-status.ensures.rises c.save_if_sent.ensures.rises
+      c.drive_wired-status.ensures.comes c.drive_wired-status.ensures.line c.save_if_sent.ensures.saved);
 }

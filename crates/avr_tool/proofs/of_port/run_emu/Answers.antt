@@ -1,7 +1,6 @@
 use Rattle.std.proofs.Common.{ap}
 use Rattle.avr_tool.specs.Ports.{chip_file_of}
-use Rattle.avr_tool.proofs.OverEmulator.{runs_emulator}
 use Rattle.avr_tool.proofs.of_port.run_emu.Goals as goal
 
 pub returns : goal.returns
-returns g c = record { runs = rw (ap chip_file_of c.in-Emulated.is, ← c.as_str.ensures) (runs_emulator _ _ _ _ _ _ _ c.run_emulated.ensures.runs) }
+returns g c = record { runs = rw (ap chip_file_of c.in-Emulated.is, ← c.as_str.ensures) c.run_emulated.ensures.runs }

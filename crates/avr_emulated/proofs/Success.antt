@@ -43,7 +43,8 @@ use Rattle.avr_emulated.specs.Course as course
 use Rattle.avr_emulated.specs.Course.{Course, then_from, ending_says, status_after}
 use Rattle.avr_emulated.proofs.AnyLineSteps.{quiet_stays, read_quiet}
 use Rattle.avr_emulated.proofs.Standings.{after_fault, faulty_fine, over_fine}
-use Rattle.avr_tool.proofs.SuccessEnds.{Succeeds, IsOk, done_is, say_no, done_succeeds, says_succeed, succeeds_wider, lifted_succeeds, led_succeeds, bind_succeeds}
+use Rattle.avr_emulated.proofs.FewBadEnds.{done_is, say_no}
+use Rattle.avr_emulated.proofs.SuccessEnds.{Succeeds, IsOk, done_succeeds, says_succeed, succeeds_wider, lifted_succeeds, led_succeeds, bind_succeeds}
 
 -- a session without a fault, and a status that says so
 abbrev IsFine : Standing → Type 0

@@ -13,23 +13,12 @@ use Rattle.stk_emu.proofs.Attempts.{along_bind, onward, onwards, asks≢done}
 use Rattle.stk_emu.proofs.LeadsOn.{along_lifted}
 use Rattle.stk_emu.proofs.SaidAlong.{said_on, said_bind, said_lifted}
 use Rattle.avr_session.specs.Session.{says}
-
--- a dialog that is done has this result, has said just this, and leaves the programmer so
-pub record Came {E R : Type 0} (got want : R) (said wanted : List E) (After : Type 0) : Type 0 where
-  pub result : got ≡ want
-  pub sayings : said ≡ wanted
-  pub after : After
+use Rattle.avr_emulated.proofs.FewBadEnds.{Came, done_is, say_no}
 
 -- wherever a dialog is done along a line, with a result that is a success
 pub record Succeeds {E R : Type 0} (Good : R → Type 0) (d : Dialog E R) (r : R) (said : List E) (After : Programmer → Type 0) (p : Programmer) (fates : List Fate) : Type 0 where
   pub comes : (k : ℕ) (got : R) → (along device k d p fates).dialog ≡ Done got → Good got
       → Came got r (said_along device k d p fates) said (After (along device k d p fates).programmer)
-
-pub done_is : {E R : Type 0} (a b : R) → ◌≡◌ {A = Dialog E R} (Done a) (Done b) → a ≡ b
-done_is a b e = cc
-
-pub say_no : {E R : Type 0} (s : E) (d : Dialog E R) (r : R) → ◌≡◌ {A = Dialog E R} (Say s d) (Done r) → ⊥
-say_no s d r e = cc
 
 pub nothing_said : (sayings : List ⊥) → sayings ≡ []
 nothing_said [] = refl

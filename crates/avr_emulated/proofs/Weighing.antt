@@ -30,7 +30,7 @@ use Rattle.avr_session.specs.declared.standing.Standing.{Standing}
 use Rattle.avr_session.specs.declared.standing.Standing.TheVariants.{Fine, Faulty, Over}
 use Rattle.avr_session.specs.Session.{says, standing, reported, unless_fault, fault_or, opening_says, erased_says, written_says, verified_says, closed_says, read_says, opening_part, is_erase_due, left_out_erase, erasing_part, verifying_part, writing_part, read_back_part, left_out_write, write_part, task_part, tasks_part, working, ending, playing, status_of, session}
 use Rattle.avr_emulated.specs.Bound.{due_erase_steps, read_back_steps, task_steps, tasks_steps, run_steps}
-use Rattle.avr_tool.specs.Headline.{Weight, weighed, bodies_in}
+use Rattle.avr_emulated.specs.AnyLine.{Weight, weighed, bodies_in}
 
 -- whatever is read, the questions weigh at most so much
 abbrev pub WeighsAtMost : {E R : Type 0} → Weight → ℕ → Dialog E R → Type 0
