@@ -1,8 +1,9 @@
 -- The chip of a file.
 use Rattle.std.proofs.Common.{◌≡◌, refl, sym, ap, arith, ℕ, ◌≤◌, ◌==◌, length, Bool, true, false, nat_le, inl, inr, Option, option_map, Result, Ok, Err, if◌then◌else◌}
 use Rattle.std.proofs.lemmas.Bool.Decides.{nat_tests}
+use Rattle.avr_desk.specs.Fault.{Follows}
 use Rattle.avr_desk.specs.Files.{IsWhole, with_read}
-use Rattle.avr_desk.specs.Record.{Record}
+use Rattle.avr_desk.specs.Record.{DeskView, Passes}
 use Rattle.avr_desk.specs.declared.record.Opening.TheVariants.{Found}
 use Rattle.avr_desk.specs.declared.record.Reading.{Reading}
 use Rattle.avr_message.specs.Lines.{Bytes}
@@ -23,7 +24,7 @@ use Rattle.avr_chip.specs.Loading.{chip_or_line, judged_chip, chip_given, chip_s
 
 -- ---- a fresh chip
 
-pub went_fresh : (part : Part) (chip : State) (d : Option Record) → GivesOrMemory (Ok (fresh_state part)) (Ok chip)
+pub went_fresh : (part : Part) (chip : State) (d : DeskView) → GivesOrMemory (Ok (fresh_state part)) (Ok chip)
     → Went (settled (Ok (fresh_state part))) d d (Made chip)
 went_fresh part chip d (inl gives) = let same : fresh_state part ≡ chip = cc in went_settled (Ok (fresh_state part)) chip d (ap Ok same)
 went_fresh part chip d (inr memory) = cc
@@ -45,7 +46,7 @@ right_length : (part : Part) (bytes : Bytes) (chip : State) → GivesOrMemory (c
 right_length part bytes chip (inl gives) = chip_is (length bytes == chip_file_size part) (state_in part bytes) chip (length bytes) (sym gives)
 right_length part bytes chip (inr memory) = cc
 
-pub went_chip : (part : Part) (file bytes : Bytes) (chip : State) (d : Option Record) → GivesOrMemory (chip_in part bytes) (Ok chip)
+pub went_chip : (part : Part) (file bytes : Bytes) (chip : State) (d : DeskView) → GivesOrMemory (chip_in part bytes) (Ok chip)
     → Went (settled (chip_or_line part file bytes)) d d (Made chip)
 went_chip part file bytes chip d gives =
     let right = right_length part bytes chip gives in
@@ -55,46 +56,46 @@ went_chip part file bytes chip d gives =
 pub chip_of_part : (part : Part) (bytes : Bytes) (chip : State) → GivesOrMemory (chip_in part bytes) (Ok chip) → chip.part ≡ part
 chip_of_part part bytes chip gives = ap (λ (c : State). c.part) (right_length part bytes chip gives).1
 
-pub goes_wrong_length : (part : Part) (file bytes : Bytes) (n : ℕ) (old new : Option Record) (before now status : ℕ)
+pub goes_wrong_length : (part : Part) (file bytes : Bytes) (n : ℕ) (old new : DeskView) (status : ℕ)
     → GivesOrMemory (chip_in part bytes) (Err (BadChipFile n)) → status ≡ 1
-    → Tells old new (length_line file (length bytes) (chip_file_size part)) before now
-    → Goes (settled (chip_or_line part file bytes)) old new before now (Err status)
-goes_wrong_length part file bytes n old new before now status (inl gives) one told =
+    → Tells old new (length_line file (length bytes) (chip_file_size part))
+    → Goes (settled (chip_or_line part file bytes)) old new (Err status)
+goes_wrong_length part file bytes n old new status (inl gives) one told =
     let wrong = none_is (length bytes == chip_file_size part) (state_in part bytes) (length bytes) (BadChipFile n) (sym gives) in
     let line = length_line file (length bytes) (chip_file_size part) in
     let given : chip_or_line part file bytes ≡ Err line = rw wrong refl in
-    goes_unsettled (chip_or_line part file bytes) line old new before now status given one told
-goes_wrong_length part file bytes n old new before now status (inr memory) one told = cc
+    goes_unsettled (chip_or_line part file bytes) line old new status given one told
+goes_wrong_length part file bytes n old new status (inr memory) one told = cc
 
 -- ---- the chip of a file that was read
 
 -- the judgment of what the file gave
-goes_whole : (part : Part) (file bytes : Bytes) (ended : Bool) (old mid new : Option Record) (before between now : ℕ) (result : Result State ℕ)
-    → mid ≡ option_map (with_read file bytes ended) old → IsWhole 4194304 (record { bytes = bytes; ended = ended }) → before ≤ between
-    → Goes (settled (judged_chip part file bytes)) mid new between now result → Goes (chip_stage part file) old new before now result
-goes_whole part file bytes ended old mid new before between now result kept whole rose goes =
+goes_whole : (part : Part) (file bytes : Bytes) (ended : Bool) (old mid new : DeskView) (result : Result State ℕ)
+    → Passes (with_read file bytes ended) old mid → IsWhole 4194304 (record { bytes = bytes; ended = ended }) → Follows old mid
+    → Goes (settled (judged_chip part file bytes)) mid new result → Goes (chip_stage part file) old new result
+goes_whole part file bytes ended old mid new result kept whole rose goes =
     let reading : Reading = record { name = file; bytes = bytes; ended = ended } in
-    goes_opened file (chip_given part file) (Found reading) old mid new before between now result refl kept rose
-    (goes_judged file 4194304 (judged_chip part file) reading mid new between now result whole goes)
+    goes_opened file (chip_given part file) (Found reading) old mid new result refl kept rose
+    (goes_judged file 4194304 (judged_chip part file) reading mid new result whole goes)
 
 -- to its end
-pub goes_ended : (part : Part) (file bytes : Bytes) (ended : Bool) (old mid new : Option Record) (before between now : ℕ) (result : Result State ℕ)
-    → mid ≡ option_map (with_read file bytes ended) old → IsWhole 4194304 (record { bytes = bytes; ended = ended }) → ended ≡ true → before ≤ between
-    → Goes (settled (chip_or_line part file bytes)) mid new between now result → Goes (chip_stage part file) old new before now result
-goes_ended part file bytes false old mid new before between now result kept whole is rose goes = cc
-goes_ended part file bytes true old mid new before between now result kept whole is rose goes =
+pub goes_ended : (part : Part) (file bytes : Bytes) (ended : Bool) (old mid new : DeskView) (result : Result State ℕ)
+    → Passes (with_read file bytes ended) old mid → IsWhole 4194304 (record { bytes = bytes; ended = ended }) → ended ≡ true → Follows old mid
+    → Goes (settled (chip_or_line part file bytes)) mid new result → Goes (chip_stage part file) old new result
+goes_ended part file bytes false old mid new result kept whole is rose goes = cc
+goes_ended part file bytes true old mid new result kept whole is rose goes =
     let fits : nat_le (length bytes) 4194304 ≡ true = grind (arith, nat_tests, whole) in
-    goes_whole part file bytes true old mid new before between now result kept whole rose (rw fits goes)
+    goes_whole part file bytes true old mid new result kept whole rose (rw fits goes)
 
 -- or past the limit
-pub goes_past : (part : Part) (file bytes : Bytes) (ended : Bool) (old mid new : Option Record) (before between now status : ℕ)
-    → mid ≡ option_map (with_read file bytes ended) old → IsWhole 4194304 (record { bytes = bytes; ended = ended }) → ended ≡ false → before ≤ between
-    → status ≡ 1 → Tells mid new (too_long_line file 4194304) between now
-    → Goes (chip_stage part file) old new before now (Err status)
-goes_past part file bytes true old mid new before between now status kept whole is rose one told = cc
-goes_past part file bytes false old mid new before between now status kept whole is rose one told =
+pub goes_past : (part : Part) (file bytes : Bytes) (ended : Bool) (old mid new : DeskView) (status : ℕ)
+    → Passes (with_read file bytes ended) old mid → IsWhole 4194304 (record { bytes = bytes; ended = ended }) → ended ≡ false → Follows old mid
+    → status ≡ 1 → Tells mid new (too_long_line file 4194304)
+    → Goes (chip_stage part file) old new (Err status)
+goes_past part file bytes true old mid new status kept whole is rose one told = cc
+goes_past part file bytes false old mid new status kept whole is rose one told =
     let more = whole.0 in
     let long : nat_le (length bytes) 4194304 ≡ false = grind (arith, nat_tests, more) in
     let given : judged_chip part file bytes ≡ Err (too_long_line file 4194304) = rw long refl in
-    goes_whole part file bytes false old mid new before between now (Err status) kept whole rose
-    (goes_unsettled (judged_chip part file bytes) (too_long_line file 4194304) mid new between now status given one told)
+    goes_whole part file bytes false old mid new (Err status) kept whole rose
+    (goes_unsettled (judged_chip part file bytes) (too_long_line file 4194304) mid new status given one told)

@@ -1,6 +1,6 @@
 -- A chip file that is saved: what was done at the desk, and what stood in the way.
-use Rattle.std.specs.Prelude.{◌≡◌, ℕ, List, [], ◌∷◌, ◌++◌, Option, option_map, Result, Ok, Err, ⊤}
-use Rattle.avr_desk.specs.Record.{Record}
+use Rattle.std.specs.Prelude.{◌≡◌, ℕ, List, [], ◌∷◌, ◌++◌, Result, Ok, Err, ⊤}
+use Rattle.avr_desk.specs.Record.{DeskView, Passes}
 use Rattle.avr_message.specs.Lines.{Bytes}
 use Rattle.avr_message.specs.Said.{Saying, Line, Creates, Writes, IsPrefixOf, TellsLine, TellsFailure, after_all}
 use Rattle.avr_plan.specs.Lines.{memory_line}
@@ -25,20 +25,20 @@ IsFront bytes (NotWritten front) = IsPrefixOf front bytes
 IsFront bytes _ = Unit {0}
 
 -- The line of memory was told; or the desk failed at the file, and from then on the line of that was told.
-abbrev pub TellsTrouble : Bytes → Trouble → Bytes → ℕ → ℕ → Type 0
-TellsTrouble file NoMemory told before now = TellsLine memory_line told before now
-TellsTrouble file NotCreated told before now = TellsFailure (not_created_line file) told before now
-TellsTrouble file (NotWritten front) told before now = TellsFailure (not_written_line file) told before now
+abbrev pub TellsTrouble : Bytes → Trouble → Bytes → DeskView → DeskView → Type 0
+TellsTrouble file NoMemory told old new = TellsLine memory_line told old new
+TellsTrouble file NotCreated told old new = TellsFailure (not_created_line file) told old new
+TellsTrouble file (NotWritten front) told old new = TellsFailure (not_written_line file) told old new
 
 -- Something stood in the way, and that was told.
-pub record Unsaved (old new : Option Record) (file bytes : Bytes) (before now : ℕ) : Type 0 where
+pub record Unsaved (old new : DeskView) (file bytes : Bytes) : Type 0 where
   pub trouble : Trouble
   pub told : Bytes
   pub front : IsFront bytes trouble
-  pub tells : TellsTrouble file trouble told before now
-  pub kept : new ≡ option_map (after_all (done_before file trouble ++ Line told ∷ [])) old
+  pub tells : TellsTrouble file trouble told old new
+  pub kept : Passes (after_all (done_before file trouble ++ Line told ∷ [])) old new
 
 -- The file was created and all its bytes were written; or the status is 1, and it was not saved.
-abbrev pub Saves : Option Record → Option Record → Bytes → Bytes → ℕ → ℕ → Result ⊤ ℕ → Type 0
-Saves old new file bytes before now (Ok done) = new ≡ option_map (after_all (Creates file ∷ Writes bytes ∷ [])) old
-Saves old new file bytes before now (Err status) = (status ≡ 1) × Unsaved old new file bytes before now
+abbrev pub Saves : DeskView → DeskView → Bytes → Bytes → Result ⊤ ℕ → Type 0
+Saves old new file bytes (Ok done) = Passes (after_all (Creates file ∷ Writes bytes ∷ [])) old new
+Saves old new file bytes (Err status) = (status ≡ 1) × Unsaved old new file bytes

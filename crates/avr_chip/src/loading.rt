@@ -1,6 +1,7 @@
 //! A chip is loaded from its file.
-ghost use Rattle.std.specs.Prelude.{◌≡◌, ◌≤◌, ℕ, Option, IfOk, Ok, length};
-ghost use Rattle.avr_desk.specs.Record.{Record};
+ghost use Rattle.std.specs.Prelude.{◌≡◌, ◌≤◌, IfOk, Ok, length};
+ghost use Rattle.avr_desk.specs.Fault.{Follows};
+ghost use Rattle.avr_desk.specs.Record.{DeskView};
 ghost use Rattle.avr_part.specs.ChipFile.{chip_file_size};
 ghost use Rattle.avr_part.specs.State.{fresh_state};
 ghost use Rattle.avr_plan.specs.ImageReading.{FileBreaks, IsCounted};
@@ -26,10 +27,8 @@ fn file_size(part: &Part) -> u32
 
 /// A chip of this part as it comes new.
 fn fresh_chip<D: Desk>(alloc: Global, part: &Part, desk: &mut D) -> Result<Chip, u8>
-    ensures goes { Goes (settled (Ok (fresh_state part.now))) (D.view desk.old).kept (D.view desk.new).kept (D.view desk.old).failures
-        (D.view desk.new).failures result }
+    ensures goes { Goes (settled (Ok (fresh_state part.now))) (D.view desk.old) (D.view desk.new) result }
     ensures part { IfOk result (λ c. c.part ≡ part.now) }
-    ensures rises { (D.view desk.old).failures ≤ (D.view desk.new).failures }
 {
     match Chip::fresh(alloc, part.copied()) {
         Ok(chip) => Ok(chip),
@@ -46,10 +45,8 @@ fn chip_of<D: Desk>(
     desk: &mut D,
 ) -> Result<Chip, u8>
     requires { length bytes.now ≤ 4194304 }
-    ensures goes { Goes (settled (chip_or_line part.now file.now bytes.now)) (D.view desk.old).kept (D.view desk.new).kept
-        (D.view desk.old).failures (D.view desk.new).failures result }
+    ensures goes { Goes (settled (chip_or_line part.now file.now bytes.now)) (D.view desk.old) (D.view desk.new) result }
     ensures part { IfOk result (λ c. c.part ≡ part.now) }
-    ensures rises { (D.view desk.old).failures ≤ (D.view desk.new).failures }
 {
     match Chip::from_bytes(alloc, part.copied(), bytes) {
         Ok(chip) => Ok(chip),
@@ -70,12 +67,11 @@ fn unread_chip<D: Desk>(
     fault: FileFault,
     desk: &mut D,
 ) -> Result<Chip, u8>
-    ensures goes { (old : Option Record) (before : ℕ) → FileBreaks file.now old (D.view desk.old).kept fault
-        → before ≤ (D.view desk.old).failures
-        → IsCounted before (D.view desk.old).failures fault
-        → Goes (chip_stage part.now file.now) old (D.view desk.new).kept before (D.view desk.new).failures result }
+    ensures goes { (old : DeskView) → FileBreaks file.now old (D.view desk.old) fault
+        → Follows old (D.view desk.old)
+        → IsCounted old (D.view desk.old) fault
+        → Goes (chip_stage part.now file.now) old (D.view desk.new) result }
     ensures part { IfOk result (λ c. c.part ≡ part.now) }
-    ensures rises { (D.view desk.old).failures ≤ (D.view desk.new).failures }
 {
     match fault {
         FileFault::Absent => fresh_chip(alloc, part, desk),
@@ -91,10 +87,8 @@ fn unread_chip<D: Desk>(
 /// `m328p`), also where it is empty, where it can't be opened or read on, and where memory is refused. Then the line
 /// that tells why was printed, as far as the desk takes it.
 pub fn load_chip<D: Desk>(alloc: Global, part: &Part, file: &str, desk: &mut D) -> Result<Chip, u8>
-    ensures goes { Goes (chip_stage part.now file.now) (D.view desk.old).kept (D.view desk.new).kept (D.view desk.old).failures
-        (D.view desk.new).failures result }
+    ensures goes { Goes (chip_stage part.now file.now) (D.view desk.old) (D.view desk.new) result }
     ensures part { IfOk result (λ c. c.part ≡ part.now) }
-    ensures rises { (D.view desk.old).failures ≤ (D.view desk.new).failures }
 {
     let contents = match read_file(alloc, desk, file, LIMIT) {
         Ok(contents) => contents,

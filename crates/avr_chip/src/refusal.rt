@@ -1,5 +1,5 @@
 //! Why there is no chip, or no file of it, beside the lines that any file has. The status is 1.
-ghost use Rattle.std.specs.Prelude.{◌≡◌, ◌≤◌, ◌∷◌, []};
+ghost use Rattle.std.specs.Prelude.{◌≡◌, ◌∷◌, []};
 ghost use Rattle.avr_message.specs.Lines.{error};
 ghost use Rattle.avr_message.specs.Said.{Tells};
 ghost use Rattle.avr_chip.specs.Lines.{length_line};
@@ -8,22 +8,18 @@ use avr_desk::Desk;
 use avr_message::Piece;
 use avr_plan::refuse;
 
-/// Tells what can't be done with a file.
+/// Tells what can't be with a file.
 pub(crate) fn refuse_saving<'a, D: Desk>(desk: &mut D, file: &'a str, trouble: &'a str) -> u8
     ensures status { result ≡ 1 }
-    ensures told { Tells (D.view desk.old).kept (D.view desk.new).kept (error (file.now ∷ trouble.now ∷ []))
-        (D.view desk.old).failures (D.view desk.new).failures }
-    ensures rises { (D.view desk.old).failures ≤ (D.view desk.new).failures }
+    ensures told { Tells (D.view desk.old) (D.view desk.new) (error (file.now ∷ trouble.now ∷ [])) }
 {
     refuse(desk, &[Piece::Text(file), Piece::Text(trouble)])
 }
 
-/// Tells that a file has another number of bytes than is expected.
+/// Tells that a file number of bytes than is expected.
 pub(crate) fn refuse_length<D: Desk>(desk: &mut D, file: &str, found: u32, expected: u32) -> u8
     ensures status { result ≡ 1 }
-    ensures told { Tells (D.view desk.old).kept (D.view desk.new).kept (length_line file.now found expected)
-        (D.view desk.old).failures (D.view desk.new).failures }
-    ensures rises { (D.view desk.old).failures ≤ (D.view desk.new).failures }
+    ensures told { Tells (D.view desk.old) (D.view desk.new) (length_line file.now found expected) }
 {
     refuse(
         desk,

@@ -1,5 +1,5 @@
 //! A chip is saved to its file.
-ghost use Rattle.std.specs.Prelude.{◌≤◌};
+ghost use Rattle.avr_desk.specs.Fault.{Follows};
 ghost use Rattle.avr_part.specs.ChipFile.{chip_file};
 ghost use Rattle.avr_chip.specs.Saving.{Saves};
 
@@ -11,9 +11,8 @@ use std::alloc::Global;
 
 /// Creates the file of this name and writes these bytes.
 fn save_bytes<D: Desk>(file: &str, bytes: &[u8], desk: &mut D) -> Result<(), u8>
-    ensures saves { Saves (D.view desk.old).kept (D.view desk.new).kept file.now bytes.now (D.view desk.old).failures
-        (D.view desk.new).failures result }
-    ensures rises { (D.view desk.old).failures ≤ (D.view desk.new).failures }
+    ensures saves { Saves (D.view desk.old) (D.view desk.new) file.now bytes.now result }
+    ensures rises { Follows (D.view desk.old) (D.view desk.new) }
 {
     if desk.create(file).is_err() {
         return Err(refuse_saving(desk, file, ": cannot be created"));
@@ -31,9 +30,8 @@ fn save_bytes<D: Desk>(file: &str, bytes: &[u8], desk: &mut D) -> Result<(), u8>
 /// line that tells why was printed, as far as the desk takes it. No file is created where memory is refused; one that
 /// was created holds a front of the bytes.
 pub fn save_chip<D: Desk>(alloc: Global, chip: &Chip, file: &str, desk: &mut D) -> Result<(), u8>
-    ensures saves { Saves (D.view desk.old).kept (D.view desk.new).kept file.now (chip_file chip.now) (D.view desk.old).failures
-        (D.view desk.new).failures result }
-    ensures rises { (D.view desk.old).failures ≤ (D.view desk.new).failures }
+    ensures saves { Saves (D.view desk.old) (D.view desk.new) file.now (chip_file chip.now) result }
+    ensures rises { Follows (D.view desk.old) (D.view desk.new) }
 {
     match chip.to_bytes(alloc) {
         Ok(bytes) => save_bytes(file, bytes.as_slice(), desk),

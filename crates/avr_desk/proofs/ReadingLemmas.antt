@@ -1,7 +1,7 @@
 -- Pieces of a file that are read one after the other.
 use Rattle.std.proofs.Common.{◌≡◌, ◌∙◌, ap, ap₂, refl, ℕ, ◌++◌, ◌||◌, Bool, true, false, Option, Some, None, option_map, Result, Ok, Err, append_assoc, take, ◌==◌, ◌&&◌, not, arith}
 use Rattle.std.proofs.lemmas.Bool.Decides.{nat_tests}
-use Rattle.avr_desk.specs.Record.{Record, Bytes, after_open, after_read, noted, is_nil}
+use Rattle.avr_desk.specs.Record.{Record, Bytes, showing, after_open, after_read, noted, is_nil}
 use Rattle.avr_desk.specs.Files.{ReadsFile, ReadsOpen, after_reading, with_read}
 use Rattle.avr_desk.specs.declared.record.Open.{Open}
 use Rattle.avr_desk.specs.declared.record.Open.TheVariants.{Closed, ToRead, ToWrite}
@@ -15,8 +15,9 @@ opened_read : (name : Bytes) (old now new : Option Record) (bytes : Bytes) (ende
 opened_read name None now new bytes ended opened read = read ∙ ap (option_map (after_reading bytes ended)) opened
 opened_read name (Some k) now new bytes ended opened read = read ∙ ap (option_map (after_reading bytes ended)) opened
 
+-- (the counts say nothing here)
 pub reads_opened : (name : Bytes) (old now new : Option Record) (r : Result Contents FileFault)
-    → now ≡ option_map (after_open name (Ok tt)) old → ReadsOpen now new r → ReadsFile name old new r
+    → now ≡ option_map (after_open name (Ok tt)) old → ReadsOpen (showing now 0) (showing new 0) r → ReadsFile name (showing old 0) (showing new 0) r
 reads_opened name old now new (Ok c) opened read = opened_read name old now new c.bytes c.ended opened read
 reads_opened name old now new (Err Absent) opened read = absurd read
 reads_opened name old now new (Err NotOpened) opened read = absurd read

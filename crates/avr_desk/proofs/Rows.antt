@@ -1,9 +1,9 @@
 -- Worked calls with an outcome that the contracts refuse.
-use Rattle.std.proofs.Common.{◌≡◌, ap, ℕ, zero, suc, List, [], ◌∷◌, ◌++◌, inl, inr, take, Option, Some, Result, Ok, Err, arith}
+use Rattle.std.proofs.Common.{◌≡◌, ap, ℕ, zero, suc, List, [], ◌∷◌, ◌++◌, inl, inr, take, Option, Some, None, Result, Ok, Err, arith}
 use Rattle.avr_desk.specs.Failing.{Failing, FailsWhenDue}
 use Rattle.avr_desk.specs.Fault.{Counts}
 use Rattle.avr_desk.specs.Files.{FaultCounts}
-use Rattle.avr_desk.specs.Record.{Bytes, Record, nothing_kept, after_out}
+use Rattle.avr_desk.specs.Record.{Bytes, DeskView, Record, showing, nothing_kept, after_out}
 use Rattle.avr_desk.specs.Shown.{AppendsFront}
 use Rattle.avr_desk.specs.Stream.{SendsTaken}
 use Rattle.avr_desk.specs.declared.fault.DeskFault.{DeskFault}
@@ -13,31 +13,35 @@ use Rattle.avr_desk.specs.declared.files.FileFault.{FileFault}
 use Rattle.avr_desk.specs.declared.files.FileFault.TheVariants.{Memory}
 use Rattle.avr_desk.specs.declared.stream.Stream.TheVariants.{Output, Messages}
 
+-- a desk that keeps nothing, and has failed so often
+abbrev silent : ℕ → DeskView
+silent failures = showing None failures
+
 abbrev done : Result (Unit {0}) DeskFault
 done = Ok tt
 
 -- a failure that is counted behind a success, behind a file that isn't there, behind a byte that was taken, or behind want of
 -- memory
-pub no_count_behind_success : Counts 0 1 done → ⊥
+pub no_count_behind_success : Counts (silent 0) (silent 1) done → ⊥
 no_count_behind_success counts = let e : 1 ≡ 0 = counts.1 in omega (arith, e)
 
 abbrev absent : Result (Unit {0}) DeskFault
 absent = Err NotFound
 
-pub no_count_behind_absence : Counts 0 1 absent → ⊥
+pub no_count_behind_absence : Counts (silent 0) (silent 1) absent → ⊥
 no_count_behind_absence counts = let e : 1 ≡ 0 = counts.1 in omega (arith, e)
 
 abbrev short_of_memory : Result Contents FileFault
 short_of_memory = Err Memory
 
-pub no_count_behind_memory : FaultCounts 0 1 short_of_memory → ⊥
+pub no_count_behind_memory : FaultCounts (silent 0) (silent 1) short_of_memory → ⊥
 no_count_behind_memory counts = let e : 1 ≡ 0 = counts.1 in omega (arith, e)
 
 -- a failure that is not counted
 abbrev failed : Result (Unit {0}) DeskFault
 failed = Err Failed
 
-pub no_silent_failure : Counts 0 0 failed → ⊥
+pub no_silent_failure : Counts (silent 0) (silent 0) failed → ⊥
 no_silent_failure (rises, inl more) = omega (arith, more)
 no_silent_failure (rises, inr last) = omega (arith, last)
 
@@ -56,14 +60,14 @@ abbrev output_of : Option Record → Bytes
 output_of (Some r) = r.output
 output_of _ = []
 
-pub no_end_before_a_fault : SendsTaken Output whole (Some nothing_kept) (Some (after_out end nothing_kept)) (Err Failed) → ⊥
+pub no_end_before_a_fault : SendsTaken Output whole (showing (Some nothing_kept) 0) (showing (Some (after_out end nothing_kept)) 1) (Err Failed) → ⊥
 no_end_before_a_fault sent = front_or_end sent.0 (ap output_of sent.2)
 
 -- a message in the output
 abbrev byte : List ℕ
 byte = 1 ∷ []
 
-pub no_message_in_the_output : SendsTaken Messages byte (Some nothing_kept) (Some (after_out byte nothing_kept)) (Ok 1) → ⊥
+pub no_message_in_the_output : SendsTaken Messages byte (showing (Some nothing_kept) 0) (showing (Some (after_out byte nothing_kept)) 0) (Ok 1) → ⊥
 no_message_in_the_output sent = let e : byte ≡ [] = ap output_of sent in absurd (cc)
 
 -- a writer that took other bytes

@@ -1,7 +1,7 @@
 -- A whole file over a desk: what passes when it is read to its end or past a limit.
-use Rattle.std.specs.Prelude.{◌≡◌, ◌≤◌, ◌<◌, ◌+◌, ℕ, length, Option, option_map, Bool, Result, Ok, Err, false, MatchBool}
-use Rattle.avr_desk.specs.Record.{Record, Bytes, noted, with_open, with_absent}
-use Rattle.avr_desk.specs.Fault.{HasFailed}
+use Rattle.std.specs.Prelude.{◌≡◌, ◌≤◌, ◌<◌, ◌+◌, ℕ, length, Bool, Result, Ok, Err, false, MatchBool}
+use Rattle.avr_desk.specs.Record.{DeskView, Record, Bytes, Passes, noted, with_open, with_absent}
+use Rattle.avr_desk.specs.Fault.{Follows, HasFailed}
 use Rattle.avr_desk.specs.declared.record.Open.TheVariants.{ToRead}
 use Rattle.avr_desk.specs.declared.files.Contents.{Contents}
 use Rattle.avr_desk.specs.declared.files.FileFault.{FileFault}
@@ -23,18 +23,18 @@ with_read name bytes ended r = with_open (ToRead (record { name = name; bytes = 
 
 -- the file was opened and gave all that was answered; with no such file that is noted; where it
 -- could not be opened nothing passed; where its reading broke off it gave some bytes
-abbrev pub ReadsFile : Bytes → Option Record → Option Record → Result Contents FileFault → Type 0
-ReadsFile name old new (Ok c) = new ≡ option_map (with_read name c.bytes c.ended) old
-ReadsFile name old new (Err Absent) = new ≡ option_map (with_absent name) old
-ReadsFile name old new (Err NotOpened) = new ≡ old
-ReadsFile name old new (Err fault) = (bytes : Bytes) × (new ≡ option_map (with_read name bytes false) old)
+abbrev pub ReadsFile : Bytes → DeskView → DeskView → Result Contents FileFault → Type 0
+ReadsFile name old new (Ok c) = Passes (with_read name c.bytes c.ended) old new
+ReadsFile name old new (Err Absent) = Passes (with_absent name) old new
+ReadsFile name old new (Err NotOpened) = new.kept ≡ old.kept
+ReadsFile name old new (Err fault) = (bytes : Bytes) × Passes (with_read name bytes false) old new
 
 -- the same of a file that is open
-abbrev pub ReadsOpen : Option Record → Option Record → Result Contents FileFault → Type 0
-ReadsOpen old new (Ok c) = new ≡ option_map (after_reading c.bytes c.ended) old
+abbrev pub ReadsOpen : DeskView → DeskView → Result Contents FileFault → Type 0
+ReadsOpen old new (Ok c) = Passes (after_reading c.bytes c.ended) old new
 ReadsOpen old new (Err Absent) = ⊥
 ReadsOpen old new (Err NotOpened) = ⊥
-ReadsOpen old new (Err fault) = (bytes : Bytes) × (new ≡ option_map (after_reading bytes false) old)
+ReadsOpen old new (Err fault) = (bytes : Bytes) × Passes (after_reading bytes false) old new
 
 -- the end was seen within the limit, or more bytes came than it allows, by one piece at most
 abbrev pub IsWhole : ℕ → Contents → Type 0
@@ -42,11 +42,11 @@ IsWhole limit c =
     MatchBool c.ended (length c.bytes ≤ limit) ((limit < length c.bytes) × (length c.bytes ≤ limit + 4096))
 
 -- what the count of failures says of a fault: want of memory is no failure of the desk
-abbrev pub FaultIsCounted : ℕ → ℕ → Result Contents FileFault → Type 0
+abbrev pub FaultIsCounted : DeskView → DeskView → Result Contents FileFault → Type 0
 FaultIsCounted old new (Err NotOpened) = HasFailed old new
 FaultIsCounted old new (Err NotRead) = HasFailed old new
-FaultIsCounted old new r = new ≡ old
+FaultIsCounted old new r = new.failures ≡ old.failures
 
 -- the count never falls, and shows whether the desk failed
-abbrev pub FaultCounts : ℕ → ℕ → Result Contents FileFault → Type 0
-FaultCounts old new r = (old ≤ new) × FaultIsCounted old new r
+abbrev pub FaultCounts : DeskView → DeskView → Result Contents FileFault → Type 0
+FaultCounts old new r = Follows old new × FaultIsCounted old new r

@@ -1,7 +1,7 @@
 -- A desk in memory: what contracts see of it, and the bytes that a name stands for.
 use Rattle.std.specs.Prelude.{ℕ, List, ◌++◌, drop, length, codes, Option, Some, None, if◌then◌else◌}
 use Rattle.std.specs.Str.{bytes_eq}
-use Rattle.avr_desk.specs.Record.{Record, Bytes, all_files}
+use Rattle.avr_desk.specs.Record.{DeskView, Record, Bytes, all_files, showing}
 use Rattle.avr_desk.specs.Named.{newest, given}
 use Rattle.avr_desk.specs.declared.record.Writing.{Writing}
 
@@ -13,6 +13,10 @@ pub record Memory : Type 0 where
   pub input : Bytes
   pub stored : List Writing
   pub opened : Bytes
+
+-- what it shows as any desk does
+abbrev pub shown_by : Memory → DeskView
+shown_by m = showing (Some m.kept) m.failures
 
 -- the file of this name: the one that was created last, else the one that was put there last
 abbrev pub file_named : Bytes → Memory → Option Bytes

@@ -1,5 +1,5 @@
 -- What a desk was asked, and what it gave.
-use Rattle.std.specs.Prelude.{◌≡◌, ◌==◌, ◌&&◌, ◌||◌, ℕ, Bool, true, false, not, List, [], ◌∷◌, ◌++◌, take, length, Option, Result, Ok, Err, IfSome, OnOk, ⊤}
+use Rattle.std.specs.Prelude.{◌≡◌, ◌==◌, ◌&&◌, ◌||◌, ℕ, Bool, true, false, not, List, [], ◌∷◌, ◌++◌, take, length, Option, option_map, Result, Ok, Err, IfSome, OnOk, ⊤}
 use Rattle.avr_desk.specs.declared.fault.DeskFault.{DeskFault}
 use Rattle.avr_desk.specs.declared.fault.DeskFault.TheVariants.{NotFound, Failed}
 use Rattle.avr_desk.specs.declared.record.Writing.{Writing}
@@ -24,6 +24,14 @@ pub record Record : Type 0 where
 pub record DeskView : Type 0 where
   pub kept : Option Record
   pub failures : ℕ
+
+-- what a desk shows that keeps this and has failed so often
+abbrev pub showing : Option Record → ℕ → DeskView
+showing kept failures = record { kept = kept; failures = failures }
+
+-- what a desk keeps, if it keeps anything, has become this
+abbrev pub Passes : (Record → Record) → DeskView → DeskView → Type 0
+Passes change old new = new.kept ≡ option_map change old.kept
 
 abbrev pub opening_of : Open → List Opening
 opening_of (ToRead x) = Found x ∷ []
@@ -101,8 +109,8 @@ is_to_write (ToWrite x) = true
 is_to_write o = false
 
 -- a call that is answered has its file
-abbrev pub HasOpen : {T : Type 0} → (Open → Bool) → Option Record → Result T DeskFault → Type 0
-HasOpen test kept r = OnOk r (IfSome kept (λ k. test k.current ≡ true))
+abbrev pub HasOpen : {T : Type 0} → (Open → Bool) → DeskView → Result T DeskFault → Type 0
+HasOpen test old r = OnOk r (IfSome old.kept (λ k. test k.current ≡ true))
 
 abbrev pub nothing_kept : Record
 nothing_kept = record { openings = []; files = []; current = Closed; output = []; messages = [] }

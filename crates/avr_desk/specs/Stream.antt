@@ -1,7 +1,7 @@
 -- Where bytes go, and a call that sends them all or only a front of them.
-use Rattle.std.specs.Prelude.{◌≡◌, ◌≤◌, ℕ, take, length, Option, option_map, Result, Ok, Err}
+use Rattle.std.specs.Prelude.{◌≡◌, ◌≤◌, ℕ, take, length, Result, Ok, Err}
 use Rattle.avr_desk.specs.declared.fault.DeskFault.{DeskFault}
-use Rattle.avr_desk.specs.Record.{Record, Bytes, after_write, after_out, after_err}
+use Rattle.avr_desk.specs.Record.{DeskView, Record, Bytes, Passes, after_write, after_out, after_err}
 use Rattle.avr_desk.specs.declared.stream.Stream.{Stream}
 use Rattle.avr_desk.specs.declared.stream.Stream.TheVariants.{File, Output, Messages}
 
@@ -12,11 +12,10 @@ after_sent Output bytes r = after_out bytes r
 after_sent Messages bytes r = after_err bytes r
 
 -- a front of these bytes went there, and nothing else happened
-abbrev pub SendsPart : Stream → Option Record → Option Record → Bytes → Type 0
-SendsPart stream old new bytes =
-    (n : ℕ) × (n ≤ length bytes) × (new ≡ option_map (after_sent stream (take n bytes)) old)
+abbrev pub SendsPart : Stream → DeskView → DeskView → Bytes → Type 0
+SendsPart stream old new bytes = (n : ℕ) × (n ≤ length bytes) × Passes (after_sent stream (take n bytes)) old new
 
 -- as many of these bytes went there as were answered; after a fault perhaps a front of them
-abbrev pub SendsTaken : Stream → Bytes → Option Record → Option Record → Result ℕ DeskFault → Type 0
-SendsTaken stream bytes old new (Ok n) = new ≡ option_map (after_sent stream (take n bytes)) old
+abbrev pub SendsTaken : Stream → Bytes → DeskView → DeskView → Result ℕ DeskFault → Type 0
+SendsTaken stream bytes old new (Ok n) = Passes (after_sent stream (take n bytes)) old new
 SendsTaken stream bytes old new (Err fault) = SendsPart stream old new bytes

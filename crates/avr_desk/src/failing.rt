@@ -1,7 +1,7 @@
 //! A desk that fails by plan, for tests of its callers.
-ghost use Rattle.std.specs.Prelude.{◌≡◌, ◌≤◌, ◌-◌, ◌==◌, length, option_map, IfOk, IfErr, MatchBool};
+ghost use Rattle.std.specs.Prelude.{◌≡◌, ◌≤◌, ◌-◌, ◌==◌, length, IfOk, IfErr, MatchBool};
 ghost use Rattle.avr_desk.specs.Failing.{planned_after};
-ghost use Rattle.avr_desk.specs.Fault.{HasFailed};
+ghost use Rattle.avr_desk.specs.Fault.{HasRisen};
 
 use crate::desk::Desk;
 use crate::fault::DeskFault;
@@ -48,7 +48,7 @@ impl<D> FailingDesk<D> {
         ensures due { result ≡ (self.old.due == 1) }
         ensures same { self.new ≡ record self.old { due = self.old.due - 1; planned = planned_after self.old } }
         ensures counts { MatchBool result ((self.old.planned ≤ self.new.planned)
-            × HasFailed self.old.planned self.new.planned) (self.new.planned ≡ self.old.planned) }
+            × HasRisen self.old.planned self.new.planned) (self.new.planned ≡ self.old.planned) }
     {
         let due = self.due == 1;
         self.due = self.due.saturating_sub(1);
@@ -60,7 +60,7 @@ impl<D> FailingDesk<D> {
 }
 
 impl<D: Desk> Desk for FailingDesk<D> {
-    ghost use Rattle.avr_desk.specs.Record.{after_open, after_create, after_read, HasOpen, is_to_read, is_to_write};
+    ghost use Rattle.avr_desk.specs.Record.{Passes, after_open, after_create, after_read, HasOpen, is_to_read, is_to_write};
     ghost use Rattle.avr_desk.specs.Fault.{Counts, WriteCounts};
     ghost use Rattle.avr_desk.specs.Stream.{SendsTaken};
     ghost use Rattle.avr_desk.specs.declared.stream.Stream.TheVariants.{File, Output, Messages};
@@ -69,9 +69,9 @@ impl<D: Desk> Desk for FailingDesk<D> {
     ghost view = { λ d. failing_view (D.view d.inner) d };
 
     fn open(&mut self, name: &str) -> Result<(), DeskFault>
-        ensures kept { (D.view self.new.inner).kept ≡ option_map (after_open name.now result) (D.view self.old.inner).kept }
-        ensures counts { Counts (failing_view (D.view self.old.inner) self.old).failures (failing_view (D.view self.new.inner) self.new).failures result }
-        ensures when_due { FailsWhenDue (Counts (D.view self.old.inner).failures (D.view self.new.inner).failures result) self.old
+        ensures kept { Passes (after_open name.now result) (D.view self.old.inner) (D.view self.new.inner) }
+        ensures counts { Counts (failing_view (D.view self.old.inner) self.old) (failing_view (D.view self.new.inner) self.new) result }
+        ensures when_due { FailsWhenDue (Counts (D.view self.old.inner) (D.view self.new.inner) result) self.old
             self.new result }
     {
         if self.is_due() {
@@ -81,10 +81,10 @@ impl<D: Desk> Desk for FailingDesk<D> {
     }
 
     fn create(&mut self, name: &str) -> Result<(), DeskFault>
-        ensures kept { (D.view self.new.inner).kept ≡ option_map (after_create name.now result) (D.view self.old.inner).kept }
-        ensures counts { Counts (failing_view (D.view self.old.inner) self.old).failures (failing_view (D.view self.new.inner) self.new).failures result }
+        ensures kept { Passes (after_create name.now result) (D.view self.old.inner) (D.view self.new.inner) }
+        ensures counts { Counts (failing_view (D.view self.old.inner) self.old) (failing_view (D.view self.new.inner) self.new) result }
         ensures fault { IfErr result (λ e. e ≡ DeskFault.Failed) }
-        ensures when_due { FailsWhenDue (Counts (D.view self.old.inner).failures (D.view self.new.inner).failures result) self.old
+        ensures when_due { FailsWhenDue (Counts (D.view self.old.inner) (D.view self.new.inner) result) self.old
             self.new result }
     {
         if self.is_due() {
@@ -95,11 +95,11 @@ impl<D: Desk> Desk for FailingDesk<D> {
 
     fn read(&mut self, buf: &mut [u8]) -> Result<usize, DeskFault>
         ensures bound { IfOk result (λ n. n ≤ length buf.new) }
-        ensures kept { (D.view self.new.inner).kept ≡ option_map (after_read buf.new result) (D.view self.old.inner).kept }
-        ensures has_file { HasOpen is_to_read (D.view self.old.inner).kept result }
-        ensures counts { Counts (failing_view (D.view self.old.inner) self.old).failures (failing_view (D.view self.new.inner) self.new).failures result }
+        ensures kept { Passes (after_read buf.new result) (D.view self.old.inner) (D.view self.new.inner) }
+        ensures has_file { HasOpen is_to_read (D.view self.old.inner) result }
+        ensures counts { Counts (failing_view (D.view self.old.inner) self.old) (failing_view (D.view self.new.inner) self.new) result }
         ensures fault { IfErr result (λ e. e ≡ DeskFault.Failed) }
-        ensures when_due { FailsWhenDue (Counts (D.view self.old.inner).failures (D.view self.new.inner).failures result) self.old
+        ensures when_due { FailsWhenDue (Counts (D.view self.old.inner) (D.view self.new.inner) result) self.old
             self.new result }
     {
         if self.is_due() {
@@ -110,13 +110,13 @@ impl<D: Desk> Desk for FailingDesk<D> {
 
     fn write(&mut self, bytes: &[u8]) -> Result<usize, DeskFault>
         ensures bound { IfOk result (λ n. n ≤ length bytes.now) }
-        ensures kept { SendsTaken File bytes.now (D.view self.old.inner).kept (D.view self.new.inner).kept result }
-        ensures has_file { HasOpen is_to_write (D.view self.old.inner).kept result }
-        ensures counts { WriteCounts bytes.now (failing_view (D.view self.old.inner) self.old).failures
-            (failing_view (D.view self.new.inner) self.new).failures result }
+        ensures kept { SendsTaken File bytes.now (D.view self.old.inner) (D.view self.new.inner) result }
+        ensures has_file { HasOpen is_to_write (D.view self.old.inner) result }
+        ensures counts { WriteCounts bytes.now (failing_view (D.view self.old.inner) self.old)
+            (failing_view (D.view self.new.inner) self.new) result }
         ensures fault { IfErr result (λ e. e ≡ DeskFault.Failed) }
-        ensures when_due { FailsWhenDue (WriteCounts bytes.now (D.view self.old.inner).failures
-            (D.view self.new.inner).failures result) self.old self.new result }
+        ensures when_due { FailsWhenDue (WriteCounts bytes.now (D.view self.old.inner)
+            (D.view self.new.inner) result) self.old self.new result }
     {
         if self.is_due() {
             return Err(DeskFault::Failed);
@@ -126,12 +126,12 @@ impl<D: Desk> Desk for FailingDesk<D> {
 
     fn out(&mut self, bytes: &[u8]) -> Result<usize, DeskFault>
         ensures bound { IfOk result (λ n. n ≤ length bytes.now) }
-        ensures kept { SendsTaken Output bytes.now (D.view self.old.inner).kept (D.view self.new.inner).kept result }
-        ensures counts { WriteCounts bytes.now (failing_view (D.view self.old.inner) self.old).failures
-            (failing_view (D.view self.new.inner) self.new).failures result }
+        ensures kept { SendsTaken Output bytes.now (D.view self.old.inner) (D.view self.new.inner) result }
+        ensures counts { WriteCounts bytes.now (failing_view (D.view self.old.inner) self.old)
+            (failing_view (D.view self.new.inner) self.new) result }
         ensures fault { IfErr result (λ e. e ≡ DeskFault.Failed) }
-        ensures when_due { FailsWhenDue (WriteCounts bytes.now (D.view self.old.inner).failures
-            (D.view self.new.inner).failures result) self.old self.new result }
+        ensures when_due { FailsWhenDue (WriteCounts bytes.now (D.view self.old.inner)
+            (D.view self.new.inner) result) self.old self.new result }
     {
         if self.is_due() {
             return Err(DeskFault::Failed);
@@ -141,12 +141,12 @@ impl<D: Desk> Desk for FailingDesk<D> {
 
     fn err(&mut self, bytes: &[u8]) -> Result<usize, DeskFault>
         ensures bound { IfOk result (λ n. n ≤ length bytes.now) }
-        ensures kept { SendsTaken Messages bytes.now (D.view self.old.inner).kept (D.view self.new.inner).kept result }
-        ensures counts { WriteCounts bytes.now (failing_view (D.view self.old.inner) self.old).failures
-            (failing_view (D.view self.new.inner) self.new).failures result }
+        ensures kept { SendsTaken Messages bytes.now (D.view self.old.inner) (D.view self.new.inner) result }
+        ensures counts { WriteCounts bytes.now (failing_view (D.view self.old.inner) self.old)
+            (failing_view (D.view self.new.inner) self.new) result }
         ensures fault { IfErr result (λ e. e ≡ DeskFault.Failed) }
-        ensures when_due { FailsWhenDue (WriteCounts bytes.now (D.view self.old.inner).failures
-            (D.view self.new.inner).failures result) self.old self.new result }
+        ensures when_due { FailsWhenDue (WriteCounts bytes.now (D.view self.old.inner)
+            (D.view self.new.inner) result) self.old self.new result }
     {
         if self.is_due() {
             return Err(DeskFault::Failed);

@@ -57,9 +57,9 @@ pub fn read_file<D: Desk>(
     name: &str,
     limit: usize,
 ) -> Result<Contents, FileFault>
-    ensures kept { ReadsFile name.now (D.view desk.old).kept (D.view desk.new).kept result }
+    ensures kept { ReadsFile name.now (D.view desk.old) (D.view desk.new) result }
     ensures whole { IfOk result (IsWhole limit) }
-    ensures counts { FaultCounts (D.view desk.old).failures (D.view desk.new).failures result }
+    ensures counts { FaultCounts (D.view desk.old) (D.view desk.new) result }
 {
     match desk.open(name) {
         Ok(()) => read_open(alloc, desk, limit),
@@ -70,9 +70,9 @@ pub fn read_file<D: Desk>(
 
 /// Reads what is open.
 fn read_open<D: Desk>(alloc: Global, desk: &mut D, limit: usize) -> Result<Contents, FileFault>
-    ensures kept { ReadsOpen (D.view desk.old).kept (D.view desk.new).kept result }
+    ensures kept { ReadsOpen (D.view desk.old) (D.view desk.new) result }
     ensures whole { IfOk result (IsWhole limit) }
-    ensures counts { FaultCounts (D.view desk.old).failures (D.view desk.new).failures result }
+    ensures counts { FaultCounts (D.view desk.old) (D.view desk.new) result }
 {
     let mut bytes = Bytes::new(alloc);
     let mut piece = [0u8; PIECE];

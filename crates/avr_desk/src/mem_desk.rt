@@ -64,7 +64,7 @@ fn copy_front(bytes: &[u8], buf: &mut [u8]) -> usize
 
 impl MemDesk {
     ghost use Rattle.avr_desk.specs.Record.{nothing_kept};
-    ghost use Rattle.avr_desk.specs.Fault.{HasFailed};
+    ghost use Rattle.avr_desk.specs.Fault.{HasRisen};
     ghost use Rattle.avr_desk.specs.Memory.{contents, file_named};
 
     /// A desk with this standard input and no files.
@@ -140,7 +140,7 @@ impl MemDesk {
         ensures fault { result ≡ DeskFault.Failed }
         ensures same { self.new ≡ record self.old { failures = self.new.failures } }
         ensures rises { self.old.failures ≤ self.new.failures }
-        ensures counts { HasFailed self.old.failures self.new.failures }
+        ensures counts { HasRisen self.old.failures self.new.failures }
     {
         self.failures = self.failures.saturating_add(1);
         DeskFault::Failed
@@ -150,9 +150,9 @@ impl MemDesk {
 impl Desk for MemDesk {
     ghost use Rattle.avr_desk.specs.Record.{after_open, after_create, after_read, after_write, after_out, after_err, taken, is_to_read, is_to_write};
     ghost use Rattle.avr_desk.specs.Fault.{Counts, WriteCounts};
-    ghost use Rattle.avr_desk.specs.Memory.{contents, unread};
+    ghost use Rattle.avr_desk.specs.Memory.{contents, shown_by, unread};
 
-    ghost view = { λ d. record { kept = Some d.kept; failures = d.failures } };
+    ghost view = { shown_by };
 
     fn open(&mut self, name: &str) -> Result<(), DeskFault>
         ensures kept { self.new ≡ record self.old {
@@ -163,7 +163,7 @@ impl Desk for MemDesk {
         ensures found { OnOk result (contents name.now self.old ≡ Some self.new.opened) }
         ensures absent { result ≡ Err DeskFault.NotFound → contents name.now self.old ≡ None }
         ensures leaves { OnErr result (self.new.opened ≡ self.old.opened) }
-        ensures counts { Counts self.old.failures self.new.failures result }
+        ensures counts { Counts (shown_by self.old) (shown_by self.new) result }
     {
         let Ok(kept_name) = Bytes::copied(self.alloc, name.as_bytes()) else {
             return Err(self.fail());
@@ -194,7 +194,7 @@ impl Desk for MemDesk {
           kept = after_create name.now result self.old.kept;
           failures = self.new.failures;
         } }
-        ensures counts { Counts self.old.failures self.new.failures result }
+        ensures counts { Counts (shown_by self.old) (shown_by self.new) result }
         ensures fault { IfErr result (λ e. e ≡ DeskFault.Failed) }
     {
         let Ok(name) = Bytes::copied(self.alloc, name.as_bytes()) else {
@@ -219,7 +219,7 @@ impl Desk for MemDesk {
           failures = self.new.failures;
         } }
         ensures has_file { OnOk result (is_to_read self.old.kept.current ≡ true) }
-        ensures counts { Counts self.old.failures self.new.failures result }
+        ensures counts { Counts (shown_by self.old) (shown_by self.new) result }
         ensures fault { IfErr result (λ e. e ≡ DeskFault.Failed) }
     {
         if !self.kept.is_reading() {
@@ -242,7 +242,7 @@ impl Desk for MemDesk {
           failures = self.new.failures;
         } }
         ensures has_file { OnOk result (is_to_write self.old.kept.current ≡ true) }
-        ensures counts { WriteCounts bytes.now self.old.failures self.new.failures result }
+        ensures counts { WriteCounts bytes.now (shown_by self.old) (shown_by self.new) result }
         ensures fault { IfErr result (λ e. e ≡ DeskFault.Failed) }
     {
         if !self.kept.is_writing() {
@@ -260,7 +260,7 @@ impl Desk for MemDesk {
           kept = after_out (taken bytes.now result) self.old.kept;
           failures = self.new.failures;
         } }
-        ensures counts { WriteCounts bytes.now self.old.failures self.new.failures result }
+        ensures counts { WriteCounts bytes.now (shown_by self.old) (shown_by self.new) result }
         ensures fault { IfErr result (λ e. e ≡ DeskFault.Failed) }
     {
         if self.kept.print(bytes).is_err() {
@@ -275,7 +275,7 @@ impl Desk for MemDesk {
           kept = after_err (taken bytes.now result) self.old.kept;
           failures = self.new.failures;
         } }
-        ensures counts { WriteCounts bytes.now self.old.failures self.new.failures result }
+        ensures counts { WriteCounts bytes.now (shown_by self.old) (shown_by self.new) result }
         ensures fault { IfErr result (λ e. e ≡ DeskFault.Failed) }
     {
         if self.kept.report(bytes).is_err() {

@@ -1,6 +1,7 @@
 //! All of the bytes, to one of the three places that a desk writes to.
-ghost use Rattle.std.specs.Prelude.{◌≡◌, ◌≤◌, length, option_map, IfOk, IfErr, OnOk, OnErr};
+ghost use Rattle.std.specs.Prelude.{◌≡◌, ◌≤◌, length, IfOk, IfErr, OnOk, OnErr};
 ghost use Rattle.avr_desk.specs.Fault.{Counts, WriteCounts};
+ghost use Rattle.avr_desk.specs.Record.{Passes};
 ghost use Rattle.avr_desk.specs.Stream.{SendsPart, SendsTaken, after_sent};
 
 use crate::desk::Desk;
@@ -20,8 +21,8 @@ pub enum Stream {
 /// Writes some of the bytes.
 fn write_some<D: Desk>(desk: &mut D, stream: Stream, bytes: &[u8]) -> Result<usize, DeskFault>
     ensures bound { IfOk result (λ n. n ≤ length bytes.now) }
-    ensures kept { SendsTaken stream bytes.now (D.view desk.old).kept (D.view desk.new).kept result }
-    ensures counts { WriteCounts bytes.now (D.view desk.old).failures (D.view desk.new).failures result }
+    ensures kept { SendsTaken stream bytes.now (D.view desk.old) (D.view desk.new) result }
+    ensures counts { WriteCounts bytes.now (D.view desk.old) (D.view desk.new) result }
     ensures fault { IfErr result (λ e. e ≡ DeskFault.Failed) }
 {
     match stream {
@@ -33,9 +34,9 @@ fn write_some<D: Desk>(desk: &mut D, stream: Stream, bytes: &[u8]) -> Result<usi
 
 /// Writes all the bytes. After a fault a front of them was written.
 pub fn write_all<D: Desk>(desk: &mut D, stream: Stream, bytes: &[u8]) -> Result<(), DeskFault>
-    ensures all { OnOk result ((D.view desk.new).kept ≡ option_map (after_sent stream bytes.now) (D.view desk.old).kept) }
-    ensures part { OnErr result (SendsPart stream (D.view desk.old).kept (D.view desk.new).kept bytes.now) }
-    ensures counts { Counts (D.view desk.old).failures (D.view desk.new).failures result }
+    ensures all { OnOk result (Passes (after_sent stream bytes.now) (D.view desk.old) (D.view desk.new)) }
+    ensures part { OnErr result (SendsPart stream (D.view desk.old) (D.view desk.new) bytes.now) }
+    ensures counts { Counts (D.view desk.old) (D.view desk.new) result }
     ensures fault { IfErr result (λ e. e ≡ DeskFault.Failed) }
 {
     let mut at = 0;

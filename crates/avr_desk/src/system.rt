@@ -1,8 +1,8 @@
 //! The desk of a program: files and standard streams.
 ghost use Rattle.std.specs.Prelude.{None, ◌≡◌, ◌≤◌, length, take, IfOk, IfErr, OnErr, true, false, []};
 ghost use Rattle.std.specs.Io.KnownBytes.{Keeps, Appends};
-ghost use Rattle.avr_desk.specs.Fault.{Counts, HasFailed, WriteCounts};
-ghost use Rattle.avr_desk.specs.Record.{HasOpen, is_to_read, is_to_write};
+ghost use Rattle.avr_desk.specs.Fault.{Counts, HasRisen, WriteCounts};
+ghost use Rattle.avr_desk.specs.Record.{showing, HasOpen, is_to_read, is_to_write};
 ghost use Rattle.avr_desk.specs.Shown.{AppendsTaken, to_output_opened, to_output_created};
 ghost use Rattle.avr_desk.specs.Stream.{SendsTaken};
 ghost use Rattle.avr_desk.specs.declared.fault.DeskFault.TheVariants.{Failed};
@@ -114,7 +114,7 @@ fn write_through<W: Write>(to: &mut W, bytes: &[u8]) -> io::Result<usize>
 fn fail(failures: &mut u64) -> DeskFault
     ensures fault { result ≡ Failed }
     ensures rises { failures.old ≤ failures.new }
-    ensures counts { HasFailed failures.old failures.new }
+    ensures counts { HasRisen failures.old failures.new }
 {
     *failures = failures.saturating_add(1);
     DeskFault::Failed
@@ -123,7 +123,7 @@ fn fail(failures: &mut u64) -> DeskFault
 /// Writes to one of the writers, and counts a failure.
 fn put<W: Write>(to: &mut W, failures: &mut u64, bytes: &[u8]) -> Result<usize, DeskFault>
     ensures bound { IfOk result (λ n. n ≤ length bytes.now) }
-    ensures counts { WriteCounts bytes.now failures.old failures.new result }
+    ensures counts { WriteCounts bytes.now (showing None failures.old) (showing None failures.new) result }
     ensures fault { IfErr result (λ e. e ≡ Failed) }
     ensures taken { AppendsTaken (W.contents to.old) (W.contents to.new) bytes.now result }
 {
@@ -149,10 +149,10 @@ impl<'a, R: Files + Input, O: Write + Drop, E: Write + Drop> SystemDesk<'a, R, O
 }
 
 impl<'a, R: Files + Input, O: Write + Drop, E: Write + Drop> Desk for SystemDesk<'a, R, O, E> {
-    ghost view = { λ d. record { kept = None; failures = d.failures } };
+    ghost view = { λ d. showing None d.failures };
 
     fn open(&mut self, name: &str) -> Result<(), DeskFault>
-        ensures counts { Counts self.old.failures self.new.failures result }
+        ensures counts { Counts (showing None self.old.failures) (showing None self.new.failures) result }
         ensures quiet { self.new ≡ record self.old {
           failures = self.new.failures;
           to_output = to_output_opened result self.old.to_output;
@@ -176,7 +176,7 @@ impl<'a, R: Files + Input, O: Write + Drop, E: Write + Drop> Desk for SystemDesk
     }
 
     fn create(&mut self, name: &str) -> Result<(), DeskFault>
-        ensures counts { Counts self.old.failures self.new.failures result }
+        ensures counts { Counts (showing None self.old.failures) (showing None self.new.failures) result }
         ensures fault { IfErr result (λ e. e ≡ Failed) }
         ensures quiet { self.new ≡ record self.old {
           failures = self.new.failures;
@@ -198,8 +198,8 @@ impl<'a, R: Files + Input, O: Write + Drop, E: Write + Drop> Desk for SystemDesk
 
     fn read(&mut self, buf: &mut [u8]) -> Result<usize, DeskFault>
         ensures bound { IfOk result (λ n. n ≤ length buf.new) }
-        ensures has_file { HasOpen is_to_read None result }
-        ensures counts { Counts self.old.failures self.new.failures result }
+        ensures has_file { HasOpen is_to_read (showing None self.old.failures) result }
+        ensures counts { Counts (showing None self.old.failures) (showing None self.new.failures) result }
         ensures fault { IfErr result (λ e. e ≡ Failed) }
         ensures quiet { self.new ≡ record self.old { failures = self.new.failures } }
     {
@@ -216,9 +216,9 @@ impl<'a, R: Files + Input, O: Write + Drop, E: Write + Drop> Desk for SystemDesk
 
     fn write(&mut self, bytes: &[u8]) -> Result<usize, DeskFault>
         ensures bound { IfOk result (λ n. n ≤ length bytes.now) }
-        ensures shown { SendsTaken File bytes.now None None result }
-        ensures has_file { HasOpen is_to_write None result }
-        ensures counts { WriteCounts bytes.now self.old.failures self.new.failures result }
+        ensures shown { SendsTaken File bytes.now (showing None self.old.failures) (showing None self.new.failures) result }
+        ensures has_file { HasOpen is_to_write (showing None self.old.failures) result }
+        ensures counts { WriteCounts bytes.now (showing None self.old.failures) (showing None self.new.failures) result }
         ensures fault { IfErr result (λ e. e ≡ Failed) }
         ensures output { self.old.to_output ≡ true → AppendsTaken (O.contents self.old.output)
             (O.contents self.new.output) bytes.now result }
@@ -237,8 +237,8 @@ impl<'a, R: Files + Input, O: Write + Drop, E: Write + Drop> Desk for SystemDesk
 
     fn out(&mut self, bytes: &[u8]) -> Result<usize, DeskFault>
         ensures bound { IfOk result (λ n. n ≤ length bytes.now) }
-        ensures shown { SendsTaken Output bytes.now None None result }
-        ensures counts { WriteCounts bytes.now self.old.failures self.new.failures result }
+        ensures shown { SendsTaken Output bytes.now (showing None self.old.failures) (showing None self.new.failures) result }
+        ensures counts { WriteCounts bytes.now (showing None self.old.failures) (showing None self.new.failures) result }
         ensures fault { IfErr result (λ e. e ≡ Failed) }
         ensures output { AppendsTaken (O.contents self.old.output) (O.contents self.new.output) bytes.now result }
         ensures quiet { self.new ≡ record self.old { output = self.new.output; failures = self.new.failures } }
@@ -248,8 +248,8 @@ impl<'a, R: Files + Input, O: Write + Drop, E: Write + Drop> Desk for SystemDesk
 
     fn err(&mut self, bytes: &[u8]) -> Result<usize, DeskFault>
         ensures bound { IfOk result (λ n. n ≤ length bytes.now) }
-        ensures shown { SendsTaken Messages bytes.now None None result }
-        ensures counts { WriteCounts bytes.now self.old.failures self.new.failures result }
+        ensures shown { SendsTaken Messages bytes.now (showing None self.old.failures) (showing None self.new.failures) result }
+        ensures counts { WriteCounts bytes.now (showing None self.old.failures) (showing None self.new.failures) result }
         ensures fault { IfErr result (λ e. e ≡ Failed) }
         ensures messages { AppendsTaken (E.contents self.old.messages) (E.contents self.new.messages) bytes.now result }
         ensures quiet { self.new ≡ record self.old { messages = self.new.messages; failures = self.new.failures } }

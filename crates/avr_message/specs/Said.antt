@@ -1,7 +1,7 @@
 -- What a run does at the desk: files that are read, lines that are printed, files and output that are written.
-use Rattle.std.specs.Prelude.{◌≡◌, ◌≤◌, ◌⊎◌, ℕ, List, [], ◌∷◌, ◌++◌, Option, option_map, Result, Ok, Err}
-use Rattle.avr_desk.specs.Record.{Record, with_open, with_absent, after_write, after_out, after_err}
-use Rattle.avr_desk.specs.Fault.{HasFailed}
+use Rattle.std.specs.Prelude.{◌≡◌, ◌⊎◌, ℕ, List, [], ◌∷◌, ◌++◌, Result, Ok, Err}
+use Rattle.avr_desk.specs.Record.{DeskView, Record, Passes, with_open, with_absent, after_write, after_out, after_err}
+use Rattle.avr_desk.specs.Fault.{Follows, HasFailed}
 use Rattle.avr_desk.specs.Stream.{SendsPart}
 use Rattle.avr_desk.specs.declared.record.Opening.{Opening}
 use Rattle.avr_desk.specs.declared.record.Opening.TheVariants.{Absent, Found}
@@ -49,24 +49,25 @@ SaidPart (Outs part) (Outs whole) = IsPrefixOf part whole
 SaidPart _ _ = ⊥
 
 -- The line was printed, or where the desk failed a front of it.
-abbrev pub IsPrinted : {T Fault : Type 0} → Option Record → Option Record → Bytes → Result T Fault → Type 0
-IsPrinted old new bytes (Ok done) = new ≡ option_map (after_err bytes) old
+abbrev pub IsPrinted : {T Fault : Type 0} → DeskView → DeskView → Bytes → Result T Fault → Type 0
+IsPrinted old new bytes (Ok done) = Passes (after_err bytes) old new
 IsPrinted old new bytes (Err fault) = SendsPart Messages old new bytes
 
--- The line was told whole; or the desk has failed, by the counts of its failures before and now, and a front of it was.
-abbrev pub TellsLine : Bytes → Bytes → ℕ → ℕ → Type 0
-TellsLine line told before now = (told ≡ line) ⊎ (IsPrefixOf told line × HasFailed before now)
+-- The line was told whole; or the desk has failed, and a front of it was.
+abbrev pub TellsLine : Bytes → Bytes → DeskView → DeskView → Type 0
+TellsLine line told old new = (told ≡ line) ⊎ (IsPrefixOf told line × HasFailed old new)
 
 -- So much of the line was told, and nothing else happened.
-pub record Tells (old new : Option Record) (line : Bytes) (before now : ℕ) : Type 0 where
+pub record Tells (old new : DeskView) (line : Bytes) : Type 0 where
   pub told : Bytes
-  pub tells : TellsLine line told before now
-  pub kept : new ≡ option_map (after_err told) old
+  pub tells : TellsLine line told old new
+  pub kept : Passes (after_err told) old new
+  pub follows : Follows old new
 
--- The desk failed, by some count of its failures between before and now, and from then on the line of that was told.
-pub record TellsFailure (line told : Bytes) (before now : ℕ) : Type 0 where
-  pub count : ℕ
-  pub failed : HasFailed before count
-  pub tells : TellsLine line told count now
-  pub since : before ≤ count
-  pub until : count ≤ now
+-- The desk failed, and from then on, as it stood in between, the line of that was told.
+pub record TellsFailure (line told : Bytes) (old new : DeskView) : Type 0 where
+  pub between : DeskView
+  pub failed : HasFailed old between
+  pub tells : TellsLine line told between new
+  pub since : Follows old between
+  pub until : Follows between new

@@ -1,8 +1,8 @@
 //! Lines of messages.
-ghost use Rattle.std.specs.Prelude.{◌≡◌, ◌∷◌, [], map, option_map, OnOk, OnErr, IfErr};
+ghost use Rattle.std.specs.Prelude.{◌≡◌, ◌∷◌, [], map, OnOk, OnErr, IfErr};
 ghost use Rattle.std.specs.List.{concat};
 ghost use Rattle.avr_desk.specs.Fault.{Counts};
-ghost use Rattle.avr_desk.specs.Record.{after_err};
+ghost use Rattle.avr_desk.specs.Record.{Passes, after_err};
 ghost use Rattle.avr_desk.specs.Stream.{SendsPart};
 ghost use Rattle.avr_message.specs.Lines.{text_of, line, information, warning, error};
 ghost use Rattle.avr_message.specs.Said.{IsPrinted};
@@ -12,11 +12,10 @@ use avr_desk::{Desk, DeskFault, Stream, write_all};
 
 /// Writes the pieces one after the other.
 fn write_pieces<D: Desk>(desk: &mut D, pieces: &[Piece<'_>]) -> Result<(), DeskFault>
-    ensures all { OnOk result ((D.view desk.new).kept ≡ option_map (after_err (concat (map text_of pieces.now)))
-        (D.view desk.old).kept) }
-    ensures part { OnErr result (SendsPart Stream.Messages (D.view desk.old).kept (D.view desk.new).kept
+    ensures all { OnOk result (Passes (after_err (concat (map text_of pieces.now))) (D.view desk.old) (D.view desk.new)) }
+    ensures part { OnErr result (SendsPart Stream.Messages (D.view desk.old) (D.view desk.new)
         (concat (map text_of pieces.now))) }
-    ensures counts { Counts (D.view desk.old).failures (D.view desk.new).failures result }
+    ensures counts { Counts (D.view desk.old) (D.view desk.new) result }
     ensures fault { IfErr result (λ e. e ≡ DeskFault.Failed) }
 {
     for piece in pieces {
@@ -30,9 +29,9 @@ fn write_pieces<D: Desk>(desk: &mut D, pieces: &[Piece<'_>]) -> Result<(), DeskF
 
 /// Ends a line.
 fn end_line<D: Desk>(desk: &mut D) -> Result<(), DeskFault>
-    ensures all { OnOk result ((D.view desk.new).kept ≡ option_map (after_err (10 ∷ [])) (D.view desk.old).kept) }
-    ensures part { OnErr result (SendsPart Stream.Messages (D.view desk.old).kept (D.view desk.new).kept (10 ∷ [])) }
-    ensures counts { Counts (D.view desk.old).failures (D.view desk.new).failures result }
+    ensures all { OnOk result (Passes (after_err (10 ∷ [])) (D.view desk.old) (D.view desk.new)) }
+    ensures part { OnErr result (SendsPart Stream.Messages (D.view desk.old) (D.view desk.new) (10 ∷ [])) }
+    ensures counts { Counts (D.view desk.old) (D.view desk.new) result }
     ensures fault { IfErr result (λ e. e ≡ DeskFault.Failed) }
 {
     write_all(desk, Stream::Messages, b"\n")
@@ -40,8 +39,8 @@ fn end_line<D: Desk>(desk: &mut D) -> Result<(), DeskFault>
 
 /// Prints a line that begins with this mark.
 fn print_line<D: Desk>(desk: &mut D, mark: &str, pieces: &[Piece<'_>]) -> Result<(), DeskFault>
-    ensures printed { IsPrinted (D.view desk.old).kept (D.view desk.new).kept (line mark.now (map text_of pieces.now)) result }
-    ensures counts { Counts (D.view desk.old).failures (D.view desk.new).failures result }
+    ensures printed { IsPrinted (D.view desk.old) (D.view desk.new) (line mark.now (map text_of pieces.now)) result }
+    ensures counts { Counts (D.view desk.old) (D.view desk.new) result }
     ensures fault { IfErr result (λ e. e ≡ DeskFault.Failed) }
 {
     match write_all(desk, Stream::Messages, mark.as_bytes()) {
@@ -64,8 +63,8 @@ fn print_line<D: Desk>(desk: &mut D, mark: &str, pieces: &[Piece<'_>]) -> Result
 /// assert!(rt; desk.messages() == b"avrstk: device signature = 1E 95 0F\n".as_slice());
 /// ```
 pub fn print_information<D: Desk>(desk: &mut D, pieces: &[Piece<'_>]) -> Result<(), DeskFault>
-    ensures printed { IsPrinted (D.view desk.old).kept (D.view desk.new).kept (information (map text_of pieces.now)) result }
-    ensures counts { Counts (D.view desk.old).failures (D.view desk.new).failures result }
+    ensures printed { IsPrinted (D.view desk.old) (D.view desk.new) (information (map text_of pieces.now)) result }
+    ensures counts { Counts (D.view desk.old) (D.view desk.new) result }
     ensures fault { IfErr result (λ e. e ≡ DeskFault.Failed) }
 {
     print_line(desk, "avrstk: ", pieces)
@@ -78,8 +77,8 @@ pub fn print_information<D: Desk>(desk: &mut D, pieces: &[Piece<'_>]) -> Result<
 /// assert!(rt; desk.messages() == b"avrstk: warning: a.hex: no end record\n".as_slice());
 /// ```
 pub fn print_warning<D: Desk>(desk: &mut D, pieces: &[Piece<'_>]) -> Result<(), DeskFault>
-    ensures printed { IsPrinted (D.view desk.old).kept (D.view desk.new).kept (warning (map text_of pieces.now)) result }
-    ensures counts { Counts (D.view desk.old).failures (D.view desk.new).failures result }
+    ensures printed { IsPrinted (D.view desk.old) (D.view desk.new) (warning (map text_of pieces.now)) result }
+    ensures counts { Counts (D.view desk.old) (D.view desk.new) result }
     ensures fault { IfErr result (λ e. e ≡ DeskFault.Failed) }
 {
     print_line(desk, "avrstk: warning: ", pieces)
@@ -93,8 +92,8 @@ pub fn print_warning<D: Desk>(desk: &mut D, pieces: &[Piece<'_>]) -> Result<(), 
 /// assert!(rt; desk.messages() == b"avrstk: error: command 10: bad answer\n".as_slice());
 /// ```
 pub fn print_error<D: Desk>(desk: &mut D, pieces: &[Piece<'_>]) -> Result<(), DeskFault>
-    ensures printed { IsPrinted (D.view desk.old).kept (D.view desk.new).kept (error (map text_of pieces.now)) result }
-    ensures counts { Counts (D.view desk.old).failures (D.view desk.new).failures result }
+    ensures printed { IsPrinted (D.view desk.old) (D.view desk.new) (error (map text_of pieces.now)) result }
+    ensures counts { Counts (D.view desk.old) (D.view desk.new) result }
     ensures fault { IfErr result (λ e. e ≡ DeskFault.Failed) }
 {
     print_line(desk, "avrstk: error: ", pieces)

@@ -1,8 +1,8 @@
 //! The pieces of a line.
-ghost use Rattle.std.specs.Prelude.{◌≡◌, ◌∷◌, [], option_map, OnOk, OnErr, IfErr, decimal};
+ghost use Rattle.std.specs.Prelude.{◌≡◌, ◌∷◌, [], OnOk, OnErr, IfErr, decimal};
 ghost use Rattle.byteorder.specs.Endian.{big_bytes};
 ghost use Rattle.avr_desk.specs.Fault.{Counts};
-ghost use Rattle.avr_desk.specs.Record.{after_err};
+ghost use Rattle.avr_desk.specs.Record.{Passes, after_err};
 ghost use Rattle.avr_desk.specs.Stream.{SendsPart};
 ghost use Rattle.avr_message.specs.Lines.{digits, spaced, text_of};
 
@@ -62,9 +62,9 @@ fn spaced(signature: [u8; 3]) -> [u8; 8]
 
 /// Writes a number's decimal digits to the messages.
 fn write_number<D: Desk>(desk: &mut D, number: u32) -> Result<(), DeskFault>
-    ensures all { OnOk result ((D.view desk.new).kept ≡ option_map (after_err (decimal number)) (D.view desk.old).kept) }
-    ensures part { OnErr result (SendsPart Stream.Messages (D.view desk.old).kept (D.view desk.new).kept (decimal number)) }
-    ensures counts { Counts (D.view desk.old).failures (D.view desk.new).failures result }
+    ensures all { OnOk result (Passes (after_err (decimal number)) (D.view desk.old) (D.view desk.new)) }
+    ensures part { OnErr result (SendsPart Stream.Messages (D.view desk.old) (D.view desk.new) (decimal number)) }
+    ensures counts { Counts (D.view desk.old) (D.view desk.new) result }
     ensures fault { IfErr result (λ e. e ≡ DeskFault.Failed) }
 {
     let mut buffer = itoa::Buffer::new();
@@ -73,9 +73,9 @@ fn write_number<D: Desk>(desk: &mut D, number: u32) -> Result<(), DeskFault>
 
 /// Writes a piece to the messages.
 pub(crate) fn write_piece<D: Desk>(desk: &mut D, piece: &Piece<'_>) -> Result<(), DeskFault>
-    ensures all { OnOk result ((D.view desk.new).kept ≡ option_map (after_err (text_of piece.now)) (D.view desk.old).kept) }
-    ensures part { OnErr result (SendsPart Stream.Messages (D.view desk.old).kept (D.view desk.new).kept (text_of piece.now)) }
-    ensures counts { Counts (D.view desk.old).failures (D.view desk.new).failures result }
+    ensures all { OnOk result (Passes (after_err (text_of piece.now)) (D.view desk.old) (D.view desk.new)) }
+    ensures part { OnErr result (SendsPart Stream.Messages (D.view desk.old) (D.view desk.new) (text_of piece.now)) }
+    ensures counts { Counts (D.view desk.old) (D.view desk.new) result }
     ensures fault { IfErr result (λ e. e ≡ DeskFault.Failed) }
 {
     match piece {

@@ -7,12 +7,12 @@ use Rattle.avr_cli.specs.declared.chosen.Port.TheVariants.{Stdio}
 use Rattle.avr_cli.specs.declared.chosen.Settings.{Settings}
 use Rattle.avr_cli.specs.declared.update.Format.TheVariants.{Ihex}
 use Rattle.avr_cli.specs.declared.update.Op.TheVariants as op
-use Rattle.avr_desk.specs.Fault.{HasFailed}
-use Rattle.avr_desk.specs.Record.{Record, after_err}
+use Rattle.avr_desk.specs.Fault.{HasRisen}
+use Rattle.avr_desk.specs.Record.{DeskView, Record, after_err, showing}
 use Rattle.avr_desk.specs.declared.record.Opening.TheVariants.{Found}
 use Rattle.avr_message.specs.Lines.{Bytes}
 use Rattle.avr_message.specs.Said.{Opens, Line, TellsLine, TellsFailure, after_all}
-use Rattle.avr_message.proofs.Telling.{failed_before}
+use Rattle.avr_message.proofs.Telling.{risen_before}
 use Rattle.avr_part.specs.BuiltIn.{m328p}
 use Rattle.avr_part.specs.declared.mem.Mem.TheVariants.{Flash}
 use Rattle.avr_records.specs.declared.kind.Ending.{Ending}
@@ -64,17 +64,17 @@ begins =
     (begins_then file task (λ first. settled (Ok (first ∷ []))) begins_task)
 
 -- a line and a text that differ at this place
-differs : (place : ℕ) (line told : Bytes) (k l : ℕ) → ((back : Bytes) → get_or (told ++ back) place 0 ≡ get_or line place 0 → ⊥) → TellsLine line told k l → ⊥
-differs place line told k l apart (inl whole) = apart [] (ap (λ (bytes : Bytes). get_or bytes place 0) (append-nil told ∙ whole))
-differs place line told k l apart (inr part) = apart part.0.0 (ap (λ (bytes : Bytes). get_or bytes place 0) part.0.1)
+differs : (place : ℕ) (line told : Bytes) (old new : DeskView) → ((back : Bytes) → get_or (told ++ back) place 0 ≡ get_or line place 0 → ⊥) → TellsLine line told old new → ⊥
+differs place line told old new apart (inl whole) = apart [] (ap (λ (bytes : Bytes). get_or bytes place 0) (append-nil told ∙ whole))
+differs place line told old new apart (inr part) = apart part.0.0 (ap (λ (bytes : Bytes). get_or bytes place 0) part.0.1)
 
 module _ (r : Record) (k l status : ℕ) where
   -- the messages grew by this, and the status is that of a refusal
   abbrev Ends : Bytes → Type 0
-  Ends told = Goes (planned wanted) (Some r) (Some (after_err told r)) k l (Err status)
+  Ends told = Goes (planned wanted) (showing (Some r) k) (showing (Some (after_err told r)) l) (Err status)
 
   abbrev Told : Bytes → Type 0
-  Told told = TellsFailure (not_opened_line file) told k l ⊎ TellsLine memory_line told k l
+  Told told = TellsFailure (not_opened_line file) told (showing (Some r) k) (showing (Some (after_err told r)) l) ⊎ TellsLine memory_line told (showing (Some r) k) (showing (Some (after_err told r)) l)
 
   told_by : (told : Bytes) → Ends told → Told told
   told_by told ends = unopened file told (planned wanted) begins r k l status ends
@@ -82,8 +82,8 @@ module _ (r : Record) (k l status : ℕ) where
   -- the line of another file, whatever failed
   other_line : Told (not_opened_line other) → ⊥
   other_line (inl failure) =
-      differs 15 (not_opened_line file) (not_opened_line other) failure.count l (λ back is. let e : ◌≡◌ {A = ℕ} 121 120 = is in omega (arith, e)) failure.tells
-  other_line (inr memory) = differs 15 memory_line (not_opened_line other) k l (λ back is. let e : ◌≡◌ {A = ℕ} 121 111 = is in omega (arith, e)) memory
+      differs 15 (not_opened_line file) (not_opened_line other) failure.between (showing None l) (λ back is. let e : ◌≡◌ {A = ℕ} 121 120 = is in omega (arith, e)) failure.tells
+  other_line (inr memory) = differs 15 memory_line (not_opened_line other) (showing None k) (showing None l) (λ back is. let e : ◌≡◌ {A = ℕ} 121 111 = is in omega (arith, e)) memory
 
   another_file : Ends (not_opened_line other) → ⊥
   another_file ends = other_line (told_by (not_opened_line other) ends)
@@ -91,43 +91,43 @@ module _ (r : Record) (k l status : ℕ) where
   -- a second line behind its own
   two_lines : Told (not_opened_line file ++ memory_line) → ⊥
   two_lines (inl failure) =
-      differs 39 (not_opened_line file) (not_opened_line file ++ memory_line) failure.count l (λ back is. let e : ◌≡◌ {A = ℕ} 97 0 = is in omega (arith, e)) failure.tells
+      differs 39 (not_opened_line file) (not_opened_line file ++ memory_line) failure.between (showing None l) (λ back is. let e : ◌≡◌ {A = ℕ} 97 0 = is in omega (arith, e)) failure.tells
   two_lines (inr memory) =
-      differs 15 memory_line (not_opened_line file ++ memory_line) k l (λ back is. let e : ◌≡◌ {A = ℕ} 120 111 = is in omega (arith, e)) memory
+      differs 15 memory_line (not_opened_line file ++ memory_line) (showing None k) (showing None l) (λ back is. let e : ◌≡◌ {A = ℕ} 120 111 = is in omega (arith, e)) memory
 
   second_line : Ends (not_opened_line file ++ memory_line) → ⊥
   second_line ends = two_lines (told_by (not_opened_line file ++ memory_line) ends)
 
   -- half of its line, though the desk failed once, and so at the file
-  half_told : (count : ℕ) → l ≡ k + 1 → l < 2 ^ 64 - 1 → k ≤ count → count ≤ l → HasFailed k count → TellsLine (not_opened_line file) half count l → ⊥
+  half_told : (count : ℕ) → l ≡ k + 1 → l < 2 ^ 64 - 1 → k ≤ count → count ≤ l → HasRisen k count → TellsLine (not_opened_line file) half (showing None count) (showing None l) → ⊥
   half_told count one few since until failed (inl whole) = let e : ◌≡◌ {A = ℕ} 0 101 = ap (λ (bytes : Bytes). get_or bytes 30 0) whole in omega (arith, e)
   half_told count one few since until (inl rose) (inr (part, inl again)) = omega (arith, one, rose, again)
   half_told count one few since until (inl rose) (inr (part, inr end)) = omega (arith, few, end)
   half_told count one few since until (inr end) (inr part) = omega (arith, few, end, until)
 
   half_of_it : l ≡ k + 1 → l < 2 ^ 64 - 1 → Told half → ⊥
-  half_of_it one few (inl failure) = half_told failure.count one few failure.since failure.until failure.failed failure.tells
-  half_of_it one few (inr memory) = differs 15 memory_line half k l (λ back is. let e : ◌≡◌ {A = ℕ} 120 111 = is in omega (arith, e)) memory
+  half_of_it one few (inl failure) = half_told failure.between.failures one few failure.since failure.until failure.failed failure.tells
+  half_of_it one few (inr memory) = differs 15 memory_line half (showing None k) (showing None l) (λ back is. let e : ◌≡◌ {A = ℕ} 120 111 = is in omega (arith, e)) memory
 
   half_a_line : l ≡ k + 1 → l < 2 ^ 64 - 1 → Ends half → ⊥
   half_a_line one few ends = half_of_it one few (told_by half ends)
 
   -- silence, where the desk has not failed
-  nothing_told : (HasFailed k l → ⊥) → Told [] → ⊥
-  nothing_told sound (inl failure) = sound (failed_before k failure.count l failure.since failure.until failure.failed)
+  nothing_told : (HasRisen k l → ⊥) → Told [] → ⊥
+  nothing_told sound (inl failure) = sound (risen_before k failure.between.failures l failure.since failure.until failure.failed)
   nothing_told sound (inr (inl whole)) = let e : ◌≡◌ {A = ℕ} 0 97 = ap (λ (bytes : Bytes). get_or bytes 0 0) whole in omega (arith, e)
   nothing_told sound (inr (inr part)) = sound part.1
 
-  silence : (HasFailed k l → ⊥) → Goes (planned wanted) (Some r) (Some r) k l (Err status) → ⊥
+  silence : (HasRisen k l → ⊥) → Goes (planned wanted) (showing (Some r) k) (showing (Some r) l) (Err status) → ⊥
   silence sound ends =
       let same : after_err [] r ≡ r = ap (λ bytes. record r { messages = bytes }) (append-nil r.messages) in
-      nothing_told sound (told_by [] (subst (λ x. Goes (planned wanted) (Some r) (Some x) k l (Err status)) (sym same) ends))
+      nothing_told sound (told_by [] (subst (λ x. Goes (planned wanted) (showing (Some r) k) (showing (Some x) l) (Err status)) (sym same) ends))
 
   -- the line of a file that was opened, read to its end and good
   opened_well : (bytes : Bytes) (good : List (Option ℕ) × Ending) → judged_image file Ihex 32768 bytes ≡ Ok good
-      → Goes (file_stage file 4194304 (judged_image file Ihex 32768)) (Some r)
-      (Some (after_all (Opens (Found (record { name = file; bytes = bytes; ended = true })) ∷ Line (not_opened_line file) ∷ []) r)) k l (Err status)
+      → Goes (file_stage file 4194304 (judged_image file Ihex 32768)) (showing (Some r) k)
+      (showing (Some (after_all (Opens (Found (record { name = file; bytes = bytes; ended = true })) ∷ Line (not_opened_line file) ∷ []) r)) l) (Err status)
       → ⊥
   opened_well bytes good given ends =
-      differs 15 memory_line (not_opened_line file) k l (λ back is. let e : ◌≡◌ {A = ℕ} 120 111 = is in omega (arith, e))
+      differs 15 memory_line (not_opened_line file) (showing None k) (showing None l) (λ back is. let e : ◌≡◌ {A = ℕ} 120 111 = is in omega (arith, e))
       (opened_is_told file 4194304 (judged_image file Ihex 32768) bytes (not_opened_line file) good given r k l status ends)

@@ -1,8 +1,8 @@
 -- What is told where planning broke off, by what a desk shows.
 use Rattle.std.proofs.Common.{◌≡◌, ◌∙◌, sym, ap, subst, refl, ℕ, ◌+◌, ◌⊎◌, inl, inr, List, [], ◌∷◌, ◌++◌, drop, append-nil, append_assoc, Option, Some, option_map, Result, Ok, Err, true, false}
 use Rattle.std.proofs.lemmas.List.{append_cancel_left}
-use Rattle.avr_desk.specs.Fault.{HasFailed}
-use Rattle.avr_desk.specs.Record.{Record, all_openings, opening_of, after_err, written_on}
+use Rattle.avr_desk.specs.Fault.{HasFailed, HasRisen}
+use Rattle.avr_desk.specs.Record.{DeskView, Record, showing, all_openings, opening_of, after_err, written_on}
 use Rattle.avr_desk.specs.declared.record.Open.{Open}
 use Rattle.avr_desk.specs.declared.record.Open.TheVariants.{Closed, ToRead, ToWrite}
 use Rattle.avr_desk.specs.declared.record.Opening.{Opening}
@@ -31,31 +31,37 @@ told_last before after said last told line whole ends kept =
     )
 
 -- of a desk that did not fail a line was told whole
-whole_line : (line told : Bytes) (before now : ℕ) → (HasFailed before now → ⊥) → TellsLine line told before now → told ≡ line
-whole_line line told before now sound (inl whole) = whole
-whole_line line told before now sound (inr part) = absurd (sound part.1)
+whole_line : (line told : Bytes) (old new : DeskView) → (HasFailed old new → ⊥) → TellsLine line told old new → told ≡ line
+whole_line line told old new sound (inl whole) = whole
+whole_line line told old new sound (inr part) = absurd (sound part.1)
 
 -- and of the breaks only the want of memory is left
-broke_lacks : {A : Type 0} (stage : Stage A) (before after : Record) (k l : ℕ) → (HasFailed k l → ⊥) → (b : BrokeOff stage (Some before) (Some after) k l)
+broke_lacks : {A : Type 0} (stage : Stage A) (before after : Record) (k l : ℕ) → (HasRisen k l → ⊥) → (b : BrokeOff stage (showing (Some before) k) (showing (Some after) l))
     → (front : Bytes) × (after.messages ≡ front ++ memory_line)
 broke_lacks stage before after k l sound b = by_break b.break b.told b.tells b.kept
   where
-    by_break : (break : Break) (told : Bytes) → TellsBreak break told k l
+    old : DeskView
+    old = showing (Some before) k
+
+    new : DeskView
+    new = showing (Some after) l
+
+    by_break : (break : Break) (told : Bytes) → TellsBreak break told old new
         → ◌≡◌ {A = Option Record} (Some after) (option_map (after_all (b.whole ++ last_done break told)) (Some before))
         → (front : Bytes) × (after.messages ≡ front ++ memory_line)
     by_break (InLine line) told tells kept = absurd (sound tells.1)
-    by_break (NotOpened name) told tells kept = absurd (sound (failed_before k tells.count l tells.since tells.until tells.failed))
-    by_break (NotRead name bytes) told tells kept = absurd (sound (failed_before k tells.count l tells.since tells.until tells.failed))
+    by_break (NotOpened name) told tells kept = absurd (sound (failed_before old tells.between new tells.since tells.until tells.failed))
+    by_break (NotRead name bytes) told tells kept = absurd (sound (failed_before old tells.between new tells.since tells.until tells.failed))
     by_break NoMemory told tells kept =
-        told_last before after b.whole (Line told ∷ []) told memory_line (whole_line memory_line told k l sound tells) (λ r. refl) kept
+        told_last before after b.whole (Line told ∷ []) told memory_line (whole_line memory_line told old new sound tells) (λ r. refl) kept
     by_break (NoMemoryFor reading) told tells kept =
-        told_last before after b.whole (Opens (Found reading) ∷ Line told ∷ []) told memory_line (whole_line memory_line told k l sound tells)
+        told_last before after b.whole (Opens (Found reading) ∷ Line told ∷ []) told memory_line (whole_line memory_line told old new sound tells)
         (λ r. refl) kept
 
 -- So a status other than that of a plan is the refusal that the stage says.
-pub sound_refusal : {A : Type 0} (stage : Stage A) (before after : Record) (k l status : ℕ) → (HasFailed k l → ⊥)
-    → ((front : Bytes) → after.messages ≡ front ++ memory_line → ⊥) → Goes stage (Some before) (Some after) k l (Err status)
-    → Went stage (Some before) (Some after) Refused
+pub sound_refusal : {A : Type 0} (stage : Stage A) (before after : Record) (k l status : ℕ) → (HasRisen k l → ⊥)
+    → ((front : Bytes) → after.messages ≡ front ++ memory_line → ⊥) → Goes stage (showing (Some before) k) (showing (Some after) l) (Err status)
+    → Went stage (showing (Some before) k) (showing (Some after) l) Refused
 sound_refusal stage before after k l status sound has_memory (one, inl went) = went
 sound_refusal stage before after k l status sound has_memory (one, inr broke) =
     let lacks = broke_lacks stage before after k l sound broke in absurd (has_memory lacks.0 lacks.1)
@@ -138,8 +144,14 @@ only_told r told line kept =
 -- Of a stage that begins so, where the desk shows no opening: the file could not be opened, and that was told, or memory
 -- was refused, and that was.
 module _ {A : Type 0} (name told : Bytes) (stage : Stage A) (begins : Begins name stage) (r : Record) (k l : ℕ) where
+  abbrev pub Old : DeskView
+  Old = showing (Some r) k
+
+  abbrev pub New : DeskView
+  New = showing (Some (after_err told r)) l
+
   abbrev pub Told : Type 0
-  Told = TellsFailure (not_opened_line name) told k l ⊎ TellsLine memory_line told k l
+  Told = TellsFailure (not_opened_line name) told Old New ⊎ TellsLine memory_line told Old New
 
   abbrev Leaves : List Saying → Type 0
   Leaves sayings = ◌≡◌ {A = Option Record} (Some (after_err told r)) (Some (after_all sayings r))
@@ -153,20 +165,20 @@ module _ {A : Type 0} (name told : Bytes) (stage : Stage A) (begins : Begins nam
       let opening : next_opening name (passed ++ []) ≡ Absent other = cc in
       same_name name other passed opening
 
-  by_break : (passed : List Opening) (break : Break) (line : Bytes) → IsBreak break [] (Next passed) → TellsBreak break line k l → Leaves (last_done break line) → Told
+  by_break : (passed : List Opening) (break : Break) (line : Bytes) → IsBreak break [] (Next passed) → TellsBreak break line Old New → Leaves (last_done break line) → Told
   by_break passed (InLine due) line is tells kept = let clash : Opens (next_opening name (passed ++ [])) ≡ Line due = let e = is.1 in cc in absurd (cc)
   by_break passed (NotOpened other) line is tells kept =
       let named = first_is passed other is.0 is.1 in
-      inl (subst (λ n. TellsFailure (not_opened_line n) told k l) (sym named) (subst (λ t. TellsFailure (not_opened_line other) t k l) (sym (only_told r told line kept)) tells))
+      inl (subst (λ n. TellsFailure (not_opened_line n) told Old New) (sym named) (subst (λ t. TellsFailure (not_opened_line other) t Old New) (sym (only_told r told line kept)) tells))
   by_break passed (NotRead other bytes) line is tells kept =
       let none : ◌≡◌ {A = List Opening} [] (Found (record { name = other; bytes = bytes; ended = false }) ∷ []) =
       same_openings (Line told ∷ []) (part_read other bytes ∷ Line line ∷ []) r kept in absurd (cc)
-  by_break passed NoMemory line is tells kept = inr (subst (λ t. TellsLine memory_line t k l) (sym (only_told r told line kept)) tells)
+  by_break passed NoMemory line is tells kept = inr (subst (λ t. TellsLine memory_line t Old New) (sym (only_told r told line kept)) tells)
   by_break passed (NoMemoryFor reading) line is tells kept =
       let none : ◌≡◌ {A = List Opening} [] (Found reading ∷ []) = same_openings (Line told ∷ []) (Opens (Found reading) ∷ Line line ∷ []) r kept in absurd (cc)
 
   by_whole : (passed : List Opening) (whole later : List Saying) (break : Break) (line : Bytes) → Next passed ≡ whole ++ later → IsBreak break [] later
-      → TellsBreak break line k l → Leaves (whole ++ last_done break line) → Told
+      → TellsBreak break line Old New → Leaves (whole ++ last_done break line) → Told
   by_whole passed [] later break line says is tells kept = by_break passed break line (subst (IsBreak break []) (sym says) is) tells kept
   by_whole passed (first ∷ whole) later break line says is tells kept =
       let opens : first ≡ Opens (next_opening name (passed ++ [])) = cc in
@@ -176,7 +188,7 @@ module _ {A : Type 0} (name told : Bytes) (stage : Stage A) (begins : Begins nam
       let clash : [] ≡ next_opening name (passed ++ []) ∷ opened_in (whole ++ last_done break line) = none ∙ some in
       absurd (cc)
 
-  pub unopened : (status : ℕ) → Goes stage (Some r) (Some (after_err told r)) k l (Err status) → Told
+  pub unopened : (status : ℕ) → Goes stage (showing (Some r) k) (showing (Some (after_err told r)) l) (Err status) → Told
   unopened status (one, inl went) =
       let says : went.says ≡ Next went.passed = sym (ap (λ (p : Played A). p.says) (went.comes [])) ∙ (begins (went.passed ++ [])).1 in
       let none = same_openings (Line told ∷ []) went.says r went.kept in
@@ -190,6 +202,12 @@ module _ {A : Type 0} (name told : Bytes) (stage : Stage A) (begins : Begins nam
 
 -- it was read to its end, and this is what it comes to
 module _ {A : Type 0} (name : Bytes) (limit : ℕ) (judge : Bytes → Result A Bytes) (bytes told : Bytes) (good : A) (given : judge bytes ≡ Ok good) (r : Record) (k l : ℕ) where
+  abbrev Before : DeskView
+  Before = showing (Some r) k
+
+  abbrev After : DeskView
+  After = showing (Some (after_all (Opens (Found (record { name = name; bytes = bytes; ended = true })) ∷ Line told ∷ []) r)) l
+
   abbrev reading : Reading
   reading = record { name = name; bytes = bytes; ended = true }
 
@@ -215,7 +233,7 @@ module _ {A : Type 0} (name : Bytes) (limit : ℕ) (judge : Bytes → Result A B
       append_cancel_left r.messages told line (ap (λ (x : Record). x.messages) same)
 
   -- a break before the file was opened
-  before_it : (break : Break) (line : Bytes) → TellsBreak break line k l → Leaves_it (last_done break line) → TellsLine memory_line told k l
+  before_it : (break : Break) (line : Bytes) → TellsBreak break line Before After → Leaves_it (last_done break line) → TellsLine memory_line told Before After
   before_it (InLine due) line tells kept =
       let none : ◌≡◌ {A = List Opening} (Found reading ∷ []) [] = same_openings done (Line line ∷ []) r kept in absurd (cc)
   before_it (NotOpened other) line tells kept =
@@ -228,26 +246,26 @@ module _ {A : Type 0} (name : Bytes) (limit : ℕ) (judge : Bytes → Result A B
       absurd (cc)
   before_it NoMemory line tells kept =
       let none : ◌≡◌ {A = List Opening} (Found reading ∷ []) [] = same_openings done (Line line ∷ []) r kept in absurd (cc)
-  before_it (NoMemoryFor x) line tells kept = subst (λ t. TellsLine memory_line t k l) (sym (told_is (Found x) line kept)) tells
+  before_it (NoMemoryFor x) line tells kept = subst (λ t. TellsLine memory_line t Before After) (sym (told_is (Found x) line kept)) tells
 
   -- or behind it, where nothing more is said
-  behind_it : (break : Break) (line : Bytes) (opening : Opening) → IsBreak break [] [] → TellsBreak break line k l → Leaves_it (Opens opening ∷ last_done break line)
-      → TellsLine memory_line told k l
+  behind_it : (break : Break) (line : Bytes) (opening : Opening) → IsBreak break [] [] → TellsBreak break line Before After → Leaves_it (Opens opening ∷ last_done break line)
+      → TellsLine memory_line told Before After
   behind_it (InLine due) line opening is tells kept = let e : [] ≡ Line due ∷ is.0 = is.1 in absurd (cc)
   behind_it (NotOpened other) line opening is tells kept = let e : [] ≡ Opens (next_opening other []) ∷ is.0 = is.1 in absurd (cc)
   behind_it (NotRead other some) line opening is tells kept = let e : [] ≡ Opens (next_opening other []) ∷ is.0 = is.1 in absurd (cc)
-  behind_it NoMemory line opening is tells kept = subst (λ t. TellsLine memory_line t k l) (sym (told_is opening line kept)) tells
+  behind_it NoMemory line opening is tells kept = subst (λ t. TellsLine memory_line t Before After) (sym (told_is opening line kept)) tells
   behind_it (NoMemoryFor x) line opening is tells kept = let e : [] ≡ Opens (next_opening x.name []) ∷ is.0 = is.1 in absurd (cc)
 
   by_end : (first : Saying) (opening : Opening) (whole later : List Saying) (break : Break) (line : Bytes) → first ≡ Opens opening → whole ++ later ≡ []
-      → IsBreak break [] later → TellsBreak break line k l → Leaves_it (first ∷ (whole ++ last_done break line)) → TellsLine memory_line told k l
+      → IsBreak break [] later → TellsBreak break line Before After → Leaves_it (first ∷ (whole ++ last_done break line)) → TellsLine memory_line told Before After
   by_end first opening [] [] break line one none is tells kept =
       behind_it break line opening is tells (subst (λ s. Leaves_it (s ∷ last_done break line)) one kept)
   by_end first opening [] (x ∷ later) break line one none is tells kept = absurd (cc)
   by_end first opening (x ∷ whole) later break line one none is tells kept = absurd (cc)
 
   by_front : (openings : List Opening) (whole later : List Saying) (break : Break) (line : Bytes) → (file_stage name limit judge openings).says ≡ whole ++ later
-      → IsBreak break [] later → TellsBreak break line k l → Leaves_it (whole ++ last_done break line) → TellsLine memory_line told k l
+      → IsBreak break [] later → TellsBreak break line Before After → Leaves_it (whole ++ last_done break line) → TellsLine memory_line told Before After
   by_front openings [] later break line says is tells kept = before_it break line tells kept
   by_front openings (first ∷ whole) later break line says is tells kept =
       let extra = (begins_file name limit judge openings).0 in
@@ -261,7 +279,7 @@ module _ {A : Type 0} (name : Bytes) (limit : ℕ) (judge : Bytes → Result A B
       by_end first (next_opening name openings) whole later break line first_is none is tells kept
 
   -- So the desk was shown to open it, to its end, and what was told is the line of memory.
-  pub opened_is_told : (status : ℕ) → Goes (file_stage name limit judge) (Some r) (Some (after_all done r)) k l (Err status) → TellsLine memory_line told k l
+  pub opened_is_told : (status : ℕ) → Goes (file_stage name limit judge) (showing (Some r) k) (showing (Some (after_all done r)) l) (Err status) → TellsLine memory_line told Before After
   opened_is_told status (one, inl went) =
       let openings = went.passed ++ [] in
       let begun = begins_file name limit judge openings in

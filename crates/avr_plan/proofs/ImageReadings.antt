@@ -7,7 +7,7 @@ use Rattle.avr_desk.proofs.ReadingLemmas.{read_next, read_piece}
 use Rattle.avr_cli.specs.declared.update.Format.{Format}
 use Rattle.avr_cli.specs.declared.update.Format.TheVariants as letter
 use Rattle.avr_desk.specs.Files.{after_reading, with_read}
-use Rattle.avr_desk.specs.Record.{Record, after_open, after_read, noted, is_nil}
+use Rattle.avr_desk.specs.Record.{DeskView, Record, Passes, after_open, after_read, noted, is_nil}
 use Rattle.avr_desk.specs.declared.record.Open.{Open}
 use Rattle.avr_desk.specs.declared.record.Open.TheVariants.{Closed, ToRead, ToWrite}
 use Rattle.avr_desk.specs.declared.files.FileFault.TheVariants.{Absent, NotOpened, NotRead, Memory}
@@ -48,21 +48,21 @@ read_end old now new a buf n first then zero some =
 
 -- ---- the rest of a file
 
-pub going_begins : (d : Option Record) (intake : Intake) (room : ℕ) → Going d d intake intake room room
+pub going_begins : (d : DeskView) (intake : Intake) (room : ℕ) → Going d d intake intake room room
 going_begins d intake room = record {
   bytes = [];
-  kept = read_nothing d;
+  kept = read_nothing d.kept;
   feeds = λ found size text takes. subst (Takes found size intake) (sym (append-nil text)) takes;
   count = omega arith;
 }
 
-pub going_on : (old now new : Option Record) (first last next : Intake) (room left n rest : ℕ) (buf : Bytes) → Going old now first last room left
-    → new ≡ option_map (after_read buf (Ok n)) now → (n ≡ 0 → ⊥) → length (take n buf) + rest ≡ left
+pub going_on : (old now new : DeskView) (first last next : Intake) (room left n rest : ℕ) (buf : Bytes) → Going old now first last room left
+    → Passes (after_read buf (Ok n)) now new → (n ≡ 0 → ⊥) → length (take n buf) + rest ≡ left
     → ((found : Found) (size : ℕ) (text : Bytes) → Takes found size last text → Takes found size next (text ++ take n buf))
     → Going old new first next room rest
 going_on old now new first last next room left n rest buf going then some count feeds = record {
   bytes = going.bytes ++ take n buf;
-  kept = read_piece old now new going.bytes buf n going.kept then some;
+  kept = read_piece old.kept now.kept new.kept going.bytes buf n going.kept then some;
   feeds = λ found size text takes.
       subst (Takes found size next) (append_assoc text going.bytes (take n buf))
       (feeds found size (text ++ going.bytes) (going.feeds found size text takes));
@@ -73,7 +73,7 @@ within : (limit : ℕ) (found : Found) (bytes : Bytes) (size : ℕ) → length b
     → whole_file found bytes size ≡ file_within limit found bytes size
 within limit found bytes size len = let fits : nat_le (length bytes) limit ≡ true = grind (arith, nat_tests) in rw fits refl
 
-rest-is : (limit : ℕ) (found : Found) (size : ℕ) (before : Bytes) (old new : Option Record) (given : Given) (result : Outcome)
+rest-is : (limit : ℕ) (found : Found) (size : ℕ) (before : Bytes) (old new : DeskView) (given : Given) (result : Outcome)
     → IsGiven given result
     → ReadsRest limit found size before old new given → RestIsRead limit found size before old new result
 rest-is limit found size before old new given (Ok good) is reads = subst (ReadsRest limit found size before old new) (sym is) reads
@@ -81,9 +81,9 @@ rest-is limit found size before old new given (Err (Image bad)) is reads = subst
 rest-is limit found size before old new given (Err (File fault)) is reads = absurd is
 
 -- the end was seen
-pub rest_ends : (limit : ℕ) (found : Found) (size : ℕ) (before : Bytes) (old now new : Option Record) (first last : Intake) (room left n : ℕ)
+pub rest_ends : (limit : ℕ) (found : Found) (size : ℕ) (before : Bytes) (old now new : DeskView) (first last : Intake) (room left n : ℕ)
     (buf : Bytes) (result : Outcome)
-    → Going old now first last room left → new ≡ option_map (after_read buf (Ok n)) now → n ≡ 0 → 0 < length buf
+    → Going old now first last room left → Passes (after_read buf (Ok n)) now new → n ≡ 0 → 0 < length buf
     → ((found : Found) (size : ℕ) (text : Bytes) → Takes found size last text → IsGiven (whole_file found text size) result)
     → Takes found size first before → length before + room ≡ limit → RestIsRead limit found size before old new result
 rest_ends limit found size before old now new first last room left n buf result going then zero some gives takes count =
@@ -93,7 +93,7 @@ rest_ends limit found size before old now new first last room left n buf result 
     (record {
       bytes = going.bytes;
       ended = true;
-      kept = read_end old now new going.bytes buf n going.kept then zero some;
+      kept = read_end old.kept now.kept new.kept going.bytes buf n going.kept then zero some;
       whole = len;
       gives = within limit found all size len;
     })
@@ -104,9 +104,9 @@ take-front all buf limit left n count less =
     (take-append-add all (take n buf) left ∙ ap (λ (b : Bytes). all ++ b) (take-take left n buf less))
 
 -- more came than may
-pub rest_long : (limit : ℕ) (found : Found) (size : ℕ) (before : Bytes) (old now new : Option Record) (first last : Intake) (room left n : ℕ)
+pub rest_long : (limit : ℕ) (found : Found) (size : ℕ) (before : Bytes) (old now new : DeskView) (first last : Intake) (room left n : ℕ)
     (buf : Bytes) (bad : BadFile)
-    → Going old now first last room left → new ≡ option_map (after_read buf (Ok n)) now → left < n → n ≤ length buf → length buf ≤ 4096
+    → Going old now first last room left → Passes (after_read buf (Ok n)) now new → left < n → n ≤ length buf → length buf ≤ 4096
     → ((found : Found) (size : ℕ) (text : Bytes) → Takes found size last text → bad ≡ long_file found (text ++ take left buf) size)
     → Takes found size first before → length before + room ≡ limit → ReadsRest limit found size before old new (Err bad)
 rest_long limit found size before old now new first last room left n buf bad going then more within' most gives takes count =
@@ -124,7 +124,7 @@ rest_long limit found size before old now new first last room left n buf bad goi
     record {
       bytes = bytes;
       ended = false;
-      kept = read_piece old now new going.bytes buf n going.kept then (λ zero. absurd (omega (arith, zero, more)));
+      kept = read_piece old.kept now.kept new.kept going.bytes buf n going.kept then (λ zero. absurd (omega (arith, zero, more)));
       whole = (omega (arith, sum, more), omega (arith, sum, within', most));
       gives = rw past (ap (λ (b : BadFile). Err b) (gives found size all (going.feeds found size before takes) ∙ ap
           (λ (t : Bytes). long_file found t size) (sym front)));
@@ -148,19 +148,19 @@ kind-front letter.Octal front more len = detected-front front more len
 kind-front letter.Binary front more len = detected-front front more len
 
 -- the front, and behind it the rest
-open_rest : (limit : ℕ) (format : Format) (size : ℕ) (front : Bytes) (old now new : Option Record) (given : Given)
-    → now ≡ option_map (after_reading front false) old
+open_rest : (limit : ℕ) (format : Format) (size : ℕ) (front : Bytes) (old now new : DeskView) (given : Given)
+    → Passes (after_reading front false) old now
     → length front ≡ 1024 → ReadsRest limit (kind_of format front) size front now new given → ReadsOpenImage limit format size old new given
 open_rest limit format size front old now new given first len rest = record {
   bytes = front ++ rest.bytes;
   ended = rest.ended;
-  kept = read_next old now new front rest.bytes rest.ended first rest.kept;
+  kept = read_next old.kept now.kept new.kept front rest.bytes rest.ended first rest.kept;
   whole = rest.whole;
   gives = rest.gives ∙ ap (λ k. file_within limit k (front ++ rest.bytes) size) (sym (kind-front format front rest.bytes len));
 }
 
-pub open_is_rest : (limit : ℕ) (format : Format) (size : ℕ) (front : Bytes) (old now new : Option Record) (result : Outcome)
-    → now ≡ option_map (after_reading front false) old
+pub open_is_rest : (limit : ℕ) (format : Format) (size : ℕ) (front : Bytes) (old now new : DeskView) (result : Outcome)
+    → Passes (after_reading front false) old now
     → length front ≡ 1024 → RestIsRead limit (kind_of format front) size front now new result → OpenIsRead limit format size old new result
 open_is_rest limit format size front old now new (Ok good) first len rest = open_rest limit format size front old now new (Ok good) first len rest
 open_is_rest limit format size front old now new (Err (Image bad)) first len rest = open_rest limit format size front old now new (Err bad) first
@@ -168,12 +168,12 @@ open_is_rest limit format size front old now new (Err (Image bad)) first len res
 open_is_rest limit format size front old now new (Err (File Absent)) first len rest = cc rest.0
 open_is_rest limit format size front old now new (Err (File NotOpened)) first len rest = cc rest.0
 open_is_rest limit format size front old now new (Err (File NotRead)) first len rest =
-    (front ++ rest.1.0, read_next old now new front rest.1.0 false first rest.1.1)
+    (front ++ rest.1.0, read_next old.kept now.kept new.kept front rest.1.0 false first rest.1.1)
 open_is_rest limit format size front old now new (Err (File Memory)) first len rest = cc rest.0
 
 -- the front is the whole
-pub open_is_front : (limit : ℕ) (format : Format) (size : ℕ) (front : Bytes) (old new : Option Record) (result : Outcome)
-    → new ≡ option_map (after_reading front true) old
+pub open_is_front : (limit : ℕ) (format : Format) (size : ℕ) (front : Bytes) (old new : DeskView) (result : Outcome)
+    → Passes (after_reading front true) old new
     → length front ≤ limit → IsGiven (whole_file (kind_of format front) front size) result → OpenIsRead limit format size old new result
 open_is_front limit format size front old new (Ok good) read len is = record {
   bytes = front;
@@ -197,19 +197,19 @@ opened_read : (name : Bytes) (old now new : Option Record) (bytes : Bytes) (ende
 opened_read name None now new bytes ended opened read = read ∙ ap (option_map (after_reading bytes ended)) opened
 opened_read name (Some k) now new bytes ended opened read = read ∙ ap (option_map (after_reading bytes ended)) opened
 
-opened_image : (limit : ℕ) (format : Format) (size : ℕ) (name : Bytes) (old now new : Option Record) (given : Given)
-    → now ≡ option_map (after_open name (Ok tt)) old
+opened_image : (limit : ℕ) (format : Format) (size : ℕ) (name : Bytes) (old now new : DeskView) (given : Given)
+    → Passes (after_open name (Ok tt)) old now
     → ReadsOpenImage limit format size now new given → ReadsImage limit format size name old new given
 opened_image limit format size name old now new given opened reads = record {
   bytes = reads.bytes;
   ended = reads.ended;
-  kept = opened_read name old now new reads.bytes reads.ended opened reads.kept;
+  kept = opened_read name old.kept now.kept new.kept reads.bytes reads.ended opened reads.kept;
   whole = reads.whole;
   gives = reads.gives;
 }
 
-pub image_is_open : (limit : ℕ) (format : Format) (size : ℕ) (name : Bytes) (old now new : Option Record) (result : Outcome)
-    → now ≡ option_map (after_open name (Ok tt)) old
+pub image_is_open : (limit : ℕ) (format : Format) (size : ℕ) (name : Bytes) (old now new : DeskView) (result : Outcome)
+    → Passes (after_open name (Ok tt)) old now
     → OpenIsRead limit format size now new result → ImageIsRead limit format size name old new result
 image_is_open limit format size name old now new (Ok good) opened reads = opened_image limit format size name old now new (Ok good) opened reads
 image_is_open limit format size name old now new (Err (Image bad)) opened reads = opened_image limit format size name old now new (Err bad) opened
@@ -217,6 +217,6 @@ image_is_open limit format size name old now new (Err (Image bad)) opened reads 
 image_is_open limit format size name old now new (Err (File Absent)) opened reads = absurd reads
 image_is_open limit format size name old now new (Err (File NotOpened)) opened reads = absurd reads
 image_is_open limit format size name old now new (Err (File NotRead)) opened reads =
-    (reads.0, opened_read name old now new reads.0 false opened reads.1)
+    (reads.0, opened_read name old.kept now.kept new.kept reads.0 false opened reads.1)
 image_is_open limit format size name old now new (Err (File Memory)) opened reads =
-    (reads.0, reads.1, opened_read name old now new reads.0 reads.1 opened reads.2)
+    (reads.0, reads.1, opened_read name old.kept now.kept new.kept reads.0 reads.1 opened reads.2)

@@ -2,7 +2,8 @@
 use Rattle.std.proofs.Common.{◌≡◌, sym, ap, ℕ, ◌≤◌, List, Option, Ok, Err}
 use Rattle.avr_cli.specs.declared.chosen.Switches.{Switches}
 use Rattle.avr_cli.specs.declared.update.Format.{Format}
-use Rattle.avr_desk.specs.Record.{Record}
+use Rattle.avr_desk.specs.Fault.{Follows}
+use Rattle.avr_desk.specs.Record.{DeskView}
 use Rattle.avr_message.specs.Lines.{Bytes}
 use Rattle.avr_message.specs.Said.{Tells}
 use Rattle.avr_records.specs.declared.kind.Ending.{Ending}
@@ -24,62 +25,62 @@ Image = List (Option ℕ)
 abbrev behind_file : Switches → Bytes → Image × Ending → Stage Image
 behind_file switches file given = said (warned switches file given.1) >>= λ ok. settled (Ok given.0)
 
-went_file : (file : Bytes) (format : Format) (size : ℕ) (old mid : Option Record) (image : Image) (ending : Ending)
-    → ReadsImage 4194304 format size file old mid (Ok (image, ending))
+went_file : (file : Bytes) (format : Format) (size : ℕ) (old mid : DeskView) (image : Image) (ending : Ending)
+    → ReadsImage 4194304 format size file old mid (Ok (image, ending)) → Follows old mid
     → Went (file_stage file 4194304 (judged_image file format size)) old mid (Made (image, ending))
-went_file file format size old mid image ending reads =
+went_file file format size old mid image ending reads rises =
     let judge = judged_image file format size in
     let given : judge reads.bytes ≡ Ok (image, ending) = ap (image_or_line file) (sym reads.gives) in
-    went_whole file 4194304 judge reads.bytes reads.ended old mid (image, ending) reads.kept reads.whole
+    went_whole file 4194304 judge reads.bytes reads.ended old mid (image, ending) reads.kept reads.whole rises
     (went_settled (judge reads.bytes) (image, ending) mid given)
 
 -- a file that is an image, and its warning
-pub went_image : (switches : Switches) (file : Bytes) (format : Format) (size : ℕ) (old mid new : Option Record) (image : Image) (ending : Ending)
-    → ReadsImage 4194304 format size file old mid (Ok (image, ending)) → Went (said (warned switches file ending)) mid new (Made tt)
+pub went_image : (switches : Switches) (file : Bytes) (format : Format) (size : ℕ) (old mid new : DeskView) (image : Image) (ending : Ending)
+    → ReadsImage 4194304 format size file old mid (Ok (image, ending)) → Follows old mid → Went (said (warned switches file ending)) mid new (Made tt)
     → Went (file_image_stage switches file format size) old new (Made image)
-went_image switches file format size old mid new image ending reads warns =
+went_image switches file format size old mid new image ending reads rises warns =
     went_went (file_stage file 4194304 (judged_image file format size)) (behind_file switches file) old mid new (image, ending) (Made image)
-    (went_file file format size old mid image ending reads)
+    (went_file file format size old mid image ending reads rises)
     (went_went (said (warned switches file ending)) (λ ok. settled (Ok image)) mid new new tt (Made image) warns (went_nowhere new image))
 
 -- its warning broke off
-pub goes_unwarned : (switches : Switches) (file : Bytes) (format : Format) (size : ℕ) (old mid new : Option Record) (before between now : ℕ)
+pub goes_unwarned : (switches : Switches) (file : Bytes) (format : Format) (size : ℕ) (old mid new : DeskView)
     (image : Image) (ending : Ending) (status : ℕ)
-    → ReadsImage 4194304 format size file old mid (Ok (image, ending)) → before ≤ between
-    → Goes (said (warned switches file ending)) mid new between now (Err status)
-    → Goes (file_image_stage switches file format size) old new before now (Err status)
-goes_unwarned switches file format size old mid new before between now image ending status reads rises warns =
-    goes_on (file_stage file 4194304 (judged_image file format size)) (behind_file switches file) old mid new (image, ending) before between now
+    → ReadsImage 4194304 format size file old mid (Ok (image, ending)) → Follows old mid
+    → Goes (said (warned switches file ending)) mid new (Err status)
+    → Goes (file_image_stage switches file format size) old new (Err status)
+goes_unwarned switches file format size old mid new image ending status reads rises warns =
+    goes_on (file_stage file 4194304 (judged_image file format size)) (behind_file switches file) old mid new (image, ending)
     (Err status)
-    (went_file file format size old mid image ending reads) rises
-    (goes_no_further (said (warned switches file ending)) (λ ok. settled (Ok image)) mid new between now status warns)
+    (went_file file format size old mid image ending reads rises)
+    (goes_no_further (said (warned switches file ending)) (λ ok. settled (Ok image)) mid new status warns)
 
 -- a file that is none
-goes_bad : (switches : Switches) (file : Bytes) (format : Format) (size : ℕ) (old mid new : Option Record) (before between now : ℕ)
+goes_bad : (switches : Switches) (file : Bytes) (format : Format) (size : ℕ) (old mid new : DeskView)
     (bad : BadFile) (status : ℕ)
-    → ReadsImage 4194304 format size file old mid (Err bad) → before ≤ between → status ≡ 1 → Tells mid new (bad_file_line file bad) between now
-    → Goes (file_image_stage switches file format size) old new before now (Err status)
-goes_bad switches file format size old mid new before between now bad status reads rises one told =
+    → ReadsImage 4194304 format size file old mid (Err bad) → Follows old mid → status ≡ 1 → Tells mid new (bad_file_line file bad)
+    → Goes (file_image_stage switches file format size) old new (Err status)
+goes_bad switches file format size old mid new bad status reads rises one told =
     let judge = judged_image file format size in
     let given : judge reads.bytes ≡ Err (bad_file_line file bad) = ap (image_or_line file) (sym reads.gives) in
-    goes_no_further (file_stage file 4194304 judge) (behind_file switches file) old new before now status
-    (goes_whole file 4194304 judge reads.bytes reads.ended old mid new before between now (Err status)
-    reads.kept reads.whole rises (goes_unsettled (judge reads.bytes) (bad_file_line file bad) mid new between now status given one told))
+    goes_no_further (file_stage file 4194304 judge) (behind_file switches file) old new status
+    (goes_whole file 4194304 judge reads.bytes reads.ended old mid new (Err status)
+    reads.kept reads.whole rises (goes_unsettled (judge reads.bytes) (bad_file_line file bad) mid new status given one told))
 
 -- a file that was not read
-goes_unread : (switches : Switches) (file : Bytes) (format : Format) (size : ℕ) (old new : Option Record) (before now status : ℕ)
-    → Goes (file_stage file 4194304 (judged_image file format size)) old new before now (Err status)
-    → Goes (file_image_stage switches file format size) old new before now (Err status)
-goes_unread switches file format size old new before now status goes =
-    goes_no_further (file_stage file 4194304 (judged_image file format size)) (behind_file switches file) old new before now status goes
+goes_unread : (switches : Switches) (file : Bytes) (format : Format) (size : ℕ) (old new : DeskView) (status : ℕ)
+    → Goes (file_stage file 4194304 (judged_image file format size)) old new (Err status)
+    → Goes (file_image_stage switches file format size) old new (Err status)
+goes_unread switches file format size old new status goes =
+    goes_no_further (file_stage file 4194304 (judged_image file format size)) (behind_file switches file) old new status goes
 
 -- no image came of the file
-pub goes_without_image : (switches : Switches) (file : Bytes) (format : Format) (size : ℕ) (old mid new : Option Record) (before between now : ℕ)
+pub goes_without_image : (switches : Switches) (file : Bytes) (format : Format) (size : ℕ) (old mid new : DeskView)
     (fault : ReadFault) (status : ℕ)
-    → ImageIsRead 4194304 format size file old mid (Err fault) → before ≤ between → IsCountedRead before between fault → between ≤ now → status ≡ 1
-    → Tells mid new (read_fault_line file fault) between now → Goes (file_image_stage switches file format size) old new before now (Err status)
-goes_without_image switches file format size old mid new before between now (fault_of.File fault) status reads rose counted rises one told =
-    goes_unread switches file format size old new before now status
-    (goes_file_fault file 4194304 (judged_image file format size) fault old mid new before between now status reads rose counted rises one told)
-goes_without_image switches file format size old mid new before between now (fault_of.Image bad) status reads rose counted rises one told =
-    goes_bad switches file format size old mid new before between now bad status reads rose one told
+    → ImageIsRead 4194304 format size file old mid (Err fault) → Follows old mid → IsCountedRead old mid fault → status ≡ 1
+    → Tells mid new (read_fault_line file fault) → Goes (file_image_stage switches file format size) old new (Err status)
+goes_without_image switches file format size old mid new (fault_of.File fault) status reads rose counted one told =
+    goes_unread switches file format size old new status
+    (goes_file_fault file 4194304 (judged_image file format size) fault old mid new status reads rose counted one told)
+goes_without_image switches file format size old mid new (fault_of.Image bad) status reads rose counted one told =
+    goes_bad switches file format size old mid new bad status reads rose one told

@@ -1,8 +1,9 @@
 -- The parts of a part file.
 use Rattle.std.proofs.Common.{◌≡◌, ◌∙◌, sym, ap, refl, arith, ℕ, ◌≤◌, List, length, Bool, true, false, nat_le, Option, option_map, Ok, Err, inl, inr, subst}
 use Rattle.std.proofs.lemmas.Bool.Decides.{nat_tests}
+use Rattle.avr_desk.specs.Fault.{Follows}
 use Rattle.avr_desk.specs.Files.{IsWhole, with_read}
-use Rattle.avr_desk.specs.Record.{Record}
+use Rattle.avr_desk.specs.Record.{DeskView, Passes}
 use Rattle.avr_message.specs.Lines.{Bytes}
 use Rattle.avr_message.specs.Said.{Tells}
 use Rattle.avr_part.specs.Part.{Part}
@@ -21,43 +22,43 @@ judged-within : (file bytes : Bytes) → IsWhole 65536 (record { bytes = bytes; 
     → judged_parts file bytes ≡ parts_or_line file (parts_of bytes)
 judged-within file bytes whole = let fits : nat_le (length bytes) 65536 ≡ true = grind (arith, nat_tests, whole) in rw fits refl
 
-pub goes_long_parts : (file bytes : Bytes) (ended : Bool) (old mid new : Option Record) (before between now status : ℕ)
-    → mid ≡ option_map (with_read file bytes ended) old
-    → IsWhole 65536 (record { bytes = bytes; ended = ended }) → ended ≡ false → before ≤ between → status ≡ 1
-    → Tells mid new (too_long_line file 65536) between now
-    → Goes (file_stage file 65536 (judged_parts file)) old new before now (Err status)
-goes_long_parts file bytes true old mid new before between now status kept whole is rises one told = cc
-goes_long_parts file bytes false old mid new before between now status kept whole is rises one told =
+pub goes_long_parts : (file bytes : Bytes) (ended : Bool) (old mid new : DeskView) (status : ℕ)
+    → Passes (with_read file bytes ended) old mid
+    → IsWhole 65536 (record { bytes = bytes; ended = ended }) → ended ≡ false → Follows old mid → status ≡ 1
+    → Tells mid new (too_long_line file 65536)
+    → Goes (file_stage file 65536 (judged_parts file)) old new (Err status)
+goes_long_parts file bytes true old mid new status kept whole is rises one told = cc
+goes_long_parts file bytes false old mid new status kept whole is rises one told =
     let past : nat_le (length bytes) 65536 ≡ false = let more = whole.0 in grind (arith, nat_tests, more) in
     let given : judged_parts file bytes ≡ Err (too_long_line file 65536) = rw past refl in
-    goes_whole file 65536 (judged_parts file) bytes false old mid new before between now (Err status)
+    goes_whole file 65536 (judged_parts file) bytes false old mid new (Err status)
     kept whole rises
-    (goes_unsettled (judged_parts file bytes) (too_long_line file 65536) mid new between now status given one told)
+    (goes_unsettled (judged_parts file bytes) (too_long_line file 65536) mid new status given one told)
 
-pub went_parts : (file bytes : Bytes) (ended : Bool) (old mid : Option Record) (parts : List Part)
-    → mid ≡ option_map (with_read file bytes ended) old
-    → IsWhole 65536 (record { bytes = bytes; ended = ended }) → ended ≡ true → GivesOrMemory (parts_of bytes) (Ok parts)
+pub went_parts : (file bytes : Bytes) (ended : Bool) (old mid : DeskView) (parts : List Part)
+    → Passes (with_read file bytes ended) old mid
+    → IsWhole 65536 (record { bytes = bytes; ended = ended }) → ended ≡ true → Follows old mid → GivesOrMemory (parts_of bytes) (Ok parts)
     → Went (file_stage file 65536 (judged_parts file)) old mid (Made parts)
-went_parts file bytes false old mid parts kept whole is gives = cc
-went_parts file bytes true old mid parts kept whole is (inl gives) =
+went_parts file bytes false old mid parts kept whole is rises gives = cc
+went_parts file bytes true old mid parts kept whole is rises (inl gives) =
     let given : judged_parts file bytes ≡ Ok parts = judged-within file bytes whole ∙ ap (parts_or_line file) (sym gives) in
-    went_whole file 65536 (judged_parts file) bytes true old mid parts kept whole
+    went_whole file 65536 (judged_parts file) bytes true old mid parts kept whole rises
     (went_settled (judged_parts file bytes) parts mid given)
-went_parts file bytes true old mid parts kept whole is (inr memory) = cc
+went_parts file bytes true old mid parts kept whole is rises (inr memory) = cc
 
-pub goes_bad_parts : (file bytes : Bytes) (ended : Bool) (old mid new : Option Record) (before between now status : ℕ) (fault : PartFault)
-    → mid ≡ option_map (with_read file bytes ended) old → IsWhole 65536 (record { bytes = bytes; ended = ended }) → ended ≡ true → before ≤ between
-    → GivesOrMemory (parts_of bytes) (Err fault) → status ≡ 1 → Tells mid new (part_file_line file fault) between now
-    → Goes (file_stage file 65536 (judged_parts file)) old new before now (Err status)
-goes_bad_parts file bytes false old mid new before between now status fault kept whole is rises gives one told = cc
-goes_bad_parts file bytes true old mid new before between now status fault kept whole is rises (inl gives) one told =
+pub goes_bad_parts : (file bytes : Bytes) (ended : Bool) (old mid new : DeskView) (status : ℕ) (fault : PartFault)
+    → Passes (with_read file bytes ended) old mid → IsWhole 65536 (record { bytes = bytes; ended = ended }) → ended ≡ true → Follows old mid
+    → GivesOrMemory (parts_of bytes) (Err fault) → status ≡ 1 → Tells mid new (part_file_line file fault)
+    → Goes (file_stage file 65536 (judged_parts file)) old new (Err status)
+goes_bad_parts file bytes false old mid new status fault kept whole is rises gives one told = cc
+goes_bad_parts file bytes true old mid new status fault kept whole is rises (inl gives) one told =
     let given : judged_parts file bytes ≡ Err (part_file_line file fault) = judged-within file bytes whole ∙ ap (parts_or_line file) (sym gives) in
-    goes_whole file 65536 (judged_parts file) bytes true old mid new before between now (Err status)
+    goes_whole file 65536 (judged_parts file) bytes true old mid new (Err status)
     kept whole rises
-    (goes_unsettled (judged_parts file bytes) (part_file_line file fault) mid new between now status given one told)
-goes_bad_parts file bytes true old mid new before between now status fault kept whole is rises (inr memory) one told =
+    (goes_unsettled (judged_parts file bytes) (part_file_line file fault) mid new status given one told)
+goes_bad_parts file bytes true old mid new status fault kept whole is rises (inr memory) one told =
     let same : fault ≡ Memory = cc in
-    let refused = subst (λ f. Tells mid new (part_file_line file f) between now) same told in
-    goes_whole file 65536 (judged_parts file) bytes true old mid new before between now (Err status)
+    let refused = subst (λ f. Tells mid new (part_file_line file f)) same told in
+    goes_whole file 65536 (judged_parts file) bytes true old mid new (Err status)
     kept whole rises
-    (goes_without_memory (settled (judged_parts file bytes)) mid new between now status one refused)
+    (goes_without_memory (settled (judged_parts file bytes)) mid new status one refused)

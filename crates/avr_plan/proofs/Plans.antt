@@ -2,7 +2,7 @@
 use Rattle.std.proofs.Common.{◌≡◌, sym, subst, ℕ, ◌≤◌, List, [], Option, Ok, Err}
 use Rattle.avr_cli.specs.declared.chosen.Settings.{Settings}
 use Rattle.avr_cli.specs.declared.update.Update.{Update}
-use Rattle.avr_desk.specs.Record.{Record}
+use Rattle.avr_desk.specs.Record.{DeskView}
 use Rattle.avr_message.specs.Lines.{Bytes}
 use Rattle.avr_part.specs.Part.{Part}
 use Rattle.avr_plan.proofs.Played.{goes_on, goes_no_further, went_went, went_into}
@@ -21,32 +21,32 @@ behind_part s part = tasks_stage s.switches part [] s.updates >>= λ tasks. sett
 abbrev behind_parts : Settings → List Part → Stage Plan
 behind_parts s parts = part_stage s.part parts >>= behind_part s
 
-pub goes_without_parts : (s : Settings) (old new : Option Record) (before now status : ℕ)
-    → Goes (parts_stage s.parts) old new before now (Err status) → Goes (planned s) old new before now (Err status)
-goes_without_parts s old new before now status goes = goes_no_further (parts_stage s.parts) (behind_parts s) old new before now status goes
+pub goes_without_parts : (s : Settings) (old new : DeskView) (status : ℕ)
+    → Goes (parts_stage s.parts) old new (Err status) → Goes (planned s) old new (Err status)
+goes_without_parts s old new status goes = goes_no_further (parts_stage s.parts) (behind_parts s) old new status goes
 
-pub goes_without_part : (s : Settings) (id : Bytes) (old mid new : Option Record) (before between now status : ℕ) (parts : List Part)
-    → id ≡ s.part → before ≤ between
-    → Went (parts_stage s.parts) old mid (Made parts) → Goes (part_stage id parts) mid new between now (Err status)
-    → Goes (planned s) old new before now (Err status)
-goes_without_part s id old mid new before between now status parts same rises went goes =
-    let own = subst (λ (i : Bytes). Goes (part_stage i parts) mid new between now (Err status)) same goes in
-    goes_on (parts_stage s.parts) (behind_parts s) old mid new parts before between now (Err status) went rises
-    (goes_no_further (part_stage s.part parts) (behind_part s) mid new between now status own)
+pub goes_without_part : (s : Settings) (id : Bytes) (old mid new : DeskView) (status : ℕ) (parts : List Part)
+    → id ≡ s.part
+    → Went (parts_stage s.parts) old mid (Made parts) → Goes (part_stage id parts) mid new (Err status)
+    → Goes (planned s) old new (Err status)
+goes_without_part s id old mid new status parts same went goes =
+    let own = subst (λ (i : Bytes). Goes (part_stage i parts) mid new (Err status)) same goes in
+    goes_on (parts_stage s.parts) (behind_parts s) old mid new parts (Err status) went
+    (goes_no_further (part_stage s.part parts) (behind_part s) mid new status own)
 
-pub goes_without_tasks : (s : Settings) (id : Bytes) (updates : List Update) (old first mid new : Option Record)
-    (before since between now status : ℕ) (parts : List Part) (part : Part)
-    → id ≡ s.part → updates ≡ s.updates → before ≤ since → since ≤ between → Went (parts_stage s.parts) old first (Made parts)
+pub goes_without_tasks : (s : Settings) (id : Bytes) (updates : List Update) (old first mid new : DeskView)
+    (status : ℕ) (parts : List Part) (part : Part)
+    → id ≡ s.part → updates ≡ s.updates → Went (parts_stage s.parts) old first (Made parts)
     → Went (part_stage id parts) first mid (Made part)
-    → Goes (tasks_stage s.switches part [] updates) mid new between now (Err status) → Goes (planned s) old new before now (Err status)
-goes_without_tasks s id updates old first mid new before since between now status parts part same all rose rises went found goes =
+    → Goes (tasks_stage s.switches part [] updates) mid new (Err status) → Goes (planned s) old new (Err status)
+goes_without_tasks s id updates old first mid new status parts part same all went found goes =
     let own = subst (λ (i : Bytes). Went (part_stage i parts) first mid (Made part)) same found in
-    let tasks = subst (λ (us : List Update). Goes (tasks_stage s.switches part [] us) mid new between now (Err status)) all goes in
-    goes_on (parts_stage s.parts) (behind_parts s) old first new parts before since now (Err status) went rose
-    (goes_on (part_stage s.part parts) (behind_part s) first mid new part since between now (Err status) own rises
-    (goes_no_further (tasks_stage s.switches part [] s.updates) (λ ts. settled (Ok (plan_of s part ts))) mid new between now status tasks))
+    let tasks = subst (λ (us : List Update). Goes (tasks_stage s.switches part [] us) mid new (Err status)) all goes in
+    goes_on (parts_stage s.parts) (behind_parts s) old first new parts (Err status) went
+    (goes_on (part_stage s.part parts) (behind_part s) first mid new part (Err status) own
+    (goes_no_further (tasks_stage s.switches part [] s.updates) (λ ts. settled (Ok (plan_of s part ts))) mid new status tasks))
 
-pub went_whole_plan : (s : Settings) (id : Bytes) (updates : List Update) (old first mid new : Option Record) (parts : List Part) (part : Part)
+pub went_whole_plan : (s : Settings) (id : Bytes) (updates : List Update) (old first mid new : DeskView) (parts : List Part) (part : Part)
     (tasks : List Task) (plan : Plan)
     → id ≡ s.part → updates ≡ s.updates → plan ≡ plan_of s part tasks → Went (parts_stage s.parts) old first (Made parts)
     → Went (part_stage id parts) first mid (Made part)

@@ -1,8 +1,8 @@
 -- Stages of planning that were played, one after the other.
 use Rattle.std.proofs.Common.{◌≡◌, ◌∙◌, sym, subst, option_map, inl, inr, ap, List, [], ◌∷◌, ◌++◌, ℕ, ◌≤◌, take, drop, refl, arith, Option, Ok, Err, Result, append_assoc, append-nil}
 use Rattle.std.proofs.lemmas.List.{take-append-drop}
-use Rattle.avr_desk.specs.Record.{Record}
-use Rattle.avr_desk.specs.Fault.{HasFailed, Counts}
+use Rattle.avr_desk.specs.Record.{DeskView, Passes}
+use Rattle.avr_desk.specs.Fault.{HasFailed, Counts, Follows}
 use Rattle.avr_desk.specs.declared.fault.DeskFault.{DeskFault}
 use Rattle.avr_desk.specs.declared.fault.DeskFault.TheVariants.{NotFound, Failed}
 use Rattle.avr_desk.specs.Stream.{SendsPart}
@@ -10,19 +10,19 @@ use Rattle.avr_desk.specs.declared.stream.Stream.TheVariants.{Messages}
 use Rattle.avr_desk.specs.declared.record.Opening.{Opening}
 use Rattle.avr_message.specs.Said.{Saying, Line, Opens, TellsLine, Tells, after_all}
 use Rattle.avr_message.proofs.Saying.{kept_none, kept_append}
-use Rattle.avr_message.proofs.Telling.{failed_later, tells_since, failure_in}
+use Rattle.avr_message.proofs.Telling.{follows_on, failed_later, tells_since, failure_in}
 use Rattle.avr_plan.specs.Lines.{memory_line, not_opened_line, not_read_line}
 use Rattle.avr_plan.specs.Playing.{Went, Break, InLine, NotOpened, NotRead, NoMemory, NoMemoryFor, last_done, IsNext, IsBreak, TellsBreak, Rest, BrokeOff, Goes}
 use Rattle.avr_plan.specs.Stage.{Stage, Answer, Made, Refused, Unread, Played, behind, going_on, ◌>>=◌, settled, said, next_opening}
 
 -- ---- counts
 
-break_since : (break : Break) (told : List ℕ) (first before now : ℕ) → first ≤ before → TellsBreak break told before now → TellsBreak break told first now
-break_since (InLine line) told first before now rises tells = (tells.0, failed_later first before now rises tells.1)
-break_since (NotOpened name) told first before now rises tells = failure_in (not_opened_line name) told first before now now rises (omega arith) tells
-break_since (NotRead name bytes) told first before now rises tells = failure_in (not_read_line name) told first before now now rises (omega arith) tells
-break_since NoMemory told first before now rises tells = tells_since memory_line told first before now rises tells
-break_since (NoMemoryFor reading) told first before now rises tells = tells_since memory_line told first before now rises tells
+break_since : (break : Break) (told : List ℕ) (first old new : DeskView) → Follows first old → TellsBreak break told old new → TellsBreak break told first new
+break_since (InLine line) told first old new rises tells = (tells.0, failed_later first old new rises tells.1)
+break_since (NotOpened name) told first old new rises tells = failure_in (not_opened_line name) told first old new new rises (omega arith) tells
+break_since (NotRead name bytes) told first old new rises tells = failure_in (not_read_line name) told first old new new rises (omega arith) tells
+break_since NoMemory told first old new rises tells = tells_since memory_line told first old new rises tells
+break_since (NoMemoryFor reading) told first old new rises tells = tells_since memory_line told first old new rises tells
 
 -- ---- a stage behind another one
 
@@ -63,12 +63,12 @@ rest_behind says whole p break more rest = record {
 }
 
 -- a stage that made something, and openings behind its own
-made_then : {A B : Type 0} (stage : Stage A) (go_on : A → Stage B) (old new : Option Record) (a : A) (w : Went stage old new (Made a))
+made_then : {A B : Type 0} (stage : Stage A) (go_on : A → Stage B) (old new : DeskView) (a : A) (w : Went stage old new (Made a))
     (later : List Opening)
     → (stage >>= go_on) (w.passed ++ later) ≡ behind w.says (go_on a later)
 made_then stage go_on old new a w later = ap (λ p. going_on p.says p.left go_on p.answer) (w.comes later)
 
-pub went_went : {A B : Type 0} (stage : Stage A) (go_on : A → Stage B) (old mid new : Option Record) (a : A) (answer : Answer B)
+pub went_went : {A B : Type 0} (stage : Stage A) (go_on : A → Stage B) (old mid new : DeskView) (a : A) (answer : Answer B)
     → Went stage old mid (Made a)
     → Went (go_on a) mid new answer → Went (stage >>= go_on) old new answer
 went_went stage go_on old mid new a answer first then = record {
@@ -78,13 +78,14 @@ went_went stage go_on old mid new a answer first then = record {
       ap (stage >>= go_on) (append_assoc first.passed then.passed more)
       ∙ made_then stage go_on old mid a first (then.passed ++ more)
       ∙ ap (behind first.says) (then.comes more);
-  kept = kept_append first.says then.says old mid new first.kept then.kept;
+  kept = kept_append first.says then.says old.kept mid.kept new.kept first.kept then.kept;
+  follows = follows_on old mid new first.follows then.follows;
 }
 
-went_broke : {A B : Type 0} (stage : Stage A) (go_on : A → Stage B) (old mid new : Option Record) (a : A) (before now : ℕ)
+went_broke : {A B : Type 0} (stage : Stage A) (go_on : A → Stage B) (old mid new : DeskView) (a : A)
     → Went stage old mid (Made a)
-    → BrokeOff (go_on a) mid new before now → BrokeOff (stage >>= go_on) old new before now
-went_broke stage go_on old mid new a before now first then = record {
+    → BrokeOff (go_on a) mid new → BrokeOff (stage >>= go_on) old new
+went_broke stage go_on old mid new a first then = record {
   passed = first.passed ++ then.passed;
   whole = first.says ++ then.whole;
   break = then.break;
@@ -93,23 +94,25 @@ went_broke stage go_on old mid new a before now first then = record {
       subst (λ p. Rest p (first.says ++ then.whole) then.break more) (sym is)
       (rest_behind first.says then.whole _ then.break more (then.rest more));
   told = then.told;
-  tells = then.tells;
-  kept = subst (λ ss. new ≡ option_map (after_all ss) old) (sym (append_assoc first.says then.whole (last_done then.break then.told)))
-      (kept_append first.says (then.whole ++ last_done then.break then.told) old mid new first.kept then.kept);
+  tells = break_since then.break then.told old mid new first.follows then.tells;
+  kept = subst (λ ss. Passes (after_all ss) old new) (sym (append_assoc first.says then.whole (last_done then.break then.told)))
+      (kept_append first.says (then.whole ++ last_done then.break then.told) old.kept mid.kept new.kept first.kept then.kept);
+  follows = follows_on old mid new first.follows then.follows;
 }
 
-refused_then : {A B : Type 0} (stage : Stage A) (go_on : A → Stage B) (old new : Option Record) → Went stage old new Refused
+refused_then : {A B : Type 0} (stage : Stage A) (go_on : A → Stage B) (old new : DeskView) → Went stage old new Refused
     → Went (stage >>= go_on) old new Refused
 refused_then stage go_on old new first = record {
   passed = first.passed;
   says = first.says;
   comes = λ more. ap (λ p. going_on p.says p.left go_on p.answer) (first.comes more);
   kept = first.kept;
+  follows = first.follows;
 }
 
-broke_then : {A B : Type 0} (stage : Stage A) (go_on : A → Stage B) (old new : Option Record) (before now : ℕ) → BrokeOff stage old new before now
-    → BrokeOff (stage >>= go_on) old new before now
-broke_then stage go_on old new before now first = record {
+broke_then : {A B : Type 0} (stage : Stage A) (go_on : A → Stage B) (old new : DeskView) → BrokeOff stage old new
+    → BrokeOff (stage >>= go_on) old new
+broke_then stage go_on old new first = record {
   passed = first.passed;
   whole = first.whole;
   break = first.break;
@@ -117,53 +120,43 @@ broke_then stage go_on old new before now first = record {
   told = first.told;
   tells = first.tells;
   kept = first.kept;
-}
-
-broke_since : {A : Type 0} (stage : Stage A) (old new : Option Record) (first before now : ℕ) → first ≤ before → BrokeOff stage old new before now
-    → BrokeOff stage old new first now
-broke_since stage old new first before now rises b = record {
-  passed = b.passed;
-  whole = b.whole;
-  break = b.break;
-  rest = b.rest;
-  told = b.told;
-  tells = break_since b.break b.told first before now rises b.tells;
-  kept = b.kept;
+  follows = first.follows;
 }
 
 -- a stage that made something, and how the next one goes
-pub goes_on : {A B : Type 0} (stage : Stage A) (go_on : A → Stage B) (old mid new : Option Record) (a : A) (first before now : ℕ)
+pub goes_on : {A B : Type 0} (stage : Stage A) (go_on : A → Stage B) (old mid new : DeskView) (a : A)
     (result : Result B ℕ)
-    → Went stage old mid (Made a) → first ≤ before → Goes (go_on a) mid new before now result → Goes (stage >>= go_on) old new first now result
-goes_on stage go_on old mid new a first before now (Ok b) went rises then = went_went stage go_on old mid new a (Made b) went then
-goes_on stage go_on old mid new a first before now (Err status) went rises (one, inl then) =
+    → Went stage old mid (Made a) → Goes (go_on a) mid new result → Goes (stage >>= go_on) old new result
+goes_on stage go_on old mid new a (Ok b) went then = went_went stage go_on old mid new a (Made b) went then
+goes_on stage go_on old mid new a (Err status) went (one, inl then) =
     (one, inl (went_went stage go_on old mid new a Refused went then))
-goes_on stage go_on old mid new a first before now (Err status) went rises (one, inr then) =
-    (one, inr (broke_since (stage >>= go_on) old new first before now rises (went_broke stage go_on old mid new a before now went then)))
+goes_on stage go_on old mid new a (Err status) went (one, inr then) =
+    (one, inr (went_broke stage go_on old mid new a went then))
 
 -- a stage that made nothing
-pub goes_no_further : {A B : Type 0} (stage : Stage A) (go_on : A → Stage B) (old new : Option Record) (before now status : ℕ)
-    → Goes stage old new before now (Err status)
-    → Goes (stage >>= go_on) old new before now (Err status)
-goes_no_further stage go_on old new before now status (one, inl went) = (one, inl (refused_then stage go_on old new went))
-goes_no_further stage go_on old new before now status (one, inr broke) = (one, inr (broke_then stage go_on old new before now broke))
+pub goes_no_further : {A B : Type 0} (stage : Stage A) (go_on : A → Stage B) (old new : DeskView) (status : ℕ)
+    → Goes stage old new (Err status)
+    → Goes (stage >>= go_on) old new (Err status)
+goes_no_further stage go_on old new status (one, inl went) = (one, inl (refused_then stage go_on old new went))
+goes_no_further stage go_on old new status (one, inr broke) = (one, inr (broke_then stage go_on old new broke))
 
 -- ---- stages that read nothing
 
 -- nothing is said or read
-pub went_nowhere : {A : Type 0} (d : Option Record) (a : A) → Went (settled (Ok a)) d d (Made a)
-went_nowhere d a = record { passed = []; says = []; comes = λ more. refl; kept = kept_none d }
+pub went_nowhere : {A : Type 0} (d : DeskView) (a : A) → Went (settled (Ok a)) d d (Made a)
+went_nowhere d a = record { passed = []; says = []; comes = λ more. refl; kept = kept_none d.kept; follows = omega arith }
 
 -- a line was printed whole
-told_whole : {A : Type 0} (old new : Option Record) (line : List ℕ) → new ≡ option_map (after_all (Line line ∷ [])) old
+told_whole : {A : Type 0} (old new : DeskView) (line : List ℕ) → Passes (after_all (Line line ∷ [])) old new → Follows old new
     → Went {A = A} (settled (Err line)) old new Refused
-told_whole old new line kept = record { passed = []; says = Line line ∷ []; comes = λ more. refl; kept = kept }
+told_whole old new line kept follows =
+    record { passed = []; says = Line line ∷ []; comes = λ more. refl; kept = kept; follows = follows }
 
 -- or it broke off there
-broke_here : {A : Type 0} (stage : Stage A) (old new : Option Record) (break : Break) (told : List ℕ) (before now : ℕ)
-    → ((more : List Opening) → IsBreak break more (stage more).says) → TellsBreak break told before now
-    → new ≡ option_map (after_all (last_done break told)) old → BrokeOff stage old new before now
-broke_here stage old new break told before now is tells kept = record {
+broke_here : {A : Type 0} (stage : Stage A) (old new : DeskView) (break : Break) (told : List ℕ)
+    → ((more : List Opening) → IsBreak break more (stage more).says) → TellsBreak break told old new
+    → Passes (after_all (last_done break told)) old new → Follows old new → BrokeOff stage old new
+broke_here stage old new break told is tells kept follows = record {
   passed = [];
   whole = [];
   break = break;
@@ -171,60 +164,62 @@ broke_here stage old new break told before now is tells kept = record {
   rest = λ more. record { later = (stage more).says; says_are = refl; broken = is more };
   tells = tells;
   kept = kept;
+  follows = follows;
 }
 
 -- a refusal that was told, or a front of its line
-refused_by : {A : Type 0} (old new : Option Record) (line told : List ℕ) (before now : ℕ) → TellsLine line told before now
-    → new ≡ option_map (after_all (Line told ∷ [])) old → Goes {A = A} (settled (Err line)) old new before now (Err 1)
-refused_by {A} old new line told before now (inl whole) kept =
-    (refl, inl (told_whole {A = A} old new line (subst (λ bytes. new ≡ option_map (after_all (Line bytes ∷ [])) old) whole kept)))
-refused_by {A} old new line told before now (inr part) kept =
-    (refl, inr (broke_here (settled {A = A} (Err line)) old new (InLine line) told before now (λ more. ([], refl)) part kept))
+refused_by : {A : Type 0} (old new : DeskView) (line told : List ℕ) → TellsLine line told old new
+    → Passes (after_all (Line told ∷ [])) old new → Follows old new → Goes {A = A} (settled (Err line)) old new (Err 1)
+refused_by {A} old new line told (inl whole) kept follows =
+    (refl, inl (told_whole {A = A} old new line (subst (λ bytes. Passes (after_all (Line bytes ∷ [])) old new) whole kept) follows))
+refused_by {A} old new line told (inr part) kept follows =
+    (refl, inr (broke_here (settled {A = A} (Err line)) old new (InLine line) told (λ more. ([], refl)) part kept follows))
 
-pub goes_refused : {A : Type 0} (old new : Option Record) (line : List ℕ) (before now status : ℕ) → status ≡ 1 → Tells old new line before now
-    → Goes {A = A} (settled (Err line)) old new before now (Err status)
-goes_refused {A} old new line before now status one told =
-    (one, (refused_by {A = A} old new line told.told before now told.tells told.kept).1)
+pub goes_refused : {A : Type 0} (old new : DeskView) (line : List ℕ) (status : ℕ) → status ≡ 1 → Tells old new line
+    → Goes {A = A} (settled (Err line)) old new (Err status)
+goes_refused {A} old new line status one told =
+    (one, (refused_by {A = A} old new line told.told told.tells told.kept told.follows).1)
 
 -- memory that was refused
-pub goes_without_memory : {A : Type 0} (stage : Stage A) (old new : Option Record) (before now status : ℕ) → status ≡ 1
-    → Tells old new memory_line before now
-    → Goes stage old new before now (Err status)
-goes_without_memory stage old new before now status one told =
-    (one, inr (broke_here stage old new NoMemory told.told before now (λ more. tt) told.tells told.kept))
+pub goes_without_memory : {A : Type 0} (stage : Stage A) (old new : DeskView) (status : ℕ) → status ≡ 1
+    → Tells old new memory_line
+    → Goes stage old new (Err status)
+goes_without_memory stage old new status one told =
+    (one, inr (broke_here stage old new NoMemory told.told (λ more. tt) told.tells told.kept told.follows))
 
 -- ---- judgments, and what is said
 
-pub went_settled : {A : Type 0} (r : Result A (List ℕ)) (a : A) (d : Option Record) → r ≡ Ok a → Went (settled r) d d (Made a)
+pub went_settled : {A : Type 0} (r : Result A (List ℕ)) (a : A) (d : DeskView) → r ≡ Ok a → Went (settled r) d d (Made a)
 went_settled r a d is = subst (λ x. Went (settled x) d d (Made a)) (sym is) (went_nowhere d a)
 
-pub goes_unsettled : {A : Type 0} (r : Result A (List ℕ)) (line : List ℕ) (old new : Option Record) (before now status : ℕ) → r ≡ Err line
-    → status ≡ 1 → Tells old new line before now
-    → Goes (settled r) old new before now (Err status)
-goes_unsettled r line old new before now status is one told =
-    subst (λ x. Goes (settled x) old new before now (Err status)) (sym is) (goes_refused old new line before now status one told)
+pub goes_unsettled : {A : Type 0} (r : Result A (List ℕ)) (line : List ℕ) (old new : DeskView) (status : ℕ) → r ≡ Err line
+    → status ≡ 1 → Tells old new line
+    → Goes (settled r) old new (Err status)
+goes_unsettled r line old new status is one told =
+    subst (λ x. Goes (settled x) old new (Err status)) (sym is) (goes_refused old new line status one told)
 
-pub went_silent : (d : Option Record) → Went (said []) d d (Made tt)
-went_silent d = record { passed = []; says = []; comes = λ more. refl; kept = kept_none d }
+pub went_silent : (d : DeskView) → Went (said []) d d (Made tt)
+went_silent d = record { passed = []; says = []; comes = λ more. refl; kept = kept_none d.kept; follows = omega arith }
 
-pub went_saying : (old new : Option Record) (line : List ℕ) → new ≡ option_map (after_all (Line line ∷ [])) old
-    → Went (said (Line line ∷ [])) old new (Made tt)
-went_saying old new line kept = record { passed = []; says = Line line ∷ []; comes = λ more. refl; kept = kept }
+pub went_saying : (old new : DeskView) (line : List ℕ) → Passes (after_all (Line line ∷ [])) old new
+    → Follows old new → Went (said (Line line ∷ [])) old new (Made tt)
+went_saying old new line kept follows =
+    record { passed = []; says = Line line ∷ []; comes = λ more. refl; kept = kept; follows = follows }
 
-pub goes_saying_part : (old new : Option Record) (line : List ℕ) (before now : ℕ) → SendsPart Messages old new line → HasFailed before now
-    → Goes (said (Line line ∷ [])) old new before now (Err 1)
-goes_saying_part old new line before now part failed = (
+-- a failed call is counted
+failed_counts : (old new : DeskView) (fault : DeskFault) → fault ≡ Failed → Counts {T = Unit {0}} old new (Err fault) → HasFailed old new
+failed_counts old new NotFound is counts = cc
+failed_counts old new Failed is counts = counts.1
+
+pub goes_saying_part : (old new : DeskView) (line : List ℕ) (fault : DeskFault) → SendsPart Messages old new line → fault ≡ Failed
+    → Counts {T = Unit {0}} old new (Err fault) → Goes (said (Line line ∷ [])) old new (Err 1)
+goes_saying_part old new line fault part is counts = (
   refl,
-  inr (broke_here (said (Line line ∷ [])) old new (InLine line) (take part.0 line) before now (λ more. ([], refl))
-      ((drop part.0 line, take-append-drop part.0 line), failed) part.2),
+  inr (broke_here (said (Line line ∷ [])) old new (InLine line) (take part.0 line) (λ more. ([], refl))
+      ((drop part.0 line, take-append-drop part.0 line), failed_counts old new fault is counts) part.2 counts.0),
 )
 
 -- what was made, made into something else
-pub went_into : {A B : Type 0} (stage : Stage A) (f : A → B) (old new : Option Record) (a : A) → Went stage old new (Made a)
+pub went_into : {A B : Type 0} (stage : Stage A) (f : A → B) (old new : DeskView) (a : A) → Went stage old new (Made a)
     → Went (stage >>= λ x. settled (Ok (f x))) old new (Made (f a))
 went_into stage f old new a went = went_went stage (λ x. settled (Ok (f x))) old new new a (Made (f a)) went (went_nowhere new (f a))
-
--- a failed call is counted
-pub failed_counts : (before now : ℕ) (fault : DeskFault) → fault ≡ Failed → Counts {T = Unit {0}} before now (Err fault) → HasFailed before now
-failed_counts before now NotFound is counts = cc
-failed_counts before now Failed is counts = counts.1

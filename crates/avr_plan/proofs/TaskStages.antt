@@ -4,7 +4,7 @@ use Rattle.avr_cli.specs.declared.chosen.Switches.{Switches}
 use Rattle.avr_cli.specs.declared.update.Format.{Format}
 use Rattle.avr_cli.specs.declared.update.Format.TheVariants.{Auto, Ihex, Srec, Raw, Immediate, Decimal, Hexadecimal, Octal, Binary}
 use Rattle.avr_cli.specs.declared.update.Update.{Update}
-use Rattle.avr_desk.specs.Record.{Record}
+use Rattle.avr_desk.specs.Record.{DeskView}
 use Rattle.avr_message.specs.Lines.{Bytes}
 use Rattle.avr_message.specs.Said.{Tells}
 use Rattle.avr_part.specs.Mem.{is_writable}
@@ -31,59 +31,58 @@ file_stage-is switches memory size file Hexadecimal other = refl
 file_stage-is switches memory size file Octal other = refl
 file_stage-is switches memory size file Binary other = refl
 
-pub goes_of_file : (switches : Switches) (memory : Mem) (size size' : ℕ) (file file' : Bytes) (format : Format) (old new : Option Record)
-    (before now : ℕ) (result : Result (List (Option ℕ)) ℕ)
-    → size ≡ size' → file ≡ file' → (format ≡ Immediate → ⊥) → Goes (file_image_stage switches file format size) old new before now result
-    → Goes (image_stage switches memory size' file' format) old new before now result
-goes_of_file switches memory size size' file file' format old new before now result sizes files other goes =
-    let one = subst (λ s. Goes s old new before now result) (file_stage-is switches memory size file format other) goes in
-    let two = subst (λ (n : ℕ). Goes (image_stage switches memory n file format) old new before now result) sizes one in
-    subst (λ (f : Bytes). Goes (image_stage switches memory size' f format) old new before now result) files two
+pub goes_of_file : (switches : Switches) (memory : Mem) (size size' : ℕ) (file file' : Bytes) (format : Format) (old new : DeskView)
+    (result : Result (List (Option ℕ)) ℕ)
+    → size ≡ size' → file ≡ file' → (format ≡ Immediate → ⊥) → Goes (file_image_stage switches file format size) old new result
+    → Goes (image_stage switches memory size' file' format) old new result
+goes_of_file switches memory size size' file file' format old new result sizes files other goes =
+    let one = subst (λ s. Goes s old new result) (file_stage-is switches memory size file format other) goes in
+    let two = subst (λ (n : ℕ). Goes (image_stage switches memory n file format) old new result) sizes one in
+    subst (λ (f : Bytes). Goes (image_stage switches memory size' f format) old new result) files two
 
-pub goes_of_values : (switches : Switches) (memory : Mem) (size size' : ℕ) (file file' : Bytes) (format : Format) (old new : Option Record)
-    (before now : ℕ) (result : Result (List (Option ℕ)) ℕ)
-    → size ≡ size' → file ≡ file' → format ≡ Immediate → Goes (image_stage switches memory size file Immediate) old new before now result
-    → Goes (image_stage switches memory size' file' format) old new before now result
-goes_of_values switches memory size size' file file' format old new before now result sizes files is goes =
-    let one = subst (λ f. Goes (image_stage switches memory size file f) old new before now result) (sym is) goes in
-    let two = subst (λ (n : ℕ). Goes (image_stage switches memory n file format) old new before now result) sizes one in
-    subst (λ (f : Bytes). Goes (image_stage switches memory size' f format) old new before now result) files two
+pub goes_of_values : (switches : Switches) (memory : Mem) (size size' : ℕ) (file file' : Bytes) (format : Format) (old new : DeskView)
+    (result : Result (List (Option ℕ)) ℕ)
+    → size ≡ size' → file ≡ file' → format ≡ Immediate → Goes (image_stage switches memory size file Immediate) old new result
+    → Goes (image_stage switches memory size' file' format) old new result
+goes_of_values switches memory size size' file file' format old new result sizes files is goes =
+    let one = subst (λ f. Goes (image_stage switches memory size file f) old new result) (sym is) goes in
+    let two = subst (λ (n : ℕ). Goes (image_stage switches memory n file format) old new result) sizes one in
+    subst (λ (f : Bytes). Goes (image_stage switches memory size' f format) old new result) files two
 
 abbrev writes : Switches → Part → Update → Stage Task
 writes switches part u = update_image switches part u >>= λ image. settled (Ok (Write u.memory image))
 
-pub goes_writable : (switches : Switches) (part : Part) (u : Update) (old new : Option Record) (before now : ℕ) (result : Result Task ℕ)
+pub goes_writable : (switches : Switches) (part : Part) (u : Update) (old new : DeskView) (result : Result Task ℕ)
     → true ≡ is_writable u.memory
-    → Goes (writes switches part u) old new before now result → Goes (write_stage switches part u) old new before now result
-goes_writable switches part u old new before now result is goes =
-    subst (λ b. Goes (if b then writes switches part u else settled (Err (read_only_line u.memory))) old new before now result) is goes
+    → Goes (writes switches part u) old new result → Goes (write_stage switches part u) old new result
+goes_writable switches part u old new result is goes =
+    subst (λ b. Goes (if b then writes switches part u else settled (Err (read_only_line u.memory))) old new result) is goes
 
-pub goes_read_only : (switches : Switches) (part : Part) (u : Update) (old new : Option Record) (before now status : ℕ)
+pub goes_read_only : (switches : Switches) (part : Part) (u : Update) (old new : DeskView) (status : ℕ)
     → false ≡ is_writable u.memory
-    → status ≡ 1 → Tells old new (read_only_line u.memory) before now → Goes (write_stage switches part u) old new before now (Err status)
-goes_read_only switches part u old new before now status is one told =
-    subst (λ b. Goes (if b then writes switches part u else settled (Err (read_only_line u.memory))) old new before now (Err status)) is
-    (goes_refused old new (read_only_line u.memory) before now status one told)
+    → status ≡ 1 → Tells old new (read_only_line u.memory) → Goes (write_stage switches part u) old new (Err status)
+goes_read_only switches part u old new status is one told =
+    subst (λ b. Goes (if b then writes switches part u else settled (Err (read_only_line u.memory))) old new (Err status)) is
+    (goes_refused old new (read_only_line u.memory) status one told)
 
 -- ---- one task after the other
 
 pub goes_with_next : (switches : Switches) (part : Part) (tasks : List Task) (updates : List Update) (i : ℕ) (u : Update)
-    (old mid new : Option Record) (before between now : ℕ) (task : Task) (result : Result (List Task) ℕ)
-    → drop i updates ≡ u ∷ drop (i + 1) updates → Went (task_stage switches part u) old mid (Made task) → before ≤ between
-    → Goes (tasks_stage switches part (tasks ++ task ∷ []) (drop (i + 1) updates)) mid new between now result
-    → Goes (tasks_stage switches part tasks (drop i updates)) old new before now result
-goes_with_next switches part tasks updates i u old mid new before between now task result is went rises goes =
-    subst (λ (us : List Update). Goes (tasks_stage switches part tasks us) old new before now result) (sym is)
-    (goes_on (task_stage switches part u) (λ t. tasks_stage switches part (tasks ++ t ∷ []) (drop (i + 1) updates)) old mid new task before
-    between now result went rises goes)
+    (old mid new : DeskView) (task : Task) (result : Result (List Task) ℕ)
+    → drop i updates ≡ u ∷ drop (i + 1) updates → Went (task_stage switches part u) old mid (Made task)
+    → Goes (tasks_stage switches part (tasks ++ task ∷ []) (drop (i + 1) updates)) mid new result
+    → Goes (tasks_stage switches part tasks (drop i updates)) old new result
+goes_with_next switches part tasks updates i u old mid new task result is went goes =
+    subst (λ (us : List Update). Goes (tasks_stage switches part tasks us) old new result) (sym is)
+    (goes_on (task_stage switches part u) (λ t. tasks_stage switches part (tasks ++ t ∷ []) (drop (i + 1) updates)) old mid new task result went goes)
 
 pub goes_without_next : (switches : Switches) (part : Part) (tasks : List Task) (updates : List Update) (i : ℕ) (u : Update)
-    (old new : Option Record) (before now status : ℕ)
-    → drop i updates ≡ u ∷ drop (i + 1) updates → Goes (task_stage switches part u) old new before now (Err status)
-    → Goes (tasks_stage switches part tasks (drop i updates)) old new before now (Err status)
-goes_without_next switches part tasks updates i u old new before now status is goes =
-    subst (λ (us : List Update). Goes (tasks_stage switches part tasks us) old new before now (Err status)) (sym is)
-    (goes_no_further (task_stage switches part u) (λ t. tasks_stage switches part (tasks ++ t ∷ []) (drop (i + 1) updates)) old new before now
+    (old new : DeskView) (status : ℕ)
+    → drop i updates ≡ u ∷ drop (i + 1) updates → Goes (task_stage switches part u) old new (Err status)
+    → Goes (tasks_stage switches part tasks (drop i updates)) old new (Err status)
+goes_without_next switches part tasks updates i u old new status is goes =
+    subst (λ (us : List Update). Goes (tasks_stage switches part tasks us) old new (Err status)) (sym is)
+    (goes_no_further (task_stage switches part u) (λ t. tasks_stage switches part (tasks ++ t ∷ []) (drop (i + 1) updates)) old new
     status goes)
 
 -- a task that was put behind the others

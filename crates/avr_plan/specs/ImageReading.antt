@@ -1,9 +1,9 @@
 -- What passes at a desk as an image file is read.
-use Rattle.std.specs.Prelude.{◌≡◌, ◌≤◌, ◌+◌, ℕ, List, ◌++◌, length, Option, option_map, Bool, false, Result, Ok, Err, MatchBool}
+use Rattle.std.specs.Prelude.{◌≡◌, ◌≤◌, ◌+◌, ℕ, List, ◌++◌, length, Option, Bool, false, Result, Ok, Err, MatchBool}
 use Rattle.avr_cli.specs.declared.update.Format.{Format}
 use Rattle.avr_desk.specs.Fault.{HasFailed}
 use Rattle.avr_desk.specs.Files.{after_reading, with_read, IsWhole}
-use Rattle.avr_desk.specs.Record.{Record, with_absent}
+use Rattle.avr_desk.specs.Record.{DeskView, Passes, with_absent}
 use Rattle.avr_desk.specs.declared.files.FileFault.{FileFault}
 use Rattle.avr_desk.specs.declared.files.FileFault.TheVariants.{Absent, NotOpened, NotRead, Memory}
 use Rattle.avr_message.specs.Lines.{Bytes}
@@ -27,89 +27,89 @@ IsGiven given (Err (Image bad)) = Err bad ≡ given
 IsGiven given (Err (File fault)) = ⊥
 
 -- what the count of failures says of a fault
-abbrev pub IsCounted : ℕ → ℕ → FileFault → Type 0
+abbrev pub IsCounted : DeskView → DeskView → FileFault → Type 0
 IsCounted old new NotOpened = HasFailed old new
 IsCounted old new NotRead = HasFailed old new
 IsCounted old new fault = Unit {0}
 
-abbrev pub IsCountedRead : ℕ → ℕ → ReadFault → Type 0
+abbrev pub IsCountedRead : DeskView → DeskView → ReadFault → Type 0
 IsCountedRead old new (File fault) = IsCounted old new fault
 IsCountedRead old new (Image bad) = Unit {0}
 
 -- all that the open file has was read, or so much of it as shows its format
-pub record ReadsFront (old new : Option Record) (front : Front) : Type 0 where
-  pub kept : new ≡ option_map (after_reading front.bytes.items front.ended) old
+pub record ReadsFront (old new : DeskView) (front : Front) : Type 0 where
+  pub kept : Passes (after_reading front.bytes.items front.ended) old new
   pub enough : MatchBool front.ended (length front.bytes.items ≤ 1024) (length front.bytes.items ≡ 1024)
 
 -- the open file gave some bytes, and no end
-abbrev pub BreaksOff : Option Record → Option Record → Type 0
-BreaksOff old new = (bytes : Bytes) × (new ≡ option_map (after_reading bytes false) old)
+abbrev pub BreaksOff : DeskView → DeskView → Type 0
+BreaksOff old new = (bytes : Bytes) × Passes (after_reading bytes false) old new
 
-abbrev pub FrontIsRead : Option Record → Option Record → Result Front FileFault → Type 0
+abbrev pub FrontIsRead : DeskView → DeskView → Result Front FileFault → Type 0
 FrontIsRead old new (Ok front) = ReadsFront old new front
 FrontIsRead old new (Err fault) = (fault ≡ NotRead) × BreaksOff old new
 
 -- Behind these bytes of the open file the others were read, to its end or past the limit, and the whole is this.
-pub record ReadsRest (limit : ℕ) (found : Found) (size : ℕ) (before : Bytes) (old new : Option Record)
+pub record ReadsRest (limit : ℕ) (found : Found) (size : ℕ) (before : Bytes) (old new : DeskView)
     (given : Given) : Type 0 where
   pub bytes : Bytes
   pub ended : Bool
-  pub kept : new ≡ option_map (after_reading bytes ended) old
+  pub kept : Passes (after_reading bytes ended) old new
   pub whole : IsWhole limit (record { bytes = before ++ bytes; ended = ended })
   pub gives : given ≡ file_within limit found (before ++ bytes) size
 
-abbrev pub RestIsRead : ℕ → Found → ℕ → Bytes → Option Record → Option Record → Outcome → Type 0
+abbrev pub RestIsRead : ℕ → Found → ℕ → Bytes → DeskView → DeskView → Outcome → Type 0
 RestIsRead limit found size before old new (Ok good) = ReadsRest limit found size before old new (Ok good)
 RestIsRead limit found size before old new (Err (Image bad)) = ReadsRest limit found size before old new (Err bad)
 RestIsRead limit found size before old new (Err (File fault)) = (fault ≡ NotRead) × BreaksOff old new
 
 -- The open file was read to its end or past the limit, and is this.
-pub record ReadsOpenImage (limit : ℕ) (format : Format) (size : ℕ) (old new : Option Record)
+pub record ReadsOpenImage (limit : ℕ) (format : Format) (size : ℕ) (old new : DeskView)
     (given : Given) : Type 0 where
   pub bytes : Bytes
   pub ended : Bool
-  pub kept : new ≡ option_map (after_reading bytes ended) old
+  pub kept : Passes (after_reading bytes ended) old new
   pub whole : IsWhole limit (record { bytes = bytes; ended = ended })
   pub gives : given ≡ image_within limit format bytes size
 
 -- no file is missing or can't be opened where one is open
-abbrev pub OpenBreaks : Option Record → Option Record → FileFault → Type 0
+abbrev pub OpenBreaks : DeskView → DeskView → FileFault → Type 0
 OpenBreaks old new Absent = ⊥
 OpenBreaks old new NotOpened = ⊥
 OpenBreaks old new NotRead = BreaksOff old new
-OpenBreaks old new Memory = (bytes : Bytes) × (ended : Bool) × (new ≡ option_map (after_reading bytes ended) old)
+OpenBreaks old new Memory = (bytes : Bytes) × (ended : Bool) × Passes (after_reading bytes ended) old new
 
-abbrev pub OpenIsRead : ℕ → Format → ℕ → Option Record → Option Record → Outcome → Type 0
+abbrev pub OpenIsRead : ℕ → Format → ℕ → DeskView → DeskView → Outcome → Type 0
 OpenIsRead limit format size old new (Ok good) = ReadsOpenImage limit format size old new (Ok good)
 OpenIsRead limit format size old new (Err (Image bad)) = ReadsOpenImage limit format size old new (Err bad)
 OpenIsRead limit format size old new (Err (File fault)) = OpenBreaks old new fault
 
 -- The file was opened and read to its end or past the limit, and is this.
-pub record ReadsImage (limit : ℕ) (format : Format) (size : ℕ) (name : Bytes) (old new : Option Record)
+pub record ReadsImage (limit : ℕ) (format : Format) (size : ℕ) (name : Bytes) (old new : DeskView)
     (given : Given) : Type 0 where
   pub bytes : Bytes
   pub ended : Bool
-  pub kept : new ≡ option_map (with_read name bytes ended) old
+  pub kept : Passes (with_read name bytes ended) old new
   pub whole : IsWhole limit (record { bytes = bytes; ended = ended })
   pub gives : given ≡ image_within limit format bytes size
 
 -- with no such file that is noted; where it could not be opened nothing passed; where it could not be read on it gave
 -- some bytes, and where memory was refused perhaps all
-abbrev pub FileBreaks : Bytes → Option Record → Option Record → FileFault → Type 0
-FileBreaks name old new Absent = new ≡ option_map (with_absent name) old
-FileBreaks name old new NotOpened = new ≡ old
-FileBreaks name old new NotRead = (bytes : Bytes) × (new ≡ option_map (with_read name bytes false) old)
-FileBreaks name old new Memory = (bytes : Bytes) × (ended : Bool) × (new ≡ option_map (with_read name bytes ended) old)
+abbrev pub FileBreaks : Bytes → DeskView → DeskView → FileFault → Type 0
+FileBreaks name old new Absent = Passes (with_absent name) old new
+FileBreaks name old new NotOpened = new.kept ≡ old.kept
+FileBreaks name old new NotRead = (bytes : Bytes) × Passes (with_read name bytes false) old new
+FileBreaks name old new Memory = (bytes : Bytes) × (ended : Bool) × Passes (with_read name bytes ended) old new
 
-abbrev pub ImageIsRead : ℕ → Format → ℕ → Bytes → Option Record → Option Record → Outcome → Type 0
+abbrev pub ImageIsRead : ℕ → Format → ℕ → Bytes → DeskView → DeskView → Outcome → Type 0
 ImageIsRead limit format size name old new (Ok good) = ReadsImage limit format size name old new (Ok good)
 ImageIsRead limit format size name old new (Err (Image bad)) = ReadsImage limit format size name old new (Err bad)
 ImageIsRead limit format size name old new (Err (File fault)) = FileBreaks name old new fault
 
 -- The open file gave some bytes, as many as fewer are left, and they were fed.
-pub record Going (old now : Option Record) (first last : Intake) (room left : ℕ) : Type 0 where
+pub record Going (old now : DeskView) (first last : Intake) (room left : ℕ) : Type 0 where
   pub bytes : Bytes
-  pub kept : now ≡ option_map (after_reading bytes false) old
+  pub kept : Passes (after_reading bytes false) old now
   pub feeds : (found : Found) (size : ℕ) (text : Bytes) → Takes found size first text
       → Takes found size last (text ++ bytes)
   pub count : length bytes + left ≡ room

@@ -1,7 +1,7 @@
 -- A stage of planning over a desk: played whole, or broken off by a fault of the desk or for want of memory.
-use Rattle.std.specs.Prelude.{◌≡◌, ◌⊎◌, ℕ, List, [], ◌∷◌, ◌++◌, false, Option, option_map, Result, Ok, Err}
-use Rattle.avr_desk.specs.Fault.{HasFailed}
-use Rattle.avr_desk.specs.Record.{Record}
+use Rattle.std.specs.Prelude.{◌≡◌, ◌⊎◌, ℕ, List, [], ◌∷◌, ◌++◌, false, Result, Ok, Err}
+use Rattle.avr_desk.specs.Fault.{Follows, HasFailed}
+use Rattle.avr_desk.specs.Record.{DeskView, Passes}
 use Rattle.avr_desk.specs.declared.record.Opening.{Opening}
 use Rattle.avr_desk.specs.declared.record.Opening.TheVariants.{Found}
 use Rattle.avr_desk.specs.declared.record.Reading.{Reading}
@@ -12,11 +12,12 @@ use Rattle.avr_plan.specs.Stage.{Stage, Answer, Made, Refused, Played, next_open
 
 -- These openings passed, and what the desk was given to do is what the stage says of them, whatever later ones would
 -- give.
-pub record Went {A : Type 0} (stage : Stage A) (old new : Option Record) (answer : Answer A) : Type 0 where
+pub record Went {A : Type 0} (stage : Stage A) (old new : DeskView) (answer : Answer A) : Type 0 where
   pub passed : List Opening
   pub says : List Saying
   pub comes : (more : List Opening) → stage (passed ++ more) ≡ record { says = says; answer = answer; left = more }
-  pub kept : new ≡ option_map (after_all says) old
+  pub kept : Passes (after_all says) old new
+  pub follows : Follows old new
 
 -- Why it broke off: the next line could not be printed; the next file could not be opened, or be read on behind these
 -- bytes; or memory was refused, also for the next file, of which so much had been read.
@@ -50,12 +51,12 @@ IsBreak (NoMemoryFor reading) more later = IsNext (Opens (next_opening reading.n
 
 -- The desk failed at the file, and from then on the line of that was told; or the line that memory was refused was told.
 -- Of a line that could not be printed a front was, and the desk has failed; nothing else is told.
-abbrev pub TellsBreak : Break → Bytes → ℕ → ℕ → Type 0
-TellsBreak (InLine line) told before now = IsPrefixOf told line × HasFailed before now
-TellsBreak (NotOpened name) told before now = TellsFailure (not_opened_line name) told before now
-TellsBreak (NotRead name bytes) told before now = TellsFailure (not_read_line name) told before now
-TellsBreak NoMemory told before now = TellsLine memory_line told before now
-TellsBreak (NoMemoryFor reading) told before now = TellsLine memory_line told before now
+abbrev pub TellsBreak : Break → Bytes → DeskView → DeskView → Type 0
+TellsBreak (InLine line) told old new = IsPrefixOf told line × HasFailed old new
+TellsBreak (NotOpened name) told old new = TellsFailure (not_opened_line name) told old new
+TellsBreak (NotRead name bytes) told old new = TellsFailure (not_read_line name) told old new
+TellsBreak NoMemory told old new = TellsLine memory_line told old new
+TellsBreak (NoMemoryFor reading) told old new = TellsLine memory_line told old new
 
 -- the rest of what a stage says of some openings
 pub record Rest {A : Type 0} (played : Played A) (whole : List Saying) (break : Break)
@@ -66,17 +67,17 @@ pub record Rest {A : Type 0} (played : Played A) (whole : List Saying) (break : 
 
 -- These openings passed, a front of what the stage says of them was done, whatever later ones would give, and then it
 -- broke off, and why was told.
-pub record BrokeOff {A : Type 0} (stage : Stage A) (old new : Option Record) (before now : ℕ) : Type 0 where
+pub record BrokeOff {A : Type 0} (stage : Stage A) (old new : DeskView) : Type 0 where
   pub passed : List Opening
   pub whole : List Saying
   pub break : Break
   pub told : Bytes
   pub rest : (more : List Opening) → Rest (stage (passed ++ more)) whole break more
-  pub tells : TellsBreak break told before now
-  pub kept : new ≡ option_map (after_all (whole ++ last_done break told)) old
+  pub tells : TellsBreak break told old new
+  pub kept : Passes (after_all (whole ++ last_done break told)) old new
+  pub follows : Follows old new
 
 -- What was made was made by the stage; the status 1 is a refusal that was told, or a break.
-abbrev pub Goes : {A : Type 0} → Stage A → Option Record → Option Record → ℕ → ℕ → Result A ℕ → Type 0
-Goes stage old new before now (Ok a) = Went stage old new (Made a)
-Goes stage old new before now (Err status) =
-    (status ≡ 1) × (Went stage old new Refused ⊎ BrokeOff stage old new before now)
+abbrev pub Goes : {A : Type 0} → Stage A → DeskView → DeskView → Result A ℕ → Type 0
+Goes stage old new (Ok a) = Went stage old new (Made a)
+Goes stage old new (Err status) = (status ≡ 1) × (Went stage old new Refused ⊎ BrokeOff stage old new)

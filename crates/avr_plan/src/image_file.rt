@@ -1,5 +1,7 @@
 //! An image file over a desk: read in pieces to its end, or past the limit, and only then judged.
 ghost use Rattle.std.specs.Prelude.{◌≡◌, ◌+◌, ◌<◌, ◌≤◌, ◌^◌, ℕ, IfErr, length};
+ghost use Rattle.avr_desk.specs.Fault.{Follows};
+ghost use Rattle.avr_desk.specs.Record.{DeskView};
 ghost use Rattle.avr_message.specs.Lines.{Bytes};
 ghost use Rattle.avr_records.specs.declared.kind.Found.{Found as AnyFound};
 ghost use Rattle.avr_plan.specs.Faults.{read_fault_number};
@@ -70,9 +72,9 @@ fn file_kind(format: Format, front: &[u8]) -> Found
 
 /// Reads the front of the open file.
 fn read_front<D: Desk>(desk: &mut D) -> Result<Front, FileFault>
-    ensures kept { FrontIsRead (D.view desk.old).kept (D.view desk.new).kept result }
-    ensures rises { (D.view desk.old).failures ≤ (D.view desk.new).failures }
-    ensures counted { IfErr result (IsCounted (D.view desk.old).failures (D.view desk.new).failures) }
+    ensures kept { FrontIsRead (D.view desk.old) (D.view desk.new) result }
+    ensures rises { Follows (D.view desk.old) (D.view desk.new) }
+    ensures counted { IfErr result (IsCounted (D.view desk.old) (D.view desk.new)) }
 {
     let mut bytes: ArrayVec<u8, FRONT> = ArrayVec::new();
     let mut piece = [0u8; FRONT];
@@ -96,7 +98,7 @@ fn read_front<D: Desk>(desk: &mut D) -> Result<Front, FileFault>
 fn finish(intake: Intake) -> Result<(Image, Ending), ReadFault>
     ensures given { (found : AnyFound) (size : ℕ) (text : Bytes) → Takes found size intake text
         → IsGiven (whole_file found text size) result }
-    ensures counted { IfErr result (λ fault. (old : ℕ) (new : ℕ) → IsCountedRead old new fault) }
+    ensures counted { IfErr result (λ fault. (old new : DeskView) → IsCountedRead old new fault) }
 {
     match intake.finish() {
         Ok(good) => Ok(good),
@@ -113,9 +115,9 @@ fn read_rest<D: Desk>(
     requires { counted intake + left < 2 ^ 31 }
     ensures read { (limit : ℕ) (found : AnyFound) (size : ℕ) (before : Bytes) → Takes found size intake before
         → length before + left ≡ limit
-        → RestIsRead limit found size before (D.view desk.old).kept (D.view desk.new).kept result }
-    ensures rises { (D.view desk.old).failures ≤ (D.view desk.new).failures }
-    ensures counted { IfErr result (IsCountedRead (D.view desk.old).failures (D.view desk.new).failures) }
+        → RestIsRead limit found size before (D.view desk.old) (D.view desk.new) result }
+    ensures rises { Follows (D.view desk.old) (D.view desk.new) }
+    ensures counted { IfErr result (IsCountedRead (D.view desk.old) (D.view desk.new)) }
 {
     let mut piece = [0u8; PIECE];
     'pieces: loop {
@@ -143,9 +145,9 @@ fn read_open<D: Desk>(
 ) -> Result<(Image, Ending), ReadFault>
     requires front { FRONT ≤ limit }
     requires most { limit < 2 ^ 31 }
-    ensures read { OpenIsRead limit format size (D.view desk.old).kept (D.view desk.new).kept result }
-    ensures rises { (D.view desk.old).failures ≤ (D.view desk.new).failures }
-    ensures counted { IfErr result (IsCountedRead (D.view desk.old).failures (D.view desk.new).failures) }
+    ensures read { OpenIsRead limit format size (D.view desk.old) (D.view desk.new) result }
+    ensures rises { Follows (D.view desk.old) (D.view desk.new) }
+    ensures counted { IfErr result (IsCountedRead (D.view desk.old) (D.view desk.new)) }
 {
     let front = match read_front(desk) {
         Ok(front) => front,
@@ -184,9 +186,9 @@ pub fn read_image<D: Desk>(
     format: Format,
     size: u32,
 ) -> Result<(Image, Ending), ReadFault>
-    ensures read { ImageIsRead 4194304 format size name.now (D.view desk.old).kept (D.view desk.new).kept result }
-    ensures rises { (D.view desk.old).failures ≤ (D.view desk.new).failures }
-    ensures counted { IfErr result (IsCountedRead (D.view desk.old).failures (D.view desk.new).failures) }
+    ensures read { ImageIsRead 4194304 format size name.now (D.view desk.old) (D.view desk.new) result }
+    ensures rises { Follows (D.view desk.old) (D.view desk.new) }
+    ensures counted { IfErr result (IsCountedRead (D.view desk.old) (D.view desk.new)) }
 {
     match desk.open(name) {
         Ok(()) => read_open(alloc, desk, format, size, LIMIT),

@@ -1,8 +1,8 @@
 //! Laws of planning, over the definitions alone. No code.
 ghost use Rattle.std.specs.Prelude.{◌≡◌, ◌++◌, ℕ, List, Some, Err};
 ghost use Rattle.avr_cli.specs.declared.chosen.Settings.{Settings};
-ghost use Rattle.avr_desk.specs.Fault.{HasFailed};
-ghost use Rattle.avr_desk.specs.Record.{Record};
+ghost use Rattle.avr_desk.specs.Fault.{HasRisen};
+ghost use Rattle.avr_desk.specs.Record.{Record, showing};
 ghost use Rattle.avr_desk.specs.declared.record.Opening.{Opening};
 ghost use Rattle.avr_message.specs.Lines.{Bytes};
 ghost use Rattle.avr_plan.specs.Lines.{memory_line};
@@ -20,8 +20,8 @@ pub fn a_plan_only_reads_and_warns()
 /// Where the desk did not fail, by its count, a plan that is not made is refused as planning says, with its line, or the
 /// messages end with the line of memory.
 pub fn a_sound_plan_is_refused_aloud()
-    ensures { (s : Settings) (before after : Record) (k l status : ℕ) → (HasFailed k l → ⊥)
+    ensures { (s : Settings) (before after : Record) (k l status : ℕ) → (HasRisen k l → ⊥)
         → ((front : Bytes) → after.messages ≡ front ++ memory_line → ⊥)
-        → Goes (planned s) (Some before) (Some after) k l (Err status)
-        → Went (planned s) (Some before) (Some after) Refused }
+        → Goes (planned s) (showing (Some before) k) (showing (Some after) l) (Err status)
+        → Went (planned s) (showing (Some before) k) (showing (Some after) l) Refused }
 {}

@@ -1,5 +1,5 @@
 //! The part: the part file is read and judged, and the part looked up.
-ghost use Rattle.std.specs.Prelude.{◌≤◌, Some};
+ghost use Rattle.std.specs.Prelude.{Some};
 ghost use Rattle.avr_plan.specs.Planning.{parts_stage, part_stage};
 ghost use Rattle.avr_plan.specs.Playing.{Goes};
 
@@ -14,9 +14,7 @@ const LIMIT: usize = 65_536;
 
 /// The parts of a part file.
 fn file_parts<D: Desk>(alloc: Global, desk: &mut D, file: &str) -> Result<Parts, u8>
-    ensures goes { Goes (parts_stage (Some file.now)) (D.view desk.old).kept (D.view desk.new).kept (D.view desk.old).failures
-        (D.view desk.new).failures result }
-    ensures rises { (D.view desk.old).failures ≤ (D.view desk.new).failures }
+    ensures { Goes (parts_stage (Some file.now)) (D.view desk.old) (D.view desk.new) result }
 {
     let contents = match read_file(alloc, desk, file, LIMIT) {
         Ok(contents) => contents,
@@ -36,9 +34,7 @@ fn file_parts<D: Desk>(alloc: Global, desk: &mut D, file: &str) -> Result<Parts,
 /// The file has at most 65,536 bytes. Where it can't be read, is longer or is no part file, and where memory is
 /// refused, the line that tells why was printed, as far as the desk takes it, and the answer is the status, 1.
 pub fn given_parts<D: Desk>(alloc: Global, desk: &mut D, file: &Option<Text>) -> Result<Parts, u8>
-    ensures goes { Goes (parts_stage file.now) (D.view desk.old).kept (D.view desk.new).kept (D.view desk.old).failures
-        (D.view desk.new).failures result }
-    ensures rises { (D.view desk.old).failures ≤ (D.view desk.new).failures }
+    ensures { Goes (parts_stage file.now) (D.view desk.old) (D.view desk.new) result }
 {
     match file {
         Some(file) => file_parts(alloc, desk, file.as_str()),
@@ -56,9 +52,7 @@ pub fn given_parts<D: Desk>(alloc: Global, desk: &mut D, file: &Option<Text>) ->
 /// let part = chosen_part(&mut desk, &parts, "m328p")?;
 /// ```
 pub fn chosen_part<D: Desk>(desk: &mut D, parts: &Parts, id: &str) -> Result<Part, u8>
-    ensures goes { Goes (part_stage id.now parts.now) (D.view desk.old).kept (D.view desk.new).kept (D.view desk.old).failures
-        (D.view desk.new).failures result }
-    ensures rises { (D.view desk.old).failures ≤ (D.view desk.new).failures }
+    ensures { Goes (part_stage id.now parts.now) (D.view desk.old) (D.view desk.new) result }
 {
     match parts.find(id) {
         Ok(part) => Ok(part),

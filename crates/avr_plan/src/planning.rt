@@ -1,5 +1,5 @@
 //! The plan of a run: everything that it needs is read and judged, before any frame is sent.
-ghost use Rattle.std.specs.Prelude.{◌≤◌, [], All, IfOk};
+ghost use Rattle.std.specs.Prelude.{[], All, IfOk};
 ghost use Rattle.avr_cli.specs.declared.chosen.Switches.{Switches as AnySwitches};
 ghost use Rattle.avr_part.specs.Part.{Part as PartData};
 ghost use Rattle.avr_plan.specs.Plan.{IsFitted};
@@ -26,8 +26,7 @@ fn write_task<D: Desk>(
     update: &Update,
 ) -> Result<Task, u8>
     ensures goes { Goes (write_stage switches part.now update.now)
-        (D.view desk.old).kept (D.view desk.new).kept (D.view desk.old).failures (D.view desk.new).failures result }
-    ensures rises { (D.view desk.old).failures ≤ (D.view desk.new).failures }
+        (D.view desk.old) (D.view desk.new) result }
     ensures fitted { IfOk result (IsFitted part.now) }
 {
     if !update.memory.writable() {
@@ -48,8 +47,7 @@ fn verify_task<D: Desk>(
     update: &Update,
 ) -> Result<Task, u8>
     ensures goes { Goes (op_stage switches part.now update.now Op.Verify)
-        (D.view desk.old).kept (D.view desk.new).kept (D.view desk.old).failures (D.view desk.new).failures result }
-    ensures rises { (D.view desk.old).failures ≤ (D.view desk.new).failures }
+        (D.view desk.old) (D.view desk.new) result }
     ensures fitted { IfOk result (IsFitted part.now) }
 {
     match update_image(alloc, desk, switches, part, update) {
@@ -61,8 +59,7 @@ fn verify_task<D: Desk>(
 /// The task of a read.
 fn read_task<D: Desk>(alloc: Global, desk: &mut D, update: &Update) -> Result<Task, u8>
     ensures goes { (switches : AnySwitches) (part : PartData) → Goes (op_stage switches part update.now Op.Read)
-        (D.view desk.old).kept (D.view desk.new).kept (D.view desk.old).failures (D.view desk.new).failures result }
-    ensures rises { (D.view desk.old).failures ≤ (D.view desk.new).failures }
+        (D.view desk.old) (D.view desk.new) result }
     ensures fitted { IfOk result (λ task. (part : PartData) → IsFitted part task) }
 {
     match Text::new(alloc, update.file.as_str()) {
@@ -84,8 +81,7 @@ fn update_task<D: Desk>(
     update: &Update,
 ) -> Result<Task, u8>
     ensures goes { Goes (task_stage switches part.now update.now)
-        (D.view desk.old).kept (D.view desk.new).kept (D.view desk.old).failures (D.view desk.new).failures result }
-    ensures rises { (D.view desk.old).failures ≤ (D.view desk.new).failures }
+        (D.view desk.old) (D.view desk.new) result }
     ensures fitted { IfOk result (IsFitted part.now) }
 {
     match update.op {
@@ -104,8 +100,7 @@ fn update_tasks<D: Desk>(
     updates: &[Update],
 ) -> Result<Tasks, u8>
     ensures goes { Goes (tasks_stage switches part.now [] updates.now)
-        (D.view desk.old).kept (D.view desk.new).kept (D.view desk.old).failures (D.view desk.new).failures result }
-    ensures rises { (D.view desk.old).failures ≤ (D.view desk.new).failures }
+        (D.view desk.old) (D.view desk.new) result }
     ensures fitted { IfOk result (All (IsFitted part.now)) }
 {
     let mut tasks = Tasks::new(alloc);
@@ -126,9 +121,7 @@ fn update_tasks<D: Desk>(
 /// The first refusal prints its line, and the answer is the status, 1. It is also 1 where the desk fails or memory is
 /// refused; then nothing more is opened, and the line of that was printed as far as the desk takes it.
 pub fn plan<D: Desk>(alloc: Global, settings: &Settings, desk: &mut D) -> Result<Plan, u8>
-    ensures goes { Goes (planned settings.now) (D.view desk.old).kept (D.view desk.new).kept (D.view desk.old).failures
-        (D.view desk.new).failures result }
-    ensures rises { (D.view desk.old).failures ≤ (D.view desk.new).failures }
+    ensures { Goes (planned settings.now) (D.view desk.old) (D.view desk.new) result }
 {
     let parts = given_parts(alloc, desk, &settings.parts)?;
     let part = chosen_part(desk, &parts, settings.part.as_str())?;

@@ -1,5 +1,5 @@
 //! Why there is no plan: the lines of refusals. Each is printed as far as the desk takes it, and the status is 1.
-ghost use Rattle.std.specs.Prelude.{◌≡◌, ◌≤◌, ◌∷◌, [], codes, decimal, map};
+ghost use Rattle.std.specs.Prelude.{◌≡◌, ◌∷◌, [], codes, decimal, map};
 ghost use Rattle.avr_part.specs.Fault.{field_name};
 ghost use Rattle.avr_part.specs.Mem.{name_of};
 ghost use Rattle.avr_message.specs.Lines.{error, text_of};
@@ -17,29 +17,24 @@ use avr_records::RecordFault;
 /// Prints a line `avrstk: error: ..` of these pieces, as far as the desk takes it, and answers the status, 1.
 pub fn refuse<D: Desk>(desk: &mut D, pieces: &[Piece<'_>]) -> u8
     ensures status { result ≡ 1 }
-    ensures told { Tells (D.view desk.old).kept (D.view desk.new).kept (error (map text_of pieces.now)) (D.view desk.old).failures
-        (D.view desk.new).failures }
-    ensures rises { (D.view desk.old).failures ≤ (D.view desk.new).failures }
+    ensures told { Tells (D.view desk.old) (D.view desk.new) (error (map text_of pieces.now)) }
 {
     let _ = print_error(desk, pieces);
     1
 }
 
-/// Tells that memory was refused, `out of memory`, and answers 1.
+/// Tells that memory was, `out of memory`, and answers 1.
 pub fn refuse_memory<D: Desk>(desk: &mut D) -> u8
     ensures status { result ≡ 1 }
-    ensures told { Tells (D.view desk.old).kept (D.view desk.new).kept memory_line (D.view desk.old).failures (D.view desk.new).failures }
-    ensures rises { (D.view desk.old).failures ≤ (D.view desk.new).failures }
+    ensures told { Tells (D.view desk.old) (D.view desk.new) memory_line }
 {
     refuse(desk, &[Piece::Text("out of memory")])
 }
 
-/// Tells that a file could not be opened.
+/// Tells that a file be opened.
 fn refuse_unopened<D: Desk>(desk: &mut D, file: &str) -> u8
     ensures status { result ≡ 1 }
-    ensures told { Tells (D.view desk.old).kept (D.view desk.new).kept (not_opened_line file.now) (D.view desk.old).failures
-        (D.view desk.new).failures }
-    ensures rises { (D.view desk.old).failures ≤ (D.view desk.new).failures }
+    ensures told { Tells (D.view desk.old) (D.view desk.new) (not_opened_line file.now) }
 {
     refuse(
         desk,
@@ -47,13 +42,11 @@ fn refuse_unopened<D: Desk>(desk: &mut D, file: &str) -> u8
     )
 }
 
-/// Tells why a file was not read, and answers 1: `FILE: cannot be opened`, also where it is not there, `FILE: cannot be
+/// Tells why a file read, and answers 1: `FILE: cannot be opened`, also where it is not there, `FILE: cannot be
 /// read` or `out of memory`.
 pub fn refuse_file<D: Desk>(desk: &mut D, file: &str, fault: FileFault) -> u8
     ensures status { result ≡ 1 }
-    ensures told { Tells (D.view desk.old).kept (D.view desk.new).kept (file_fault_line file.now fault) (D.view desk.old).failures
-        (D.view desk.new).failures }
-    ensures rises { (D.view desk.old).failures ≤ (D.view desk.new).failures }
+    ensures told { Tells (D.view desk.old) (D.view desk.new) (file_fault_line file.now fault) }
 {
     match fault {
         FileFault::Absent => refuse_unopened(desk, file),
@@ -63,12 +56,10 @@ pub fn refuse_file<D: Desk>(desk: &mut D, file: &str, fault: FileFault) -> u8
     }
 }
 
-/// Tells that a file has more bytes than `limit`, `FILE: longer than 65536 bytes`, and answers 1.
+/// Tells that a file bytes than `limit`, `FILE: longer than 65536 bytes`, and answers 1.
 pub fn refuse_too_long<D: Desk>(desk: &mut D, file: &str, limit: u32) -> u8
     ensures status { result ≡ 1 }
-    ensures told { Tells (D.view desk.old).kept (D.view desk.new).kept (too_long_line file.now limit) (D.view desk.old).failures
-        (D.view desk.new).failures }
-    ensures rises { (D.view desk.old).failures ≤ (D.view desk.new).failures }
+    ensures told { Tells (D.view desk.old) (D.view desk.new) (too_long_line file.now limit) }
 {
     refuse(
         desk,
@@ -85,9 +76,7 @@ pub fn refuse_too_long<D: Desk>(desk: &mut D, file: &str, limit: u32) -> u8
 fn refuse_field<'a, D: Desk>(desk: &mut D, file: &'a str, field: Field, wrong: &'a str) -> u8
     ensures status { result ≡ 1 }
     ensures told { Tells
-        (D.view desk.old).kept (D.view desk.new).kept (error (file.now ∷ codes ": " ∷ field_name field ∷ wrong.now ∷ []))
-        (D.view desk.old).failures (D.view desk.new).failures }
-    ensures rises { (D.view desk.old).failures ≤ (D.view desk.new).failures }
+        (D.view desk.old) (D.view desk.new) (error (file.now ∷ codes ": " ∷ field_name field ∷ wrong.now ∷ [])) }
 {
     refuse(
         desk,
@@ -103,9 +92,7 @@ fn refuse_field<'a, D: Desk>(desk: &mut D, file: &'a str, field: Field, wrong: &
 /// Tells what is wrong with a part file.
 pub(crate) fn refuse_part_file<D: Desk>(desk: &mut D, file: &str, fault: PartFault) -> u8
     ensures status { result ≡ 1 }
-    ensures told { Tells (D.view desk.old).kept (D.view desk.new).kept (part_file_line file.now fault) (D.view desk.old).failures
-        (D.view desk.new).failures }
-    ensures rises { (D.view desk.old).failures ≤ (D.view desk.new).failures }
+    ensures told { Tells (D.view desk.old) (D.view desk.new) (part_file_line file.now fault) }
 {
     match fault {
         PartFault::NotToml => refuse(desk, &[Piece::Text(file), Piece::Text(": not TOML")]),
@@ -120,12 +107,10 @@ pub(crate) fn refuse_part_file<D: Desk>(desk: &mut D, file: &str, fault: PartFau
     }
 }
 
-/// Tells that there is no part of this id.
+/// Tells that there is of this id.
 pub(crate) fn refuse_part<D: Desk>(desk: &mut D, id: &str) -> u8
     ensures status { result ≡ 1 }
-    ensures told { Tells (D.view desk.old).kept (D.view desk.new).kept (no_part_line id.now) (D.view desk.old).failures
-        (D.view desk.new).failures }
-    ensures rises { (D.view desk.old).failures ≤ (D.view desk.new).failures }
+    ensures told { Tells (D.view desk.old) (D.view desk.new) (no_part_line id.now) }
 {
     refuse(desk, &[Piece::Text("no part "), Piece::Text(id)])
 }
@@ -133,9 +118,7 @@ pub(crate) fn refuse_part<D: Desk>(desk: &mut D, id: &str) -> u8
 /// Tells what is wrong with a line of a file.
 fn refuse_line<'a, D: Desk>(desk: &mut D, file: &'a str, line: u32, wrong: &'a str) -> u8
     ensures status { result ≡ 1 }
-    ensures told { Tells (D.view desk.old).kept (D.view desk.new).kept (record_line file.now line wrong.now)
-        (D.view desk.old).failures (D.view desk.new).failures }
-    ensures rises { (D.view desk.old).failures ≤ (D.view desk.new).failures }
+    ensures told { Tells (D.view desk.old) (D.view desk.new) (record_line file.now line wrong.now) }
 {
     refuse(
         desk,
@@ -151,9 +134,7 @@ fn refuse_line<'a, D: Desk>(desk: &mut D, file: &'a str, line: u32, wrong: &'a s
 /// Tells that a line of a file goes past the memory.
 fn refuse_line_range<D: Desk>(desk: &mut D, file: &str, line: u32, address: u32) -> u8
     ensures status { result ≡ 1 }
-    ensures told { Tells (D.view desk.old).kept (D.view desk.new).kept (record_range_line file.now line address)
-        (D.view desk.old).failures (D.view desk.new).failures }
-    ensures rises { (D.view desk.old).failures ≤ (D.view desk.new).failures }
+    ensures told { Tells (D.view desk.old) (D.view desk.new) (record_range_line file.now line address) }
 {
     refuse(
         desk,
@@ -171,9 +152,7 @@ fn refuse_line_range<D: Desk>(desk: &mut D, file: &str, line: u32, address: u32)
 /// Tells what is wrong with a record file.
 fn refuse_record<D: Desk>(desk: &mut D, file: &str, fault: RecordFault) -> u8
     ensures status { result ≡ 1 }
-    ensures told { Tells (D.view desk.old).kept (D.view desk.new).kept (record_fault_line file.now fault) (D.view desk.old).failures
-        (D.view desk.new).failures }
-    ensures rises { (D.view desk.old).failures ≤ (D.view desk.new).failures }
+    ensures told { Tells (D.view desk.old) (D.view desk.new) (record_fault_line file.now fault) }
 {
     match fault {
         RecordFault::BadMark(line) => refuse_line(desk, file, line, ": no record mark"),
@@ -189,12 +168,10 @@ fn refuse_record<D: Desk>(desk: &mut D, file: &str, fault: RecordFault) -> u8
     }
 }
 
-/// Tells that an address lies outside a memory.
+/// Tells that an address a memory.
 fn refuse_range<D: Desk>(desk: &mut D, name: &str, address: u32) -> u8
     ensures status { result ≡ 1 }
-    ensures told { Tells (D.view desk.old).kept (D.view desk.new).kept (range_line name.now address) (D.view desk.old).failures
-        (D.view desk.new).failures }
-    ensures rises { (D.view desk.old).failures ≤ (D.view desk.new).failures }
+    ensures told { Tells (D.view desk.old) (D.view desk.new) (range_line name.now address) }
 {
     refuse(
         desk,
@@ -210,9 +187,7 @@ fn refuse_range<D: Desk>(desk: &mut D, name: &str, address: u32) -> u8
 /// Tells what is wrong with raw bytes.
 fn refuse_raw<D: Desk>(desk: &mut D, file: &str, fault: ImageFault) -> u8
     ensures status { result ≡ 1 }
-    ensures told { Tells (D.view desk.old).kept (D.view desk.new).kept (raw_fault_line file.now fault) (D.view desk.old).failures
-        (D.view desk.new).failures }
-    ensures rises { (D.view desk.old).failures ≤ (D.view desk.new).failures }
+    ensures told { Tells (D.view desk.old) (D.view desk.new) (raw_fault_line file.now fault) }
 {
     match fault {
         ImageFault::OutOfRange(address) => refuse_range(desk, file, address),
@@ -221,12 +196,10 @@ fn refuse_raw<D: Desk>(desk: &mut D, file: &str, fault: ImageFault) -> u8
     }
 }
 
-/// Tells why a file is no image.
+/// Tells why a file image.
 fn refuse_bad_file<D: Desk>(desk: &mut D, file: &str, fault: BadFile) -> u8
     ensures status { result ≡ 1 }
-    ensures told { Tells (D.view desk.old).kept (D.view desk.new).kept (bad_file_line file.now fault) (D.view desk.old).failures
-        (D.view desk.new).failures }
-    ensures rises { (D.view desk.old).failures ≤ (D.view desk.new).failures }
+    ensures told { Tells (D.view desk.old) (D.view desk.new) (bad_file_line file.now fault) }
 {
     match fault {
         BadFile::Record(fault) => refuse_record(desk, file, fault),
@@ -236,12 +209,10 @@ fn refuse_bad_file<D: Desk>(desk: &mut D, file: &str, fault: BadFile) -> u8
     }
 }
 
-/// Tells why no image came of a file.
+/// Tells why no image of a file.
 pub(crate) fn refuse_image<D: Desk>(desk: &mut D, file: &str, fault: ReadFault) -> u8
     ensures status { result ≡ 1 }
-    ensures told { Tells (D.view desk.old).kept (D.view desk.new).kept (read_fault_line file.now fault) (D.view desk.old).failures
-        (D.view desk.new).failures }
-    ensures rises { (D.view desk.old).failures ≤ (D.view desk.new).failures }
+    ensures told { Tells (D.view desk.old) (D.view desk.new) (read_fault_line file.now fault) }
 {
     match fault {
         ReadFault::File(fault) => refuse_file(desk, file, fault),
@@ -253,9 +224,7 @@ pub(crate) fn refuse_image<D: Desk>(desk: &mut D, file: &str, fault: ReadFault) 
 fn refuse_value<D: Desk>(desk: &mut D, memory: Mem, place: u32, wrong: &str) -> u8
     ensures status { result ≡ 1 }
     ensures told { Tells
-        (D.view desk.old).kept (D.view desk.new).kept (error (name_of memory ∷ codes ": value " ∷ decimal place ∷ wrong.now ∷ []))
-        (D.view desk.old).failures (D.view desk.new).failures }
-    ensures rises { (D.view desk.old).failures ≤ (D.view desk.new).failures }
+        (D.view desk.old) (D.view desk.new) (error (name_of memory ∷ codes ": value " ∷ decimal place ∷ wrong.now ∷ [])) }
 {
     refuse(
         desk,
@@ -271,9 +240,7 @@ fn refuse_value<D: Desk>(desk: &mut D, memory: Mem, place: u32, wrong: &str) -> 
 /// Tells what is wrong with the values for a memory.
 pub(crate) fn refuse_values<D: Desk>(desk: &mut D, memory: Mem, fault: ImageFault) -> u8
     ensures status { result ≡ 1 }
-    ensures told { Tells (D.view desk.old).kept (D.view desk.new).kept (values_line memory fault) (D.view desk.old).failures
-        (D.view desk.new).failures }
-    ensures rises { (D.view desk.old).failures ≤ (D.view desk.new).failures }
+    ensures told { Tells (D.view desk.old) (D.view desk.new) (values_line memory fault) }
 {
     match fault {
         ImageFault::OutOfRange(address) => refuse_range(desk, memory.name(), address),
@@ -284,12 +251,10 @@ pub(crate) fn refuse_values<D: Desk>(desk: &mut D, memory: Mem, fault: ImageFaul
     }
 }
 
-/// Tells that a memory can't be written.
+/// Tells that a memory written.
 pub(crate) fn refuse_write<D: Desk>(desk: &mut D, memory: Mem) -> u8
     ensures status { result ≡ 1 }
-    ensures told { Tells (D.view desk.old).kept (D.view desk.new).kept (read_only_line memory) (D.view desk.old).failures
-        (D.view desk.new).failures }
-    ensures rises { (D.view desk.old).failures ≤ (D.view desk.new).failures }
+    ensures told { Tells (D.view desk.old) (D.view desk.new) (read_only_line memory) }
 {
     refuse(
         desk,

@@ -1,5 +1,5 @@
 //! The image of an update, in a file or in the words of the command.
-ghost use Rattle.std.specs.Prelude.{◌≡◌, ◌≤◌, length, IfOk};
+ghost use Rattle.std.specs.Prelude.{◌≡◌, length, IfOk};
 ghost use Rattle.avr_cli.specs.declared.chosen.Switches.{Switches as AnySwitches};
 ghost use Rattle.avr_part.specs.Part.{size_of};
 ghost use Rattle.avr_plan.specs.Planning.{is_warned, warned, file_image_stage, image_stage, update_image as update_image_stage};
@@ -33,9 +33,8 @@ fn warn_of_ending<D: Desk>(
     file: &str,
     ending: Ending,
 ) -> Result<(), u8>
-    ensures goes { Goes (said (warned switches file.now ending))
-        (D.view desk.old).kept (D.view desk.new).kept (D.view desk.old).failures (D.view desk.new).failures result }
-    ensures rises { (D.view desk.old).failures ≤ (D.view desk.new).failures }
+    ensures { Goes (said (warned switches file.now ending))
+        (D.view desk.old) (D.view desk.new) result }
 {
     let warns = is_warned(switches, ending);
     if !warns {
@@ -57,8 +56,7 @@ fn file_image<D: Desk>(
     size: u32,
 ) -> Result<Image, u8>
     ensures goes { Goes (file_image_stage switches file.now format size)
-        (D.view desk.old).kept (D.view desk.new).kept (D.view desk.old).failures (D.view desk.new).failures result }
-    ensures rises { (D.view desk.old).failures ≤ (D.view desk.new).failures }
+        (D.view desk.old) (D.view desk.new) result }
     ensures sized { IfOk result (λ image. length image ≡ size) }
 {
     match read_image(alloc, desk, file, format, size) {
@@ -79,8 +77,7 @@ fn values_image<D: Desk>(
     size: u32,
 ) -> Result<Image, u8>
     ensures goes { (switches : AnySwitches) → Goes (image_stage switches memory size text.now Format.Immediate)
-        (D.view desk.old).kept (D.view desk.new).kept (D.view desk.old).failures (D.view desk.new).failures result }
-    ensures rises { (D.view desk.old).failures ≤ (D.view desk.new).failures }
+        (D.view desk.old) (D.view desk.new) result }
     ensures sized { IfOk result (λ image. length image ≡ size) }
 {
     match parse_immediate(alloc, text, size) {
@@ -98,8 +95,7 @@ pub(crate) fn update_image<D: Desk>(
     update: &Update,
 ) -> Result<Image, u8>
     ensures goes { Goes (update_image_stage switches part.now update.now)
-        (D.view desk.old).kept (D.view desk.new).kept (D.view desk.old).failures (D.view desk.new).failures result }
-    ensures rises { (D.view desk.old).failures ≤ (D.view desk.new).failures }
+        (D.view desk.old) (D.view desk.new) result }
     ensures sized { IfOk result (λ image. length image ≡ size_of update.now.memory part.now) }
 {
     let size = part.size_of(update.memory);

@@ -4,7 +4,7 @@ use Rattle.std.proofs.lemmas.Bool.{cases_Bool}
 use Rattle.std.proofs.lemmas.List.Folds.{list_any-append}
 use Rattle.std.proofs.lemmas.Slice.Eq.{starts_is}
 use Rattle.std.specs.Cmp.{unsigned_Decides}
-use Rattle.avr_desk.specs.Record.{Record}
+use Rattle.avr_desk.specs.Record.{DeskView}
 use Rattle.avr_cli.specs.declared.chosen.Switches.{Switches}
 use Rattle.avr_cli.specs.declared.update.Format.{Format}
 use Rattle.avr_image.specs.Image.{held}
@@ -17,7 +17,8 @@ use Rattle.avr_plan.specs.declared.task.Task.TheVariants.{Write, Verify, Read}
 use Rattle.stk_host.specs.declared.fault.HostFault.{HostFault}
 use Rattle.stk_host.specs.declared.fault.HostFault.TheVariants.{NoAnswer, LinkEnded, SendFailed, Babble, Refused, BadAnswer, WrongSignature, Differs, ReadOnly, Memory, RecvFailed}
 use Rattle.stk_host.specs.Tape.{Tape, Reading, on_tape, answer}
-use Rattle.stk_host.specs.Talk.{Talk, heard}
+use Rattle.stk_host.specs.Play.{Progress}
+use Rattle.stk_host.specs.Talk.{heard}
 use Rattle.stk_host.specs.Dialog.{Dialog, Done, Say, Ask, ◌>>=◌, lifted, Event, Frame, Said, Played, played, by_answer, next, sayings}
 use Rattle.stk_host.specs.Operations.{opening, erasing, writing, reading, verifying}
 use Rattle.avr_message.specs.Lines.{Bytes, information, warning, error}
@@ -27,7 +28,7 @@ use Rattle.avr_session.specs.declared.standing.Standing.TheVariants.{Fine, Fault
 use Rattle.avr_session.specs.FileText.{file_text}
 use Rattle.avr_session.specs.Lines.{informs, warns, other_signature, fault_line}
 use Rattle.avr_session.specs.Parts.{is_told}
-use Rattle.avr_session.specs.Runs.{Cause, OfSending, OfListening, OfFile, OfPrinting, OfMemory, NotCreated, NotWritten, is_error, tells_fault, Ran, AtFrame, StopsAt, SaysFront}
+use Rattle.avr_session.specs.Runs.{Devices, Cause, OfSending, OfListening, OfFile, OfPrinting, OfMemory, NotCreated, NotWritten, is_error, tells_fault, Ran, AtFrame, StopsAt, SaysFront}
 use Rattle.avr_session.specs.Session.{says, standing, reported, unless_fault, fault_or, opening_says, warns_of_signature, signature_says, bytes_say, saved, kept_of, erased_says, written_says, verified_says, read_says, left_out_erase, left_out_write, opening_part, chip_erasing_part, is_erase_due, erasing_part, verifying_part, writing_part, read_back_part, write_part, reading_part, task_part, tasks_part, beginning, working}
 use Rattle.avr_session.proofs.Places.{sayings_by}
 
@@ -86,10 +87,10 @@ Foretold said standing = tells_fault said ≡ is_told standing
 abbrev pub Foretells : Dialog Saying Standing → Type 0
 Foretells dialog = Along Foretold dialog
 
-pub foretold : {dialog : Dialog Saying Standing} {m n : ℕ} {u v : List ℕ} {o p : Option Talk} {d e : Option Record} {standing : Standing} → Foretells dialog → (ran : Ran dialog m u o p d e standing n v) → tells_fault (sayings ran.events) ≡ is_told standing
-foretold {dialog = dialog} {m = m} {u = u} f ran =
+pub foretold : {dialog : Dialog Saying Standing} {m n : Progress} {o p : Devices} {standing : Standing} → Foretells dialog → (ran : Ran dialog m o p standing n) → tells_fault (sayings ran.events) ≡ is_told standing
+foretold {dialog = dialog} {m = m} f ran =
     subst (λ (p : Played Saying Standing). Ends Foretold (sayings p.events) p.outcome) (ran.plays.plays [])
-    (along_play Foretold dialog m (on_tape u ++ (heard ran.during ++ [])) f)
+    (along_play Foretold dialog m.next (on_tape m.unread ++ (heard ran.during ++ [])) f)
 
 -- one part after another
 pub foretells_then : (first more : Dialog Saying Standing) → Foretells first → Foretells more → Foretells (first >>= unless_fault more)
@@ -283,7 +284,7 @@ begun_none OfPrinting whole begun later x none =
     quiet_by begun (Said (Line x.done) ∷ []) x.part (ap (λ b. b || false) one)
 begun_none OfMemory whole begun later x none = quiet_by begun [] x refl
 
-pub front_tells_none : {cause : Cause} {old new : Option Record} {sayings : List Saying} (front : SaysFront cause old new sayings) → tells_fault sayings ≡ false → tells_fault (front.whole ++ front.begun) ≡ false
+pub front_tells_none : {cause : Cause} {old new : DeskView} {sayings : List Saying} (front : SaysFront cause old new sayings) → tells_fault sayings ≡ false → tells_fault (front.whole ++ front.begun) ≡ false
 front_tells_none {cause = cause} front none =
     let both = or_none (tells_fault front.whole) (tells_fault front.later) (sym (list_any-append is_error front.whole front.later) ∙ (ap tells_fault (sym front.sayings_are) ∙ none)) in
     both_none front.whole front.begun both.0 (begun_none cause front.whole front.begun front.later front.place both.1)

@@ -1,6 +1,6 @@
 -- An operation of the host and its report, as a part of a session.
 use Rattle.std.proofs.Common.{◌≡◌, ℕ, ◌≤◌, Bool, true, false, List, [], ◌++◌, length, refl, sym, ap, ◌∙◌, ◌∷◌, subst, bytes_eq, if◌then◌else◌, Option, Some, None, Result, Ok, Err, inl, inr, ◌⊎◌}
-use Rattle.avr_desk.specs.Record.{Record}
+use Rattle.avr_desk.specs.Record.{DeskView}
 use Rattle.avr_part.specs.Part.{Part}
 use Rattle.stk_host.specs.declared.fault.HostFault.{HostFault}
 use Rattle.stk_host.specs.declared.fault.HostFault.TheVariants.{NoAnswer, LinkEnded, SendFailed, Babble, Refused, BadAnswer, WrongSignature, Differs, ReadOnly, Memory, RecvFailed}
@@ -15,11 +15,11 @@ use Rattle.stk_host.specs.Tape.{Tape, on_tape}
 use Rattle.stk_host.specs.Steps.{Outcome, step, play}
 use Rattle.stk_host.specs.WriteSteps.{write_steps}
 use Rattle.stk_host.specs.Operations.{host_fault, signature_judged, ended, beginning, opening, closing, operation, judged_by, done, erasing, writing}
-use Rattle.stk_host.specs.Talk.{Talk, heard}
+use Rattle.stk_host.specs.Talk.{LinkView, heard}
 use Rattle.stk_host.specs.Dialog.{Dialog, Done, ◌>>=◌, Played, played}
 use Rattle.stk_host.specs.declared.fault.Broken.{Broken}
 use Rattle.stk_host.specs.declared.fault.Broken.TheVariants.{Send, Recv}
-use Rattle.stk_host.specs.Play.{PlaysOver, FailsOver}
+use Rattle.stk_host.specs.Play.{Progress, PlaysOver, FailsOver}
 use Rattle.stk_host.specs.Calls.{EndsCall, EndsOrLacks, IsBroken}
 use Rattle.stk_host.proofs.Leading.{continued, played_bind}
 use Rattle.avr_message.specs.Said.{Saying, Tells}
@@ -27,9 +27,9 @@ use Rattle.avr_session.specs.declared.standing.Stopped.{Stopped}
 use Rattle.avr_session.specs.Concluding.{after_outcome, concluded}
 use Rattle.avr_session.specs.Lines.{fault_line}
 use Rattle.avr_session.specs.Session.{says, standing, reported, fault_or}
-use Rattle.avr_session.specs.Runs.{Cause, OfSending, OfListening, OfMemory, cause_line, HasCome, PrintStops, SaysFront, Reports, BrokeOff, Runs}
+use Rattle.avr_session.specs.Runs.{Cause, OfSending, OfListening, OfMemory, Devices, devices, Terms, cause_line, HasCome, PrintStops, SaysOrStops, Reports, BrokeOff, Runs}
 use Rattle.avr_session.proofs.Reporting.{told_some}
-use Rattle.avr_session.proofs.Running.{came_lifted, came_said, came_on, ran_from, broke_lifted, broke_saying, broke_operation, broke_lacking, broken_cause, ToldBy}
+use Rattle.avr_session.proofs.Running.{came_lifted, came_said, came_on, ran_from, broke_lifted, broke_saying, broke_operation, broke_lacking, broken_cause, StopsReport, ToldBy}
 
 -- the outcome stops the run
 abbrev pub IsStop : {A : Type 0} → Result A HostFault → Type 0
@@ -99,53 +99,53 @@ link_not Recv outcome is other = cc
 
 -- How a call ended: it was played whole to an outcome that does not stop the run; or the link broke it off; or memory was
 -- refused before anything was sent or heard, where memory is taken.
-abbrev pub Ended : {A : Type 0} → Bool → Dialog ⊥ (Result A HostFault) → ℕ → List ℕ → Option Talk → Option Talk → Result A HostFault → ℕ → List ℕ → Type 0
-Ended takes dialog m u o p outcome n v =
-    (PlaysOver dialog m u o p outcome n v × (after_outcome outcome ≡ Ok (standing outcome)))
-    ⊎ (((by : Broken) × (outcome ≡ Err (fault_of by)) × FailsOver by dialog m u o p) ⊎ ((takes ≡ true) × IsMemory outcome × (p ≡ o)))
+abbrev pub Ended : {A : Type 0} → Bool → Dialog ⊥ (Result A HostFault) → Progress → LinkView → LinkView → Result A HostFault → Progress → Type 0
+Ended takes dialog m o p outcome n =
+    (PlaysOver dialog m o p outcome n × (after_outcome outcome ≡ Ok (standing outcome)))
+    ⊎ (((by : Broken) × (outcome ≡ Err (fault_of by)) × FailsOver by dialog m o p) ⊎ ((takes ≡ true) × IsMemory outcome × (p ≡ o)))
 
 -- memory is refused only where it is taken
-pub lacks_where : {A : Type 0} (takes : Bool) (dialog : Dialog ⊥ (Result A HostFault)) (m : ℕ) (u : List ℕ) (o p : Option Talk) (outcome : Result A HostFault) (n : ℕ) (v : List ℕ) → Ended takes dialog m u o p outcome n v → IsMemory outcome → takes ≡ true
-lacks_where takes dialog m u o p outcome n v (inl played) is =
+pub lacks_where : {A : Type 0} (takes : Bool) (dialog : Dialog ⊥ (Result A HostFault)) (m : Progress) (o p : LinkView) (outcome : Result A HostFault) (n : Progress) → Ended takes dialog m o p outcome n → IsMemory outcome → takes ≡ true
+lacks_where takes dialog m o p outcome n (inl played) is =
     let e = subst (λ x. after_outcome x ≡ Ok (standing x)) (memory_is outcome is) played.1 in
     cc
-lacks_where takes dialog m u o p outcome n v (inr (inl broke)) is = absurd (link_not broke.0 outcome broke.1 (memory_is outcome is))
-lacks_where takes dialog m u o p outcome n v (inr (inr lacks)) is = lacks.0
+lacks_where takes dialog m o p outcome n (inr (inl broke)) is = absurd (link_not broke.0 outcome broke.1 (memory_is outcome is))
+lacks_where takes dialog m o p outcome n (inr (inr lacks)) is = lacks.0
 
 -- where none is taken, only the link breaks off a call
-pub only_broken : {A : Type 0} (dialog : Dialog ⊥ (Result A HostFault)) (m : ℕ) (u : List ℕ) (o p : Option Talk) (outcome : Result A HostFault) (n : ℕ) (v : List ℕ) → Ended false dialog m u o p outcome n v → IsStop outcome → IsBroken outcome
-only_broken dialog m u o p outcome n v ended stop = elim (stop_kind outcome stop) [
+pub only_broken : {A : Type 0} (dialog : Dialog ⊥ (Result A HostFault)) (m : Progress) (o p : LinkView) (outcome : Result A HostFault) (n : Progress) → Ended false dialog m o p outcome n → IsStop outcome → IsBroken outcome
+only_broken dialog m o p outcome n ended stop = elim (stop_kind outcome stop) [
   | inl broken ↦ broken
-  | inr lacks ↦ let e = lacks_where false dialog m u o p outcome n v ended lacks in absurd (cc)
+  | inr lacks ↦ let e = lacks_where false dialog m o p outcome n ended lacks in absurd (cc)
 ]
 
-pub call_ended : {A : Type 0} (dialog : Dialog ⊥ (Result A HostFault)) (m : ℕ) (u : List ℕ) (o p : Option Talk) (outcome : Result A HostFault) (n : ℕ) (v : List ℕ) → (PlaysOver dialog m u o p (Err Memory) n v → ⊥) → EndsCall dialog m u o p outcome n v → Ended false dialog m u o p outcome n v
-call_ended dialog m u o p (Ok a) n v never ends = inl (ends, refl)
-call_ended dialog m u o p (Err NoAnswer) n v never ends = inl (ends, refl)
-call_ended dialog m u o p (Err LinkEnded) n v never ends = inl (ends, refl)
-call_ended dialog m u o p (Err SendFailed) n v never ends = inr (inl (Send, refl, ends))
-call_ended dialog m u o p (Err Babble) n v never ends = inl (ends, refl)
-call_ended dialog m u o p (Err (Refused command status)) n v never ends = inl (ends, refl)
-call_ended dialog m u o p (Err (BadAnswer command)) n v never ends = inl (ends, refl)
-call_ended dialog m u o p (Err (WrongSignature found)) n v never ends = inl (ends, refl)
-call_ended dialog m u o p (Err (Differs mem address want found)) n v never ends = inl (ends, refl)
-call_ended dialog m u o p (Err (ReadOnly mem)) n v never ends = inl (ends, refl)
-call_ended dialog m u o p (Err Memory) n v never ends = absurd (never ends)
-call_ended dialog m u o p (Err RecvFailed) n v never ends = inr (inl (Recv, refl, ends))
+pub call_ended : {A : Type 0} (dialog : Dialog ⊥ (Result A HostFault)) (m : Progress) (o p : LinkView) (outcome : Result A HostFault) (n : Progress) → (PlaysOver dialog m o p (Err Memory) n → ⊥) → EndsCall dialog m o p outcome n → Ended false dialog m o p outcome n
+call_ended dialog m o p (Ok a) n never ends = inl (ends, refl)
+call_ended dialog m o p (Err NoAnswer) n never ends = inl (ends, refl)
+call_ended dialog m o p (Err LinkEnded) n never ends = inl (ends, refl)
+call_ended dialog m o p (Err SendFailed) n never ends = inr (inl (Send, refl, ends))
+call_ended dialog m o p (Err Babble) n never ends = inl (ends, refl)
+call_ended dialog m o p (Err (Refused command status)) n never ends = inl (ends, refl)
+call_ended dialog m o p (Err (BadAnswer command)) n never ends = inl (ends, refl)
+call_ended dialog m o p (Err (WrongSignature found)) n never ends = inl (ends, refl)
+call_ended dialog m o p (Err (Differs mem address want found)) n never ends = inl (ends, refl)
+call_ended dialog m o p (Err (ReadOnly mem)) n never ends = inl (ends, refl)
+call_ended dialog m o p (Err Memory) n never ends = absurd (never ends)
+call_ended dialog m o p (Err RecvFailed) n never ends = inr (inl (Recv, refl, ends))
 
-pub lack_ended : {A : Type 0} (dialog : Dialog ⊥ (Result A HostFault)) (m : ℕ) (u : List ℕ) (o p : Option Talk) (outcome : Result A HostFault) (n : ℕ) (v : List ℕ) → EndsOrLacks dialog m u o p outcome n v → Ended true dialog m u o p outcome n v
-lack_ended dialog m u o p (Ok a) n v ends = inl (ends, refl)
-lack_ended dialog m u o p (Err NoAnswer) n v ends = inl (ends, refl)
-lack_ended dialog m u o p (Err LinkEnded) n v ends = inl (ends, refl)
-lack_ended dialog m u o p (Err SendFailed) n v ends = inr (inl (Send, refl, ends))
-lack_ended dialog m u o p (Err Babble) n v ends = inl (ends, refl)
-lack_ended dialog m u o p (Err (Refused command status)) n v ends = inl (ends, refl)
-lack_ended dialog m u o p (Err (BadAnswer command)) n v ends = inl (ends, refl)
-lack_ended dialog m u o p (Err (WrongSignature found)) n v ends = inl (ends, refl)
-lack_ended dialog m u o p (Err (Differs mem address want found)) n v ends = inl (ends, refl)
-lack_ended dialog m u o p (Err (ReadOnly mem)) n v ends = inl (ends, refl)
-lack_ended dialog m u o p (Err Memory) n v ends = inr (inr (refl, tt, ends.0))
-lack_ended dialog m u o p (Err RecvFailed) n v ends = inr (inl (Recv, refl, ends))
+pub lack_ended : {A : Type 0} (dialog : Dialog ⊥ (Result A HostFault)) (m : Progress) (o p : LinkView) (outcome : Result A HostFault) (n : Progress) → EndsOrLacks dialog m o p outcome n → Ended true dialog m o p outcome n
+lack_ended dialog m o p (Ok a) n ends = inl (ends, refl)
+lack_ended dialog m o p (Err NoAnswer) n ends = inl (ends, refl)
+lack_ended dialog m o p (Err LinkEnded) n ends = inl (ends, refl)
+lack_ended dialog m o p (Err SendFailed) n ends = inr (inl (Send, refl, ends))
+lack_ended dialog m o p (Err Babble) n ends = inl (ends, refl)
+lack_ended dialog m o p (Err (Refused command status)) n ends = inl (ends, refl)
+lack_ended dialog m o p (Err (BadAnswer command)) n ends = inl (ends, refl)
+lack_ended dialog m o p (Err (WrongSignature found)) n ends = inl (ends, refl)
+lack_ended dialog m o p (Err (Differs mem address want found)) n ends = inl (ends, refl)
+lack_ended dialog m o p (Err (ReadOnly mem)) n ends = inl (ends, refl)
+lack_ended dialog m o p (Err Memory) n ends = inr (inr (refl, tt, ends.0))
+lack_ended dialog m o p (Err RecvFailed) n ends = inr (inl (Recv, refl, ends))
 
 -- no step answers that memory was refused: what is judged of its outcome doesn't either
 
@@ -157,12 +157,12 @@ judged_not : {A : Type 0} (judge : Outcome → Result A HostFault) → ((outcome
 judged_not judge not None is = is
 judged_not judge not (Some x) is = not x.0 is
 
-judged_lacks_none : {A : Type 0} {m n : ℕ} {u v : List ℕ} {o p : Option Talk} (first : Dialog ⊥ Outcome) (judge : Outcome → Result A HostFault) → ((outcome : Outcome) → IsMemory (judge outcome) → ⊥)
-    → PlaysOver (first >>= λ outcome. Done (judge outcome)) m u o p (Err Memory) n v → ⊥
-judged_lacks_none {A = A} {m = m} {u = u} first judge not f =
-    let tape = on_tape u ++ (heard f.during ++ []) in
-    judged_not judge not (played first m tape).outcome
-    (subst (λ (p : Played ⊥ (Result A HostFault)). IsLacking p.outcome) (sym (f.plays.plays []) ∙ played_bind first (λ outcome. Done (judge outcome)) m tape) tt)
+judged_lacks_none : {A : Type 0} {m n : Progress} {o p : LinkView} (first : Dialog ⊥ Outcome) (judge : Outcome → Result A HostFault) → ((outcome : Outcome) → IsMemory (judge outcome) → ⊥)
+    → PlaysOver (first >>= λ outcome. Done (judge outcome)) m o p (Err Memory) n → ⊥
+judged_lacks_none {A = A} {m = m} first judge not f =
+    let tape = on_tape m.unread ++ (heard f.during ++ []) in
+    judged_not judge not (played first m.next tape).outcome
+    (subst (λ (p : Played ⊥ (Result A HostFault)). IsLacking p.outcome) (sym (f.plays.plays []) ∙ played_bind first (λ outcome. Done (judge outcome)) m.next tape) tt)
 
 host_fault_not : (A : Type 0) (fault : StepFault) → IsMemory {A = A} (Err (host_fault fault)) → ⊥
 host_fault_not A of_step.NoAnswer is = is
@@ -188,25 +188,25 @@ signature_not wanted false (Ok found) is = by_test (bytes_eq found wanted) is
     by_test false is = is
 signature_not wanted force (Err fault) is = host_fault_not (List ℕ) fault is
 
-pub opening_lacks_none : {m n : ℕ} {u v : List ℕ} {o p : Option Talk} (wanted : List ℕ) (force : Bool) → PlaysOver (opening wanted force) m u o p (Err Memory) n v → ⊥
+pub opening_lacks_none : {m n : Progress} {o p : LinkView} (wanted : List ℕ) (force : Bool) → PlaysOver (opening wanted force) m o p (Err Memory) n → ⊥
 unfolding opening
 opening_lacks_none wanted force f = judged_lacks_none beginning (signature_judged wanted force) (signature_not wanted force) f
 
-pub closing_lacks_none : {m n : ℕ} {u v : List ℕ} {o p : Option Talk} → PlaysOver closing m u o p (Err Memory) n v → ⊥
+pub closing_lacks_none : {m n : Progress} {o p : LinkView} → PlaysOver closing m o p (Err Memory) n → ⊥
 unfolding closing
 closing_lacks_none f = judged_lacks_none (step (leave ∷ [])) ended ended_not f
 
-operation_lacks_none : {m n : ℕ} {u v : List ℕ} {o p : Option Talk} (steps : List (List Command)) → PlaysOver (operation steps done) m u o p (Err Memory) n v → ⊥
+operation_lacks_none : {m n : Progress} {o p : LinkView} (steps : List (List Command)) → PlaysOver (operation steps done) m o p (Err Memory) n → ⊥
 unfolding operation
 operation_lacks_none steps f = judged_lacks_none (play steps []) (judged_by done) done_not f
 
-pub erasing_lacks_none : {m n : ℕ} {u v : List ℕ} {o p : Option Talk} → PlaysOver erasing m u o p (Err Memory) n v → ⊥
+pub erasing_lacks_none : {m n : Progress} {o p : LinkView} → PlaysOver erasing m o p (Err Memory) n → ⊥
 erasing_lacks_none f = operation_lacks_none ((erase ∷ []) ∷ []) f
 
-pub writing_lacks_none : {m n : ℕ} {u v : List ℕ} {o p : Option Talk} (part : Part) (mem : Mem) (image : List (Option ℕ)) → PlaysOver (writing part mem image) m u o p (Err Memory) n v → ⊥
-writing_lacks_none {m = m} {n = n} {u = u} {v = v} {o = o} {p = p} part mem image f = by_test (is_writable mem) f
+pub writing_lacks_none : {m n : Progress} {o p : LinkView} (part : Part) (mem : Mem) (image : List (Option ℕ)) → PlaysOver (writing part mem image) m o p (Err Memory) n → ⊥
+writing_lacks_none {m = m} {n = n} {o = o} {p = p} part mem image f = by_test (is_writable mem) f
   where
-    by_test : (writes : Bool) → PlaysOver (if writes then operation (write_steps part mem image) done else Done (Err (ReadOnly mem))) m u o p (Err Memory) n v → ⊥
+    by_test : (writes : Bool) → PlaysOver (if writes then operation (write_steps part mem image) done else Done (Err (ReadOnly mem))) m o p (Err Memory) n → ⊥
     by_test true f = operation_lacks_none (write_steps part mem image) f
     by_test false f = subst (λ (p : Played ⊥ (Result (Unit {0}) HostFault)). IsLacking p.outcome) (sym (f.plays.plays [])) tt
 
@@ -228,56 +228,55 @@ stop_goes (Err RecvFailed) (Ok ok) stop = refl
 stop_goes (Err RecvFailed) (Err stopped) stop = refl
 
 -- the line of a fault that stops the run tells why it does
-pub told_of : {A : Type 0} (old new : Option Record) (part : Part) (good : A → List Saying) (a b : ℕ) (outcome : Result A HostFault) (told : Result (Unit {0}) Stopped) → Reports old new (fault_or part good outcome) (PrintStops a b) told
-    → IsStop outcome → Tells old new (cause_line (cause_of outcome)) a b
+pub told_of : {A : Type 0} (old new : DeskView) (part : Part) (good : A → List Saying) (outcome : Result A HostFault) (told : Result (Unit {0}) Stopped) → Reports PrintStops old new (fault_or part good outcome) told
+    → IsStop outcome → Tells old new (cause_line (cause_of outcome))
 unfolding cause_line fault_line
-told_of old new part good a b (Ok x) told reports stop = absurd stop
-told_of old new part good a b (Err NoAnswer) told reports stop = absurd stop
-told_of old new part good a b (Err LinkEnded) told reports stop = absurd stop
-told_of old new part good a b (Err SendFailed) told reports stop = told_some old new (fault_line part SendFailed) a b told reports
-told_of old new part good a b (Err Babble) told reports stop = absurd stop
-told_of old new part good a b (Err (Refused command status)) told reports stop = absurd stop
-told_of old new part good a b (Err (BadAnswer command)) told reports stop = absurd stop
-told_of old new part good a b (Err (WrongSignature found)) told reports stop = absurd stop
-told_of old new part good a b (Err (Differs mem address want found)) told reports stop = absurd stop
-told_of old new part good a b (Err (ReadOnly mem)) told reports stop = absurd stop
-told_of old new part good a b (Err Memory) told reports stop = told_some old new (fault_line part Memory) a b told reports
-told_of old new part good a b (Err RecvFailed) told reports stop = told_some old new (fault_line part RecvFailed) a b told reports
+told_of old new part good (Ok x) told reports stop = absurd stop
+told_of old new part good (Err NoAnswer) told reports stop = absurd stop
+told_of old new part good (Err LinkEnded) told reports stop = absurd stop
+told_of old new part good (Err SendFailed) told reports stop = told_some old new (fault_line part SendFailed) told reports
+told_of old new part good (Err Babble) told reports stop = absurd stop
+told_of old new part good (Err (Refused command status)) told reports stop = absurd stop
+told_of old new part good (Err (BadAnswer command)) told reports stop = absurd stop
+told_of old new part good (Err (WrongSignature found)) told reports stop = absurd stop
+told_of old new part good (Err (Differs mem address want found)) told reports stop = absurd stop
+told_of old new part good (Err (ReadOnly mem)) told reports stop = absurd stop
+told_of old new part good (Err Memory) told reports stop = told_some old new (fault_line part Memory) told reports
+told_of old new part good (Err RecvFailed) told reports stop = told_some old new (fault_line part RecvFailed) told reports
 
 -- what stops a run is counted, or is want of memory
-pub stop_is : {A : Type 0} (outcome : Result A HostFault) (takes : Bool) (k l a b : ℕ) → (IsBroken outcome → link.HasFailed k l) → (IsMemory outcome → takes ≡ true) → IsStop outcome → HasCome takes k l a b (cause_of outcome)
-stop_is (Ok x) takes k l a b failed lacks stop = absurd stop
-stop_is (Err NoAnswer) takes k l a b failed lacks stop = absurd stop
-stop_is (Err LinkEnded) takes k l a b failed lacks stop = absurd stop
-stop_is (Err SendFailed) takes k l a b failed lacks stop = failed tt
-stop_is (Err Babble) takes k l a b failed lacks stop = absurd stop
-stop_is (Err (Refused command status)) takes k l a b failed lacks stop = absurd stop
-stop_is (Err (BadAnswer command)) takes k l a b failed lacks stop = absurd stop
-stop_is (Err (WrongSignature found)) takes k l a b failed lacks stop = absurd stop
-stop_is (Err (Differs mem address want found)) takes k l a b failed lacks stop = absurd stop
-stop_is (Err (ReadOnly mem)) takes k l a b failed lacks stop = absurd stop
-stop_is (Err Memory) takes k l a b failed lacks stop = lacks tt
-stop_is (Err RecvFailed) takes k l a b failed lacks stop = failed tt
+pub stop_is : {A : Type 0} (outcome : Result A HostFault) (takes : Bool) (o p : Devices) → (IsBroken outcome → link.HasFailed o.link p.link) → (IsMemory outcome → takes ≡ true) → IsStop outcome → HasCome takes o p (cause_of outcome)
+stop_is (Ok x) takes o p failed lacks stop = absurd stop
+stop_is (Err NoAnswer) takes o p failed lacks stop = absurd stop
+stop_is (Err LinkEnded) takes o p failed lacks stop = absurd stop
+stop_is (Err SendFailed) takes o p failed lacks stop = failed tt
+stop_is (Err Babble) takes o p failed lacks stop = absurd stop
+stop_is (Err (Refused command status)) takes o p failed lacks stop = absurd stop
+stop_is (Err (BadAnswer command)) takes o p failed lacks stop = absurd stop
+stop_is (Err (WrongSignature found)) takes o p failed lacks stop = absurd stop
+stop_is (Err (Differs mem address want found)) takes o p failed lacks stop = absurd stop
+stop_is (Err (ReadOnly mem)) takes o p failed lacks stop = absurd stop
+stop_is (Err Memory) takes o p failed lacks stop = lacks tt
+stop_is (Err RecvFailed) takes o p failed lacks stop = failed tt
 
 -- An operation and its report are a part of a session.
-pub operation_runs : {A : Type 0} {operation : Dialog ⊥ (Result A HostFault)} (takes : Bool) (outcome_says : Result A HostFault → List Saying) {m n : ℕ} {u v : List ℕ} {o p : Option Talk} (outcome : Result A HostFault) (d e : Option Record)
-    (said : Result (Unit {0}) Stopped) (S : List Saying → Cause → List ℕ → Type 0) (T : Cause → List ℕ → Type 0)
-    → ((mid : Option Record) (cause : Cause) (front : SaysFront cause d mid (outcome_says outcome)) (told : List ℕ) → T cause told → S (front.whole ++ front.begun) cause told)
-    → Ended takes operation m u o p outcome n v → length v ≤ 281 → Reports d e (outcome_says outcome) T said → (IsStop outcome → ToldBy S (cause_of outcome) d e)
-    → Runs (reported operation outcome_says) m u o p d e S (concluded outcome said) n v
-operation_runs {operation = operation} takes outcome_says {m = m} {n = n} {u = u} {v = v} {o = o} {p = p} outcome d e (Ok done) S T why (inl played) few reports some =
-    subst (λ r. Runs (reported operation outcome_says) m u o p d e S r n v) (sym played.1)
-    (ran_from (came_on (came_lifted (λ outcome. says (outcome_says outcome) (Done (standing outcome))) d played.0 few) (came_said (outcome_says outcome) (Done (standing outcome)) n v p reports)))
-operation_runs {operation = operation} takes outcome_says {n = n} {v = v} {p = p} outcome d e (Err stopped) S T why (inl played) few reports some =
-    broke_lifted (λ outcome. says (outcome_says outcome) (Done (standing outcome))) played.0 few
-    (broke_saying (outcome_says outcome) (Done (standing outcome)) n v p why reports)
-operation_runs {operation = operation} takes outcome_says {m = m} {n = n} {u = u} {v = v} {o = o} {p = p} outcome d e said S T why (inr (inl broke)) few reports some =
+pub operation_runs : {A : Type 0} {operation : Dialog ⊥ (Result A HostFault)} (takes : Bool) (outcome_says : Result A HostFault → List Saying) {m n : Progress} {o p : LinkView} {d e : DeskView} (outcome : Result A HostFault)
+    (said : Result (Unit {0}) Stopped) (terms : Terms) (By : DeskView → DeskView → Cause → List ℕ → Type 0) → StopsReport terms p d e (outcome_says outcome) By
+    → Ended takes operation m o p outcome n → length n.unread ≤ 281 → o.failures ≤ p.failures → SaysOrStops By d e (outcome_says outcome) said → (IsStop outcome → ToldBy terms (cause_of outcome) (devices o d) (devices p e))
+    → Runs (reported operation outcome_says) m (devices o d) (devices p e) terms (concluded outcome said) n
+operation_runs {operation = operation} takes outcome_says {m = m} {n = n} {o = o} {p = p} {d = d} {e = e} outcome (Ok done) terms By why (inl played) few link reports some =
+    subst (λ r. Runs (reported operation outcome_says) m (devices o d) (devices p e) terms r n) (sym played.1)
+    (ran_from (came_on (came_lifted (λ outcome. says (outcome_says outcome) (Done (standing outcome))) d played.0 few) (came_said (outcome_says outcome) (Done (standing outcome)) n p reports)))
+operation_runs {operation = operation} takes outcome_says {m = m} {n = n} {o = o} {p = p} {d = d} {e = e} outcome (Err stopped) terms By why (inl played) few link reports some =
+    broke_lifted (λ outcome. says (outcome_says outcome) (Done (standing outcome))) played.0 few link
+    (broke_saying (outcome_says outcome) (Done (standing outcome)) n p why reports)
+operation_runs {operation = operation} takes outcome_says {m = m} {n = n} {o = o} {p = p} {d = d} {e = e} outcome said terms By why (inr (inl broke)) few link reports some =
     let stop = link_stops broke.0 outcome broke.1 in
-    let why_not : ToldBy S (broken_cause broke.0) d e = subst (λ cause. ToldBy S cause d e) (link_cause broke.0 outcome broke.1) (some stop) in
-    subst (λ r. Runs (reported operation outcome_says) m u o p d e S r n v) (sym (stop_goes outcome said stop))
+    let why_not : ToldBy terms (broken_cause broke.0) (devices o d) (devices p e) = subst (λ cause. ToldBy terms cause (devices o d) (devices p e)) (link_cause broke.0 outcome broke.1) (some stop) in
+    subst (λ r. Runs (reported operation outcome_says) m (devices o d) (devices p e) terms r n) (sym (stop_goes outcome said stop))
     (broke_operation broke.0 (λ outcome. says (outcome_says outcome) (Done (standing outcome))) broke.2 why_not)
-operation_runs {operation = operation} takes outcome_says {m = m} {n = n} {u = u} {v = v} {o = o} {p = p} outcome d e said S T why (inr (inr lacks)) few reports some =
+operation_runs {operation = operation} takes outcome_says {m = m} {n = n} {o = o} {p = p} {d = d} {e = e} outcome said terms By why (inr (inr lacks)) few link reports some =
     let stop = memory_stops outcome lacks.1 in
-    let why_not : ToldBy S OfMemory d e = subst (λ cause. ToldBy S cause d e) (ap cause_of (memory_is outcome lacks.1)) (some stop) in
-    subst (λ r. Runs (reported operation outcome_says) m u o p d e S r n v) (sym (stop_goes outcome said stop))
-    (subst (λ q. BrokeOff (reported operation outcome_says) m u o q d e S) (sym lacks.2) (broke_lacking (reported operation outcome_says) m u o why_not))
+    let why_not : ToldBy terms OfMemory (devices o d) (devices p e) = subst (λ cause. ToldBy terms cause (devices o d) (devices p e)) (ap cause_of (memory_is outcome lacks.1)) (some stop) in
+    subst (λ r. Runs (reported operation outcome_says) m (devices o d) (devices p e) terms r n) (sym (stop_goes outcome said stop))
+    (broke_lacking (reported operation outcome_says) m lacks.2 why_not)

@@ -1,7 +1,7 @@
 -- Where a run stops: what stands before it and what follows it changes nothing.
 use Rattle.std.proofs.Common.{◌≡◌, ◌∙◌, ℕ, List, [], ◌∷◌, ◌++◌, map, refl, sym, ap, subst, append_assoc, take, drop, Option, Some, option_map, inl, inr, codes}
 use Rattle.std.proofs.lemmas.List.{take-append-drop}
-use Rattle.avr_desk.specs.Record.{Record}
+use Rattle.avr_desk.specs.Record.{DeskView, Passes}
 use Rattle.avr_desk.specs.Stream.{SendsPart}
 use Rattle.avr_desk.specs.declared.stream.Stream.TheVariants.{File, Output, Messages}
 use Rattle.stk_host.specs.Dialog.{Event, Frame, Said, sayings}
@@ -91,7 +91,7 @@ pub sayings_by : (xs : List Saying) (events : List (Event Saying)) → map Said 
 sayings_by xs events is = sym (sayings_said xs) ∙ ap sayings is
 
 -- sayings that were done, and a front of others behind them
-pub front_behind : {cause : Cause} {d e f : Option Record} (done more : List Saying) → e ≡ option_map (after_all done) d → SaysFront cause e f more → SaysFront cause d f (done ++ more)
+pub front_behind : {cause : Cause} {d e f : DeskView} (done more : List Saying) → Passes (after_all done) d e → SaysFront cause e f more → SaysFront cause d f (done ++ more)
 front_behind {cause = cause} {d = d} {e = e} {f = f} done more kept x = record {
   whole = done ++ x.whole;
   begun = x.begun;
@@ -100,11 +100,11 @@ front_behind {cause = cause} {d = d} {e = e} {f = f} done more kept x = record {
   place = subst (λ (whole : List (Event Saying)). StopsAt cause whole (map Said x.begun) (map Said x.later)) (sym (map_append done x.whole))
       (place_behind cause (map Said done) (map Said x.whole) (map Said x.begun) (map Said x.later) x.place);
   by_desk = x.by_desk;
-  kept = subst (λ ss. f ≡ option_map (after_all ss) d) (sym (append_assoc done x.whole x.begun)) (kept_append done (x.whole ++ x.begun) d e f kept x.kept);
+  kept = subst (λ ss. Passes (after_all ss) d f) (sym (append_assoc done x.whole x.begun)) (kept_append done (x.whole ++ x.begun) d.kept e.kept f.kept kept x.kept);
 }
 
 -- a front of some sayings is a front of more
-pub front_of : {cause : Cause} {d e : Option Record} (some more : List Saying) → SaysFront cause d e some → SaysFront cause d e (some ++ more)
+pub front_of : {cause : Cause} {d e : DeskView} (some more : List Saying) → SaysFront cause d e some → SaysFront cause d e (some ++ more)
 front_of {cause = cause} some more x = record {
   whole = x.whole;
   begun = x.begun;
@@ -117,7 +117,7 @@ front_of {cause = cause} some more x = record {
 }
 
 -- a line of which a front was printed
-pub line_part : (old new : Option Record) (bytes : Bytes) → SendsPart Messages old new bytes → SaysFront OfPrinting old new (Line bytes ∷ [])
+pub line_part : (old new : DeskView) (bytes : Bytes) → SendsPart Messages old new bytes → SaysFront OfPrinting old new (Line bytes ∷ [])
 line_part old new bytes part = record {
   whole = [];
   begun = Line (take part.0 bytes) ∷ [];
@@ -129,7 +129,7 @@ line_part old new bytes part = record {
 }
 
 -- a file that was created, and of whose bytes a front was written
-pub file_part : (old mid new : Option Record) (file bytes : Bytes) → mid ≡ option_map (after_all (Creates file ∷ [])) old → SendsPart File mid new bytes
+pub file_part : (old mid new : DeskView) (file bytes : Bytes) → Passes (after_all (Creates file ∷ [])) old mid → SendsPart File mid new bytes
     → SaysFront (OfFile file NotWritten) old new (Creates file ∷ Writes bytes ∷ [])
 file_part old mid new file bytes created part = record {
   whole = Creates file ∷ [];
@@ -138,11 +138,11 @@ file_part old mid new file bytes created part = record {
   sayings_are = refl;
   place = inl (record { bytes = bytes; done = take part.0 bytes; before = []; more = []; created = refl; due = refl; part = refl; front = (drop part.0 bytes, take-append-drop part.0 bytes) });
   by_desk = tt;
-  kept = kept_append (Creates file ∷ []) (Writes (take part.0 bytes) ∷ []) old mid new created part.2;
+  kept = kept_append (Creates file ∷ []) (Writes (take part.0 bytes) ∷ []) old.kept mid.kept new.kept created part.2;
 }
 
 -- bytes of the output of which a front was written
-pub output_part : (old new : Option Record) (file bytes : Bytes) → file ≡ codes "-" → SendsPart Output old new bytes → SaysFront (OfFile file NotWritten) old new (Outs bytes ∷ [])
+pub output_part : (old new : DeskView) (file bytes : Bytes) → file ≡ codes "-" → SendsPart Output old new bytes → SaysFront (OfFile file NotWritten) old new (Outs bytes ∷ [])
 output_part old new file bytes named part = record {
   whole = [];
   begun = Outs (take part.0 bytes) ∷ [];

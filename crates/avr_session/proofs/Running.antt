@@ -1,12 +1,15 @@
 -- How a call over a link and a desk goes on in its dialog.
-use Rattle.std.proofs.Common.{◌≡◌, ℕ, ◌≤◌, List, [], ◌∷◌, ◌++◌, append_assoc, append-nil, length, map, refl, sym, ap, ◌∙◌, subst, Option, None, option_map}
-use Rattle.avr_desk.specs.Record.{Record, after_err}
+use Rattle.std.proofs.Common.{◌≡◌, ℕ, ◌≤◌, Bool, true, ◌||◌, arith, List, [], ◌∷◌, ◌++◌, append_assoc, append-nil, length, map, refl, sym, ap, ◌∙◌, subst, Option, None, option_map}
+use Rattle.std.proofs.Math.Bool.{or_assoc}
+use Rattle.std.proofs.lemmas.List.Folds.{list_any-append}
+use Rattle.avr_desk.specs.Fault.{Follows}
+use Rattle.avr_desk.specs.Record.{Record, DeskView, Passes, after_err}
 use Rattle.stk_host.specs.declared.fault.Broken.{Broken}
 use Rattle.stk_host.specs.declared.fault.Broken.TheVariants.{Send, Recv}
 use Rattle.stk_host.specs.Tape.{Tape, on_tape}
-use Rattle.stk_host.specs.Talk.{Talk, Grows, heard}
+use Rattle.stk_host.specs.Talk.{Talk, LinkView, Grows, heard}
 use Rattle.stk_host.specs.Dialog.{Dialog, Done, ◌>>=◌, lifted, Event, Frame, Said, Played, played, bytes_sent, sayings}
-use Rattle.stk_host.specs.Play.{Plays, PlaysOver, FailsOver}
+use Rattle.stk_host.specs.Play.{Progress, PlaysOver, FailsOver}
 use Rattle.stk_host.specs.Reach.{Leads}
 use Rattle.stk_host.proofs.Talks.{grows_none, grows_on}
 use Rattle.stk_host.proofs.Leading.{continued, played_bind, leads_here, leads_on, leads_bind, leads_say, leads_from, plays_from, breaks_on, breaks_bind}
@@ -14,18 +17,19 @@ use Rattle.stk_host.proofs.Lifting.{raised, plays_lifted, by_lifted, sayings_rai
 use Rattle.stk_host.proofs.Talks.{heard_append}
 use Rattle.avr_message.specs.Said.{Saying, SaidPart, after_all}
 use Rattle.avr_message.proofs.Saying.{kept_on, kept_none, after_append}
+use Rattle.avr_message.proofs.Telling.{risen_later, failed_later, follows_on}
 use Rattle.avr_session.specs.Session.{says}
-use Rattle.avr_session.specs.Runs.{Cause, OfSending, OfListening, OfFile, OfPrinting, OfMemory, Listens, SaysFront, Ran, BrokeOff, SaidSome}
+use Rattle.avr_session.specs.Runs.{Devices, devices, Cause, OfSending, OfListening, OfFile, OfPrinting, OfMemory, is_error, tells_fault, HasCome, TellsCause, Listens, Terms, StopsBehind, SaysFront, Ran, BrokeOff, SaidSome}
 use Rattle.avr_session.proofs.Places.{place_more, place_behind, place_part, desk_says, desk_listens, sayings_said, map_append}
 
 -- a call has come so far: what is left of its dialog, and what was sent and said
-pub record Came {R : Type 0} (dialog : Dialog Saying R) (seq : ℕ) (unread : List ℕ) (old new : Option Talk) (old_desk new_desk : Option Record) (rest : Dialog Saying R) (next : ℕ) (left : List ℕ) : Type 0 where
+pub record Came {R : Type 0} (dialog : Dialog Saying R) (before : Progress) (old new : Devices) (rest : Dialog Saying R) (after : Progress) : Type 0 where
   pub during : Talk
   pub events : List (Event Saying)
-  pub grows : Grows old during new
-  pub leads : Leads dialog seq unread during events rest next left
-  pub few : length unread ≤ 281 → length left ≤ 281
-  pub kept : new_desk ≡ option_map (after_all (sayings events)) old_desk
+  pub grows : Grows old.link.talk during new.link.talk
+  pub leads : Leads dialog before.next before.unread during events rest after.next after.unread
+  pub few : length before.unread ≤ 281 → length after.unread ≤ 281
+  pub kept : Passes (after_all (sayings events)) old.desk new.desk
 
 -- sayings among events
 
@@ -39,30 +43,29 @@ after_both x y r = ap (λ ss. after_all ss r) (sayings_append x y) ∙ after_app
 
 -- how far a call has come
 
-pub came_here : {R : Type 0} (dialog : Dialog Saying R) (seq : ℕ) (u : List ℕ) (o : Option Talk) (d : Option Record) → Came dialog seq u o o d d dialog seq u
-came_here dialog seq u o d = record { during = []; events = []; grows = grows_none o; leads = leads_here dialog seq u; few = λ f. f; kept = kept_none d }
+pub came_here : {R : Type 0} (dialog : Dialog Saying R) (m : Progress) (o : Devices) → Came dialog m o o dialog m
+came_here dialog m o = record { during = []; events = []; grows = grows_none o.link.talk; leads = leads_here dialog m.next m.unread; few = λ f. f; kept = kept_none o.desk.kept }
 
-pub came_on : {R : Type 0} {a b c : Dialog Saying R} {l m n : ℕ} {u v w : List ℕ} {o p q : Option Talk} {d e f : Option Record}
-    → Came a l u o p d e b m v → Came b m v p q e f c n w → Came a l u o q d f c n w
-came_on {o = o} {p = p} {q = q} {d = d} {e = e} {f = f} x y = record {
+pub came_on : {R : Type 0} {a b c : Dialog Saying R} {l m n : Progress} {o p q : Devices} → Came a l o p b m → Came b m p q c n → Came a l o q c n
+came_on {o = o} {p = p} {q = q} x y = record {
   during = x.during ++ y.during;
   events = x.events ++ y.events;
-  grows = grows_on o p q x.during y.during x.grows y.grows;
+  grows = grows_on o.link.talk p.link.talk q.link.talk x.during y.during x.grows y.grows;
   leads = leads_on x.leads y.leads;
   few = λ few. y.few (x.few few);
-  kept = kept_on (after_all (sayings x.events)) (after_all (sayings y.events)) (after_all (sayings (x.events ++ y.events))) d e f (after_both x.events y.events) x.kept y.kept;
+  kept = kept_on (after_all (sayings x.events)) (after_all (sayings y.events)) (after_all (sayings (x.events ++ y.events))) o.desk.kept p.desk.kept q.desk.kept (after_both x.events y.events) x.kept y.kept;
 }
 
 -- an operation of the host, and what follows it
-pub came_lifted : {A R : Type 0} {dialog : Dialog ⊥ A} {m n : ℕ} {u v : List ℕ} {o p : Option Talk} {result : A} (go_on : A → Dialog Saying R) (d : Option Record)
-    → PlaysOver dialog m u o p result n v → length v ≤ 281 → Came (lifted dialog >>= go_on) m u o p d d (go_on result) n v
+pub came_lifted : {A R : Type 0} {dialog : Dialog ⊥ A} {m n : Progress} {o p : LinkView} {result : A} (go_on : A → Dialog Saying R) (d : DeskView)
+    → PlaysOver dialog m o p result n → length n.unread ≤ 281 → Came (lifted dialog >>= go_on) m (devices o d) (devices p d) (go_on result) n
 came_lifted go_on d f few = record {
   during = f.during;
   events = raised f.events;
   grows = f.grows;
   leads = leads_bind go_on (leads_from (plays_lifted f.plays));
   few = λ _. few;
-  kept = subst (λ ss. d ≡ option_map (after_all ss) d) (sym (sayings_raised f.events)) (kept_none d);
+  kept = subst (λ ss. Passes (after_all ss) d d) (sym (sayings_raised f.events)) (kept_none d.kept);
 }
 
 leads_says : {R : Type 0} (xs : List Saying) (dialog : Dialog Saying R) (seq : ℕ) (u : List ℕ) → Leads (says xs dialog) seq u [] (map Said xs) dialog seq u
@@ -70,45 +73,79 @@ leads_says [] dialog seq u = leads_here dialog seq u
 leads_says (x ∷ xs) dialog seq u = leads_on (leads_say x (says xs dialog) seq u) (leads_says xs dialog seq u)
 
 -- what is said
-pub came_said : {R : Type 0} (xs : List Saying) (dialog : Dialog Saying R) (seq : ℕ) (u : List ℕ) (o : Option Talk) {d e : Option Record}
-    → e ≡ option_map (after_all xs) d → Came (says xs dialog) seq u o o d e dialog seq u
-came_said xs dialog seq u o {d = d} {e = e} kept = record {
+pub came_said : {R : Type 0} (xs : List Saying) (dialog : Dialog Saying R) (m : Progress) (o : LinkView) {d e : DeskView} → Passes (after_all xs) d e → Came (says xs dialog) m (devices o d) (devices o e) dialog m
+came_said xs dialog m o {d = d} {e = e} kept = record {
   during = [];
   events = map Said xs;
-  grows = grows_none o;
-  leads = leads_says xs dialog seq u;
+  grows = grows_none o.talk;
+  leads = leads_says xs dialog m.next m.unread;
   few = λ f. f;
-  kept = subst (λ ss. e ≡ option_map (after_all ss) d) (sym (sayings_said xs)) kept;
+  kept = subst (λ ss. Passes (after_all ss) d e) (sym (sayings_said xs)) kept;
 }
 
-pub ran_from : {R : Type 0} {a : Dialog Saying R} {m n : ℕ} {u v : List ℕ} {o p : Option Talk} {d e : Option Record} {result : R} → Came a m u o p d e (Done result) n v → Ran a m u o p d e result n v
+pub ran_from : {R : Type 0} {a : Dialog Saying R} {m n : Progress} {o p : Devices} {result : R} → Came a m o p (Done result) n → Ran a m o p result n
 ran_from f = record { during = f.during; events = f.events; grows = f.grows; plays = plays_from f.leads; few = f.few; kept = f.kept }
 
-came_from : {R : Type 0} {a : Dialog Saying R} {m n : ℕ} {u v : List ℕ} {o p : Option Talk} {d e : Option Record} {result : R} → Ran a m u o p d e result n v → Came a m u o p d e (Done result) n v
+came_from : {R : Type 0} {a : Dialog Saying R} {m n : Progress} {o p : Devices} {result : R} → Ran a m o p result n → Came a m o p (Done result) n
 came_from f = record { during = f.during; events = f.events; grows = f.grows; leads = leads_from f.plays; few = f.few; kept = f.kept }
 
 -- a part of a dialog was played whole
-pub came_part : {A R : Type 0} {a : Dialog Saying A} {m n : ℕ} {u v : List ℕ} {o p : Option Talk} {d e : Option Record} {result : A} (go_on : A → Dialog Saying R)
-    → Ran a m u o p d e result n v → Came (a >>= go_on) m u o p d e (go_on result) n v
+pub came_part : {A R : Type 0} {a : Dialog Saying A} {m n : Progress} {o p : Devices} {result : A} (go_on : A → Dialog Saying R) → Ran a m o p result n → Came (a >>= go_on) m o p (go_on result) n
 came_part go_on f = record { during = f.during; events = f.events; grows = f.grows; leads = leads_bind go_on (leads_from f.plays); few = f.few; kept = f.kept }
 
-pub ran_on : {R : Type 0} {a b : Dialog Saying R} {m n l : ℕ} {u v w : List ℕ} {o p q : Option Talk} {d e f : Option Record} {result : R} → Came a m u o p d e b n v → Ran b n v p q e f result l w → Ran a m u o q d f result l w
+pub ran_on : {R : Type 0} {a b : Dialog Saying R} {l m n : Progress} {o p q : Devices} {result : R} → Came a l o p b m → Ran b m p q result n → Ran a l o q result n
 ran_on x y = ran_from (came_on x (came_from y))
 
 -- breaking off
 
-pub broke_on : {R : Type 0} {a b : Dialog Saying R} {m n : ℕ} {u v : List ℕ} {o p q : Option Talk} {d e f : Option Record} {S T : List Saying → Cause → List ℕ → Type 0} (x : Came a m u o p d e b n v)
-    → ((said : List Saying) (cause : Cause) (told : List ℕ) → S said cause told → T (sayings x.events ++ said) cause told) → BrokeOff b n v p q e f S → BrokeOff a m u o q d f T
-broke_on {a = a} {m = m} {u = u} {o = o} {p = p} {q = q} {d = d} {e = e} {f = f} {T = T} x why y =
+-- what stops such a part stops the whole, behind these sayings
+abbrev pub StopsWhole : Terms → Terms → List Saying → Devices → Devices → Devices → Type 0
+StopsWhole some all before o p q = (said : List Saying) (cause : Cause) (told : List ℕ) → StopsBehind some p q said cause told → StopsBehind all o q (before ++ said) cause told
+
+-- a cause that comes in a part comes in the whole
+has_come_in : (some all : Bool) (o p then : Devices) → (some ≡ true → all ≡ true) → o.link.failures ≤ p.link.failures → Follows o.desk p.desk → (cause : Cause) → HasCome some p then cause → HasCome all o then cause
+has_come_in some all o p then takes link desk OfSending come = risen_later o.link.failures p.link.failures then.link.failures link come
+has_come_in some all o p then takes link desk OfListening come = risen_later o.link.failures p.link.failures then.link.failures link come
+has_come_in some all o p then takes link desk (OfFile file trouble) come = failed_later o.desk p.desk then.desk desk come
+has_come_in some all o p then takes link desk OfPrinting come = failed_later o.desk p.desk then.desk desk come
+has_come_in some all o p then takes link desk OfMemory come = takes come
+
+-- behind other sayings, where they tell what is taken to be told
+pub stops_in : (some all : Terms) (before : List Saying) (o p q : Devices) → (some.takes ≡ true → all.takes ≡ true) → o.link.failures ≤ p.link.failures → Follows o.desk p.desk → (all.was_told || tells_fault before) ≡ some.was_told
+    → StopsWhole some all before o p q
+stops_in some all before o p q takes link desk same said cause told stops =
+    let flags : (some.was_told || tells_fault said) ≡ (all.was_told || tells_fault (before ++ said)) =
+    ap (λ x. x || tells_fault said) (sym same) ∙ (or_assoc all.was_told (tells_fault before) (tells_fault said) ∙ ap (λ x. all.was_told || x) (sym (list_any-append is_error before said))) in
+    record {
+      between = stops.between;
+      has_come = has_come_in some.takes all.takes o p (devices q.link stops.between) takes link desk cause stops.has_come;
+      tells = subst (λ x. TellsCause x cause told stops.between q.desk) flags stops.tells;
+      since = follows_on o.desk p.desk stops.between desk stops.since;
+      until = stops.until;
+    }
+
+-- since before, or where more may take memory
+pub stops_since : (takes more told : Bool) (o p q : Devices) → (takes ≡ true → more ≡ true) → o.link.failures ≤ p.link.failures → Follows o.desk p.desk → (said : List Saying) (cause : Cause) (line : List ℕ)
+    → StopsBehind (record { takes = takes; was_told = told }) p q said cause line → StopsBehind (record { takes = more; was_told = told }) o q said cause line
+stops_since takes more told o p q also link desk said cause line stops = record {
+  between = stops.between;
+  has_come = has_come_in takes more o p (devices q.link stops.between) also link desk cause stops.has_come;
+  tells = stops.tells;
+  since = follows_on o.desk p.desk stops.between desk stops.since;
+  until = stops.until;
+}
+
+pub broke_on : {R : Type 0} {a b : Dialog Saying R} {m n : Progress} {o p q : Devices} {some all : Terms} (x : Came a m o p b n) → StopsWhole some all (sayings x.events) o p q → BrokeOff b n p q some → BrokeOff a m o q all
+broke_on {a = a} {m = m} {o = o} {p = p} {q = q} {all = all} x why y =
     let front = y.breaks.front in
     let whole = breaks_on SaidPart x.leads y.breaks in
-    let play = ap (λ t. played a m (on_tape u ++ t)) (heard_append x.during y.during) ∙ x.leads.goes_on (heard y.during) in
+    let play = ap (λ t. played a m.next (on_tape m.unread ++ t)) (heard_append x.during y.during) ∙ x.leads.goes_on (heard y.during) in
     record {
       during = x.during ++ y.during;
       shown = x.events ++ y.shown;
       cause = y.cause;
       told = y.told;
-      grows = grows_on o p q x.during y.during x.grows y.grows;
+      grows = grows_on o.link.talk p.link.talk q.link.talk x.during y.during x.grows y.grows;
       breaks = record {
         front = record {
           whole = x.events ++ front.whole;
@@ -124,20 +161,22 @@ broke_on {a = a} {m = m} {u = u} {o = o} {p = p} {q = q} {d = d} {e = e} {f = f}
       };
       place = place_behind y.cause x.events front.whole front.begun front.later y.place;
       listens = subst (Listens y.cause) (sym (ap (λ (play : Played Saying _). play.outcome) play)) y.listens;
-      stops = subst (λ said. T said y.cause y.told) (sym (sayings_append x.events y.shown)) (why (sayings y.shown) y.cause y.told y.stops);
-      kept = kept_on (after_all (sayings x.events)) (λ r. after_err y.told (after_all (sayings y.shown) r)) (λ r. after_err y.told (after_all (sayings (x.events ++ y.shown)) r)) d e f
+      stops = subst (λ said. StopsBehind all o q said y.cause y.told) (sym (sayings_append x.events y.shown)) (why (sayings y.shown) y.cause y.told y.stops);
+      kept = kept_on (after_all (sayings x.events)) (λ r. after_err y.told (after_all (sayings y.shown) r)) (λ r. after_err y.told (after_all (sayings (x.events ++ y.shown)) r)) o.desk.kept p.desk.kept q.desk.kept
           (λ r. ap (after_err y.told) (after_both x.events y.shown r)) x.kept y.kept;
     }
 
 -- behind an operation of the host
-pub broke_lifted : {A R : Type 0} {dialog : Dialog ⊥ A} {m n : ℕ} {u v : List ℕ} {o p q : Option Talk} {result : A} {d e : Option Record} {S : List Saying → Cause → List ℕ → Type 0} (go_on : A → Dialog Saying R)
-    → PlaysOver dialog m u o p result n v → length v ≤ 281 → BrokeOff (go_on result) n v p q d e S → BrokeOff (lifted dialog >>= go_on) m u o q d e S
+pub broke_lifted : {A R : Type 0} {dialog : Dialog ⊥ A} {m n : Progress} {o p : LinkView} {d e : DeskView} {result : A} {terms : Terms} (go_on : A → Dialog Saying R) → PlaysOver dialog m o p result n → length n.unread ≤ 281
+    → o.failures ≤ p.failures → BrokeOff (go_on result) n (devices p d) (devices p e) terms → BrokeOff (lifted dialog >>= go_on) m (devices o d) (devices p e) terms
 unfolding came_lifted
-broke_lifted {d = d} {S = S} go_on f few y = broke_on (came_lifted go_on d f few) (λ said cause told s. subst (λ (ss : List Saying). S (ss ++ said) cause told) (sym (sayings_raised f.events)) s) y
+broke_lifted {o = o} {p = p} {d = d} {e = e} {terms = terms} go_on f few link y =
+    broke_on (came_lifted go_on d f few) (λ said cause told s. subst (λ (ss : List Saying). StopsBehind terms (devices o d) (devices p e) (ss ++ said) cause told) (sym (sayings_raised f.events))
+    (stops_since terms.takes terms.takes terms.was_told (devices o d) (devices p d) (devices p e) (λ t. t) link (omega arith) said cause told s)) y
 
 -- behind a part that was played whole
-pub broke_after : {A R : Type 0} {a : Dialog Saying A} {m n : ℕ} {u v : List ℕ} {o p q : Option Talk} {d e f : Option Record} {result : A} {S T : List Saying → Cause → List ℕ → Type 0} (go_on : A → Dialog Saying R) (ran : Ran a m u o p d e result n v)
-    → ((said : List Saying) (cause : Cause) (told : List ℕ) → S said cause told → T (sayings ran.events ++ said) cause told) → BrokeOff (go_on result) n v p q e f S → BrokeOff (a >>= go_on) m u o q d f T
+pub broke_after : {A R : Type 0} {a : Dialog Saying A} {m n : Progress} {o p q : Devices} {result : A} {some all : Terms} (go_on : A → Dialog Saying R) (ran : Ran a m o p result n)
+    → StopsWhole some all (sayings ran.events) o p q → BrokeOff (go_on result) n p q some → BrokeOff (a >>= go_on) m o q all
 unfolding came_part
 broke_after go_on ran why y = broke_on (came_part go_on ran) why y
 
@@ -155,13 +194,13 @@ listens_behind OfPrinting outcome go_on listens = tt
 listens_behind OfMemory outcome go_on listens = tt
 
 -- in a part of a dialog
-pub broke_part : {A R : Type 0} {a : Dialog Saying A} {m : ℕ} {u : List ℕ} {o p : Option Talk} {d e : Option Record} {S T : List Saying → Cause → List ℕ → Type 0} (go_on : A → Dialog Saying R) → ((said : List Saying) (cause : Cause) (told : List ℕ) → S said cause told → T said cause told)
-    → BrokeOff a m u o p d e S → BrokeOff (a >>= go_on) m u o p d e T
-broke_part {a = a} {m = m} {u = u} go_on why f =
+pub broke_part : {A R : Type 0} {a : Dialog Saying A} {m : Progress} {o p : Devices} {some all : Terms} (go_on : A → Dialog Saying R) → ((said : List Saying) (cause : Cause) (told : List ℕ) → StopsBehind some o p said cause told → StopsBehind all o p said cause told)
+    → BrokeOff a m o p some → BrokeOff (a >>= go_on) m o p all
+broke_part {a = a} {m = m} go_on why f =
     let front = f.breaks.front in
-    let tape = on_tape u ++ heard f.during in
-    let more = (continued (played a m tape).outcome (λ r. played (go_on r))).events in
-    let quiet = none_behind f.cause (played a m tape).outcome (λ r. played (go_on r)) f.listens in
+    let tape = on_tape m.unread ++ heard f.during in
+    let more = (continued (played a m.next tape).outcome (λ r. played (go_on r))).events in
+    let quiet = none_behind f.cause (played a m.next tape).outcome (λ r. played (go_on r)) f.listens in
     let place = place_more f.cause front.whole front.begun front.later more quiet f.place in
     record {
       during = f.during;
@@ -175,14 +214,14 @@ broke_part {a = a} {m = m} {u = u} go_on why f =
           begun = front.begun;
           later = front.later ++ more;
           shown_is = front.shown_is;
-          events_are = ap (λ (play : Played Saying _). play.events) (played_bind a go_on m tape) ∙ (ap (λ es. es ++ more) front.events_are ∙ append_assoc front.whole front.later more);
+          events_are = ap (λ (play : Played Saying _). play.events) (played_bind a go_on m.next tape) ∙ (ap (λ es. es ++ more) front.events_are ∙ append_assoc front.whole front.later more);
           part = place_part f.cause front.whole front.begun (front.later ++ more) place;
         };
         all_sent = f.breaks.all_sent;
         in_turn = (breaks_bind SaidPart go_on f.breaks).in_turn;
       };
       place = place;
-      listens = subst (Listens f.cause) (sym (ap (λ (play : Played Saying _). play.outcome) (played_bind a go_on m tape))) (listens_behind f.cause (played a m tape).outcome (λ r. played (go_on r)) f.listens);
+      listens = subst (Listens f.cause) (sym (ap (λ (play : Played Saying _). play.outcome) (played_bind a go_on m.next tape))) (listens_behind f.cause (played a m.next tape).outcome (λ r. played (go_on r)) f.listens);
       stops = why (sayings f.shown) f.cause f.told f.stops;
       kept = f.kept;
     }
@@ -193,15 +232,18 @@ abbrev pub broken_cause : Broken → Cause
 broken_cause Send = OfSending
 broken_cause Recv = OfListening
 
-broke_raised : {A : Type 0} (by : Broken) {dialog : Dialog ⊥ A} {m : ℕ} {u : List ℕ} {o p : Option Talk} {d e : Option Record} {S : List Saying → Cause → List ℕ → Type 0} (told : List ℕ)
-    → FailsOver by dialog m u o p → S [] (broken_cause by) told → e ≡ option_map (after_err told) d → BrokeOff (lifted dialog) m u o p d e S
-broke_raised Send {dialog = dialog} {m = m} {u = u} {d = d} {e = e} {S = S} told f stops kept =
-    let g = by_lifted Saying Send dialog m u f.during f.shown f.breaks in
+-- of a cause this was told, behind nothing that was said
+abbrev pub ToldBy : Terms → Cause → Devices → Devices → Type 0
+ToldBy terms cause o p = (told : List ℕ) × StopsBehind terms o p [] cause told × Passes (after_err told) o.desk p.desk
+
+broke_raised : {A : Type 0} (by : Broken) {dialog : Dialog ⊥ A} {m : Progress} {o p : Devices} {terms : Terms} → FailsOver by dialog m o.link p.link → ToldBy terms (broken_cause by) o p → BrokeOff (lifted dialog) m o p terms
+broke_raised Send {dialog = dialog} {m = m} {o = o} {p = p} {terms = terms} f some =
+    let g = by_lifted Saying Send dialog m.next m.unread f.during f.shown f.breaks in
     record {
       during = f.during;
       shown = raised f.shown;
       cause = OfSending;
-      told = told;
+      told = some.0;
       grows = f.grows;
       breaks = record {
         front = record {
@@ -217,16 +259,16 @@ broke_raised Send {dialog = dialog} {m = m} {u = u} {d = d} {e = e} {S = S} told
       };
       place = record { done = g.part; unsent = g.unsent; more = g.later; due = refl; part = refl; not_whole = g.not_whole };
       listens = tt;
-      stops = subst (λ said. S said OfSending told) (sym (sayings_raised f.shown)) stops;
-      kept = subst (λ ss. e ≡ option_map (λ r. after_err told (after_all ss r)) d) (sym (sayings_raised f.shown)) kept;
+      stops = subst (λ said. StopsBehind terms o p said OfSending some.0) (sym (sayings_raised f.shown)) some.1;
+      kept = subst (λ ss. Passes (λ r. after_err some.0 (after_all ss r)) o.desk p.desk) (sym (sayings_raised f.shown)) some.2;
     }
-broke_raised Recv {dialog = dialog} {m = m} {u = u} {d = d} {e = e} {S = S} told f stops kept =
-    let g = by_lifted Saying Recv dialog m u f.during f.shown f.breaks in
+broke_raised Recv {dialog = dialog} {m = m} {o = o} {p = p} {terms = terms} f some =
+    let g = by_lifted Saying Recv dialog m.next m.unread f.during f.shown f.breaks in
     record {
       during = f.during;
       shown = raised f.shown;
       cause = OfListening;
-      told = told;
+      told = some.0;
       grows = f.grows;
       breaks = record {
         front = record {
@@ -242,17 +284,13 @@ broke_raised Recv {dialog = dialog} {m = m} {u = u} {d = d} {e = e} {S = S} told
       };
       place = (refl, refl);
       listens = g.waits;
-      stops = subst (λ said. S said OfListening told) (sym (sayings_raised f.shown)) stops;
-      kept = subst (λ ss. e ≡ option_map (λ r. after_err told (after_all ss r)) d) (sym (sayings_raised f.shown)) kept;
+      stops = subst (λ said. StopsBehind terms o p said OfListening some.0) (sym (sayings_raised f.shown)) some.1;
+      kept = subst (λ ss. Passes (λ r. after_err some.0 (after_all ss r)) o.desk p.desk) (sym (sayings_raised f.shown)) some.2;
     }
 
--- of a cause this was told, behind nothing that was said
-abbrev pub ToldBy : (List Saying → Cause → List ℕ → Type 0) → Cause → Option Record → Option Record → Type 0
-ToldBy S cause d e = (told : List ℕ) × S [] cause told × (e ≡ option_map (after_err told) d)
-
-pub broke_operation : {A R : Type 0} (by : Broken) {dialog : Dialog ⊥ A} {m : ℕ} {u : List ℕ} {o p : Option Talk} {d e : Option Record} {S : List Saying → Cause → List ℕ → Type 0} (go_on : A → Dialog Saying R)
-    → FailsOver by dialog m u o p → ToldBy S (broken_cause by) d e → BrokeOff (lifted dialog >>= go_on) m u o p d e S
-broke_operation by go_on f some = broke_part go_on (λ said cause told s. s) (broke_raised by some.0 f some.1 some.2)
+pub broke_operation : {A R : Type 0} (by : Broken) {dialog : Dialog ⊥ A} {m : Progress} {o p : Devices} {terms : Terms} (go_on : A → Dialog Saying R)
+    → FailsOver by dialog m o.link p.link → ToldBy terms (broken_cause by) o p → BrokeOff (lifted dialog >>= go_on) m o p terms
+broke_operation by go_on f some = broke_part go_on (λ said cause told s. s) (broke_raised by f some)
 
 -- in what is said
 
@@ -264,26 +302,30 @@ no_bytes : (xs : List Saying) → bytes_sent (map {B = Event Saying} Said xs) �
 no_bytes [] = refl
 no_bytes (x ∷ xs) = no_bytes xs
 
-pub broke_saying : {R : Type 0} {S : Cause → List ℕ → Type 0} {T : List Saying → Cause → List ℕ → Type 0} {d e : Option Record} (xs : List Saying) (dialog : Dialog Saying R) (seq : ℕ) (u : List ℕ) (o : Option Talk)
-    → ((mid : Option Record) (cause : Cause) (front : SaysFront cause d mid xs) (told : List ℕ) → S cause told → T (front.whole ++ front.begun) cause told) → SaidSome d e xs S → BrokeOff (says xs dialog) seq u o o d e T
-broke_saying {T = T} {d = d} {e = e} xs dialog seq u o why f =
+-- what stops a report stops it behind a front of what it says
+abbrev pub StopsReport : Terms → LinkView → DeskView → DeskView → List Saying → (DeskView → DeskView → Cause → List ℕ → Type 0) → Type 0
+StopsReport terms o d e sayings By = (mid : DeskView) (cause : Cause) (front : SaysFront cause d mid sayings) (told : List ℕ) → By d e cause told → StopsBehind terms (devices o d) (devices o e) (front.whole ++ front.begun) cause told
+
+pub broke_saying : {R : Type 0} {By : DeskView → DeskView → Cause → List ℕ → Type 0} {terms : Terms} {d e : DeskView} (xs : List Saying) (dialog : Dialog Saying R) (m : Progress) (o : LinkView)
+    → StopsReport terms o d e xs By → SaidSome By d e xs → BrokeOff (says xs dialog) m (devices o d) (devices o e) terms
+broke_saying {terms = terms} {d = d} {e = e} xs dialog m o why f =
     let front = f.front in
     let shown : List Saying = front.whole ++ front.begun in
-    let more = (played dialog seq (on_tape u ++ [])).events in
+    let more = (played dialog m.next (on_tape m.unread ++ [])).events in
     let place = place_more f.cause (map Said front.whole) (map Said front.begun) (map Said front.later) more (λ listens. absurd (desk_says f.cause front.by_desk listens)) front.place in
     record {
       during = [];
       shown = map Said shown;
       cause = f.cause;
       told = f.told;
-      grows = grows_none o;
+      grows = grows_none o.talk;
       breaks = record {
         front = record {
           whole = map Said front.whole;
           begun = map Said front.begun;
           later = map Said front.later ++ more;
           shown_is = map_append front.whole front.begun;
-          events_are = says_events xs dialog seq u
+          events_are = says_events xs dialog m.next m.unread
               ∙ (ap (λ es. es ++ more) (ap (map {B = Event Saying} Said) front.sayings_are ∙ map_append front.whole front.later) ∙ append_assoc (map Said front.whole) (map Said front.later) more);
           part = place_part f.cause (map Said front.whole) (map Said front.begun) (map Said front.later ++ more) place;
         };
@@ -291,22 +333,22 @@ broke_saying {T = T} {d = d} {e = e} xs dialog seq u o why f =
         in_turn = tt;
       };
       place = place;
-      listens = desk_listens f.cause (played (says xs dialog) seq (on_tape u ++ [])).outcome front.by_desk;
-      stops = subst (λ said. T said f.cause f.told) (sym (sayings_said shown)) (why f.between f.cause f.front f.told f.stops);
-      kept = kept_on (after_all shown) (after_err f.told) (λ r. after_err f.told (after_all (sayings (map Said shown)) r)) d f.between e
+      listens = desk_listens f.cause (played (says xs dialog) m.next (on_tape m.unread ++ [])).outcome front.by_desk;
+      stops = subst (λ said. StopsBehind terms (devices o d) (devices o e) said f.cause f.told) (sym (sayings_said shown)) (why f.between f.cause f.front f.told f.stops);
+      kept = kept_on (after_all shown) (after_err f.told) (λ r. after_err f.told (after_all (sayings (map Said shown)) r)) d.kept f.between.kept e.kept
           (λ r. ap (after_err f.told) (ap (λ ss. after_all ss r) (sayings_said shown))) f.front.kept f.kept;
     }
 
 -- at once, for want of memory
-pub broke_lacking : {R : Type 0} {S : List Saying → Cause → List ℕ → Type 0} {d e : Option Record} (dialog : Dialog Saying R) (seq : ℕ) (u : List ℕ) (o : Option Talk) → ToldBy S OfMemory d e → BrokeOff dialog seq u o o d e S
-broke_lacking dialog seq u o some = record {
+pub broke_lacking : {R : Type 0} {terms : Terms} {o p : Devices} (dialog : Dialog Saying R) (m : Progress) → p.link ≡ o.link → ToldBy terms OfMemory o p → BrokeOff dialog m o p terms
+broke_lacking {o = o} dialog m same some = record {
   during = [];
   shown = [];
   cause = OfMemory;
   told = some.0;
-  grows = grows_none o;
+  grows = subst (λ (v : LinkView). Grows o.link.talk [] v.talk) (sym same) (grows_none o.link.talk);
   breaks = record {
-    front = record { whole = []; begun = []; later = (played dialog seq (on_tape u ++ [])).events; shown_is = refl; events_are = refl; part = tt };
+    front = record { whole = []; begun = []; later = (played dialog m.next (on_tape m.unread ++ [])).events; shown_is = refl; events_are = refl; part = tt };
     all_sent = refl;
     in_turn = tt;
   };

@@ -1,8 +1,8 @@
 -- Files that are created and written.
 use Rattle.std.proofs.Common.{◌≡◌, ◌≤◌, ℕ, true, List, [], ◌∷◌, ◌++◌, map, bytes_eq, codes, Option, option_map, Result, Ok, Err, ◌∙◌, refl, arith, Some, None}
 use Rattle.std.proofs.lemmas.Slice.Eq.{bytes_eq-Decides}
-use Rattle.avr_desk.specs.Record.{Record, after_create}
-use Rattle.avr_desk.specs.Fault.{HasFailed}
+use Rattle.avr_desk.specs.Record.{Record, DeskView, Passes, after_create}
+use Rattle.avr_desk.specs.Fault.{Follows, HasFailed}
 use Rattle.avr_desk.specs.Stream.{SendsPart}
 use Rattle.avr_desk.specs.declared.stream.Stream.{Stream}
 use Rattle.avr_desk.specs.declared.stream.Stream.TheVariants.{File, Output}
@@ -10,18 +10,19 @@ use Rattle.avr_desk.specs.declared.fault.DeskFault.{DeskFault}
 use Rattle.stk_host.specs.Dialog.{Said}
 use Rattle.avr_message.specs.Said.{Saying, Creates, Writes, Outs, Tells, after_all}
 use Rattle.avr_message.proofs.Saying.{kept_append, kept_none}
-use Rattle.avr_session.specs.Runs.{Cause, OfSending, OfListening, OfFile, OfPrinting, OfMemory, NotCreated, NotWritten, SaysFront, Reports, PrintStops, DeskStops, cause_line}
+use Rattle.avr_message.proofs.Telling.{failure_told, follows_on}
+use Rattle.avr_session.specs.Runs.{Cause, OfSending, OfListening, OfFile, OfPrinting, OfMemory, NotCreated, NotWritten, SaysFront, SaidSome, SaysOrStops, Reports, DeskStops, cause_line}
 use Rattle.avr_session.specs.Session.{saved}
 use Rattle.avr_session.specs.Saving.{SaveStops, WritesSome, WritesAll}
 use Rattle.avr_session.specs.declared.standing.Stopped.{Stopped}
-use Rattle.avr_session.proofs.Places.{front_behind, front_of, file_part, output_part}
-use Rattle.avr_session.proofs.Reporting.{file_stops_in, print_stops_later, print_is_desk}
+use Rattle.avr_session.proofs.Places.{file_part, output_part}
+use Rattle.avr_session.proofs.Reporting.{file_stops_in}
 
 same_record : (r : Option Record) (file : List ℕ) (fault : DeskFault) → option_map (after_create file (Err fault)) r ≡ r
 same_record None file fault = refl
 same_record (Some r) file fault = refl
 
-pub not_created : (old new : Option Record) (file : List ℕ) (result : Result (Unit {0}) DeskFault) (fault : DeskFault) (more : List Saying) → result ≡ Err fault → new ≡ option_map (after_create file result) old
+pub not_created : (old new : DeskView) (file : List ℕ) (result : Result (Unit {0}) DeskFault) (fault : DeskFault) (more : List Saying) → result ≡ Err fault → Passes (after_create file result) old new
     → SaysFront (OfFile file NotCreated) old new (Creates file ∷ more)
 not_created old new file (Ok done) fault more is kept = cc
 not_created old new file (Err other) fault more is kept = record {
@@ -31,11 +32,11 @@ not_created old new file (Err other) fault more is kept = record {
   sayings_are = refl;
   place = record { more = map Said more; due = refl; none = refl };
   by_desk = tt;
-  kept = kept ∙ (same_record old file other ∙ kept_none old);
+  kept = kept ∙ (same_record old.kept file other ∙ kept_none old.kept);
 }
 
 -- where a file can't be saved the desk has failed
-pub save_is_desk : (file : List ℕ) (before now : ℕ) (cause : Cause) (told : List ℕ) → SaveStops file before now cause told → DeskStops before now cause told
+pub save_is_desk : (file : List ℕ) (before now : DeskView) (cause : Cause) (told : List ℕ) → SaveStops file before now cause told → DeskStops before now cause told
 save_is_desk file before now OfSending told stops = absurd stops
 save_is_desk file before now OfListening told stops = absurd stops
 save_is_desk file before now (OfFile named NotCreated) told stops = stops.1
@@ -44,23 +45,27 @@ save_is_desk file before now OfPrinting told stops = absurd stops
 save_is_desk file before now OfMemory told stops = absurd stops
 
 -- a file was created, and its bytes were written, or a front of them
-pub created_then : (old mid new : Option Record) (file text : List ℕ) (a b c : ℕ) (created : Result (Unit {0}) DeskFault) (result : Result (Unit {0}) Stopped) {done : Unit {0}} → created ≡ Ok done
-    → mid ≡ option_map (after_create file created) old → a ≤ b → WritesAll File file mid new text b c result → Reports old new (Creates file ∷ Writes text ∷ []) (SaveStops file a c) result
-created_then old mid new file text a b c (Err fault) result is kept le writes = cc
-created_then old mid new file text a b c (Ok ok) (Ok done) is kept le writes = kept_append (Creates file ∷ []) (Writes text ∷ []) old mid new kept writes
-created_then old mid new file text a b c (Ok ok) (Err stopped) is kept le writes = record {
+text_then : (old mid new : DeskView) (file text : List ℕ) (result : Result (Unit {0}) Stopped) → Passes (after_all (Creates file ∷ [])) old mid → Follows old mid → WritesAll File file mid new text result
+    → SaysOrStops (SaveStops file) old new (Creates file ∷ Writes text ∷ []) result
+text_then old mid new file text (Ok done) kept le writes = kept_append (Creates file ∷ []) (Writes text ∷ []) old.kept mid.kept new.kept kept writes
+text_then old mid new file text (Err stopped) kept le writes = record {
   between = writes.between;
   cause = OfFile file NotWritten;
   front = file_part old mid writes.between file text kept writes.part;
   told = writes.told;
-  stops = (refl, file_stops_in a b c c file NotWritten writes.told le (omega arith) writes.stops);
+  stops = (refl, file_stops_in old mid new new file NotWritten writes.told le (omega arith) writes.stops);
   kept = writes.kept;
 }
 
+pub created_then : (old mid new : DeskView) (file text : List ℕ) (created : Result (Unit {0}) DeskFault) (result : Result (Unit {0}) Stopped) {done : Unit {0}} → created ≡ Ok done
+    → Passes (after_create file created) old mid → Follows old mid → Follows mid new → WritesAll File file mid new text result → Reports (SaveStops file) old new (Creates file ∷ Writes text ∷ []) result
+created_then old mid new file text (Err fault) result is kept first last writes = cc
+created_then old mid new file text (Ok ok) result is kept first last writes = record { says = text_then old mid new file text result kept first writes; follows = follows_on old mid new first last }
+
 -- bytes were written to standard output, or a front of them
-pub put_out : (old new : Option Record) (file text : List ℕ) (a b : ℕ) (result : Result (Unit {0}) Stopped) → file ≡ codes "-" → WritesAll Output file old new text a b result → Reports old new (Outs text ∷ []) (SaveStops file a b) result
-put_out old new file text a b (Ok done) named writes = writes
-put_out old new file text a b (Err stopped) named writes = record {
+put_out : (old new : DeskView) (file text : List ℕ) (result : Result (Unit {0}) Stopped) → file ≡ codes "-" → WritesAll Output file old new text result → SaysOrStops (SaveStops file) old new (Outs text ∷ []) result
+put_out old new file text (Ok done) named writes = writes
+put_out old new file text (Err stopped) named writes = record {
   between = writes.between;
   cause = OfFile file NotWritten;
   front = output_part old writes.between file text named writes.part;
@@ -69,39 +74,15 @@ put_out old new file text a b (Err stopped) named writes = record {
   kept = writes.kept;
 }
 
-pub saved_out : (old new : Option Record) (file text : List ℕ) (a b : ℕ) (result : Result (Unit {0}) Stopped) → bytes_eq file (codes "-") ≡ true → WritesAll Output file old new text a b result → Reports old new (saved file text) (SaveStops file a b) result
-saved_out old new file text a b result same writes = rw same (put_out old new file text a b result ((bytes_eq-Decides file (codes "-")).0 same) writes)
+pub saved_out : (old new : DeskView) (file text : List ℕ) (result : Result (Unit {0}) Stopped) → bytes_eq file (codes "-") ≡ true → WritesAll Output file old new text result → Follows old new → Reports (SaveStops file) old new (saved file text) result
+saved_out old new file text result same writes follows = record { says = rw same (put_out old new file text result ((bytes_eq-Decides file (codes "-")).0 same) writes); follows = follows }
 
 -- what was told of a file behind a front of its bytes
-pub writes_some : (stream : Stream) (file text : List ℕ) (old mid new : Option Record) (a b c : ℕ) → SendsPart stream old mid text → HasFailed a b → a ≤ b → b ≤ c → Tells mid new (cause_line (OfFile file NotWritten)) b c
-    → WritesSome stream file old new text a c
-writes_some stream file text old mid new a b c part failed first then some = record {
+pub writes_some : (stream : Stream) (file text : List ℕ) (old mid new : DeskView) → SendsPart stream old mid text → HasFailed old mid → Follows old mid → Tells mid new (cause_line (OfFile file NotWritten)) → WritesSome stream file old new text
+writes_some stream file text old mid new part failed first some = record {
   between = mid;
   part = part;
   told = some.told;
-  stops = record { count = b; failed = failed; tells = some.tells; since = first; until = then };
-  kept = some.kept;
-}
-
--- a file is saved, and then a line is printed
-pub reports_then : (old new : Option Record) (first more : List Saying) (e : Option Record) (a b c : ℕ) (result : Result (Unit {0}) Stopped) → e ≡ option_map (after_all first) old → a ≤ b
-    → Reports e new more (PrintStops b c) result → Reports old new (first ++ more) (DeskStops a c) result
-reports_then old new first more e a b c (Ok done) kept le then = kept_append first more old e new kept then
-reports_then old new first more e a b c (Err stopped) kept le then = record {
-  between = then.between;
-  cause = then.cause;
-  front = front_behind first more kept then.front;
-  told = then.told;
-  stops = print_is_desk a c then.cause then.told (print_stops_later a b c le then.cause then.told then.stops);
-  kept = then.kept;
-}
-
-pub reports_until : {old new : Option Record} (first more : List Saying) {a b : ℕ} (stopped : Stopped) → Reports old new first (DeskStops a b) (Err stopped) → Reports old new (first ++ more) (DeskStops a b) (Err stopped)
-reports_until first more stopped some = record {
-  between = some.between;
-  cause = some.cause;
-  front = front_of first more some.front;
-  told = some.told;
-  stops = some.stops;
+  stops = failure_told old mid new (cause_line (OfFile file NotWritten)) first failed some;
   kept = some.kept;
 }

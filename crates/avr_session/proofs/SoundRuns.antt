@@ -1,34 +1,35 @@
 -- Where no device failed, a run was played whole, or its messages say that memory was refused.
 use Rattle.std.proofs.Common.{◌≡◌, ℕ, ◌≤◌, Bool, true, false, List, [], ◌∷◌, ◌++◌, refl, sym, ap, ◌∙◌, subst, append-nil, Option, Some, None, inl, inr}
 use Rattle.std.proofs.lemmas.List.{append_cancel_left}
-use Rattle.avr_desk.specs.Fault.{HasFailed}
-use Rattle.avr_desk.specs.Record.{Record, after_err}
+use Rattle.avr_desk.specs.Fault.{Follows, HasFailed}
+use Rattle.avr_desk.specs.Record.{Record, DeskView, after_err}
 use Rattle.avr_plan.specs.Plan.{Plan}
 use Rattle.stk_host.specs.Operations as operations
 use Rattle.stk_host.specs.Operations.{opening}
 use Rattle.stk_host.specs.Steps.{tries, attempt, exchange}
 use Rattle.stk_host.specs.Tape.{Tape, on_tape, answer}
-use Rattle.stk_host.specs.Talk.{Talk, heard, Grows}
+use Rattle.stk_host.specs.Play.{Progress}
+use Rattle.stk_host.specs.Talk.{Talk, LinkView, heard, Grows}
 use Rattle.stk_host.specs.Dialog.{Dialog, Event, Said, Played, played, sayings}
 use Rattle.avr_message.specs.Lines.{Bytes}
 use Rattle.avr_message.specs.Said.{Saying, Line, Creates, Writes, Outs, after_all}
-use Rattle.avr_session.specs.Runs.{Cause, OfSending, OfListening, OfFile, OfPrinting, OfMemory, NotCreated, NotWritten, cause_line, tells_fault, TellsCause, StopsAt, Stops, BrokeOff, RunsTo}
+use Rattle.avr_session.specs.Runs.{Cause, OfSending, OfListening, OfFile, OfPrinting, OfMemory, NotCreated, NotWritten, Devices, devices, start, cause_line, tells_fault, TellsCause, StopsAt, untold, StopsBehind, BrokeOff, RunsTo}
 use Rattle.avr_session.specs.Session.{session, takes_memory}
-use Rattle.avr_session.specs.Stopping.{IsSound, LacksMemory, IsPlayed}
+use Rattle.avr_session.specs.Stopping.{keeping, talking, IsSound, LacksMemory, IsPlayed}
 use Rattle.avr_message.proofs.Telling.{failed_later, failed_before}
 
 -- of sound devices only memory is left, and its line was told whole
-told_of_memory : (flag : Bool) (told : Bytes) (a count b : ℕ) → a ≤ count → (HasFailed a b → ⊥) → TellsCause flag OfMemory told count b → told ≡ cause_line OfMemory
-told_of_memory false told a count b since sound (inl whole) = whole
-told_of_memory false told a count b since sound (inr part) = absurd (sound (failed_later a count b since part.1))
-told_of_memory true told a count b since sound tells = absurd tells
+told_of_memory : (flag : Bool) (told : Bytes) (a between b : DeskView) → Follows a between → (HasFailed a b → ⊥) → TellsCause flag OfMemory told between b → told ≡ cause_line OfMemory
+told_of_memory false told a between b since sound (inl whole) = whole
+told_of_memory false told a between b since sound (inr part) = absurd (sound (failed_later a between b since part.1))
+told_of_memory true told a between b since sound tells = absurd tells
 
-lacks : {takes : Bool} {k l a b : ℕ} {said : List Saying} {told : Bytes} (cause : Cause) → IsSound k l a b → Stops takes k l a b said cause told → told ≡ cause_line OfMemory
+lacks : {takes : Bool} {old new : Devices} {said : List Saying} {told : Bytes} (cause : Cause) → IsSound old new → StopsBehind (untold takes) old new said cause told → told ≡ cause_line OfMemory
 lacks OfSending sound stops = absurd (sound.link stops.has_come)
 lacks OfListening sound stops = absurd (sound.link stops.has_come)
-lacks {a = a} {b = b} (OfFile file trouble) sound stops = absurd (sound.desk (failed_before a stops.count b stops.since stops.until stops.has_come))
-lacks {a = a} {b = b} OfPrinting sound stops = absurd (sound.desk (failed_before a stops.count b stops.since stops.until stops.has_come))
-lacks {a = a} {b = b} {said = said} {told = told} OfMemory sound stops = told_of_memory (tells_fault said) told a stops.count b stops.since sound.desk stops.tells
+lacks {old = old} {new = new} (OfFile file trouble) sound stops = absurd (sound.desk (failed_before old.desk stops.between new.desk stops.since stops.until stops.has_come))
+lacks {old = old} {new = new} OfPrinting sound stops = absurd (sound.desk (failed_before old.desk stops.between new.desk stops.since stops.until stops.has_come))
+lacks {old = old} {new = new} {said = said} {told = told} OfMemory sound stops = told_of_memory (tells_fault said) told old.desk stops.between new.desk stops.since sound.desk stops.tells
 
 -- a line told stands at the end of the messages
 told_last : (before after : Record) (said : List Saying) (told line : Bytes) → told ≡ line → ◌≡◌ {A = Option Record} (Some after) (Some (after_err told (after_all said before))) → (front : Bytes) × (after.messages ≡ front ++ line)
@@ -38,35 +39,33 @@ told_last before after said told line whole kept =
     (r.messages, ap (λ (x : Record). x.messages) same ∙ ap (λ (xs : Bytes). r.messages ++ xs) whole)
 
 -- so what broke off says so
-pub broke_lacks : {R : Type 0} (dialog : Dialog Saying R) (seq : ℕ) (unread : List ℕ) (old new : Option Talk) (before after : Record) (takes : Bool) (k l a b : ℕ) → IsSound k l a b
-    → BrokeOff dialog seq unread old new (Some before) (Some after) (Stops takes k l a b) → LacksMemory after.messages
-broke_lacks dialog seq unread old new before after takes k l a b sound f = told_last before after (sayings f.shown) f.told (cause_line OfMemory) (lacks f.cause sound f.stops) f.kept
+pub broke_lacks : {R : Type 0} (dialog : Dialog Saying R) (m : Progress) (o p : LinkView) (before after : Record) (a b : ℕ) (takes : Bool) → IsSound (devices o (keeping before a)) (devices p (keeping after b))
+    → BrokeOff dialog m (devices o (keeping before a)) (devices p (keeping after b)) (untold takes) → LacksMemory after.messages
+broke_lacks dialog m o p before after a b takes sound f = told_last before after (sayings f.shown) f.told (cause_line OfMemory) (lacks f.cause sound f.stops) f.kept
 
 -- and a run is played whole where no device failed and memory was not refused, by its messages.
-pub sound_run : (dialog : Dialog Saying ℕ) (old new : Option Talk) (before after : Record) (takes : Bool) (k l a b status : ℕ) → IsSound k l a b → (LacksMemory after.messages → ⊥)
-    → RunsTo dialog old new (Some before) (Some after) (Stops takes k l a b) status → IsPlayed dialog old new (Some before) (Some after) status
-sound_run dialog old new before after takes k l a b status sound has_memory (inl ran) = ran
-sound_run dialog old new before after takes k l a b status sound has_memory (inr broke) = absurd (has_memory (broke_lacks dialog 1 [] old new before after takes k l a b sound broke.0))
+pub sound_run : (dialog : Dialog Saying ℕ) (o p : LinkView) (before after : Record) (a b : ℕ) (takes : Bool) (status : ℕ) → IsSound (devices o (keeping before a)) (devices p (keeping after b)) → (LacksMemory after.messages → ⊥)
+    → RunsTo dialog (devices o (keeping before a)) (devices p (keeping after b)) takes status → IsPlayed dialog (devices o (keeping before a)) (devices p (keeping after b)) status
+sound_run dialog o p before after a b takes status sound has_memory (inl ran) = ran
+sound_run dialog o p before after a b takes status sound has_memory (inr broke) = absurd (has_memory (broke_lacks dialog start o p before after a b takes sound broke.0))
 
 -- Where no memory is taken it is played whole, whatever the messages are.
-never_lacks : {k l a b : ℕ} {said : List Saying} {told : Bytes} (cause : Cause) → IsSound k l a b → Stops false k l a b said cause told → ⊥
+never_lacks : {old new : Devices} {said : List Saying} {told : Bytes} (cause : Cause) → IsSound old new → StopsBehind (untold false) old new said cause told → ⊥
 never_lacks OfSending sound stops = sound.link stops.has_come
 never_lacks OfListening sound stops = sound.link stops.has_come
-never_lacks {a = a} {b = b} (OfFile file trouble) sound stops = sound.desk (failed_before a stops.count b stops.since stops.until stops.has_come)
-never_lacks {a = a} {b = b} OfPrinting sound stops = sound.desk (failed_before a stops.count b stops.since stops.until stops.has_come)
+never_lacks {old = old} {new = new} (OfFile file trouble) sound stops = absurd (sound.desk (failed_before old.desk stops.between new.desk stops.since stops.until stops.has_come))
+never_lacks {old = old} {new = new} OfPrinting sound stops = absurd (sound.desk (failed_before old.desk stops.between new.desk stops.since stops.until stops.has_come))
 never_lacks OfMemory sound stops = let e = stops.has_come in absurd (cc)
 
-abbrev pub Exact : Bool → Plan → Option Talk → Option Talk → Option Record → Option Record → ℕ → ℕ → ℕ → ℕ → ℕ → Type 0
-Exact takes plan old new old_desk new_desk k l a b status = RunsTo (session plan) old new old_desk new_desk (Stops takes k l a b) status → IsPlayed (session plan) old new old_desk new_desk status
+abbrev pub Exact : Bool → Plan → Devices → Devices → ℕ → Type 0
+Exact takes plan old new status = RunsTo (session plan) old new takes status → IsPlayed (session plan) old new status
 
-exact_without : (plan : Plan) (old new : Option Talk) (old_desk new_desk : Option Record) (k l a b status : ℕ) → IsSound k l a b → Exact false plan old new old_desk new_desk k l a b status
-exact_without plan old new old_desk new_desk k l a b status sound (inl ran) = ran
-exact_without plan old new old_desk new_desk k l a b status sound (inr broke) = absurd (never_lacks broke.0.cause sound broke.0.stops)
+exact_without : (plan : Plan) (old new : Devices) (status : ℕ) → IsSound old new → Exact false plan old new status
+exact_without plan old new status sound (inl ran) = ran
+exact_without plan old new status sound (inr broke) = absurd (never_lacks broke.0.cause sound broke.0.stops)
 
-pub exact_run : (plan : Plan) (old new : Option Talk) (old_desk new_desk : Option Record) (k l a b status : ℕ) → IsSound k l a b → takes_memory plan ≡ false
-    → RunsTo (session plan) old new old_desk new_desk (Stops (takes_memory plan) k l a b) status → IsPlayed (session plan) old new old_desk new_desk status
-exact_run plan old new old_desk new_desk k l a b status sound none =
-    subst (λ takes. Exact takes plan old new old_desk new_desk k l a b status) (sym none) (exact_without plan old new old_desk new_desk k l a b status sound)
+pub exact_run : (plan : Plan) (old new : Devices) (status : ℕ) → IsSound old new → takes_memory plan ≡ false → RunsTo (session plan) old new (takes_memory plan) status → IsPlayed (session plan) old new status
+exact_run plan old new status sound none = subst (λ takes. Exact takes plan old new status) (sym none) (exact_without plan old new status sound)
 
 -- ---- wrong ends that the contract refuses
 
@@ -81,10 +80,10 @@ abbrev status_in : Option (ℕ × ℕ × Tape) → ℕ
 status_in None = 0
 status_in (Some x) = x.0
 
-one_status : (dialog : Dialog Saying ℕ) (old new : Talk) (before after : Option Record) (m n : ℕ) → IsPlayed dialog (Some old) (Some new) before after m → IsPlayed dialog (Some old) (Some new) before after n → m ≡ n
-one_status dialog old new before after m n x y =
-    let f = x.2 in
-    let g = y.2 in
+one_status : (dialog : Dialog Saying ℕ) (old new : Talk) (k l : ℕ) (d e : DeskView) (m n : ℕ) → IsPlayed dialog (devices (talking old k) d) (devices (talking new l) e) m → IsPlayed dialog (devices (talking old k) d) (devices (talking new l) e) n → m ≡ n
+one_status dialog old new k l d e m n x y =
+    let f = x.1 in
+    let g = y.1 in
     let talks = same_talk old new f.during g.during f.grows g.grows in
     let plays = subst (λ (talk : Talk). ap_status (played dialog 1 (heard talk ++ [])) ≡ n) (sym talks) (ap ap_status (g.plays.plays [])) in
     sym (ap ap_status (f.plays.plays [])) ∙ plays
@@ -93,10 +92,10 @@ one_status dialog old new before after m n x y =
     ap_status p = status_in p.outcome
 
 -- a session that was played to status 0 has no other
-pub perfect_is_0 : (dialog : Dialog Saying ℕ) (old new : Talk) (before after : Record) (takes : Bool) (k l a b : ℕ) → IsSound k l a b → (LacksMemory after.messages → ⊥)
-    → IsPlayed dialog (Some old) (Some new) (Some before) (Some after) 0 → RunsTo dialog (Some old) (Some new) (Some before) (Some after) (Stops takes k l a b) 1 → ⊥
-perfect_is_0 dialog old new before after takes k l a b sound has_memory ran other =
-    let e : ◌≡◌ {A = ℕ} 0 1 = one_status dialog old new (Some before) (Some after) 0 1 ran (sound_run dialog (Some old) (Some new) before after takes k l a b 1 sound has_memory other) in
+pub perfect_is_0 : (dialog : Dialog Saying ℕ) (old new : Talk) (k l : ℕ) (before after : Record) (a b : ℕ) (takes : Bool) → IsSound (devices (talking old k) (keeping before a)) (devices (talking new l) (keeping after b)) → (LacksMemory after.messages → ⊥)
+    → IsPlayed dialog (devices (talking old k) (keeping before a)) (devices (talking new l) (keeping after b)) 0 → RunsTo dialog (devices (talking old k) (keeping before a)) (devices (talking new l) (keeping after b)) takes 1 → ⊥
+perfect_is_0 dialog old new k l before after a b takes sound has_memory ran other =
+    let e : ◌≡◌ {A = ℕ} 0 1 = one_status dialog old new k l (keeping before a) (keeping after b) 0 1 ran (sound_run dialog (talking old k) (talking new l) before after a b takes 1 sound has_memory other) in
     cc
 
 -- a run that ends though its play waits
@@ -105,13 +104,13 @@ grown talk x y is =
     let inner : talk ++ y ≡ talk ++ x = cc in
     append_cancel_left talk x y (sym inner)
 
-pub waiting_is_no_run : (dialog : Dialog Saying ℕ) (talk during : Talk) (before after : Record) (takes : Bool) (k l a b status : ℕ) → IsSound k l a b → (LacksMemory after.messages → ⊥)
-    → (played dialog 1 (heard during)).outcome ≡ None → RunsTo dialog (Some talk) (Some (talk ++ during)) (Some before) (Some after) (Stops takes k l a b) status → ⊥
-waiting_is_no_run dialog talk during before after takes k l a b status sound has_memory waits runs =
-    let p = sound_run dialog (Some talk) (Some (talk ++ during)) before after takes k l a b status sound has_memory runs in
-    let f = p.2 in
+pub waiting_is_no_run : (dialog : Dialog Saying ℕ) (talk during : Talk) (k l : ℕ) (before after : Record) (a b : ℕ) (takes : Bool) (status : ℕ) → IsSound (devices (talking talk k) (keeping before a)) (devices (talking (talk ++ during) l) (keeping after b))
+    → (LacksMemory after.messages → ⊥) → (played dialog 1 (heard during)).outcome ≡ None → RunsTo dialog (devices (talking talk k) (keeping before a)) (devices (talking (talk ++ during) l) (keeping after b)) takes status → ⊥
+waiting_is_no_run dialog talk during k l before after a b takes status sound has_memory waits runs =
+    let p = sound_run dialog (talking talk k) (talking (talk ++ during) l) before after a b takes status sound has_memory runs in
+    let f = p.1 in
     let same = grown talk f.during during f.grows in
-    let comes = subst (λ (x : Talk). (played dialog 1 (heard x ++ [])).outcome ≡ Some (status, p.0, on_tape p.1 ++ [])) same (ap (λ (p : Played Saying ℕ). p.outcome) (f.plays.plays [])) in
+    let comes = subst (λ (x : Talk). (played dialog 1 (heard x ++ [])).outcome ≡ Some (status, p.0.next, on_tape p.0.unread ++ [])) same (ap (λ (p : Played Saying ℕ). p.outcome) (f.plays.plays [])) in
     let clash = sym waits ∙ (ap (λ (tape : Tape). (played dialog 1 tape).outcome) (sym (append-nil (heard during))) ∙ comes) in
     absurd (cc)
 
@@ -120,25 +119,27 @@ waits_at_once : (plan : Plan) → (played (session plan) 1 []).outcome ≡ None
 unfolding session opening operations.beginning tries attempt exchange answer
 waits_at_once plan = refl
 
-pub nothing_is_no_run : (plan : Plan) (talk : Talk) (r : Record) (takes : Bool) (k l a b status : ℕ) → IsSound k l a b → (LacksMemory r.messages → ⊥) → RunsTo (session plan) (Some talk) (Some talk) (Some r) (Some r) (Stops takes k l a b) status → ⊥
-nothing_is_no_run plan talk r takes k l a b status sound has_memory runs =
-    waiting_is_no_run (session plan) talk [] r r takes k l a b status sound has_memory (waits_at_once plan)
-    (subst (λ (new : Talk). RunsTo (session plan) (Some talk) (Some new) (Some r) (Some r) (Stops takes k l a b) status) (sym (append-nil talk)) runs)
+pub nothing_is_no_run : (plan : Plan) (talk : Talk) (k l : ℕ) (r : Record) (a b : ℕ) (takes : Bool) (status : ℕ) → IsSound (devices (talking talk k) (keeping r a)) (devices (talking talk l) (keeping r b)) → (LacksMemory r.messages → ⊥)
+    → RunsTo (session plan) (devices (talking talk k) (keeping r a)) (devices (talking talk l) (keeping r b)) takes status → ⊥
+nothing_is_no_run plan talk k l r a b takes status sound has_memory runs =
+    waiting_is_no_run (session plan) talk [] k l r r a b takes status
+    (subst (λ (new : Talk). IsSound (devices (talking talk k) (keeping r a)) (devices (talking new l) (keeping r b))) (sym (append-nil talk)) sound) has_memory (waits_at_once plan)
+    (subst (λ (new : Talk). RunsTo (session plan) (devices (talking talk k) (keeping r a)) (devices (talking new l) (keeping r b)) takes status) (sym (append-nil talk)) runs)
 
 -- behind the line of a fault nothing more is told
-silent : (cause : Cause) (told : Bytes) (before now : ℕ) → TellsCause true cause told before now → told ≡ []
-silent OfSending told before now tells = tells
-silent OfListening told before now tells = tells
-silent (OfFile file trouble) told before now tells = absurd tells
-silent OfPrinting told before now tells = tells
-silent OfMemory told before now tells = absurd tells
+silent : (cause : Cause) (told : Bytes) (d e : DeskView) → TellsCause true cause told d e → told ≡ []
+silent OfSending told d e tells = tells
+silent OfListening told d e tells = tells
+silent (OfFile file trouble) told d e tells = absurd tells
+silent OfPrinting told d e tells = tells
+silent OfMemory told d e tells = absurd tells
 
-pub told_once : (takes : Bool) (k l a b : ℕ) (said : List Saying) (cause : Cause) (told : Bytes) → Stops takes k l a b said cause told → tells_fault said ≡ true → told ≡ []
-told_once takes k l a b said cause told stops is = silent cause told stops.count b (subst (λ flag. TellsCause flag cause told stops.count b) is stops.tells)
+pub told_once : (takes : Bool) (old new : Devices) (said : List Saying) (cause : Cause) (told : Bytes) → StopsBehind (untold takes) old new said cause told → tells_fault said ≡ true → told ≡ []
+told_once takes old new said cause told stops is = silent cause told stops.between new.desk (subst (λ flag. TellsCause flag cause told stops.between new.desk) is stops.tells)
 
 -- memory is not refused where none is taken
-pub no_memory : (plan : Plan) (k l a b : ℕ) (said : List Saying) (told : Bytes) → takes_memory plan ≡ false → Stops (takes_memory plan) k l a b said OfMemory told → ⊥
-no_memory plan k l a b said told none stops =
+pub no_memory : (plan : Plan) (old new : Devices) (said : List Saying) (told : Bytes) → takes_memory plan ≡ false → StopsBehind (untold (takes_memory plan)) old new said OfMemory told → ⊥
+no_memory plan old new said told none stops =
     let clash = sym none ∙ stops.has_come in
     absurd (cc)
 

@@ -1,16 +1,29 @@
 -- What a call over a link and a desk comes to: its dialog played whole, or broken off.
-use Rattle.std.specs.Prelude.{ℕ, Bool, true, false, ◌||◌, List, [], ◌∷◌, ◌++◌, map, ◌≡◌, ◌<◌, ◌≤◌, ◌⊎◌, length, nat_eq, Option, None, option_map, Result, Ok, Err, codes, ⊤}
+use Rattle.std.specs.Prelude.{ℕ, Bool, true, false, ◌||◌, List, [], ◌∷◌, ◌++◌, map, ◌≡◌, ◌<◌, ◌≤◌, ◌⊎◌, length, nat_eq, Option, None, Result, Ok, Err, codes, ⊤}
 use Rattle.std.specs.List.{list_any, starts_with}
-use Rattle.avr_desk.specs.Record.{Record, after_err}
+use Rattle.avr_desk.specs.Record.{DeskView, Passes, after_err}
 use Rattle.avr_desk.specs.Fault as desk
+use Rattle.avr_desk.specs.Fault.{Follows}
 use Rattle.stk_host.specs.Talk as link
 use Rattle.stk_host.specs.Tape.{on_tape}
-use Rattle.stk_host.specs.Talk.{Talk, heard, Grows}
+use Rattle.stk_host.specs.Talk.{Talk, LinkView, heard, Grows}
 use Rattle.stk_host.specs.Dialog.{Dialog, Event, Frame, Said, played, sayings}
-use Rattle.stk_host.specs.Play.{Plays, Breaks}
+use Rattle.stk_host.specs.Play.{Progress, Plays, Breaks}
 use Rattle.avr_message.specs.Lines.{Bytes, error}
 use Rattle.avr_message.specs.Said.{Saying, Line, Creates, Writes, Outs, SaidPart, IsPrefixOf, TellsLine, TellsFailure, after_all}
 use Rattle.avr_session.specs.declared.standing.Stopped.{Stopped}
+
+-- what a link and a desk show
+pub record Devices : Type 0 where
+  pub link : LinkView
+  pub desk : DeskView
+
+abbrev pub devices : LinkView → DeskView → Devices
+devices link desk = record { link = link; desk = desk }
+
+-- where a conversation begins
+abbrev pub start : Progress
+start = record { next = 1; unread = [] }
 
 -- what a desk can't do with a file of a session
 pub data Trouble : Type 0 where
@@ -113,116 +126,127 @@ IsOfDesk (OfFile file trouble) = Unit {0}
 IsOfDesk OfPrinting = Unit {0}
 IsOfDesk cause = ⊥
 
--- The cause has come: a device has failed, by the count of its failures before and then. No count shows that memory was
--- refused; that comes only where memory is taken (`takes`).
-abbrev pub HasCome : Bool → ℕ → ℕ → ℕ → ℕ → Cause → Type 0
-HasCome takes link_before link_then desk_before desk_then OfSending = link.HasFailed link_before link_then
-HasCome takes link_before link_then desk_before desk_then OfListening = link.HasFailed link_before link_then
-HasCome takes link_before link_then desk_before desk_then OfMemory = takes ≡ true
-HasCome takes link_before link_then desk_before desk_then cause = desk.HasFailed desk_before desk_then
+-- The cause has come: a device has failed, by the counts of their failures before and then. No count shows that memory
+-- was refused; that comes only where memory is taken (`takes`).
+abbrev pub HasCome : Bool → Devices → Devices → Cause → Type 0
+HasCome takes old then OfSending = link.HasFailed old.link then.link
+HasCome takes old then OfListening = link.HasFailed old.link then.link
+HasCome takes old then OfMemory = takes ≡ true
+HasCome takes old then cause = desk.HasFailed old.desk then.desk
 
 -- The cause's line was told. But behind the line of a fault only the link or the printing fails, and nothing more is
 -- told.
-abbrev pub TellsCause : Bool → Cause → Bytes → ℕ → ℕ → Type 0
-TellsCause false cause told before now = TellsLine (cause_line cause) told before now
-TellsCause true OfSending told before now = told ≡ []
-TellsCause true OfListening told before now = told ≡ []
-TellsCause true OfPrinting told before now = told ≡ []
-TellsCause true cause told before now = ⊥
+abbrev pub TellsCause : Bool → Cause → Bytes → DeskView → DeskView → Type 0
+TellsCause false cause told old new = TellsLine (cause_line cause) told old new
+TellsCause true OfSending told old new = told ≡ []
+TellsCause true OfListening told old new = told ≡ []
+TellsCause true OfPrinting told old new = told ≡ []
+TellsCause true cause told old new = ⊥
 
--- Why it stops behind these sayings, and what is told of it: the cause has come by some count of the desk's failures,
--- and from then on it was told. `takes`: memory is taken. `was_told`: a fault was told before these sayings.
-pub record StopsBehind (takes was_told : Bool) (link_before link_now desk_before desk_now : ℕ) (said : List Saying)
-    (cause : Cause) (told : Bytes) : Type 0 where
-  pub count : ℕ
-  pub has_come : HasCome takes link_before link_now desk_before count cause
-  pub tells : TellsCause (was_told || tells_fault said) cause told count desk_now
-  pub since : desk_before ≤ count
-  pub until : count ≤ desk_now
+-- on what terms a dialog is played: whether memory is taken in it, and whether a fault was told before it
+pub record Terms : Type 0 where
+  pub takes : Bool
+  pub was_told : Bool
 
-abbrev pub Stops : Bool → ℕ → ℕ → ℕ → ℕ → List Saying → Cause → Bytes → Type 0
-Stops takes link_before link_now desk_before desk_now =
-    StopsBehind takes false link_before link_now desk_before desk_now
+-- no fault was told before it
+abbrev pub untold : Bool → Terms
+untold takes = record { takes = takes; was_told = false }
+
+-- Why it stops behind these sayings, and what is told of it: the cause has come while the desk stood so between, and
+-- from then on it was told.
+pub record StopsBehind (terms : Terms) (old new : Devices) (said : List Saying) (cause : Cause)
+    (told : Bytes) : Type 0 where
+  pub between : DeskView
+  pub has_come : HasCome terms.takes old (devices new.link between) cause
+  pub tells : TellsCause (terms.was_told || tells_fault said) cause told between new.desk
+  pub since : Follows old.desk between
+  pub until : Follows between new.desk
 
 -- The dialog was played whole over what was unread and what was heard: what was sent, said and answered is its play's,
 -- whatever may follow on the line, and at most one piece heard is left.
-pub record Ran {R : Type 0} (dialog : Dialog Saying R) (seq : ℕ) (unread : List ℕ) (old new : Option Talk)
-    (old_desk new_desk : Option Record) (result : R) (next : ℕ) (left : List ℕ) : Type 0 where
+pub record Ran {R : Type 0} (dialog : Dialog Saying R) (before : Progress) (old new : Devices) (result : R)
+    (after : Progress) : Type 0 where
   pub during : Talk
   pub events : List (Event Saying)
-  pub grows : Grows old during new
-  pub plays : Plays dialog seq unread during events result next left
-  pub few : length unread ≤ 281 → length left ≤ 281
-  pub kept : new_desk ≡ option_map (after_all (sayings events)) old_desk
+  pub grows : Grows old.link.talk during new.link.talk
+  pub plays : Plays dialog before.next before.unread during events result after.next after.unread
+  pub few : length before.unread ≤ 281 → length after.unread ≤ 281
+  pub kept : Passes (after_all (sayings events)) old.desk new.desk
 
 -- The dialog broke off: what was sent and said is a front of its events, the last one perhaps in part, where its cause
 -- stops it; and behind it stands what was told of the cause.
-pub record BrokeOff {R : Type 0} (dialog : Dialog Saying R) (seq : ℕ) (unread : List ℕ) (old new : Option Talk)
-    (old_desk new_desk : Option Record) (StopsBy : List Saying → Cause → Bytes → Type 0) : Type 0 where
+pub record BrokeOff {R : Type 0} (dialog : Dialog Saying R) (before : Progress) (old new : Devices)
+    (terms : Terms) : Type 0 where
   pub during : Talk
   pub shown : List (Event Saying)
   pub cause : Cause
   pub told : Bytes
-  pub grows : Grows old during new
-  pub breaks : Breaks SaidPart dialog seq unread during shown
+  pub grows : Grows old.link.talk during new.link.talk
+  pub breaks : Breaks SaidPart dialog before.next before.unread during shown
   pub place : StopsAt cause breaks.front.whole breaks.front.begun breaks.front.later
-  pub listens : Listens cause (played dialog seq (on_tape unread ++ heard during)).outcome
-  pub stops : StopsBy (sayings shown) cause told
-  pub kept : new_desk ≡ option_map (λ r. after_err told (after_all (sayings shown) r)) old_desk
+  pub listens : Listens cause (played dialog before.next (on_tape before.unread ++ heard during)).outcome
+  pub stops : StopsBehind terms old new (sayings shown) cause told
+  pub kept : Passes (λ r. after_err told (after_all (sayings shown) r)) old.desk new.desk
 
 -- the one or the other, as a call answers
-abbrev pub Runs : {R : Type 0} → Dialog Saying R → ℕ → List ℕ → Option Talk → Option Talk → Option Record
-    → Option Record → (List Saying → Cause → Bytes → Type 0) → Result R Stopped → ℕ → List ℕ → Type 0
-Runs dialog seq unread old new old_desk new_desk StopsBy (Ok result) next left =
-    Ran dialog seq unread old new old_desk new_desk result next left
-Runs dialog seq unread old new old_desk new_desk StopsBy (Err stopped) next left =
-    BrokeOff dialog seq unread old new old_desk new_desk StopsBy
+abbrev pub Runs : {R : Type 0} → Dialog Saying R → Progress → Devices → Devices → Terms → Result R Stopped → Progress
+    → Type 0
+Runs dialog before old new terms (Ok result) after = Ran dialog before old new result after
+Runs dialog before old new terms (Err stopped) after = BrokeOff dialog before old new terms
 
 -- A whole run: it was played to its status, or it broke off, and then the status is 1.
-abbrev pub RunsTo : Dialog Saying ℕ → Option Talk → Option Talk → Option Record → Option Record
-    → (List Saying → Cause → Bytes → Type 0) → ℕ → Type 0
-RunsTo dialog old new old_desk new_desk StopsBy status =
-    ((next : ℕ) × (left : List ℕ) × Ran dialog 1 [] old new old_desk new_desk status next left)
-    ⊎ (BrokeOff dialog 1 [] old new old_desk new_desk StopsBy × (status ≡ 1))
+abbrev pub RunsTo : Dialog Saying ℕ → Devices → Devices → Bool → ℕ → Type 0
+RunsTo dialog old new takes status =
+    ((after : Progress) × Ran dialog start old new status after)
+    ⊎ (BrokeOff dialog start old new (untold takes) × (status ≡ 1))
 
 -- A front of the sayings was done: some of them, and perhaps a part of the next, where this cause stops them.
-pub record SaysFront (cause : Cause) (old new : Option Record) (sayings : List Saying) : Type 0 where
+pub record SaysFront (cause : Cause) (old new : DeskView) (sayings : List Saying) : Type 0 where
   pub whole : List Saying
   pub begun : List Saying
   pub later : List Saying
   pub sayings_are : sayings ≡ whole ++ later
   pub place : StopsAt cause (map Said whole) (map Said begun) (map Said later)
   pub by_desk : IsOfDesk cause
-  pub kept : new ≡ option_map (after_all (whole ++ begun)) old
+  pub kept : Passes (after_all (whole ++ begun)) old new
 
--- A front of the sayings was done, and behind it stands what was told of the cause.
-pub record SaidSome (old new : Option Record) (sayings : List Saying) (StopsBy : Cause → Bytes → Type 0) : Type 0 where
-  pub between : Option Record
+-- A front of the sayings was done, and behind it stands what was told of the cause; such a cause may stop them.
+pub record SaidSome (By : DeskView → DeskView → Cause → Bytes → Type 0) (old new : DeskView)
+    (sayings : List Saying) : Type 0 where
+  pub between : DeskView
   pub cause : Cause
   pub front : SaysFront cause old between sayings
   pub told : Bytes
-  pub stops : StopsBy cause told
-  pub kept : new ≡ option_map (after_err told) between
+  pub stops : By old new cause told
+  pub kept : Passes (after_err told) between new
 
-abbrev pub Reports : Option Record → Option Record → List Saying → (Cause → Bytes → Type 0) → Result ⊤ Stopped → Type 0
-Reports old new sayings StopsBy (Ok done) = new ≡ option_map (after_all sayings) old
-Reports old new sayings StopsBy (Err stopped) = SaidSome old new sayings StopsBy
+-- the sayings were done, or a front of them
+abbrev pub SaysOrStops : (DeskView → DeskView → Cause → Bytes → Type 0) → DeskView → DeskView → List Saying
+    → Result ⊤ Stopped → Type 0
+SaysOrStops By old new sayings (Ok done) = Passes (after_all sayings) old new
+SaysOrStops By old new sayings (Err stopped) = SaidSome By old new sayings
+
+-- the same, and the desk follows
+pub record Reports (By : DeskView → DeskView → Cause → Bytes → Type 0) (old new : DeskView) (sayings : List Saying)
+    (result : Result ⊤ Stopped) : Type 0 where
+  pub says : SaysOrStops By old new sayings result
+  pub follows : Follows old new
 
 -- the desk failed as it printed, and nothing is told of that
-abbrev pub PrintStops : ℕ → ℕ → Cause → Bytes → Type 0
-PrintStops before now OfPrinting told = desk.HasFailed before now × (told ≡ [])
-PrintStops before now cause told = ⊥
+abbrev pub PrintStops : DeskView → DeskView → Cause → Bytes → Type 0
+PrintStops old new OfPrinting told = desk.HasFailed old new × (told ≡ [])
+PrintStops old new cause told = ⊥
 
 -- the desk failed at a file, and from then on that was told
-abbrev pub FileStops : ℕ → ℕ → Bytes → Trouble → Bytes → Type 0
-FileStops before now file trouble told = TellsFailure (cause_line (OfFile file trouble)) told before now
+abbrev pub FileStops : DeskView → DeskView → Bytes → Trouble → Bytes → Type 0
+FileStops old new file trouble told = TellsFailure (cause_line (OfFile file trouble)) told old new
 
 -- the desk failed, at a file or as it printed
-abbrev pub DeskStops : ℕ → ℕ → Cause → Bytes → Type 0
-DeskStops before now (OfFile file trouble) told = FileStops before now file trouble told
-DeskStops before now cause told = PrintStops before now cause told
+abbrev pub DeskStops : DeskView → DeskView → Cause → Bytes → Type 0
+DeskStops old new (OfFile file trouble) told = FileStops old new file trouble told
+DeskStops old new cause told = PrintStops old new cause told
 
 -- at a file only where there is something to save
-abbrev pub ReadStops : {A Fault : Type 0} → Result A Fault → ℕ → ℕ → Cause → Bytes → Type 0
-ReadStops (Ok read) before now = DeskStops before now
-ReadStops (Err fault) before now = PrintStops before now
+abbrev pub ReadStops : {A Fault : Type 0} → Result A Fault → DeskView → DeskView → Cause → Bytes → Type 0
+ReadStops (Ok read) = DeskStops
+ReadStops (Err fault) = PrintStops

@@ -1,6 +1,6 @@
 -- Bytes that go to a file or to standard output. (For contracts inside this crate.)
-use Rattle.std.specs.Prelude.{ℕ, ◌≡◌, List, ◌++◌, Option, option_map, Result, Ok, Err, ⊤}
-use Rattle.avr_desk.specs.Record.{Record, after_err}
+use Rattle.std.specs.Prelude.{ℕ, ◌≡◌, List, ◌++◌, Result, Ok, Err, ⊤}
+use Rattle.avr_desk.specs.Record.{DeskView, Passes, after_err}
 use Rattle.avr_desk.specs.Stream.{SendsPart, after_sent}
 use Rattle.avr_desk.specs.declared.stream.Stream.{Stream}
 use Rattle.avr_message.specs.Lines.{Bytes}
@@ -8,26 +8,25 @@ use Rattle.avr_session.specs.Runs.{Cause, OfFile, NotCreated, NotWritten, FileSt
 use Rattle.avr_session.specs.declared.standing.Stopped.{Stopped}
 
 -- of these bytes those went there that stand before the ones that wait
-abbrev pub SendsFront : Stream → Option Record → Option Record → Bytes → Bytes → Type 0
+abbrev pub SendsFront : Stream → DeskView → DeskView → Bytes → Bytes → Type 0
 SendsFront stream old new bytes waiting =
-    (sent : Bytes) × (bytes ≡ sent ++ waiting) × (new ≡ option_map (after_sent stream sent) old)
+    (sent : Bytes) × (bytes ≡ sent ++ waiting) × Passes (after_sent stream sent) old new
 
 -- the desk failed at this file, as it was created or written, and that was told
-abbrev pub SaveStops : Bytes → ℕ → ℕ → Cause → Bytes → Type 0
-SaveStops file before now (OfFile named NotCreated) told = (named ≡ file) × FileStops before now named NotCreated told
-SaveStops file before now (OfFile named NotWritten) told = (named ≡ file) × FileStops before now named NotWritten told
-SaveStops file before now cause told = ⊥
+abbrev pub SaveStops : Bytes → DeskView → DeskView → Cause → Bytes → Type 0
+SaveStops file old new (OfFile named NotCreated) told = (named ≡ file) × FileStops old new named NotCreated told
+SaveStops file old new (OfFile named NotWritten) told = (named ≡ file) × FileStops old new named NotWritten told
+SaveStops file old new cause told = ⊥
 
 -- a front of the bytes went there, and then the desk failed and that was told of this file
-pub record WritesSome (stream : Stream) (file : Bytes) (old new : Option Record) (bytes : Bytes)
-    (before now : ℕ) : Type 0 where
-  pub between : Option Record
+pub record WritesSome (stream : Stream) (file : Bytes) (old new : DeskView) (bytes : Bytes) : Type 0 where
+  pub between : DeskView
   pub part : SendsPart stream old between bytes
   pub told : Bytes
-  pub stops : FileStops before now file NotWritten told
-  pub kept : new ≡ option_map (after_err told) between
+  pub stops : FileStops old new file NotWritten told
+  pub kept : Passes (after_err told) between new
 
 -- the bytes went there, or a front of them
-abbrev pub WritesAll : Stream → Bytes → Option Record → Option Record → Bytes → ℕ → ℕ → Result ⊤ Stopped → Type 0
-WritesAll stream file old new bytes before now (Ok done) = new ≡ option_map (after_sent stream bytes) old
-WritesAll stream file old new bytes before now (Err stopped) = WritesSome stream file old new bytes before now
+abbrev pub WritesAll : Stream → Bytes → DeskView → DeskView → Bytes → Result ⊤ Stopped → Type 0
+WritesAll stream file old new bytes (Ok done) = Passes (after_sent stream bytes) old new
+WritesAll stream file old new bytes (Err stopped) = WritesSome stream file old new bytes

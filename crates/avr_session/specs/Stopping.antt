@@ -1,24 +1,32 @@
 -- What the contract of a run says where no device failed.
-use Rattle.std.specs.Prelude.{ℕ, List, [], ◌++◌, ◌≡◌, Option}
+use Rattle.std.specs.Prelude.{ℕ, List, ◌++◌, ◌≡◌, Some}
 use Rattle.avr_desk.specs.Fault as desk
-use Rattle.avr_desk.specs.Record.{Record}
+use Rattle.avr_desk.specs.Record.{Record, DeskView, showing}
 use Rattle.stk_host.specs.Talk as link
-use Rattle.stk_host.specs.Talk.{Talk}
+use Rattle.stk_host.specs.Talk.{Talk, LinkView}
 use Rattle.stk_host.specs.Dialog.{Dialog}
+use Rattle.stk_host.specs.Play.{Progress}
 use Rattle.avr_message.specs.Lines.{Bytes}
 use Rattle.avr_message.specs.Said.{Saying}
-use Rattle.avr_session.specs.Runs.{OfMemory, cause_line, Ran}
+use Rattle.avr_session.specs.Runs.{Devices, OfMemory, cause_line, start, Ran}
+
+-- what a desk shows that keeps this, and has failed so often
+abbrev pub keeping : Record → ℕ → DeskView
+keeping kept failures = showing (Some kept) failures
+
+-- what a link shows over which this passed, and which has failed so often
+abbrev pub talking : Talk → ℕ → LinkView
+talking talk failures = record { talk = Some talk; failures = failures }
 
 -- no device failed, by the counts of failures before and now
-pub record IsSound (link_before link_now desk_before desk_now : ℕ) : Type 0 where
-  pub link : link.HasFailed link_before link_now → ⊥
-  pub desk : desk.HasFailed desk_before desk_now → ⊥
+pub record IsSound (old new : Devices) : Type 0 where
+  pub link : link.HasFailed old.link new.link → ⊥
+  pub desk : desk.HasFailed old.desk new.desk → ⊥
 
 -- the messages end with the line that memory was refused
 abbrev pub LacksMemory : Bytes → Type 0
 LacksMemory messages = (before : Bytes) × (messages ≡ before ++ cause_line OfMemory)
 
 -- a run was played whole to this status
-abbrev pub IsPlayed : Dialog Saying ℕ → Option Talk → Option Talk → Option Record → Option Record → ℕ → Type 0
-IsPlayed dialog old new old_desk new_desk status =
-    (next : ℕ) × (left : List ℕ) × Ran dialog 1 [] old new old_desk new_desk status next left
+abbrev pub IsPlayed : Dialog Saying ℕ → Devices → Devices → ℕ → Type 0
+IsPlayed dialog old new status = (after : Progress) × Ran dialog start old new status after

@@ -1,6 +1,7 @@
 //! The text of a file, in any format, to where it goes.
-ghost use Rattle.std.specs.Prelude.{◌≡◌, ◌+◌, ◌≤◌, ◌^◌, length, option_map, OnOk, OnErr, IfErr};
+ghost use Rattle.std.specs.Prelude.{◌≡◌, ◌+◌, ◌≤◌, ◌^◌, length, OnOk, OnErr, IfErr};
 ghost use Rattle.avr_desk.specs.Fault.{Counts};
+ghost use Rattle.avr_desk.specs.Record.{Passes};
 ghost use Rattle.avr_desk.specs.Stream.{SendsPart, after_sent};
 ghost use Rattle.avr_session.specs.FileText.{file_text, used, trimmed};
 ghost use Rattle.avr_session.specs.Saving.{SendsFront};
@@ -20,10 +21,10 @@ fn make_room<D: Desk>(
 ) -> Result<(), DeskFault>
     requires { count ≤ 4096 }
     ensures sent { OnOk result
-        (SendsFront stream (D.view desk.old).kept (D.view desk.new).kept waiting.old.items waiting.new.items) }
+        (SendsFront stream (D.view desk.old) (D.view desk.new) waiting.old.items waiting.new.items) }
     ensures room { OnOk result (length waiting.new.items + count ≤ 4096) }
-    ensures part { OnErr result (SendsPart stream (D.view desk.old).kept (D.view desk.new).kept waiting.old.items) }
-    ensures counts { Counts (D.view desk.old).failures (D.view desk.new).failures result }
+    ensures part { OnErr result (SendsPart stream (D.view desk.old) (D.view desk.new) waiting.old.items) }
+    ensures counts { Counts (D.view desk.old) (D.view desk.new) result }
     ensures fault { IfErr result (λ e. e ≡ DeskFault.Failed) }
 {
     let room = waiting.remaining_capacity();
@@ -41,9 +42,9 @@ fn write_pieces<D: Desk, P: Pieces + Drop>(
     stream: Stream,
     text: P,
 ) -> Result<(), DeskFault>
-    ensures all { OnOk result ((D.view desk.new).kept ≡ option_map (after_sent stream (P.rest text)) (D.view desk.old).kept) }
-    ensures part { OnErr result (SendsPart stream (D.view desk.old).kept (D.view desk.new).kept (P.rest text)) }
-    ensures counts { Counts (D.view desk.old).failures (D.view desk.new).failures result }
+    ensures all { OnOk result (Passes (after_sent stream (P.rest text)) (D.view desk.old) (D.view desk.new)) }
+    ensures part { OnErr result (SendsPart stream (D.view desk.old) (D.view desk.new) (P.rest text)) }
+    ensures counts { Counts (D.view desk.old) (D.view desk.new) result }
     ensures fault { IfErr result (λ e. e ≡ DeskFault.Failed) }
 {
     let mut text = text;
@@ -67,9 +68,9 @@ pub(crate) fn write_text<D: Desk>(
 ) -> Result<(), DeskFault>
     requires { length bytes.now ≤ 2 ^ 32 }
     ensures all { OnOk result
-        ((D.view desk.new).kept ≡ option_map (after_sent stream (file_text format bytes.now)) (D.view desk.old).kept) }
-    ensures part { OnErr result (SendsPart stream (D.view desk.old).kept (D.view desk.new).kept (file_text format bytes.now)) }
-    ensures counts { Counts (D.view desk.old).failures (D.view desk.new).failures result }
+        (Passes (after_sent stream (file_text format bytes.now)) (D.view desk.old) (D.view desk.new)) }
+    ensures part { OnErr result (SendsPart stream (D.view desk.old) (D.view desk.new) (file_text format bytes.now)) }
+    ensures counts { Counts (D.view desk.old) (D.view desk.new) result }
     ensures fault { IfErr result (λ e. e ≡ DeskFault.Failed) }
 {
     match format {

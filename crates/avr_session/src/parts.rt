@@ -4,7 +4,7 @@ ghost use Rattle.std.specs.List.{list_any};
 ghost use Rattle.avr_part.specs.Part.{size_of};
 ghost use Rattle.avr_plan.specs.Plan.{IsFitted};
 ghost use Rattle.avr_session.specs.Lines.{warns};
-ghost use Rattle.avr_session.specs.Runs.{Reports, PrintStops};
+ghost use Rattle.avr_session.specs.Runs.{devices, Reports, PrintStops};
 ghost use Rattle.avr_session.specs.Parts.{Performs, LeavesOut};
 ghost use Rattle.avr_session.specs.Session.{opening_part, chip_erasing_part, left_out_erase, erasing_part, verifying_part, writing_part, read_back_part, reading_part, left_out_write, write_part, task_part, tasks_part, writes_flash, is_erase_due, task_takes_memory};
 ghost use Rattle.stk_host.specs.Talk.{Stays};
@@ -31,8 +31,7 @@ pub(crate) fn open_session<D: Desk, L: Link>(
     requires sound { host.old.broken ≡ None }
     requires signature { host.old.signature ≡ plan.now.part.signature }
     ensures performs { Performs false (opening_part plan.now.part plan.now.switches) host.old host.new
-        (L.view link.old).talk (L.view link.new).talk (L.view link.old).failures (L.view link.new).failures
-        (D.view desk.old).kept (D.view desk.new).kept (D.view desk.old).failures (D.view desk.new).failures result }
+        (devices (L.view link.old) (D.view desk.old)) (devices (L.view link.new) (D.view desk.new)) result }
     ensures comes { Stays L.comes_of link.old link.new }
 {
     let switches = plan.switches();
@@ -50,8 +49,7 @@ fn erase_chip<D: Desk, L: Link>(
 ) -> Result<Standing, Stopped>
     requires sound { host.old.broken ≡ None }
     ensures performs { Performs false (chip_erasing_part plan.now.part plan.now.switches) host.old host.new
-        (L.view link.old).talk (L.view link.new).talk (L.view link.old).failures (L.view link.new).failures
-        (D.view desk.old).kept (D.view desk.new).kept (D.view desk.old).failures (D.view desk.new).failures result }
+        (devices (L.view link.old) (D.view desk.old)) (devices (L.view link.new) (D.view desk.new)) result }
     ensures comes { Stays L.comes_of link.old link.new }
 {
     let erased = host.erase(link);
@@ -61,18 +59,15 @@ fn erase_chip<D: Desk, L: Link>(
 
 /// Warns that an erase that was asked for is left out.
 fn warn_of_no_erase<D: Desk>(desk: &mut D, quiet: u8) -> Result<(), Stopped>
-    ensures reports { Reports (D.view desk.old).kept (D.view desk.new).kept
-        (warns quiet (codes "chip not erased because of -n" ∷ []))
-        (PrintStops (D.view desk.old).failures (D.view desk.new).failures) result }
-    ensures counted { (D.view desk.old).failures ≤ (D.view desk.new).failures }
+    ensures { Reports PrintStops (D.view desk.old) (D.view desk.new)
+        (warns quiet (codes "chip not erased because of -n" ∷ [])) result }
 {
     warn(desk, quiet, &[Piece::Text("chip not erased because of -n")])
 }
 
 /// Leaves out an erase, with a warning if one was asked for.
 fn leave_out_erase<D: Desk>(desk: &mut D, switches: Switches) -> Result<Standing, Stopped>
-    ensures leaves { LeavesOut (left_out_erase switches) (D.view desk.old).kept (D.view desk.new).kept
-        (D.view desk.old).failures (D.view desk.new).failures result }
+    ensures { LeavesOut (left_out_erase switches) (D.view desk.old) (D.view desk.new) result }
 {
     if switches.erase {
         let warned = warn_of_no_erase(desk, switches.quiet);
@@ -111,8 +106,7 @@ pub(crate) fn erase_if_due<D: Desk, L: Link>(
 ) -> Result<Standing, Stopped>
     requires sound { host.old.broken ≡ None }
     ensures performs { Performs false (erasing_part plan.now.part plan.now.switches plan.now.tasks) host.old host.new
-        (L.view link.old).talk (L.view link.new).talk (L.view link.old).failures (L.view link.new).failures
-        (D.view desk.old).kept (D.view desk.new).kept (D.view desk.old).failures (D.view desk.new).failures result }
+        (devices (L.view link.old) (D.view desk.old)) (devices (L.view link.new) (D.view desk.new)) result }
     ensures comes { Stays L.comes_of link.old link.new }
 {
     let switches = plan.switches();
@@ -139,8 +133,7 @@ fn verify<D: Desk, L: Link>(
     requires part { host.old.part ≡ plan.now.part }
     requires fits { length image.now ≤ size_of mem plan.now.part }
     ensures performs { Performs true (verifying_part plan.now.part plan.now.switches mem image.now) host.old host.new
-        (L.view link.old).talk (L.view link.new).talk (L.view link.old).failures (L.view link.new).failures
-        (D.view desk.old).kept (D.view desk.new).kept (D.view desk.old).failures (D.view desk.new).failures result }
+        (devices (L.view link.old) (D.view desk.old)) (devices (L.view link.new) (D.view desk.new)) result }
     ensures comes { Stays L.comes_of link.old link.new }
 {
     let verified = host.verify(alloc, link, mem, image);
@@ -170,8 +163,7 @@ fn write<D: Desk, L: Link>(
     requires part { host.old.part ≡ plan.now.part }
     requires fits { length image.now ≤ size_of mem plan.now.part }
     ensures performs { Performs false (writing_part plan.now.part plan.now.switches mem image.now) host.old host.new
-        (L.view link.old).talk (L.view link.new).talk (L.view link.old).failures (L.view link.new).failures
-        (D.view desk.old).kept (D.view desk.new).kept (D.view desk.old).failures (D.view desk.new).failures result }
+        (devices (L.view link.old) (D.view desk.old)) (devices (L.view link.new) (D.view desk.new)) result }
     ensures comes { Stays L.comes_of link.old link.new }
 {
     let written = host.write(link, mem, image);
@@ -203,8 +195,7 @@ fn read_back<D: Desk, L: Link>(
     requires fits { length image.now ≤ size_of mem plan.now.part }
     ensures performs { Performs (not plan.now.switches.no_verify)
         (read_back_part plan.now.part plan.now.switches mem image.now) host.old host.new
-        (L.view link.old).talk (L.view link.new).talk (L.view link.old).failures (L.view link.new).failures
-        (D.view desk.old).kept (D.view desk.new).kept (D.view desk.old).failures (D.view desk.new).failures result }
+        (devices (L.view link.old) (D.view desk.old)) (devices (L.view link.new) (D.view desk.new)) result }
     ensures comes { Stays L.comes_of link.old link.new }
 {
     if plan.switches().no_verify {
@@ -220,8 +211,7 @@ fn leave_out_write<D: Desk>(
     mem: Mem,
     image: &Image,
 ) -> Result<Standing, Stopped>
-    ensures leaves { LeavesOut (left_out_write plan.now.switches mem image.now)
-        (D.view desk.old).kept (D.view desk.new).kept (D.view desk.old).failures (D.view desk.new).failures result }
+    ensures { LeavesOut (left_out_write plan.now.switches mem image.now) (D.view desk.old) (D.view desk.new) result }
 {
     let said = report_bytes(
         desk,
@@ -248,8 +238,7 @@ fn write_and_verify<D: Desk, L: Link>(
     requires fits { length image.now ≤ size_of mem plan.now.part }
     ensures performs { Performs (not (plan.now.switches.dry || plan.now.switches.no_verify))
         (write_part plan.now.part plan.now.switches mem image.now) host.old host.new
-        (L.view link.old).talk (L.view link.new).talk (L.view link.old).failures (L.view link.new).failures
-        (D.view desk.old).kept (D.view desk.new).kept (D.view desk.old).failures (D.view desk.new).failures result }
+        (devices (L.view link.old) (D.view desk.old)) (devices (L.view link.new) (D.view desk.new)) result }
     ensures comes { Stays L.comes_of link.old link.new }
 {
     if plan.switches().dry {
@@ -275,8 +264,8 @@ fn read<D: Desk, L: Link>(
     requires part { host.old.part ≡ plan.now.part }
     ensures performs { Performs true
         (reading_part plan.now.part plan.now.switches mem target.entry.format target.entry.file.now)
-        host.old host.new (L.view link.old).talk (L.view link.new).talk (L.view link.old).failures (L.view link.new).failures
-        (D.view desk.old).kept (D.view desk.new).kept (D.view desk.old).failures (D.view desk.new).failures result }
+        host.old host.new
+        (devices (L.view link.old) (D.view desk.old)) (devices (L.view link.new) (D.view desk.new)) result }
     ensures comes { Stays L.comes_of link.old link.new }
 {
     let mut bytes = Vec::new(alloc);
@@ -299,8 +288,7 @@ fn perform<D: Desk, L: Link>(
     requires fits { IsFitted plan.now.part task.now }
     ensures performs { Performs (task_takes_memory plan.now.switches task.now)
         (task_part plan.now.part plan.now.switches task.now) host.old host.new
-        (L.view link.old).talk (L.view link.new).talk (L.view link.old).failures (L.view link.new).failures
-        (D.view desk.old).kept (D.view desk.new).kept (D.view desk.old).failures (D.view desk.new).failures result }
+        (devices (L.view link.old) (D.view desk.old)) (devices (L.view link.new) (D.view desk.new)) result }
     ensures comes { Stays L.comes_of link.old link.new }
 {
     match task {
@@ -334,8 +322,7 @@ pub(crate) fn perform_all<D: Desk, L: Link>(
     requires fits { All (IsFitted plan.now.part) tasks.now }
     ensures performs { Performs (list_any (task_takes_memory plan.now.switches) tasks.now)
         (tasks_part plan.now.part plan.now.switches tasks.now) host.old host.new
-        (L.view link.old).talk (L.view link.new).talk (L.view link.old).failures (L.view link.new).failures
-        (D.view desk.old).kept (D.view desk.new).kept (D.view desk.old).failures (D.view desk.new).failures result }
+        (devices (L.view link.old) (D.view desk.old)) (devices (L.view link.new) (D.view desk.new)) result }
     ensures comes { Stays L.comes_of link.old link.new }
 {
     match tasks {

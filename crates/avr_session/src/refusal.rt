@@ -14,9 +14,9 @@ const REFUSED: u8 = 1;
 
 /// Prints what is wrong with an update.
 fn print_update<D: Desk>(desk: &mut D, number: u8, text: &str) -> Result<(), DeskFault>
-    ensures printed { IsPrinted (D.view desk.old).kept (D.view desk.new).kept
+    ensures printed { IsPrinted (D.view desk.old) (D.view desk.new)
         (error (codes "update " ∷ decimal number ∷ text.now ∷ [])) result }
-    ensures counts { Counts (D.view desk.old).failures (D.view desk.new).failures result }
+    ensures counts { Counts (D.view desk.old) (D.view desk.new) result }
     ensures fault { IfErr result (λ e. e ≡ DeskFault.Failed) }
 {
     print_error(
@@ -31,8 +31,8 @@ fn print_update<D: Desk>(desk: &mut D, number: u8, text: &str) -> Result<(), Des
 
 /// Prints an error of one text.
 fn print_text<D: Desk>(desk: &mut D, text: &str) -> Result<(), DeskFault>
-    ensures printed { IsPrinted (D.view desk.old).kept (D.view desk.new).kept (error (text.now ∷ [])) result }
-    ensures counts { Counts (D.view desk.old).failures (D.view desk.new).failures result }
+    ensures printed { IsPrinted (D.view desk.old) (D.view desk.new) (error (text.now ∷ [])) result }
+    ensures counts { Counts (D.view desk.old) (D.view desk.new) result }
     ensures fault { IfErr result (λ e. e ≡ DeskFault.Failed) }
 {
     print_error(desk, &[Piece::Text(text)])
@@ -40,9 +40,9 @@ fn print_text<D: Desk>(desk: &mut D, text: &str) -> Result<(), DeskFault>
 
 /// Prints that something given is not known.
 fn print_unknown<'a, D: Desk>(desk: &mut D, what: &'a str, name: &'a str) -> Result<(), DeskFault>
-    ensures printed { IsPrinted (D.view desk.old).kept (D.view desk.new).kept
+    ensures printed { IsPrinted (D.view desk.old) (D.view desk.new)
         (error (what.now ∷ name.now ∷ codes " is not known" ∷ [])) result }
-    ensures counts { Counts (D.view desk.old).failures (D.view desk.new).failures result }
+    ensures counts { Counts (D.view desk.old) (D.view desk.new) result }
     ensures fault { IfErr result (λ e. e ≡ DeskFault.Failed) }
 {
     print_error(
@@ -61,8 +61,8 @@ fn print_update_fault<D: Desk>(
     number: u8,
     fault: UpdateFault,
 ) -> Result<(), DeskFault>
-    ensures printed { IsPrinted (D.view desk.old).kept (D.view desk.new).kept (error (update_pieces number fault)) result }
-    ensures counts { Counts (D.view desk.old).failures (D.view desk.new).failures result }
+    ensures printed { IsPrinted (D.view desk.old) (D.view desk.new) (error (update_pieces number fault)) result }
+    ensures counts { Counts (D.view desk.old) (D.view desk.new) result }
     ensures fault { IfErr result (λ e. e ≡ DeskFault.Failed) }
 {
     match fault {
@@ -76,8 +76,8 @@ fn print_update_fault<D: Desk>(
 
 /// Prints that a port is not known, or that none is given.
 fn print_bad_port<D: Desk>(desk: &mut D, port: &Option<Text>) -> Result<(), DeskFault>
-    ensures printed { IsPrinted (D.view desk.old).kept (D.view desk.new).kept (error (port_pieces port.now)) result }
-    ensures counts { Counts (D.view desk.old).failures (D.view desk.new).failures result }
+    ensures printed { IsPrinted (D.view desk.old) (D.view desk.new) (error (port_pieces port.now)) result }
+    ensures counts { Counts (D.view desk.old) (D.view desk.new) result }
     ensures fault { IfErr result (λ e. e ≡ DeskFault.Failed) }
 {
     match port {
@@ -89,8 +89,8 @@ fn print_bad_port<D: Desk>(desk: &mut D, port: &Option<Text>) -> Result<(), Desk
 /// Prints the line of a fault.
 #[tactic(auto, unfolding(crate::specs::Refusal::refusal_line))]
 fn print_refusal<D: Desk>(desk: &mut D, fault: &SettingsFault) -> Result<(), DeskFault>
-    ensures printed { IsPrinted (D.view desk.old).kept (D.view desk.new).kept (refusal_line fault.now) result }
-    ensures counts { Counts (D.view desk.old).failures (D.view desk.new).failures result }
+    ensures printed { IsPrinted (D.view desk.old) (D.view desk.new) (refusal_line fault.now) result }
+    ensures counts { Counts (D.view desk.old) (D.view desk.new) result }
     ensures fault { IfErr result (λ e. e ≡ DeskFault.Failed) }
 {
     match fault {
@@ -109,8 +109,7 @@ fn print_refusal<D: Desk>(desk: &mut D, fault: &SettingsFault) -> Result<(), Des
 /// line was printed, and nothing more is.
 pub fn refuse<D: Desk>(fault: &SettingsFault, desk: &mut D) -> u8
     ensures status { result ≡ 1 }
-    ensures told { Tells (D.view desk.old).kept (D.view desk.new).kept (refusal_line fault.now) (D.view desk.old).failures
-        (D.view desk.new).failures }
+    ensures told { Tells (D.view desk.old) (D.view desk.new) (refusal_line fault.now) }
 {
     let _ = print_refusal(desk, fault);
     REFUSED

@@ -27,9 +27,7 @@ fn stopped_if_failed(printed: Result<(), DeskFault>) -> Result<(), Stopped>
 
 /// Prints a line of information, unless the run is quiet.
 pub(crate) fn inform<D: Desk>(desk: &mut D, quiet: u8, pieces: &[Piece<'_>]) -> Result<(), Stopped>
-    ensures reports { Reports (D.view desk.old).kept (D.view desk.new).kept (informs quiet (map text_of pieces.now))
-        (PrintStops (D.view desk.old).failures (D.view desk.new).failures) result }
-    ensures counted { (D.view desk.old).failures ≤ (D.view desk.new).failures }
+    ensures { Reports PrintStops (D.view desk.old) (D.view desk.new) (informs quiet (map text_of pieces.now)) result }
 {
     if quiet > 0 {
         return Ok(());
@@ -39,9 +37,7 @@ pub(crate) fn inform<D: Desk>(desk: &mut D, quiet: u8, pieces: &[Piece<'_>]) -> 
 
 /// Prints a warning, unless the run is quiet twice.
 pub(crate) fn warn<D: Desk>(desk: &mut D, quiet: u8, pieces: &[Piece<'_>]) -> Result<(), Stopped>
-    ensures reports { Reports (D.view desk.old).kept (D.view desk.new).kept (warns quiet (map text_of pieces.now))
-        (PrintStops (D.view desk.old).failures (D.view desk.new).failures) result }
-    ensures counted { (D.view desk.old).failures ≤ (D.view desk.new).failures }
+    ensures { Reports PrintStops (D.view desk.old) (D.view desk.new) (warns quiet (map text_of pieces.now)) result }
 {
     if quiet > 1 {
         return Ok(());
@@ -51,9 +47,8 @@ pub(crate) fn warn<D: Desk>(desk: &mut D, quiet: u8, pieces: &[Piece<'_>]) -> Re
 
 /// Prints an error.
 pub(crate) fn tell<D: Desk>(desk: &mut D, pieces: &[Piece<'_>]) -> Result<(), Stopped>
-    ensures reports { Reports (D.view desk.old).kept (D.view desk.new).kept (Line (error (map text_of pieces.now)) ∷ [])
-        (PrintStops (D.view desk.old).failures (D.view desk.new).failures) result }
-    ensures counted { (D.view desk.old).failures ≤ (D.view desk.new).failures }
+    ensures { Reports PrintStops (D.view desk.old) (D.view desk.new)
+        (Line (error (map text_of pieces.now)) ∷ []) result }
 {
     stopped_if_failed(print_error(desk, pieces))
 }
@@ -66,9 +61,7 @@ pub(crate) fn report_bytes<D: Desk>(
     count: u32,
     done: &str,
 ) -> Result<(), Stopped>
-    ensures reports { Reports (D.view desk.old).kept (D.view desk.new).kept (bytes_say quiet mem count done.now)
-        (PrintStops (D.view desk.old).failures (D.view desk.new).failures) result }
-    ensures counted { (D.view desk.old).failures ≤ (D.view desk.new).failures }
+    ensures { Reports PrintStops (D.view desk.old) (D.view desk.new) (bytes_say quiet mem count done.now) result }
 {
     let pieces = [
         Piece::Text(mem.name()),
@@ -81,11 +74,9 @@ pub(crate) fn report_bytes<D: Desk>(
 
 /// Prints that a command was refused with this status.
 fn tell_refused<D: Desk>(desk: &mut D, command: u8, status: u8) -> Result<(), Stopped>
-    ensures reports { Reports (D.view desk.old).kept (D.view desk.new).kept
+    ensures { Reports PrintStops (D.view desk.old) (D.view desk.new)
         (Line (error (codes "command " ∷ digits (command ∷ [])
-        ∷ codes " refused with status " ∷ digits (status ∷ []) ∷ [])) ∷ [])
-        (PrintStops (D.view desk.old).failures (D.view desk.new).failures) result }
-    ensures counted { (D.view desk.old).failures ≤ (D.view desk.new).failures }
+        ∷ codes " refused with status " ∷ digits (status ∷ []) ∷ [])) ∷ []) result }
 {
     let pieces = [
         Piece::Text("command "),
@@ -98,10 +89,8 @@ fn tell_refused<D: Desk>(desk: &mut D, command: u8, status: u8) -> Result<(), St
 
 /// Prints that what answered a command is no answer to it.
 fn tell_bad_answer<D: Desk>(desk: &mut D, command: u8) -> Result<(), Stopped>
-    ensures reports { Reports (D.view desk.old).kept (D.view desk.new).kept
-        (Line (error (codes "command " ∷ digits (command ∷ []) ∷ codes ": bad answer" ∷ [])) ∷ [])
-        (PrintStops (D.view desk.old).failures (D.view desk.new).failures) result }
-    ensures counted { (D.view desk.old).failures ≤ (D.view desk.new).failures }
+    ensures { Reports PrintStops (D.view desk.old) (D.view desk.new)
+        (Line (error (codes "command " ∷ digits (command ∷ []) ∷ codes ": bad answer" ∷ [])) ∷ []) result }
 {
     let pieces = [
         Piece::Text("command "),
@@ -113,9 +102,8 @@ fn tell_bad_answer<D: Desk>(desk: &mut D, command: u8) -> Result<(), Stopped>
 
 /// Prints that the signature is another than the part's.
 fn tell_wrong_signature<D: Desk>(desk: &mut D, part: &Part, found: [u8; 3]) -> Result<(), Stopped>
-    ensures reports { Reports (D.view desk.old).kept (D.view desk.new).kept (Line (error (other_signature part.now found)) ∷ [])
-        (PrintStops (D.view desk.old).failures (D.view desk.new).failures) result }
-    ensures counted { (D.view desk.old).failures ≤ (D.view desk.new).failures }
+    ensures { Reports PrintStops (D.view desk.old) (D.view desk.new)
+        (Line (error (other_signature part.now found)) ∷ []) result }
 {
     let pieces = [
         Piece::Text("signature is "),
@@ -136,12 +124,10 @@ fn tell_differs<D: Desk>(
     want: u8,
     found: u8,
 ) -> Result<(), Stopped>
-    ensures reports { Reports (D.view desk.old).kept (D.view desk.new).kept
+    ensures { Reports PrintStops (D.view desk.old) (D.view desk.new)
         (Line (error (name_of mem ∷ codes ": address " ∷ digits (big_bytes 4 address)
         ∷ codes ": " ∷ digits (want ∷ []) ∷ codes " expected, "
-        ∷ digits (found ∷ []) ∷ codes " found" ∷ [])) ∷ [])
-        (PrintStops (D.view desk.old).failures (D.view desk.new).failures) result }
-    ensures counted { (D.view desk.old).failures ≤ (D.view desk.new).failures }
+        ∷ digits (found ∷ []) ∷ codes " found" ∷ [])) ∷ []) result }
 {
     let pieces = [
         Piece::Text(mem.name()),
@@ -158,10 +144,8 @@ fn tell_differs<D: Desk>(
 
 /// Prints that a memory can't be written.
 fn tell_read_only<D: Desk>(desk: &mut D, mem: Mem) -> Result<(), Stopped>
-    ensures reports { Reports (D.view desk.old).kept (D.view desk.new).kept
-        (Line (error (name_of mem ∷ codes " is read-only" ∷ [])) ∷ [])
-        (PrintStops (D.view desk.old).failures (D.view desk.new).failures) result }
-    ensures counted { (D.view desk.old).failures ≤ (D.view desk.new).failures }
+    ensures { Reports PrintStops (D.view desk.old) (D.view desk.new)
+        (Line (error (name_of mem ∷ codes " is read-only" ∷ [])) ∷ []) result }
 {
     tell(
         desk,
@@ -171,9 +155,7 @@ fn tell_read_only<D: Desk>(desk: &mut D, mem: Mem) -> Result<(), Stopped>
 
 /// Prints an error of one text.
 fn tell_text<D: Desk>(desk: &mut D, text: &str) -> Result<(), Stopped>
-    ensures reports { Reports (D.view desk.old).kept (D.view desk.new).kept (Line (error (text.now ∷ [])) ∷ [])
-        (PrintStops (D.view desk.old).failures (D.view desk.new).failures) result }
-    ensures counted { (D.view desk.old).failures ≤ (D.view desk.new).failures }
+    ensures { Reports PrintStops (D.view desk.old) (D.view desk.new) (Line (error (text.now ∷ [])) ∷ []) result }
 {
     tell(desk, &[Piece::Text(text)])
 }
@@ -185,9 +167,7 @@ pub(crate) fn tell_fault<D: Desk>(
     part: &Part,
     fault: HostFault,
 ) -> Result<(), Stopped>
-    ensures reports { Reports (D.view desk.old).kept (D.view desk.new).kept (Line (fault_line part.now fault) ∷ [])
-        (PrintStops (D.view desk.old).failures (D.view desk.new).failures) result }
-    ensures counted { (D.view desk.old).failures ≤ (D.view desk.new).failures }
+    ensures { Reports PrintStops (D.view desk.old) (D.view desk.new) (Line (fault_line part.now fault) ∷ []) result }
 {
     match fault {
         HostFault::NoAnswer => tell_text(desk, "no answer"),
@@ -208,9 +188,7 @@ pub(crate) fn tell_fault<D: Desk>(
 
 /// Prints the signature that was found.
 fn report_found<D: Desk>(desk: &mut D, quiet: u8, found: [u8; 3]) -> Result<(), Stopped>
-    ensures reports { Reports (D.view desk.old).kept (D.view desk.new).kept (signature_says quiet found)
-        (PrintStops (D.view desk.old).failures (D.view desk.new).failures) result }
-    ensures counted { (D.view desk.old).failures ≤ (D.view desk.new).failures }
+    ensures { Reports PrintStops (D.view desk.old) (D.view desk.new) (signature_says quiet found) result }
 {
     let pieces = [Piece::Text("device signature = "), Piece::Signature(found)];
     inform(desk, quiet, &pieces)
@@ -218,9 +196,8 @@ fn report_found<D: Desk>(desk: &mut D, quiet: u8, found: [u8; 3]) -> Result<(), 
 
 /// Warns that the signature is another than the part's.
 fn warn_other<D: Desk>(desk: &mut D, quiet: u8, part: &Part, found: [u8; 3]) -> Result<(), Stopped>
-    ensures reports { Reports (D.view desk.old).kept (D.view desk.new).kept (warns quiet (other_signature part.now found))
-        (PrintStops (D.view desk.old).failures (D.view desk.new).failures) result }
-    ensures counted { (D.view desk.old).failures ≤ (D.view desk.new).failures }
+    ensures { Reports PrintStops (D.view desk.old) (D.view desk.new)
+        (warns quiet (other_signature part.now found)) result }
 {
     let pieces = [
         Piece::Text("signature is "),
@@ -240,9 +217,7 @@ fn warn_of_signature<D: Desk>(
     part: &Part,
     found: [u8; 3],
 ) -> Result<(), Stopped>
-    ensures reports { Reports (D.view desk.old).kept (D.view desk.new).kept (warns_of_signature quiet part.now found)
-        (PrintStops (D.view desk.old).failures (D.view desk.new).failures) result }
-    ensures counted { (D.view desk.old).failures ≤ (D.view desk.new).failures }
+    ensures { Reports PrintStops (D.view desk.old) (D.view desk.new) (warns_of_signature quiet part.now found) result }
 {
     if found == part.signature() {
         Ok(())
@@ -258,9 +233,7 @@ fn report_taken<D: Desk>(
     part: &Part,
     found: [u8; 3],
 ) -> Result<(), Stopped>
-    ensures reports { Reports (D.view desk.old).kept (D.view desk.new).kept (opening_says quiet part.now (Ok found))
-        (PrintStops (D.view desk.old).failures (D.view desk.new).failures) result }
-    ensures counted { (D.view desk.old).failures ≤ (D.view desk.new).failures }
+    ensures { Reports PrintStops (D.view desk.old) (D.view desk.new) (opening_says quiet part.now (Ok found)) result }
 {
     report_found(desk, quiet, found)?;
     warn_of_signature(desk, quiet, part, found)
@@ -273,10 +246,8 @@ fn report_refused<D: Desk>(
     part: &Part,
     found: [u8; 3],
 ) -> Result<(), Stopped>
-    ensures reports { Reports (D.view desk.old).kept (D.view desk.new).kept
-        (opening_says quiet part.now (Err (HostFault.WrongSignature found)))
-        (PrintStops (D.view desk.old).failures (D.view desk.new).failures) result }
-    ensures counted { (D.view desk.old).failures ≤ (D.view desk.new).failures }
+    ensures { Reports PrintStops (D.view desk.old) (D.view desk.new)
+        (opening_says quiet part.now (Err (HostFault.WrongSignature found))) result }
 {
     report_found(desk, quiet, found)?;
     tell_fault(desk, part, HostFault::WrongSignature(found))
@@ -289,9 +260,7 @@ pub(crate) fn report_opening<D: Desk>(
     part: &Part,
     opened: &Result<[u8; 3], HostFault>,
 ) -> Result<(), Stopped>
-    ensures reports { Reports (D.view desk.old).kept (D.view desk.new).kept (opening_says quiet part.now opened.now)
-        (PrintStops (D.view desk.old).failures (D.view desk.new).failures) result }
-    ensures counted { (D.view desk.old).failures ≤ (D.view desk.new).failures }
+    ensures { Reports PrintStops (D.view desk.old) (D.view desk.new) (opening_says quiet part.now opened.now) result }
 {
     match opened {
         Ok(found) => report_taken(desk, quiet, part, *found),
@@ -307,10 +276,8 @@ pub(crate) fn report_erased<D: Desk>(
     part: &Part,
     erased: &Result<(), HostFault>,
 ) -> Result<(), Stopped>
-    ensures reports { Reports (D.view desk.old).kept (D.view desk.new).kept
-        (fault_or part.now (λ _. informs quiet (codes "chip erased" ∷ [])) erased.now)
-        (PrintStops (D.view desk.old).failures (D.view desk.new).failures) result }
-    ensures counted { (D.view desk.old).failures ≤ (D.view desk.new).failures }
+    ensures { Reports PrintStops (D.view desk.old) (D.view desk.new)
+        (fault_or part.now (λ _. informs quiet (codes "chip erased" ∷ [])) erased.now) result }
 {
     match erased {
         Ok(()) => inform(desk, quiet, &[Piece::Text("chip erased")]),
@@ -328,10 +295,8 @@ pub(crate) fn report_done<D: Desk>(
     done: &str,
     outcome: &Result<(), HostFault>,
 ) -> Result<(), Stopped>
-    ensures reports { Reports (D.view desk.old).kept (D.view desk.new).kept
-        (fault_or part.now (λ _. bytes_say quiet mem count done.now) outcome.now)
-        (PrintStops (D.view desk.old).failures (D.view desk.new).failures) result }
-    ensures counted { (D.view desk.old).failures ≤ (D.view desk.new).failures }
+    ensures { Reports PrintStops (D.view desk.old) (D.view desk.new)
+        (fault_or part.now (λ _. bytes_say quiet mem count done.now) outcome.now) result }
 {
     match outcome {
         Ok(()) => report_bytes(desk, quiet, mem, count, done),
@@ -346,10 +311,8 @@ pub(crate) fn report_closing<D: Desk>(
     part: &Part,
     closed: &Result<(), HostFault>,
 ) -> Result<(), Stopped>
-    ensures reports { Reports (D.view desk.old).kept (D.view desk.new).kept
-        (fault_or part.now (λ _. informs quiet (codes "done" ∷ [])) closed.now)
-        (PrintStops (D.view desk.old).failures (D.view desk.new).failures) result }
-    ensures counted { (D.view desk.old).failures ≤ (D.view desk.new).failures }
+    ensures { Reports PrintStops (D.view desk.old) (D.view desk.new)
+        (fault_or part.now (λ _. informs quiet (codes "done" ∷ [])) closed.now) result }
 {
     match closed {
         Ok(()) => inform(desk, quiet, &[Piece::Text("done")]),

@@ -1,5 +1,6 @@
 //! A run, from settings to status.
 ghost use Rattle.avr_session.specs.Run.{RunsSettings};
+ghost use Rattle.avr_session.specs.Runs.{devices};
 ghost use Rattle.stk_host.specs.Talk.{Stays};
 
 use crate::session::drive;
@@ -12,8 +13,8 @@ use stk_host::Link;
 /// Plans what the settings ask for, runs it over a link, reports it at the desk, and answers the status: 0 where no
 /// fault came, else 1. What is refused is told before any frame is sent or file created.
 pub fn run<D: Desk, L: Link>(alloc: Global, settings: &Settings, desk: &mut D, link: &mut L) -> u8
-    ensures runs { RunsSettings settings.now (L.view link.old).talk (L.view link.new).talk (D.view desk.old).kept (D.view desk.new).kept
-        (L.view link.old).failures (L.view link.new).failures (D.view desk.old).failures (D.view desk.new).failures result }
+    ensures runs { RunsSettings settings.now (devices (L.view link.old) (D.view desk.old))
+        (devices (L.view link.new) (D.view desk.new)) result }
     ensures comes { Stays L.comes_of link.old link.new }
 {
     match plan(alloc, settings, desk) {

@@ -1,5 +1,6 @@
 //! What was read of a memory becomes a file.
 ghost use Rattle.std.specs.Prelude.{◌≡◌, ◌∷◌, ◌≤◌, ◌<◌, ◌^◌, [], length};
+ghost use Rattle.avr_desk.specs.Fault.{Follows};
 ghost use Rattle.avr_message.specs.Lines.{error};
 ghost use Rattle.avr_message.specs.Said.{Creates, Writes, Tells};
 ghost use Rattle.avr_session.specs.FileText.{file_text};
@@ -27,9 +28,7 @@ pub(crate) struct Target<'a> {
 
 /// Prints what can't be done with a file, as far as the desk prints it.
 fn tell_trouble<D: Desk>(desk: &mut D, file: &str, trouble: &str)
-    ensures told { Tells (D.view desk.old).kept (D.view desk.new).kept (error (file.now ∷ trouble.now ∷ []))
-        (D.view desk.old).failures (D.view desk.new).failures }
-    ensures counted { (D.view desk.old).failures ≤ (D.view desk.new).failures }
+    ensures { Tells (D.view desk.old) (D.view desk.new) (error (file.now ∷ trouble.now ∷ [])) }
 {
     let _ = print_error(desk, &[Piece::Text(file), Piece::Text(trouble)]);
 }
@@ -42,9 +41,9 @@ fn write_file<D: Desk>(
     bytes: &[u8],
 ) -> Result<(), Stopped>
     requires { length bytes.now ≤ 2 ^ 32 }
-    ensures writes { WritesAll stream target.entry.file.now (D.view desk.old).kept (D.view desk.new).kept
-        (file_text target.entry.format bytes.now) (D.view desk.old).failures (D.view desk.new).failures result }
-    ensures counted { (D.view desk.old).failures ≤ (D.view desk.new).failures }
+    ensures writes { WritesAll stream target.entry.file.now (D.view desk.old) (D.view desk.new)
+        (file_text target.entry.format bytes.now) result }
+    ensures follows { Follows (D.view desk.old) (D.view desk.new) }
 {
     match write_text(desk, stream, target.format, bytes) {
         Ok(()) => Ok(()),
@@ -58,10 +57,8 @@ fn write_file<D: Desk>(
 /// Creates the file of this name and writes it.
 fn create_file<D: Desk>(desk: &mut D, target: Target<'_>, bytes: &[u8]) -> Result<(), Stopped>
     requires { length bytes.now ≤ 2 ^ 32 }
-    ensures reports { Reports (D.view desk.old).kept (D.view desk.new).kept
-        (Creates target.entry.file.now ∷ Writes (file_text target.entry.format bytes.now) ∷ [])
-        (SaveStops target.entry.file.now (D.view desk.old).failures (D.view desk.new).failures) result }
-    ensures counted { (D.view desk.old).failures ≤ (D.view desk.new).failures }
+    ensures { Reports (SaveStops target.entry.file.now) (D.view desk.old) (D.view desk.new)
+        (Creates target.entry.file.now ∷ Writes (file_text target.entry.format bytes.now) ∷ []) result }
 {
     match desk.create(target.file) {
         Ok(()) => write_file(desk, Stream::File, target, bytes),
@@ -75,10 +72,8 @@ fn create_file<D: Desk>(desk: &mut D, target: Target<'_>, bytes: &[u8]) -> Resul
 /// Saves bytes in a format: in the file of the target's name, or on standard output.
 pub(crate) fn save<D: Desk>(desk: &mut D, target: Target<'_>, bytes: &[u8]) -> Result<(), Stopped>
     requires { length bytes.now ≤ 2 ^ 32 }
-    ensures reports { Reports (D.view desk.old).kept (D.view desk.new).kept
-        (saved target.entry.file.now (file_text target.entry.format bytes.now))
-        (SaveStops target.entry.file.now (D.view desk.old).failures (D.view desk.new).failures) result }
-    ensures counted { (D.view desk.old).failures ≤ (D.view desk.new).failures }
+    ensures { Reports (SaveStops target.entry.file.now) (D.view desk.old) (D.view desk.new)
+        (saved target.entry.file.now (file_text target.entry.format bytes.now)) result }
 {
     if target.file == "-" {
         write_file(desk, Stream::Output, target, bytes)
@@ -106,10 +101,8 @@ fn report_bytes_read<D: Desk>(
     bytes: &[u8],
 ) -> Result<(), Stopped>
     requires { length bytes.now < 2 ^ 32 }
-    ensures reports { Reports (D.view desk.old).kept (D.view desk.new).kept
-        (read_says switches mem target.entry.format target.entry.file.now bytes.now)
-        (DeskStops (D.view desk.old).failures (D.view desk.new).failures) result }
-    ensures counted { (D.view desk.old).failures ≤ (D.view desk.new).failures }
+    ensures { Reports DeskStops (D.view desk.old) (D.view desk.new)
+        (read_says switches mem target.entry.format target.entry.file.now bytes.now) result }
 {
     let kept = kept_of(mem, switches.all, bytes);
     save(desk, target, kept)?;
@@ -126,11 +119,9 @@ pub(crate) fn report_read<D: Desk>(
     outcome: &Result<(), HostFault>,
 ) -> Result<(), Stopped>
     requires { length bytes.now < 2 ^ 32 }
-    ensures reports { Reports (D.view desk.old).kept (D.view desk.new).kept
+    ensures { Reports (ReadStops outcome.now) (D.view desk.old) (D.view desk.new)
         (fault_or plan.now.part (read_says plan.now.switches mem target.entry.format target.entry.file.now)
-        (given bytes.now outcome.now))
-        (ReadStops outcome.now (D.view desk.old).failures (D.view desk.new).failures) result }
-    ensures counted { (D.view desk.old).failures ≤ (D.view desk.new).failures }
+        (given bytes.now outcome.now)) result }
 {
     match outcome {
         Ok(()) => report_bytes_read(desk, plan.switches(), mem, target, bytes),

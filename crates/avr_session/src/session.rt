@@ -1,9 +1,10 @@
 //! The session of a plan: what it asks of a programmer, and what it reports at the desk.
-ghost use Rattle.std.specs.Prelude.{◌≡◌, ◌≤◌, ◌∷◌, [], None, Ok, codes, true, false};
+ghost use Rattle.std.specs.Prelude.{◌≡◌, ◌∷◌, [], None, Ok, codes, true, false};
+ghost use Rattle.avr_desk.specs.Fault.{Follows};
 ghost use Rattle.avr_session.specs.declared.standing.Standing.TheVariants.{Fine, Faulty};
 ghost use Rattle.avr_session.specs.Concluding.{Serves};
 ghost use Rattle.avr_session.specs.Parts.{is_told, Performs, PerformsBehind};
-ghost use Rattle.avr_session.specs.Runs.{RunsTo, Stops};
+ghost use Rattle.avr_session.specs.Runs.{devices, RunsTo};
 ghost use Rattle.avr_session.specs.Session.{beginning, working, ending, playing, session, takes_memory};
 ghost use Rattle.stk_host.specs.Talk.{Stays};
 
@@ -25,8 +26,7 @@ fn open_and_erase<D: Desk, L: Link>(
     requires sound { host.old.broken ≡ None }
     requires signature { host.old.signature ≡ plan.now.part.signature }
     ensures performs { Performs false (beginning plan.now) host.old host.new
-        (L.view link.old).talk (L.view link.new).talk (L.view link.old).failures (L.view link.new).failures
-        (D.view desk.old).kept (D.view desk.new).kept (D.view desk.old).failures (D.view desk.new).failures result }
+        (devices (L.view link.old) (D.view desk.old)) (devices (L.view link.new) (D.view desk.new)) result }
     ensures comes { Stays L.comes_of link.old link.new }
 {
     match open_session(host, desk, link, plan)? {
@@ -47,8 +47,7 @@ fn work<D: Desk, L: Link>(
     requires signature { host.old.signature ≡ plan.now.part.signature }
     requires part { host.old.part ≡ plan.now.part }
     ensures performs { Performs (takes_memory plan.now) (working plan.now) host.old host.new
-        (L.view link.old).talk (L.view link.new).talk (L.view link.old).failures (L.view link.new).failures
-        (D.view desk.old).kept (D.view desk.new).kept (D.view desk.old).failures (D.view desk.new).failures result }
+        (devices (L.view link.old) (D.view desk.old)) (devices (L.view link.new) (D.view desk.new)) result }
     ensures comes { Stays L.comes_of link.old link.new }
 {
     match open_and_erase(host, desk, link, plan)? {
@@ -66,8 +65,7 @@ fn close<D: Desk, L: Link>(
 ) -> Result<Standing, Stopped>
     requires { host.old.broken ≡ None }
     ensures performs { Performs false (ending plan.now.part plan.now.switches Fine) host.old host.new
-        (L.view link.old).talk (L.view link.new).talk (L.view link.old).failures (L.view link.new).failures
-        (D.view desk.old).kept (D.view desk.new).kept (D.view desk.old).failures (D.view desk.new).failures result }
+        (devices (L.view link.old) (D.view desk.old)) (devices (L.view link.new) (D.view desk.new)) result }
     ensures comes { Stays L.comes_of link.old link.new }
 {
     let closed = host.close(link);
@@ -83,9 +81,8 @@ fn close_after_fault<D: Desk, L: Link>(
     plan: &Plan,
 ) -> Result<Standing, Stopped>
     requires { host.old.broken ≡ None }
-    ensures performs { PerformsBehind false true (ending plan.now.part plan.now.switches Faulty) host.old host.new
-        (L.view link.old).talk (L.view link.new).talk (L.view link.old).failures (L.view link.new).failures
-        (D.view desk.old).kept (D.view desk.new).kept (D.view desk.old).failures (D.view desk.new).failures result }
+    ensures performs { PerformsBehind (record { takes = false; was_told = true }) (ending plan.now.part plan.now.switches Faulty) host.old host.new
+        (devices (L.view link.old) (D.view desk.old)) (devices (L.view link.new) (D.view desk.new)) result }
     ensures comes { Stays L.comes_of link.old link.new }
 {
     let closed = host.close(link);
@@ -102,10 +99,9 @@ fn end<D: Desk, L: Link>(
     standing: Standing,
 ) -> Result<Standing, Stopped>
     requires { Serves (Ok standing) host.old.broken }
-    ensures performs { PerformsBehind false (is_told standing)
+    ensures performs { PerformsBehind (record { takes = false; was_told = is_told standing })
         (ending plan.now.part plan.now.switches standing) host.old host.new
-        (L.view link.old).talk (L.view link.new).talk (L.view link.old).failures (L.view link.new).failures
-        (D.view desk.old).kept (D.view desk.new).kept (D.view desk.old).failures (D.view desk.new).failures result }
+        (devices (L.view link.old) (D.view desk.old)) (devices (L.view link.new) (D.view desk.new)) result }
     ensures comes { Stays L.comes_of link.old link.new }
 {
     match standing {
@@ -127,8 +123,7 @@ fn play<D: Desk, L: Link>(
     requires signature { host.old.signature ≡ plan.now.part.signature }
     requires part { host.old.part ≡ plan.now.part }
     ensures performs { Performs (takes_memory plan.now) (playing plan.now) host.old host.new
-        (L.view link.old).talk (L.view link.new).talk (L.view link.old).failures (L.view link.new).failures
-        (D.view desk.old).kept (D.view desk.new).kept (D.view desk.old).failures (D.view desk.new).failures result }
+        (devices (L.view link.old) (D.view desk.old)) (devices (L.view link.new) (D.view desk.new)) result }
     ensures comes { Stays L.comes_of link.old link.new }
 {
     let standing = work(alloc, host, desk, link, plan)?;
@@ -141,10 +136,9 @@ fn play<D: Desk, L: Link>(
 /// After a fault of the link or the desk, or where memory was refused to read or to compare, its line is printed, whole
 /// unless the desk fails, and nothing more is sent or said. Behind the line of a fault a second one is not told.
 pub fn drive<D: Desk, L: Link>(alloc: Global, plan: &Plan, desk: &mut D, link: &mut L) -> u8
-    ensures runs { RunsTo (session plan.now) (L.view link.old).talk (L.view link.new).talk (D.view desk.old).kept (D.view desk.new).kept
-        (Stops (takes_memory plan.now) (L.view link.old).failures (L.view link.new).failures (D.view desk.old).failures
-        (D.view desk.new).failures) result }
-    ensures rises { (D.view desk.old).failures ≤ (D.view desk.new).failures }
+    ensures runs { RunsTo (session plan.now) (devices (L.view link.old) (D.view desk.old))
+        (devices (L.view link.new) (D.view desk.new)) (takes_memory plan.now) result }
+    ensures follows { Follows (D.view desk.old) (D.view desk.new) }
     ensures comes { Stays L.comes_of link.old link.new }
 {
     let mut host = Host::new(plan.part());

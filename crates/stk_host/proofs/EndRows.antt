@@ -4,9 +4,9 @@ use Rattle.stk_host.specs.declared.fault.Broken.TheVariants as broken
 use Rattle.stk_host.specs.declared.fault.HostFault.TheVariants.{SendFailed, RecvFailed}
 use Rattle.stk_host.specs.declared.link.Item.TheVariants.{Silence}
 use Rattle.stk_host.specs.Tape.{on_tape, answer}
-use Rattle.stk_host.specs.Talk.{Talk, Sent, Got, sent, heard}
+use Rattle.stk_host.specs.Talk.{Talk, LinkView, Sent, Got, sent, heard}
 use Rattle.stk_host.specs.Dialog.{Dialog, Event, Frame, played, bytes_sent}
-use Rattle.stk_host.specs.Play.{InTurn, BreaksSending, BreaksListening, FailsOver}
+use Rattle.stk_host.specs.Play.{InTurn, BreaksSending, BreaksListening, Progress, FailsOver}
 use Rattle.stk_host.specs.Steps.{exchange, attempt, tries}
 use Rattle.stk_host.specs.Operations.{closing}
 use Rattle.stk_host.specs.Calls.{EndsCall}
@@ -42,18 +42,25 @@ never_both f g =
 grown : (x y : Talk) → Some x ≡ Some y → y ≡ x
 grown x y e = cc
 
--- nor does a call over a link that keeps what passed
-pub never_either : {R : Type 0} (dialog : Dialog ⊥ R) (seq : ℕ) (u : List ℕ) (talk : Talk) → FailsOver broken.Send dialog seq u (Some []) (Some talk) → FailsOver broken.Recv dialog seq u (Some []) (Some talk) → ⊥
-never_either dialog seq u talk f g =
+-- a link that keeps what passed
+abbrev showing : Talk → LinkView
+showing talk = record { talk = Some talk; failures = 0 }
+
+-- nor does a call over it
+pub never_either : {R : Type 0} (dialog : Dialog ⊥ R) (before : Progress) (talk : Talk) → FailsOver broken.Send dialog before (showing []) (showing talk) → FailsOver broken.Recv dialog before (showing []) (showing talk) → ⊥
+never_either dialog before talk f g =
     never_both
-    (subst (λ t. BreaksSending dialog seq u t f.shown) (grown talk f.during f.grows) f.breaks)
-    (subst (λ t. BreaksListening dialog seq u t g.shown) (grown talk g.during g.grows) g.breaks)
+    (subst (λ t. BreaksSending dialog before.next before.unread t f.shown) (grown talk f.during f.grows) f.breaks)
+    (subst (λ t. BreaksListening dialog before.next before.unread t g.shown) (grown talk g.during g.grows) g.breaks)
+
+abbrev sixth : Progress
+sixth = record { next = 6; unread = [] }
 
 abbrev leaving : List ℕ
 leaving = 0x1B ∷ 0x06 ∷ 0x00 ∷ 0x03 ∷ 0x0E ∷ 0x11 ∷ 0x01 ∷ 0x01 ∷ 0x01 ∷ []
 
 -- the frame was sent, and its answer not heard
-pub unheard : EndsCall closing 6 [] (Some []) (Some (Sent leaving ∷ [])) (Err RecvFailed) 6 []
+pub unheard : EndsCall closing sixth (showing []) (showing (Sent leaving ∷ [])) (Err RecvFailed) sixth
 unfolding exchange attempt tries answer closing
 unheard = record {
   during = Sent leaving ∷ [];
@@ -63,11 +70,11 @@ unheard = record {
 }
 
 -- which is no failure to send it
-pub not_unsent : (next : ℕ) (left : List ℕ) → EndsCall closing 6 [] (Some []) (Some (Sent leaving ∷ [])) (Err SendFailed) next left → ⊥
-not_unsent next left f = never_either closing 6 [] (Sent leaving ∷ []) f unheard
+pub not_unsent : (after : Progress) → EndsCall closing sixth (showing []) (showing (Sent leaving ∷ [])) (Err SendFailed) after → ⊥
+not_unsent after f = never_either closing sixth (Sent leaving ∷ []) f unheard
 
 -- two bytes of it were sent
-pub unsent : EndsCall closing 6 [] (Some []) (Some (Sent (0x1B ∷ 0x06 ∷ []) ∷ [])) (Err SendFailed) 6 []
+pub unsent : EndsCall closing sixth (showing []) (showing (Sent (0x1B ∷ 0x06 ∷ []) ∷ [])) (Err SendFailed) sixth
 unfolding exchange attempt tries answer closing
 unsent = record {
   during = Sent (0x1B ∷ 0x06 ∷ []) ∷ [];
@@ -87,11 +94,11 @@ unsent = record {
 }
 
 -- which is no failure to hear its answer
-pub not_unheard : (next : ℕ) (left : List ℕ) → EndsCall closing 6 [] (Some []) (Some (Sent (0x1B ∷ 0x06 ∷ []) ∷ [])) (Err RecvFailed) next left → ⊥
-not_unheard next left f = never_either closing 6 [] (Sent (0x1B ∷ 0x06 ∷ []) ∷ []) unsent f
+pub not_unheard : (after : Progress) → EndsCall closing sixth (showing []) (showing (Sent (0x1B ∷ 0x06 ∷ []) ∷ [])) (Err RecvFailed) after → ⊥
+not_unheard after f = never_either closing sixth (Sent (0x1B ∷ 0x06 ∷ []) ∷ []) unsent f
 
 -- nothing was sent at all, and nothing heard
-pub unsent_at_all : EndsCall closing 6 [] (Some []) (Some []) (Err SendFailed) 6 []
+pub unsent_at_all : EndsCall closing sixth (showing []) (showing []) (Err SendFailed) sixth
 unfolding exchange attempt tries answer closing
 unsent_at_all = record {
   during = [];
@@ -100,8 +107,8 @@ unsent_at_all = record {
   breaks = record { whole = []; part = []; unsent = leaving; later = []; shown_is = refl; events_are = refl; not_whole = omega arith; all_sent = refl; in_turn = tt };
 }
 
-pub not_unasked : (next : ℕ) (left : List ℕ) → EndsCall closing 6 [] (Some []) (Some []) (Err RecvFailed) next left → ⊥
-not_unasked next left f = never_either closing 6 [] [] unsent_at_all f
+pub not_unasked : (after : Progress) → EndsCall closing sixth (showing []) (showing []) (Err RecvFailed) after → ⊥
+not_unasked after f = never_either closing sixth [] unsent_at_all f
 
 -- who listens before the frame is sent whole isn't in turn
 pub not_early : InTurn closing 6 [] (Sent (0x1B ∷ 0x06 ∷ []) ∷ (Got (Silence ∷ []) ∷ [])) → ⊥

@@ -5,11 +5,11 @@ use Rattle.stk_frame.specs.Frame.{frame}
 use Rattle.stk_frame.specs.Commands.{body}
 use Rattle.stk_host.specs.declared.fault.StepFault.{StepFault}
 use Rattle.stk_host.specs.Tape.{Reading}
-use Rattle.stk_host.specs.Talk.{Talk}
+use Rattle.stk_host.specs.Talk.{LinkView}
 use Rattle.stk_host.specs.Dialog.{Dialog, Done, Frame, next}
 use Rattle.stk_host.specs.declared.fault.Broken.{Broken}
 use Rattle.stk_host.specs.declared.fault.Broken.TheVariants as broken
-use Rattle.stk_host.specs.Play.{PlaysOver, FailsOver}
+use Rattle.stk_host.specs.Play.{Progress, PlaysOver, FailsOver}
 use Rattle.stk_host.specs.Reach.{Reaches, Says, SaysPart, Hears, HearsNone}
 use Rattle.stk_host.specs.declared.conversation.Reply as said
 use Rattle.stk_host.specs.declared.conversation.Reply.TheVariants as replies
@@ -21,17 +21,17 @@ use Rattle.stk_host.proofs.Reaching.{reaches_on, played_from, broken_on, broken_
 
 -- one command
 
-pub exchange_done : (seq then : ℕ) (command : Command) {u v : List ℕ} {o p q : Option Talk} {reading : Reading} → Says (frame seq (body command)) o p → Hears seq u p q reading v → then ≡ next seq
-    → PlaysOver (exchange command) seq u o q (replied command reading) then v
+pub exchange_done : (seq then : ℕ) (command : Command) {u v : List ℕ} {o p q : LinkView} {reading : Reading} → Says (frame seq (body command)) o.talk p.talk → Hears seq u p q reading v → then ≡ next seq
+    → PlaysOver (exchange command) (record { next = seq; unread = u }) o q (replied command reading) (record { next = then; unread = v })
 unfolding exchange
 exchange_done seq then command {u = u} {v = v} {o = o} {p = p} {q = q} {reading = reading} says hears is = record {
   during = says.during ++ hears.during;
   events = Frame (frame seq (body command)) ∷ [];
-  grows = grows_on o p q says.during hears.during says.grows hears.grows;
+  grows = grows_on o.talk p.talk q.talk says.during hears.during says.grows hears.grows;
   plays = rw is (plays_from (leads_ask (body command) (λ r. Done (replied command r)) seq u v says.during hears.during reading says.quiet says.bytes_sent hears.waits hears.answers));
 }
 
-pub exchange_unsent : (seq : ℕ) (command : Command) (u : List ℕ) {o p : Option Talk} → SaysPart (frame seq (body command)) o p → FailsOver broken.Send (exchange command) seq u o p
+pub exchange_unsent : (seq : ℕ) (command : Command) (u : List ℕ) {o p : LinkView} → SaysPart (frame seq (body command)) o.talk p.talk → FailsOver broken.Send (exchange command) (record { next = seq; unread = u }) o p
 unfolding exchange
 exchange_unsent seq command u says = record {
   during = says.says.during;
@@ -40,19 +40,19 @@ exchange_unsent seq command u says = record {
   breaks = breaks_asking (body command) (λ r. Done (replied command r)) seq u says.part says.unsent says.says.during says.says.quiet says.says.bytes_sent says.bytes_are says.not_whole;
 }
 
-pub exchange_unheard : (seq : ℕ) (command : Command) {u : List ℕ} {o p q : Option Talk} → Says (frame seq (body command)) o p → HearsNone seq u p q → FailsOver broken.Recv (exchange command) seq u o q
+pub exchange_unheard : (seq : ℕ) (command : Command) {u : List ℕ} {o p q : LinkView} → Says (frame seq (body command)) o.talk p.talk → HearsNone seq u p q → FailsOver broken.Recv (exchange command) (record { next = seq; unread = u }) o q
 unfolding exchange
 exchange_unheard seq command {u = u} {o = o} {p = p} {q = q} says hears = record {
   during = says.during ++ hears.during;
   shown = Frame (frame seq (body command)) ∷ [];
-  grows = grows_on o p q says.during hears.during says.grows hears.grows;
+  grows = grows_on o.talk p.talk q.talk says.during hears.during says.grows hears.grows;
   breaks = breaks_listening (body command) (λ r. Done (replied command r)) seq u says.during hears.during says.quiet says.bytes_sent hears.waits hears.no_answer;
 }
 
 -- an attempt, whose next command was sent and answered
 
-attempt_on : (command : Command) (commands : List Command) (before : List ℕ) {seq n : ℕ} {u v : List ℕ} {o q : Option Talk} (reply : Reply) → PlaysOver (exchange command) seq u o q reply n v
-    → Reaches (attempt (command ∷ commands) before) seq u o (with_data (λ bytes. attempt commands (before ++ bytes)) reply) n v q
+attempt_on : (command : Command) (commands : List Command) (before : List ℕ) {seq n : Progress} {o q : LinkView} (reply : Reply) → PlaysOver (exchange command) seq o q reply n
+    → Reaches (attempt (command ∷ commands) before) seq o (with_data (λ bytes. attempt commands (before ++ bytes)) reply) n q
 unfolding attempt
 attempt_on command commands before reply f = then_reaches (with_data (λ bytes. attempt commands (before ++ bytes))) f
 
@@ -60,55 +60,55 @@ attempt_none : (before : List ℕ) → attempt [] before ≡ Done (Data before)
 unfolding attempt
 attempt_none before = refl
 
-attempt_off : {by : Broken} (command : Command) (commands : List Command) (before : List ℕ) {seq : ℕ} {u : List ℕ} {o q : Option Talk} → FailsOver by (exchange command) seq u o q → FailsOver by (attempt (command ∷ commands) before) seq u o q
+attempt_off : {by : Broken} (command : Command) (commands : List Command) (before : List ℕ) {seq : Progress} {o q : LinkView} → FailsOver by (exchange command) seq o q → FailsOver by (attempt (command ∷ commands) before) seq o q
 unfolding attempt
 attempt_off command commands before f = broken_bind (with_data (λ bytes. attempt commands (before ++ bytes))) f
 
 -- a turn of the loop over the commands, as the code takes it
 
-turn : {a : Dialog ⊥ Reply} {m seq n : ℕ} {s u v : List ℕ} {k o q : Option Talk} (commands rest : List Command) (command : Command) (reply : Reply)
-    → Reaches a m s k (attempt commands []) seq u o → commands ≡ command ∷ rest → PlaysOver (exchange command) seq u o q reply n v
-    → Reaches a m s k (with_data (λ bytes. attempt rest ([] ++ bytes)) reply) n v q
-turn {a = a} {m = m} {seq = seq} {s = s} {u = u} {k = k} {o = o} commands rest command reply f is g =
-    reaches_on (subst (λ cs. Reaches a m s k (attempt cs []) seq u o) is f) (attempt_on command rest [] reply g)
+turn : {a : Dialog ⊥ Reply} {m seq n : Progress} {k o q : LinkView} (commands rest : List Command) (command : Command) (reply : Reply)
+    → Reaches a m k (attempt commands []) seq o → commands ≡ command ∷ rest → PlaysOver (exchange command) seq o q reply n
+    → Reaches a m k (with_data (λ bytes. attempt rest ([] ++ bytes)) reply) n q
+turn {a = a} {m = m} {seq = seq} {k = k} {o = o} commands rest command reply f is g =
+    reaches_on (subst (λ cs. Reaches a m k (attempt cs []) seq o) is f) (attempt_on command rest [] reply g)
 
-pub turn_data : {a : Dialog ⊥ Reply} {m seq n : ℕ} {s u v : List ℕ} {k o q : Option Talk} (commands rest : List Command) (command : Command) (reply : said.Reply) (bytes : List ℕ)
-    → Reaches a m s k (attempt commands []) seq u o → commands ≡ command ∷ rest → PlaysOver (exchange command) seq u o q (reply_of reply bytes) n v → reply ≡ replies.Data → bytes ≡ []
-    → Reaches a m s k (attempt rest []) n v q
-turn_data {seq = seq} {n = n} {u = u} {v = v} {o = o} {q = q} commands rest command reply bytes f is g is_data none =
+pub turn_data : {a : Dialog ⊥ Reply} {m seq n : Progress} {k o q : LinkView} (commands rest : List Command) (command : Command) (reply : said.Reply) (bytes : List ℕ)
+    → Reaches a m k (attempt commands []) seq o → commands ≡ command ∷ rest → PlaysOver (exchange command) seq o q (reply_of reply bytes) n → reply ≡ replies.Data → bytes ≡ []
+    → Reaches a m k (attempt rest []) n q
+turn_data {seq = seq} {n = n} {o = o} {q = q} commands rest command reply bytes f is g is_data none =
     turn commands rest command (Data []) f is
-    (subst (λ bs. PlaysOver (exchange command) seq u o q (Data bs) n v) none (subst (λ r. PlaysOver (exchange command) seq u o q (reply_of r bytes) n v) is_data g))
+    (subst (λ bs. PlaysOver (exchange command) seq o q (Data bs) n) none (subst (λ r. PlaysOver (exchange command) seq o q (reply_of r bytes) n) is_data g))
 
-pub turn_again : {a : Dialog ⊥ Reply} {m seq n : ℕ} {s u v : List ℕ} {k o q : Option Talk} (commands rest : List Command) (command : Command) (reply : said.Reply) (bytes : List ℕ) (fault : StepFault)
-    → Reaches a m s k (attempt commands []) seq u o → commands ≡ command ∷ rest → PlaysOver (exchange command) seq u o q (reply_of reply bytes) n v → reply ≡ replies.Again fault
-    → PlaysOver a m s k q (Again fault) n v
-turn_again {seq = seq} {n = n} {u = u} {v = v} {o = o} {q = q} commands rest command reply bytes fault f is g again =
-    played_from (turn commands rest command (Again fault) f is (subst (λ r. PlaysOver (exchange command) seq u o q (reply_of r bytes) n v) again g))
+pub turn_again : {a : Dialog ⊥ Reply} {m seq n : Progress} {k o q : LinkView} (commands rest : List Command) (command : Command) (reply : said.Reply) (bytes : List ℕ) (fault : StepFault)
+    → Reaches a m k (attempt commands []) seq o → commands ≡ command ∷ rest → PlaysOver (exchange command) seq o q (reply_of reply bytes) n → reply ≡ replies.Again fault
+    → PlaysOver a m k q (Again fault) n
+turn_again {seq = seq} {n = n} {o = o} {q = q} commands rest command reply bytes fault f is g again =
+    played_from (turn commands rest command (Again fault) f is (subst (λ r. PlaysOver (exchange command) seq o q (reply_of r bytes) n) again g))
 
-pub turn_stop : {a : Dialog ⊥ Reply} {m seq n : ℕ} {s u v : List ℕ} {k o q : Option Talk} (commands rest : List Command) (command : Command) (reply : said.Reply) (bytes : List ℕ) (fault : StepFault)
-    → Reaches a m s k (attempt commands []) seq u o → commands ≡ command ∷ rest → PlaysOver (exchange command) seq u o q (reply_of reply bytes) n v → reply ≡ replies.Stop fault
-    → PlaysOver a m s k q (Stop fault) n v
-turn_stop {seq = seq} {n = n} {u = u} {v = v} {o = o} {q = q} commands rest command reply bytes fault f is g stop =
-    played_from (turn commands rest command (Stop fault) f is (subst (λ r. PlaysOver (exchange command) seq u o q (reply_of r bytes) n v) stop g))
+pub turn_stop : {a : Dialog ⊥ Reply} {m seq n : Progress} {k o q : LinkView} (commands rest : List Command) (command : Command) (reply : said.Reply) (bytes : List ℕ) (fault : StepFault)
+    → Reaches a m k (attempt commands []) seq o → commands ≡ command ∷ rest → PlaysOver (exchange command) seq o q (reply_of reply bytes) n → reply ≡ replies.Stop fault
+    → PlaysOver a m k q (Stop fault) n
+turn_stop {seq = seq} {n = n} {o = o} {q = q} commands rest command reply bytes fault f is g stop =
+    played_from (turn commands rest command (Stop fault) f is (subst (λ r. PlaysOver (exchange command) seq o q (reply_of r bytes) n) stop g))
 
 -- the last command, whatever its answer comes to
-pub turn_last : {a : Dialog ⊥ Reply} {m seq n : ℕ} {s u v : List ℕ} {k o q : Option Talk} (commands : List Command) (command : Command) (reply : said.Reply) (bytes : List ℕ)
-    → Reaches a m s k (attempt commands []) seq u o → commands ≡ command ∷ [] → PlaysOver (exchange command) seq u o q (reply_of reply bytes) n v
-    → PlaysOver a m s k q (reply_of reply bytes) n v
-turn_last {a = a} {m = m} {n = n} {s = s} {v = v} {k = k} {q = q} commands command replies.Data bytes f is g =
-    played_from (subst (λ d. Reaches a m s k d n v q) (attempt_none bytes) (turn commands [] command (Data bytes) f is g))
+pub turn_last : {a : Dialog ⊥ Reply} {m seq n : Progress} {k o q : LinkView} (commands : List Command) (command : Command) (reply : said.Reply) (bytes : List ℕ)
+    → Reaches a m k (attempt commands []) seq o → commands ≡ command ∷ [] → PlaysOver (exchange command) seq o q (reply_of reply bytes) n
+    → PlaysOver a m k q (reply_of reply bytes) n
+turn_last {a = a} {m = m} {n = n} {k = k} {q = q} commands command replies.Data bytes f is g =
+    played_from (subst (λ d. Reaches a m k d n q) (attempt_none bytes) (turn commands [] command (Data bytes) f is g))
 turn_last commands command (replies.Again fault) bytes f is g = played_from (turn commands [] command (Again fault) f is g)
 turn_last commands command (replies.Stop fault) bytes f is g = played_from (turn commands [] command (Stop fault) f is g)
 
-pub turn_breaks : {by : Broken} {a : Dialog ⊥ Reply} {m seq : ℕ} {s u : List ℕ} {k o q : Option Talk} (commands rest : List Command) (command : Command)
-    → Reaches a m s k (attempt commands []) seq u o → commands ≡ command ∷ rest → FailsOver by (exchange command) seq u o q → FailsOver by a m s k q
-turn_breaks {a = a} {m = m} {seq = seq} {s = s} {u = u} {k = k} {o = o} commands rest command f is g =
-    broken_on (subst (λ cs. Reaches a m s k (attempt cs []) seq u o) is f) (attempt_off command rest [] g)
+pub turn_breaks : {by : Broken} {a : Dialog ⊥ Reply} {m seq : Progress} {k o q : LinkView} (commands rest : List Command) (command : Command)
+    → Reaches a m k (attempt commands []) seq o → commands ≡ command ∷ rest → FailsOver by (exchange command) seq o q → FailsOver by a m k q
+turn_breaks {a = a} {m = m} {seq = seq} {k = k} {o = o} commands rest command f is g =
+    broken_on (subst (λ cs. Reaches a m k (attempt cs []) seq o) is f) (attempt_off command rest [] g)
 
 -- a turn of the loop over the attempts
 
-tries_on : (more : ℕ) (commands : List Command) (last : StepFault) {seq n : ℕ} {u v : List ℕ} {o q : Option Talk} (reply : Reply) → PlaysOver (attempt commands []) seq u o q reply n v
-    → Reaches (tries (suc more) commands last) seq u o (settled (tries more commands) reply) n v q
+tries_on : (more : ℕ) (commands : List Command) (last : StepFault) {seq n : Progress} {o q : LinkView} (reply : Reply) → PlaysOver (attempt commands []) seq o q reply n
+    → Reaches (tries (suc more) commands last) seq o (settled (tries more commands) reply) n q
 unfolding tries
 tries_on more commands last reply f = then_reaches (settled (tries more commands)) f
 
@@ -116,40 +116,40 @@ tries_none : (commands : List Command) (last : StepFault) → tries zero command
 unfolding tries
 tries_none commands last = refl
 
-tries_off : {by : Broken} (more : ℕ) (commands : List Command) (last : StepFault) {seq : ℕ} {u : List ℕ} {o q : Option Talk} → FailsOver by (attempt commands []) seq u o q → FailsOver by (tries (suc more) commands last) seq u o q
+tries_off : {by : Broken} (more : ℕ) (commands : List Command) (last : StepFault) {seq : Progress} {o q : LinkView} → FailsOver by (attempt commands []) seq o q → FailsOver by (tries (suc more) commands last) seq o q
 unfolding tries
 tries_off more commands last f = broken_bind (settled (tries more commands)) f
 
-try : {a : Dialog ⊥ Outcome} {l seq n : ℕ} {s u v : List ℕ} {j o q : Option Talk} (k more : ℕ) (commands : List Command) (last : StepFault) (reply : Reply)
-    → k ≡ suc more → Reaches a l s j (tries k commands last) seq u o → PlaysOver (attempt commands []) seq u o q reply n v
-    → Reaches a l s j (settled (tries more commands) reply) n v q
-try {a = a} {l = l} {seq = seq} {s = s} {u = u} {j = j} {o = o} k more commands last reply count f g =
-    reaches_on (subst (λ t. Reaches a l s j (tries t commands last) seq u o) count f) (tries_on more commands last reply g)
+try : {a : Dialog ⊥ Outcome} {l seq n : Progress} {j o q : LinkView} (k more : ℕ) (commands : List Command) (last : StepFault) (reply : Reply)
+    → k ≡ suc more → Reaches a l j (tries k commands last) seq o → PlaysOver (attempt commands []) seq o q reply n
+    → Reaches a l j (settled (tries more commands) reply) n q
+try {a = a} {l = l} {seq = seq} {j = j} {o = o} k more commands last reply count f g =
+    reaches_on (subst (λ t. Reaches a l j (tries t commands last) seq o) count f) (tries_on more commands last reply g)
 
-pub try_again : {a : Dialog ⊥ Outcome} {l seq n : ℕ} {s u v : List ℕ} {j o q : Option Talk} (k more : ℕ) (commands : List Command) (last fault : StepFault) (bytes : List ℕ) (reply : said.Reply)
-    → k ≡ suc more → Reaches a l s j (tries k commands last) seq u o → PlaysOver (attempt commands []) seq u o q (reply_of reply bytes) n v → reply ≡ replies.Again fault
-    → Reaches a l s j (tries more commands fault) n v q
-try_again {seq = seq} {n = n} {u = u} {v = v} {o = o} {q = q} k more commands last fault bytes reply count f g again =
-    try k more commands last (Again fault) count f (subst (λ r. PlaysOver (attempt commands []) seq u o q (reply_of r bytes) n v) again g)
+pub try_again : {a : Dialog ⊥ Outcome} {l seq n : Progress} {j o q : LinkView} (k more : ℕ) (commands : List Command) (last fault : StepFault) (bytes : List ℕ) (reply : said.Reply)
+    → k ≡ suc more → Reaches a l j (tries k commands last) seq o → PlaysOver (attempt commands []) seq o q (reply_of reply bytes) n → reply ≡ replies.Again fault
+    → Reaches a l j (tries more commands fault) n q
+try_again {seq = seq} {n = n} {o = o} {q = q} k more commands last fault bytes reply count f g again =
+    try k more commands last (Again fault) count f (subst (λ r. PlaysOver (attempt commands []) seq o q (reply_of r bytes) n) again g)
 
-pub try_data : {a : Dialog ⊥ Outcome} {l seq n : ℕ} {s u v : List ℕ} {j o q : Option Talk} (k more : ℕ) (commands : List Command) (last : StepFault) (bytes : List ℕ) (reply : said.Reply)
-    → k ≡ suc more → Reaches a l s j (tries k commands last) seq u o → PlaysOver (attempt commands []) seq u o q (reply_of reply bytes) n v → reply ≡ replies.Data
-    → PlaysOver a l s j q (Ok bytes) n v
-try_data {seq = seq} {n = n} {u = u} {v = v} {o = o} {q = q} k more commands last bytes reply count f g is_data =
-    played_from (try k more commands last (Data bytes) count f (subst (λ r. PlaysOver (attempt commands []) seq u o q (reply_of r bytes) n v) is_data g))
+pub try_data : {a : Dialog ⊥ Outcome} {l seq n : Progress} {j o q : LinkView} (k more : ℕ) (commands : List Command) (last : StepFault) (bytes : List ℕ) (reply : said.Reply)
+    → k ≡ suc more → Reaches a l j (tries k commands last) seq o → PlaysOver (attempt commands []) seq o q (reply_of reply bytes) n → reply ≡ replies.Data
+    → PlaysOver a l j q (Ok bytes) n
+try_data {seq = seq} {n = n} {o = o} {q = q} k more commands last bytes reply count f g is_data =
+    played_from (try k more commands last (Data bytes) count f (subst (λ r. PlaysOver (attempt commands []) seq o q (reply_of r bytes) n) is_data g))
 
-pub try_stop : {a : Dialog ⊥ Outcome} {l seq n : ℕ} {s u v : List ℕ} {j o q : Option Talk} (k more : ℕ) (commands : List Command) (last fault : StepFault) (bytes : List ℕ) (reply : said.Reply)
-    → k ≡ suc more → Reaches a l s j (tries k commands last) seq u o → PlaysOver (attempt commands []) seq u o q (reply_of reply bytes) n v → reply ≡ replies.Stop fault
-    → PlaysOver a l s j q (Err fault) n v
-try_stop {seq = seq} {n = n} {u = u} {v = v} {o = o} {q = q} k more commands last fault bytes reply count f g stop =
-    played_from (try k more commands last (Stop fault) count f (subst (λ r. PlaysOver (attempt commands []) seq u o q (reply_of r bytes) n v) stop g))
+pub try_stop : {a : Dialog ⊥ Outcome} {l seq n : Progress} {j o q : LinkView} (k more : ℕ) (commands : List Command) (last fault : StepFault) (bytes : List ℕ) (reply : said.Reply)
+    → k ≡ suc more → Reaches a l j (tries k commands last) seq o → PlaysOver (attempt commands []) seq o q (reply_of reply bytes) n → reply ≡ replies.Stop fault
+    → PlaysOver a l j q (Err fault) n
+try_stop {seq = seq} {n = n} {o = o} {q = q} k more commands last fault bytes reply count f g stop =
+    played_from (try k more commands last (Stop fault) count f (subst (λ r. PlaysOver (attempt commands []) seq o q (reply_of r bytes) n) stop g))
 
-pub try_breaks : {by : Broken} {a : Dialog ⊥ Outcome} {l seq : ℕ} {s u : List ℕ} {j o q : Option Talk} (k more : ℕ) (commands : List Command) (last : StepFault)
-    → k ≡ suc more → Reaches a l s j (tries k commands last) seq u o → FailsOver by (attempt commands []) seq u o q → FailsOver by a l s j q
-try_breaks {a = a} {l = l} {seq = seq} {s = s} {u = u} {j = j} {o = o} k more commands last count f g =
-    broken_on (subst (λ t. Reaches a l s j (tries t commands last) seq u o) count f) (tries_off more commands last g)
+pub try_breaks : {by : Broken} {a : Dialog ⊥ Outcome} {l seq : Progress} {j o q : LinkView} (k more : ℕ) (commands : List Command) (last : StepFault)
+    → k ≡ suc more → Reaches a l j (tries k commands last) seq o → FailsOver by (attempt commands []) seq o q → FailsOver by a l j q
+try_breaks {a = a} {l = l} {seq = seq} {j = j} {o = o} k more commands last count f g =
+    broken_on (subst (λ t. Reaches a l j (tries t commands last) seq o) count f) (tries_off more commands last g)
 
-pub try_end : {a : Dialog ⊥ Outcome} {l seq : ℕ} {s u : List ℕ} {j o : Option Talk} (k : ℕ) (commands : List Command) (last : StepFault)
-    → Reaches a l s j (tries k commands last) seq u o → k ≡ 0 → PlaysOver a l s j o (Err last) seq u
-try_end {a = a} {l = l} {seq = seq} {s = s} {u = u} {j = j} {o = o} k commands last f is =
-    played_from (subst (λ d. Reaches a l s j d seq u o) (ap (λ t. tries t commands last) is ∙ tries_none commands last) f)
+pub try_end : {a : Dialog ⊥ Outcome} {l seq : Progress} {j o : LinkView} (k : ℕ) (commands : List Command) (last : StepFault)
+    → Reaches a l j (tries k commands last) seq o → k ≡ 0 → PlaysOver a l j o (Err last) seq
+try_end {a = a} {l = l} {seq = seq} {j = j} {o = o} k commands last f is =
+    played_from (subst (λ d. Reaches a l j d seq o) (ap (λ t. tries t commands last) is ∙ tries_none commands last) f)

@@ -25,16 +25,16 @@ use Rattle.stk_host.specs.Tape.{on_tape}
 use Rattle.stk_host.specs.Steps as steps
 use Rattle.stk_host.specs.Steps.{play}
 use Rattle.stk_host.specs.Operations.{host_fault, signature_judged, compared}
-use Rattle.stk_host.specs.Talk.{Talk, Got, Grows, HasFailed}
+use Rattle.stk_host.specs.Talk.{LinkView, Got, Grows, HasFailed}
 use Rattle.stk_host.specs.Dialog.{Dialog}
-use Rattle.stk_host.specs.Play.{PlaysOver, FailsOver}
+use Rattle.stk_host.specs.Play.{Progress, PlaysOver, FailsOver}
 use Rattle.stk_host.specs.Reach.{Reaches}
 
 -- what was heard; bytes are unread now
-abbrev pub HearsPiece : Heard → List ℕ → Option Talk → Option Talk → Type 0
-HearsPiece (heard.Bytes n) unread old new = (0 < length unread) × Grows old (Got (on_tape unread) ∷ []) new
-HearsPiece heard.Silence unread old new = (unread ≡ []) × Grows old (Got (item.Silence ∷ []) ∷ []) new
-HearsPiece heard.End unread old new = (unread ≡ []) × Grows old (Got (item.End ∷ []) ∷ []) new
+abbrev pub HearsPiece : Heard → List ℕ → LinkView → LinkView → Type 0
+HearsPiece (heard.Bytes n) unread old new = (0 < length unread) × Grows old.talk (Got (on_tape unread) ∷ []) new.talk
+HearsPiece heard.Silence unread old new = (unread ≡ []) × Grows old.talk (Got (item.Silence ∷ []) ∷ []) new.talk
+HearsPiece heard.End unread old new = (unread ≡ []) × Grows old.talk (Got (item.End ∷ []) ∷ []) new.talk
 
 -- how listening ended, by the reader that holds the answer
 abbrev pub reading_of : Reading → List ℕ → tape.Reading
@@ -56,25 +56,35 @@ reply_of (said.Again fault) bytes = steps.Again fault
 reply_of (said.Stop fault) bytes = steps.Stop fault
 
 -- How steps end that stop: they were played up to a fault, or their play broke off where the link failed.
-abbrev pub StopsSteps : Dialog ⊥ steps.Outcome → ℕ → List ℕ → Option Talk → Option Talk → Stop → ℕ → List ℕ → Type 0
-StopsSteps dialog seq unread old new (Fault fault) next left = PlaysOver dialog seq unread old new (Err fault) next left
-StopsSteps dialog seq unread old new (Link broken) next left = FailsOver broken dialog seq unread old new
+abbrev pub StopsSteps : Dialog ⊥ steps.Outcome → Progress → LinkView → LinkView → Stop → Progress → Type 0
+StopsSteps dialog before old new (Fault fault) after = PlaysOver dialog before old new (Err fault) after
+StopsSteps dialog before old new (Link broken) after = FailsOver broken dialog before old new
 
 -- How steps end that were asked to give these data: they were played whole, or they stop.
-abbrev pub EndsSteps : {A : Type 0} → Dialog ⊥ steps.Outcome → ℕ → List ℕ → Option Talk → Option Talk → (A → List ℕ)
-    → Result A Stop → ℕ → List ℕ → Type 0
-EndsSteps dialog seq unread old new bytes (Ok a) next left =
-    PlaysOver dialog seq unread old new (Ok (bytes a)) next left
-EndsSteps dialog seq unread old new bytes (Err stop) next left = StopsSteps dialog seq unread old new stop next left
+abbrev pub EndsSteps : {A : Type 0} → Dialog ⊥ steps.Outcome → Progress → LinkView → LinkView → (A → List ℕ)
+    → Result A Stop → Progress → Type 0
+EndsSteps dialog before old new bytes (Ok a) after = PlaysOver dialog before old new (Ok (bytes a)) after
+EndsSteps dialog before old new bytes (Err stop) after = StopsSteps dialog before old new stop after
+
+-- the play of a list of steps behind such data, whatever steps they are
+abbrev pub Playing : Type 0
+Playing = List (List Command) → Dialog ⊥ steps.Outcome
+
+-- these commands are the first of the steps
+abbrev pub with_step : List Command → List ℕ → Playing
+with_step commands before steps = play (commands ∷ steps) before
+
+-- they are all the steps
+abbrev pub without_step : List ℕ → Playing
+without_step before steps = play steps before
 
 -- How a step ends that others follow: they are left to play, behind all data so far; or with it all of them stop.
-abbrev pub EndsInnerStep : List Command → List ℕ → List ℕ → ℕ → List ℕ → Option Talk → Option Talk
-    → Result (Unit {0}) Stop → ℕ → List ℕ → Type 0
-EndsInnerStep commands before after seq unread old new (Ok done) next left =
-    (steps : List (List Command)) → Reaches (play (commands ∷ steps) before) seq unread old
-    (play steps after) next left new
-EndsInnerStep commands before after seq unread old new (Err stop) next left =
-    (steps : List (List Command)) → StopsSteps (play (commands ∷ steps) before) seq unread old new stop next left
+abbrev pub EndsInnerStep : Playing → Playing → Progress → LinkView → LinkView → Result (Unit {0}) Stop → Progress
+    → Type 0
+EndsInnerStep whole rest before old new (Ok done) after =
+    (steps : List (List Command)) → Reaches (whole steps) before old (rest steps) after new
+EndsInnerStep whole rest before old new (Err stop) after =
+    (steps : List (List Command)) → StopsSteps (whole steps) before old new stop after
 
 -- how many data bytes an answer of this shape brings, if the shape says it
 abbrev pub data_count : Shape → ℕ
@@ -88,29 +98,29 @@ IsCounted (Bytes n) = Unit {0}
 IsCounted (Closed n) = Unit {0}
 
 -- the count of failures rose where the link is said to have failed, and is what it was where it isn't
-abbrev pub FailsByLink : {A : Type 0} → ℕ → ℕ → Result A Stop → Type 0
-FailsByLink before now (Ok done) = now ≡ before
-FailsByLink before now (Err (Fault fault)) = now ≡ before
-FailsByLink before now (Err (Link broken)) = HasFailed before now
+abbrev pub FailsByLink : {A : Type 0} → LinkView → LinkView → Result A Stop → Type 0
+FailsByLink old new (Ok done) = new.failures ≡ old.failures
+FailsByLink old new (Err (Fault fault)) = new.failures ≡ old.failures
+FailsByLink old new (Err (Link broken)) = HasFailed old new
 
 -- and it never falls
-abbrev pub CountsLink : {A : Type 0} → ℕ → ℕ → Result A Stop → Type 0
-CountsLink before now result = (before ≤ now) × FailsByLink before now result
+abbrev pub CountsLink : {A : Type 0} → LinkView → LinkView → Result A Stop → Type 0
+CountsLink old new result = (old.failures ≤ new.failures) × FailsByLink old new result
 
 -- How a call of a host ends: after a fault of the link its dialog broke off, in a frame that wasn't sent whole or where
 -- it listened; else it was played whole.
-abbrev pub EndsCall : {A : Type 0} → Dialog ⊥ (Result A HostFault) → ℕ → List ℕ → Option Talk → Option Talk
-    → Result A HostFault → ℕ → List ℕ → Type 0
-EndsCall dialog seq unread old new (Ok a) next left = PlaysOver dialog seq unread old new (Ok a) next left
-EndsCall dialog seq unread old new (Err SendFailed) next left = FailsOver broken.Send dialog seq unread old new
-EndsCall dialog seq unread old new (Err RecvFailed) next left = FailsOver broken.Recv dialog seq unread old new
-EndsCall dialog seq unread old new (Err fault) next left = PlaysOver dialog seq unread old new (Err fault) next left
+abbrev pub EndsCall : {A : Type 0} → Dialog ⊥ (Result A HostFault) → Progress → LinkView → LinkView
+    → Result A HostFault → Progress → Type 0
+EndsCall dialog before old new (Ok a) after = PlaysOver dialog before old new (Ok a) after
+EndsCall dialog before old new (Err SendFailed) after = FailsOver broken.Send dialog before old new
+EndsCall dialog before old new (Err RecvFailed) after = FailsOver broken.Recv dialog before old new
+EndsCall dialog before old new (Err fault) after = PlaysOver dialog before old new (Err fault) after
 
 -- How a call ends that takes its memory first: where that was refused nothing was said or heard.
-abbrev pub EndsOrLacks : {A : Type 0} → Dialog ⊥ (Result A HostFault) → ℕ → List ℕ → Option Talk → Option Talk
-    → Result A HostFault → ℕ → List ℕ → Type 0
-EndsOrLacks dialog seq unread old new (Err Memory) next left = (new ≡ old) × (next ≡ seq) × (left ≡ unread)
-EndsOrLacks dialog seq unread old new result next left = EndsCall dialog seq unread old new result next left
+abbrev pub EndsOrLacks : {A : Type 0} → Dialog ⊥ (Result A HostFault) → Progress → LinkView → LinkView
+    → Result A HostFault → Progress → Type 0
+EndsOrLacks dialog before old new (Err Memory) after = (new ≡ old) × (after ≡ before)
+EndsOrLacks dialog before old new result after = EndsCall dialog before old new result after
 
 -- what a vector was given, or the fault in place of it
 abbrev pub given : {A : Type 0} → A → Result (Unit {0}) HostFault → Result A HostFault

@@ -6,7 +6,7 @@ use Rattle.stk_host.specs.declared.link.Heard.TheVariants as heard
 use Rattle.stk_host.specs.declared.link.Item.{Item}
 use Rattle.stk_host.specs.declared.link.Item.TheVariants.{Byte, Silence, End}
 use Rattle.stk_host.specs.Tape.{Tape, on_tape, bytes_in}
-use Rattle.stk_host.specs.Talk.{Talk}
+use Rattle.stk_host.specs.Talk.{Talk, LinkView}
 use Rattle.stk_host.specs.Play.{IsPrefixOf}
 
 -- a log: what passed, and the room that is left in it, for so many pieces and for so many bytes that are sent
@@ -21,6 +21,10 @@ pub record TapeState : Type 0 where
   pub cut : ℕ
   pub talk : Talk
   pub failures : ℕ
+
+-- it keeps all that passed
+abbrev pub tape_view : TapeState → LinkView
+tape_view link = record { talk = Some link.talk; failures = link.failures }
 
 -- the next piece of a tape, of at most so many bytes; behind the last item comes an end
 abbrev pub next_piece : ℕ → Tape → Tape
@@ -41,6 +45,10 @@ pub record StreamState (R W : Type 0) : Type 0 where
   pub reader : R
   pub writer : W
   pub failures : ℕ
+
+-- it keeps nothing
+abbrev pub stream_view : {R W : Type 0} → StreamState R W → LinkView
+stream_view link = record { talk = None; failures = link.failures }
 
 -- what was heard of a reader whose bytes are known: they are its next ones, and an end comes only behind the last
 abbrev pub HearsKnown : Heard → List ℕ → Option (List ℕ) → Option (List ℕ) → Type 0
@@ -63,3 +71,10 @@ pub record FailingState (L : Type 0) : Type 0 where
 -- the failures of a link and of the one below it, as many as are counted
 abbrev pub total_failures : ℕ → ℕ → ℕ
 total_failures inner own = min (inner + own) (2 ^ 64 - 1)
+
+-- what passed is what passed over the link below
+abbrev pub failing_view : {L : Type 0} → (L → LinkView) → FailingState L → LinkView
+failing_view view link = record {
+  talk = (view link.inner).talk;
+  failures = total_failures (view link.inner).failures link.failed;
+}

@@ -3,7 +3,7 @@ use Rattle.std.specs.Prelude.{ℕ, List, [], ◌∷◌, ◌++◌, ◌≡◌, ◌
 use Rattle.stk_host.specs.declared.fault.Broken.{Broken}
 use Rattle.stk_host.specs.declared.fault.Broken.TheVariants.{Send, Recv}
 use Rattle.stk_host.specs.Tape.{Tape, on_tape}
-use Rattle.stk_host.specs.Talk.{Talk, Sent, Got, sent, heard, Grows}
+use Rattle.stk_host.specs.Talk.{Talk, LinkView, Sent, Got, sent, heard, Grows}
 use Rattle.stk_host.specs.Dialog.{Dialog, Event, Frame, Said, played, bytes_sent}
 
 -- The dialog waits, and its frames are exactly these bytes: so it is due to listen.
@@ -94,18 +94,23 @@ BreaksBy Recv dialog seq unread talk shown = BreaksListening dialog seq unread t
 abbrev pub NoPart : ⊥ → ⊥ → Type 0
 NoPart part whole = ⊥
 
--- a call that played a dialog whole, over a link that showed these talks before and after it
-pub record PlaysOver {R : Type 0} (dialog : Dialog ⊥ R) (seq : ℕ) (unread : List ℕ) (old new : Option Talk) (result : R)
-    (next : ℕ) (left : List ℕ) : Type 0 where
+-- how far a conversation is: the next sequence number, and the bytes that were heard and not read yet
+pub record Progress : Type 0 where
+  pub next : ℕ
+  pub unread : List ℕ
+
+-- a call that played a dialog whole, over a link that showed this before and after it
+pub record PlaysOver {R : Type 0} (dialog : Dialog ⊥ R) (before : Progress) (old new : LinkView) (result : R)
+    (after : Progress) : Type 0 where
   pub during : Talk
   pub events : List (Event ⊥)
-  pub grows : Grows old during new
-  pub plays : Plays dialog seq unread during events result next left
+  pub grows : Grows old.talk during new.talk
+  pub plays : Plays dialog before.next before.unread during events result after.next after.unread
 
 -- a call that broke off as the link failed at this
-pub record FailsOver {R : Type 0} (broken : Broken) (dialog : Dialog ⊥ R) (seq : ℕ) (unread : List ℕ)
-    (old new : Option Talk) : Type 0 where
+pub record FailsOver {R : Type 0} (broken : Broken) (dialog : Dialog ⊥ R) (before : Progress)
+    (old new : LinkView) : Type 0 where
   pub during : Talk
   pub shown : List (Event ⊥)
-  pub grows : Grows old during new
-  pub breaks : BreaksBy broken dialog seq unread during shown
+  pub grows : Grows old.talk during new.talk
+  pub breaks : BreaksBy broken dialog before.next before.unread during shown

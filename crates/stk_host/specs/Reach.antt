@@ -1,10 +1,10 @@
 -- How far a call has come in a dialog. (For contracts below a host's calls, and of who sends and listens without a
 -- host.)
-use Rattle.std.specs.Prelude.{ℕ, List, [], ◌∷◌, ◌++◌, ◌+◌, ◌≡◌, ◌<◌, ◌≤◌, length, Option, Some, None}
+use Rattle.std.specs.Prelude.{ℕ, List, [], ◌∷◌, ◌++◌, ◌+◌, ◌≡◌, ◌<◌, ◌≤◌, length, Option, Some, None, Result, OnOk, OnErr}
 use Rattle.stk_host.specs.Tape.{Tape, Reading, on_tape, answer, limit}
-use Rattle.stk_host.specs.Talk.{Talk, Sent, Got, sent, heard, Grows}
+use Rattle.stk_host.specs.Talk.{Talk, LinkView, Sent, Got, sent, heard, Grows, Counts}
 use Rattle.stk_host.specs.Dialog.{Dialog, Event, played, behind, bytes_sent}
-use Rattle.stk_host.specs.Play.{InTurn}
+use Rattle.stk_host.specs.Play.{InTurn, Progress}
 
 -- A talk leads from one dialog to what is left of it: whatever follows on the tape, the one plays as the other does
 -- from there, behind these events.
@@ -15,13 +15,13 @@ pub record Leads {E R : Type 0} (dialog : Dialog E R) (seq : ℕ) (unread : List
   pub all_sent : bytes_sent events ≡ sent talk
   pub in_turn : InTurn dialog seq unread talk
 
--- a call has come so far, over a link that showed these talks before and after it
-pub record Reaches {R : Type 0} (dialog : Dialog ⊥ R) (seq : ℕ) (unread : List ℕ) (old : Option Talk)
-    (rest : Dialog ⊥ R) (next : ℕ) (left : List ℕ) (new : Option Talk) : Type 0 where
+-- a call has come so far, over a link that showed this before and after it
+pub record Reaches {R : Type 0} (dialog : Dialog ⊥ R) (before : Progress) (old : LinkView)
+    (rest : Dialog ⊥ R) (after : Progress) (new : LinkView) : Type 0 where
   pub during : Talk
   pub events : List (Event ⊥)
-  pub grows : Grows old during new
-  pub leads : Leads dialog seq unread during events rest next left
+  pub grows : Grows old.talk during new.talk
+  pub leads : Leads dialog before.next before.unread during events rest after.next after.unread
 
 -- nothing was heard
 abbrev pub IsQuiet : Talk → Type 0
@@ -44,6 +44,12 @@ pub record SaysPart (bytes : List ℕ) (old new : Option Talk) : Type 0 where
   pub not_whole : 0 < length unsent
   pub says : Says part old new
 
+-- a call that sends all of these bytes, or at a fault of the link a part of them
+pub record SendsAll {E : Type 0} (bytes : List ℕ) (old new : LinkView) (result : Result (Unit {0}) E) : Type 0 where
+  pub ok : OnOk result (Says bytes old.talk new.talk)
+  pub err : OnErr result (SaysPart bytes old.talk new.talk)
+  pub counts : Counts old new result
+
 -- at each piece heard there was no answer yet, and nothing was sent
 abbrev pub WaitsFrom : ℕ → Tape → Talk → Type 0
 WaitsFrom seq tape [] = Unit {0}
@@ -51,18 +57,18 @@ WaitsFrom seq tape (Sent bytes ∷ talk) = ⊥
 WaitsFrom seq tape (Got items ∷ talk) = (answer seq tape ≡ None) × WaitsFrom seq (tape ++ items) talk
 
 -- the answer was listened for, in no more bytes than are read for one
-pub record Hears (seq : ℕ) (unread : List ℕ) (old new : Option Talk) (reading : Reading) (left : List ℕ) : Type 0 where
+pub record Hears (seq : ℕ) (unread : List ℕ) (old new : LinkView) (reading : Reading) (left : List ℕ) : Type 0 where
   pub during : Talk
-  pub grows : Grows old during new
+  pub grows : Grows old.talk during new.talk
   pub waits : WaitsFrom seq (on_tape unread) during
   pub few : length unread + length (heard during) ≤ limit
   pub answers : (more : Tape) → answer seq (on_tape unread ++ (heard during ++ more))
       ≡ Some (reading, on_tape left ++ more)
 
 -- listening for it broke off, and it had not come
-pub record HearsNone (seq : ℕ) (unread : List ℕ) (old new : Option Talk) : Type 0 where
+pub record HearsNone (seq : ℕ) (unread : List ℕ) (old new : LinkView) : Type 0 where
   pub during : Talk
-  pub grows : Grows old during new
+  pub grows : Grows old.talk during new.talk
   pub waits : WaitsFrom seq (on_tape unread) during
   pub few : length unread + length (heard during) ≤ limit
   pub no_answer : answer seq (on_tape unread ++ heard during) ≡ None

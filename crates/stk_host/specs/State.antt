@@ -7,19 +7,18 @@ use Rattle.stk_frame.specs.Cut.{body_of}
 use Rattle.stk_frame.specs.Commands.{judge}
 use Rattle.stk_host.specs.declared.fault.HostFault.{HostFault}
 use Rattle.stk_host.specs.declared.fault.HostFault.TheVariants.{LinkEnded, SendFailed, RecvFailed}
+use Rattle.stk_host.specs.Play.{Progress}
 
--- a conversation: the next sequence number, the bytes heard and not read yet, and the last frame or what is held of it
+-- a conversation: how far it is, and the last frame or what is held of it
 pub record State : Type 0 where
-  pub next : ℕ
-  pub unread : List ℕ
+  pub progress : Progress
   pub held : List ℕ
 
 -- a host: its part and the part's signature, its conversation, and the fault that every further call answers
 pub record HostState : Type 0 where
   pub part : Part
   pub signature : List ℕ
-  pub next : ℕ
-  pub unread : List ℕ
+  pub progress : Progress
   pub broken : Option HostFault
 
 abbrev pub data_in : Result (List ℕ) FrameFault → List ℕ

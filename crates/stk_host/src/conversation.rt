@@ -3,9 +3,9 @@ ghost use Rattle.std.specs.Prelude.{◌≡◌, ◌<◌, ◌≤◌, ◌++◌, ◌
 ghost use Rattle.stk_frame.specs.declared.protocol.TheConstants.{LARGEST_FRAME};
 ghost use Rattle.stk_frame.specs.Frame.{frame};
 ghost use Rattle.stk_frame.specs.Commands.{body, judge, shape, SizedBy};
-ghost use Rattle.stk_host.specs.Talk.{HasFailed, Stays};
+ghost use Rattle.stk_host.specs.Talk.{Counts, Stays};
 ghost use Rattle.stk_host.specs.Play.{PlaysOver, FailsOver};
-ghost use Rattle.stk_host.specs.Reach.{Says, SaysPart};
+ghost use Rattle.stk_host.specs.Reach.{SendsAll};
 ghost use Rattle.stk_host.specs.Steps.{exchange, attempt, step, judged, replied};
 ghost use Rattle.stk_host.specs.State.{data_in, data_held};
 ghost use Rattle.stk_host.specs.Calls.{HoldsAnswer, reading_of, reply_of, EndsSteps, CountsLink, FitsFrame, BringsNoData};
@@ -47,8 +47,7 @@ impl Model for Conversation {
     ghost Value = { State };
 
     ghost view = { λ conversation. record {
-      next = conversation.next;
-      unread = conversation.unread;
+      progress = record { next = conversation.next; unread = conversation.unread };
       held = conversation.reader;
     } };
 
@@ -60,12 +59,8 @@ impl Model for Conversation {
 
 fn send_command<L: Link>(link: &mut L, seq: u8, command: &Command<'_>) -> Result<(), LinkFault>
     requires { FitsFrame command.now }
-    ensures ok { OnOk result (Says (frame seq (body command.now)) (L.view link.old).talk (L.view link.new).talk) }
-    ensures err { OnErr result (SaysPart (frame seq (body command.now)) (L.view link.old).talk (L.view link.new).talk) }
-    ensures counted { (L.view link.old).failures ≤ (L.view link.new).failures }
+    ensures sends { SendsAll (frame seq (body command.now)) (L.view link.old) (L.view link.new) result }
     ensures comes { Stays L.comes_of link.old link.new }
-    ensures sound { OnOk result ((L.view link.new).failures ≡ (L.view link.old).failures) }
-    ensures failed { OnErr result (HasFailed (L.view link.old).failures (L.view link.new).failures) }
 {
     let mut frame = ArrayVec::new();
     command.put_frame(seq, &mut frame);
@@ -107,8 +102,8 @@ fn reply_to(reader: &FrameReader, reading: Reading, command: &Command<'_>) -> Re
 impl Conversation {
     /// A conversation in which nothing was said.
     pub(crate) fn new() -> Self
-        ensures next { result.next ≡ 1 }
-        ensures unread { result.unread ≡ [] }
+        ensures next { result.progress.next ≡ 1 }
+        ensures unread { result.progress.unread ≡ [] }
     {
         Conversation {
             reader: FrameReader::new(),
@@ -130,20 +125,18 @@ impl Conversation {
     /// Sends a command and reads its answer.
     fn exchange<L: Link>(&mut self, link: &mut L, command: &Command<'_>) -> Result<Reply, Broken>
         requires { FitsFrame command.now }
-        ensures ok { IfOk result (λ reply. PlaysOver (exchange command.now) self.old.next self.old.unread
-            (L.view link.old).talk (L.view link.new).talk
-            (reply_of reply (data_held command.now self.new.held)) self.new.next self.new.unread) }
+        ensures ok { IfOk result (λ reply. PlaysOver (exchange command.now) self.old.progress
+            (L.view link.old) (L.view link.new)
+            (reply_of reply (data_held command.now self.new.held)) self.new.progress) }
         ensures sized { IsOkAnd result (λ reply. reply ≡ Reply.Data)
             → SizedBy (shape command.now) (data_held command.now self.new.held) }
         ensures quiet { BringsNoData command.now → IsOkAnd result (λ reply. reply ≡ Reply.Data)
             → data_held command.now self.new.held ≡ [] }
-        ensures err { IfErr result (λ broken. FailsOver broken (exchange command.now) self.old.next self.old.unread
-            (L.view link.old).talk (L.view link.new).talk) }
-        ensures counted { (L.view link.old).failures ≤ (L.view link.new).failures }
+        ensures err { IfErr result (λ broken. FailsOver broken (exchange command.now) self.old.progress
+            (L.view link.old) (L.view link.new)) }
+        ensures counts { Counts (L.view link.old) (L.view link.new) result }
         ensures comes { Stays L.comes_of link.old link.new }
-        ensures sound { OnOk result ((L.view link.new).failures ≡ (L.view link.old).failures) }
-        ensures failed { OnErr result (HasFailed (L.view link.old).failures (L.view link.new).failures) }
-        ensures bound { length self.new.unread ≤ LARGEST_FRAME }
+        ensures bound { length self.new.progress.unread ≤ LARGEST_FRAME }
     {
         let seq = self.next;
         let Ok(()) = send_command(link, seq, command) else {
@@ -165,18 +158,14 @@ impl Conversation {
     ) -> Result<Reply, Broken>
         requires quiet { All BringsNoData first.now }
         requires fits { FitsFrame last.now }
-        ensures ok { IfOk result (λ reply. PlaysOver (attempt (first.now ++ last.now ∷ []) []) self.old.next
-            self.old.unread (L.view link.old).talk (L.view link.new).talk
-            (reply_of reply (data_held last.now self.new.held)) self.new.next self.new.unread) }
-        ensures err { IfErr result (λ broken. FailsOver broken (attempt (first.now ++ last.now ∷ []) []) self.old.next
-            self.old.unread (L.view link.old).talk (L.view link.new).talk) }
+        ensures ok { IfOk result (λ reply. PlaysOver (attempt (first.now ++ last.now ∷ []) []) self.old.progress (L.view link.old) (L.view link.new)
+            (reply_of reply (data_held last.now self.new.held)) self.new.progress) }
+        ensures err { IfErr result (λ broken. FailsOver broken (attempt (first.now ++ last.now ∷ []) []) self.old.progress (L.view link.old) (L.view link.new)) }
         ensures sized { IsOkAnd result (λ reply. reply ≡ Reply.Data)
             → SizedBy (shape last.now) (data_held last.now self.new.held) }
-        ensures counted { (L.view link.old).failures ≤ (L.view link.new).failures }
+        ensures counts { Counts (L.view link.old) (L.view link.new) result }
         ensures comes { Stays L.comes_of link.old link.new }
-        ensures sound { OnOk result ((L.view link.new).failures ≡ (L.view link.old).failures) }
-        ensures failed { OnErr result (HasFailed (L.view link.old).failures (L.view link.new).failures) }
-        ensures bound { length self.new.unread ≤ LARGEST_FRAME }
+        ensures bound { length self.new.progress.unread ≤ LARGEST_FRAME }
     {
         for command in first {
             match self.exchange(link, command)? {
@@ -199,13 +188,13 @@ impl Conversation {
     ) -> Result<(), Stop>
         requires quiet { All BringsNoData first.now }
         requires fits { FitsFrame last.now }
-        ensures played { EndsSteps (step (first.now ++ last.now ∷ [])) self.old.next self.old.unread (L.view link.old).talk
-            (L.view link.new).talk
-            (λ done. data_held last.now self.new.held) result self.new.next self.new.unread }
+        ensures played { EndsSteps (step (first.now ++ last.now ∷ [])) self.old.progress (L.view link.old)
+            (L.view link.new)
+            (λ done. data_held last.now self.new.held) result self.new.progress }
         ensures sized { OnOk result (SizedBy (shape last.now) (data_held last.now self.new.held)) }
-        ensures counted { CountsLink (L.view link.old).failures (L.view link.new).failures result }
+        ensures counted { CountsLink (L.view link.old) (L.view link.new) result }
         ensures comes { Stays L.comes_of link.old link.new }
-        ensures bound { length self.new.unread ≤ LARGEST_FRAME }
+        ensures bound { length self.new.progress.unread ≤ LARGEST_FRAME }
     {
         let mut fault = StepFault::NoAnswer;
         for tried in 0..ATTEMPTS {

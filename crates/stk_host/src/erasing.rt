@@ -14,12 +14,12 @@ use stk_frame::Command;
 
 /// Erases the chip.
 pub(crate) fn erase_chip<L: Link>(conversation: &mut Conversation, link: &mut L) -> Result<(), Stop>
-    ensures played { EndsSteps (play ((erase ∷ []) ∷ []) []) conversation.old.next conversation.old.unread
-        (L.view link.old).talk (L.view link.new).talk
-        (λ done. []) result conversation.new.next conversation.new.unread }
-    ensures counted { CountsLink (L.view link.old).failures (L.view link.new).failures result }
+    ensures played { EndsSteps (play ((erase ∷ []) ∷ []) []) conversation.old.progress
+        (L.view link.old) (L.view link.new)
+        (λ done. []) result conversation.new.progress }
+    ensures counted { CountsLink (L.view link.old) (L.view link.new) result }
     ensures comes { Stays L.comes_of link.old link.new }
-    ensures bound { length conversation.new.unread ≤ LARGEST_FRAME }
+    ensures bound { length conversation.new.progress.unread ≤ LARGEST_FRAME }
 {
     play_step(conversation, link, &[], &Command::erase())
 }

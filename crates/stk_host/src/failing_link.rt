@@ -1,8 +1,8 @@
 //! A link that fails once, at a call that is chosen: for tests of what stands on links.
 ghost use Rattle.std.specs.Prelude.{◌≡◌, ◌==◌, ◌≢◌, ◌<◌, ◌≤◌, ◌+◌, ◌-◌, ◌^◌, ◌∷◌, [], ℕ, length, take, min, Err, IfOk, OnOk, OnErr};
 ghost use Rattle.stk_host.specs.declared.link.LinkFault.TheVariants.{Failed};
-ghost use Rattle.stk_host.specs.Links.{total_failures};
-ghost use Rattle.stk_host.specs.Talk.{Sent, Got, Grows, HasFailed, Stays, FitsBuffer, items_of};
+ghost use Rattle.stk_host.specs.Links.{failing_view};
+ghost use Rattle.stk_host.specs.Talk.{HasFailed, HasRisen, Sends, Receives, Stays, FitsBuffer};
 
 use crate::link::{Heard, Link, LinkFault};
 use std::marker::Model;
@@ -59,7 +59,7 @@ impl<L> FailingLink<L> {
         ensures inner { self.new.inner ≡ self.old.inner }
         ensures cut { self.new.cut ≡ self.old.cut }
         ensures some { 0 < self.new.cut }
-        ensures failed { self.old.due ≡ 1 → HasFailed self.old.failed self.new.failed }
+        ensures failed { self.old.due ≡ 1 → HasRisen self.old.failed self.new.failed }
         ensures sound { self.old.due ≢ 1 → self.new.failed ≡ self.old.failed }
         ensures counted { self.old.failed ≤ self.new.failed }
     {
@@ -73,31 +73,14 @@ impl<L> FailingLink<L> {
 }
 
 impl<L: Link + Drop> Link for FailingLink<L> {
-    ghost view = { λ link. record {
-      talk = (L.view link.inner).talk;
-      failures = total_failures (L.view link.inner).failures link.failed;
-    } };
+    ghost view = { failing_view L.view };
 
     ghost Start = { L.Start };
 
     ghost comes_of = { λ start link. L.comes_of start link.inner };
 
     fn send(&mut self, bytes: &[u8]) -> Result<usize, LinkFault>
-        ensures within { IfOk result (λ n. n ≤ length bytes.now) }
-        ensures ok { IfOk result (λ n. Grows (L.view self.old.inner).talk (Sent (take n bytes.now) ∷ [])
-            (L.view self.new.inner).talk) }
-        ensures err { OnErr result (Grows (L.view self.old.inner).talk [] (L.view self.new.inner).talk) }
-        ensures counted { total_failures (L.view self.old.inner).failures self.old.failed
-            ≤ total_failures (L.view self.new.inner).failures self.new.failed }
-        ensures failed { OnErr result (HasFailed (total_failures (L.view self.old.inner).failures self.old.failed)
-            (total_failures (L.view self.new.inner).failures self.new.failed)) }
-        ensures stuck { IfOk result (λ n. n ≡ 0 → 0 < length bytes.now
-            → HasFailed (total_failures (L.view self.old.inner).failures self.old.failed)
-            (total_failures (L.view self.new.inner).failures self.new.failed)) }
-        ensures sound { IfOk result (λ n. 0 < n → total_failures (L.view self.new.inner).failures self.new.failed
-            ≡ total_failures (L.view self.old.inner).failures self.old.failed) }
-        ensures idle { OnOk result (length bytes.now ≡ 0 → total_failures (L.view self.new.inner).failures self.new.failed
-            ≡ total_failures (L.view self.old.inner).failures self.old.failed) }
+        ensures sends { Sends bytes.now (failing_view L.view self.old) (failing_view L.view self.new) result }
         ensures comes { Stays L.comes_of self.old.inner self.new.inner }
         ensures due { self.new.due ≡ self.old.due - 1 }
         ensures cut { self.new.cut ≡ self.old.cut }
@@ -105,7 +88,7 @@ impl<L: Link + Drop> Link for FailingLink<L> {
         ensures chosen { self.old.due ≡ 1 → (result ≡ Err Failed) × (self.new.inner ≡ self.old.inner) }
         // Every other call fails only with the inner link.
         ensures others { self.old.due ≢ 1 → (self.new.failed ≡ self.old.failed)
-            × OnErr result (HasFailed (L.view self.old.inner).failures (L.view self.new.inner).failures) }
+            × OnErr result (HasFailed (L.view self.old.inner) (L.view self.new.inner)) }
         ensures short { IfOk result (λ n. n ≤ self.old.cut) }
     {
         if self.is_due() {
@@ -117,16 +100,7 @@ impl<L: Link + Drop> Link for FailingLink<L> {
 
     fn recv(&mut self, buffer: &mut [u8]) -> Result<Heard, LinkFault>
         requires { 0 < length buffer.old }
-        ensures within { IfOk result (λ heard. FitsBuffer heard (length buffer.new)) }
-        ensures ok { IfOk result (λ heard. Grows (L.view self.old.inner).talk (Got (items_of heard buffer.new) ∷ [])
-            (L.view self.new.inner).talk) }
-        ensures err { OnErr result (Grows (L.view self.old.inner).talk [] (L.view self.new.inner).talk) }
-        ensures counted { total_failures (L.view self.old.inner).failures self.old.failed
-            ≤ total_failures (L.view self.new.inner).failures self.new.failed }
-        ensures failed { OnErr result (HasFailed (total_failures (L.view self.old.inner).failures self.old.failed)
-            (total_failures (L.view self.new.inner).failures self.new.failed)) }
-        ensures sound { OnOk result (total_failures (L.view self.new.inner).failures self.new.failed
-            ≡ total_failures (L.view self.old.inner).failures self.old.failed) }
+        ensures receives { Receives buffer.new (failing_view L.view self.old) (failing_view L.view self.new) result }
         ensures comes { Stays L.comes_of self.old.inner self.new.inner }
         ensures due { self.new.due ≡ self.old.due - 1 }
         ensures cut { self.new.cut ≡ self.old.cut }
@@ -134,7 +108,7 @@ impl<L: Link + Drop> Link for FailingLink<L> {
         ensures chosen { self.old.due ≡ 1 → (result ≡ Err Failed) × (self.new.inner ≡ self.old.inner) }
         // Every other call fails only with the inner link.
         ensures others { self.old.due ≢ 1 → (self.new.failed ≡ self.old.failed)
-            × OnErr result (HasFailed (L.view self.old.inner).failures (L.view self.new.inner).failures) }
+            × OnErr result (HasFailed (L.view self.old.inner) (L.view self.new.inner)) }
         ensures short { IfOk result (λ heard. FitsBuffer heard self.old.cut) }
     {
         if self.is_due() {

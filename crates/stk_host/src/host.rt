@@ -58,15 +58,14 @@ impl Model for Host {
     ghost view = { λ host. record {
       part = host.part;
       signature = host.part.signature;
-      next = host.conversation.next;
-      unread = host.conversation.unread;
+      progress = host.conversation.progress;
       broken = host.broken;
     } };
 
     ghost use Rattle.std.specs.Prelude.{◌≤◌, length};
     ghost use Rattle.stk_frame.specs.declared.protocol.TheConstants.{LARGEST_FRAME};
 
-    ghost invariant = { λ host. length host.conversation.unread ≤ LARGEST_FRAME };
+    ghost invariant = { λ host. length host.conversation.progress.unread ≤ LARGEST_FRAME };
 }
 
 fn fault_of(stop: Stop) -> HostFault
@@ -145,8 +144,7 @@ impl Host {
     pub fn new(part: &Part) -> Self
         ensures part { result.part ≡ part.now }
         ensures signature { result.signature ≡ part.now.signature }
-        ensures next { result.next ≡ 1 }
-        ensures unread { result.unread ≡ [] }
+        ensures progress { result.progress ≡ record { next = 1; unread = [] } }
         ensures sound { result.broken ≡ None }
     {
         Host {
@@ -166,20 +164,19 @@ impl Host {
         ensures stays { (fault : HostFault) → self.old.broken ≡ Some fault → (result ≡ Err fault)
             × (self.new ≡ self.old) × (link.new ≡ link.old) }
         // Else the call is the play of the steps that open a session, or after a fault of the link a front of it.
-        ensures played { self.old.broken ≡ None → EndsCall (opening self.old.signature force) self.old.next
-            self.old.unread
-            (L.view link.old).talk (L.view link.new).talk result self.new.next self.new.unread }
+        ensures played { self.old.broken ≡ None → EndsCall (opening self.old.signature force) self.old.progress
+            (L.view link.old) (L.view link.new) result self.new.progress }
         ensures lasts { self.old.broken ≡ None → self.new.broken ≡ left_by result }
         ensures part { self.new.part ≡ self.old.part }
         ensures signature { self.new.signature ≡ self.old.signature }
         // A fault of the link is told where the link has failed, and only there.
         ensures failed { self.old.broken ≡ None → IsBroken result
-            → HasFailed (L.view link.old).failures (L.view link.new).failures }
+            → HasFailed (L.view link.old) (L.view link.new) }
         ensures sound { self.old.broken ≡ None → UnlessBroken result ((L.view link.new).failures ≡ (L.view link.old).failures) }
         ensures counted { (L.view link.old).failures ≤ (L.view link.new).failures }
         ensures comes { Stays L.comes_of link.old link.new }
         // Of what was heard at most one piece is left.
-        ensures bound { self.old.broken ≡ None → length self.new.unread ≤ LARGEST_FRAME }
+        ensures bound { self.old.broken ≡ None → length self.new.progress.unread ≤ LARGEST_FRAME }
     {
         if let Some(fault) = self.broken {
             return Err(fault);
@@ -196,19 +193,19 @@ impl Host {
         ensures stays { (fault : HostFault) → self.old.broken ≡ Some fault → (result ≡ Err fault)
             × (self.new ≡ self.old) × (link.new ≡ link.old) }
         // Else the call is the play of the step that erases the chip, or after a fault of the link a front of it.
-        ensures played { self.old.broken ≡ None → EndsCall erasing self.old.next self.old.unread
-            (L.view link.old).talk (L.view link.new).talk result self.new.next self.new.unread }
+        ensures played { self.old.broken ≡ None → EndsCall erasing self.old.progress
+            (L.view link.old) (L.view link.new) result self.new.progress }
         ensures lasts { self.old.broken ≡ None → self.new.broken ≡ left_by result }
         ensures part { self.new.part ≡ self.old.part }
         ensures signature { self.new.signature ≡ self.old.signature }
         // A fault of the link is told where the link has failed, and only there.
         ensures failed { self.old.broken ≡ None → IsBroken result
-            → HasFailed (L.view link.old).failures (L.view link.new).failures }
+            → HasFailed (L.view link.old) (L.view link.new) }
         ensures sound { self.old.broken ≡ None → UnlessBroken result ((L.view link.new).failures ≡ (L.view link.old).failures) }
         ensures counted { (L.view link.old).failures ≤ (L.view link.new).failures }
         ensures comes { Stays L.comes_of link.old link.new }
         // Of what was heard at most one piece is left.
-        ensures bound { self.old.broken ≡ None → length self.new.unread ≤ LARGEST_FRAME }
+        ensures bound { self.old.broken ≡ None → length self.new.progress.unread ≤ LARGEST_FRAME }
     {
         if let Some(fault) = self.broken {
             return Err(fault);
@@ -230,20 +227,19 @@ impl Host {
         ensures stays { (fault : HostFault) → self.old.broken ≡ Some fault → (result ≡ Err fault)
             × (self.new ≡ self.old) × (link.new ≡ link.old) }
         // Else the call is the play of the steps that write the image, or after a fault of the link a front of it.
-        ensures played { self.old.broken ≡ None → EndsCall (writing self.old.part mem image.now) self.old.next
-            self.old.unread
-            (L.view link.old).talk (L.view link.new).talk result self.new.next self.new.unread }
+        ensures played { self.old.broken ≡ None → EndsCall (writing self.old.part mem image.now) self.old.progress
+            (L.view link.old) (L.view link.new) result self.new.progress }
         ensures lasts { self.old.broken ≡ None → self.new.broken ≡ left_by result }
         ensures part { self.new.part ≡ self.old.part }
         ensures signature { self.new.signature ≡ self.old.signature }
         // A fault of the link is told where the link has failed, and only there.
         ensures failed { self.old.broken ≡ None → IsBroken result
-            → HasFailed (L.view link.old).failures (L.view link.new).failures }
+            → HasFailed (L.view link.old) (L.view link.new) }
         ensures sound { self.old.broken ≡ None → UnlessBroken result ((L.view link.new).failures ≡ (L.view link.old).failures) }
         ensures counted { (L.view link.old).failures ≤ (L.view link.new).failures }
         ensures comes { Stays L.comes_of link.old link.new }
         // Of what was heard at most one piece is left.
-        ensures bound { self.old.broken ≡ None → length self.new.unread ≤ LARGEST_FRAME }
+        ensures bound { self.old.broken ≡ None → length self.new.progress.unread ≤ LARGEST_FRAME }
     {
         if let Some(fault) = self.broken {
             return Err(fault);
@@ -271,8 +267,8 @@ impl Host {
             × (self.new ≡ self.old) × (link.new ≡ link.old) }
         // Else the call is the play of the steps that read the memory, or after a fault of the link a front of it.
         // Where memory was refused nothing was sent or heard.
-        ensures played { self.old.broken ≡ None → EndsOrLacks (reading self.old.part mem) self.old.next self.old.unread
-            (L.view link.old).talk (L.view link.new).talk (given out.new.items result) self.new.next self.new.unread }
+        ensures played { self.old.broken ≡ None → EndsOrLacks (reading self.old.part mem) self.old.progress
+            (L.view link.old) (L.view link.new) (given out.new.items result) self.new.progress }
         ensures empty { OnErr result (out.new.items ≡ []) }
         ensures sized { OnOk result (length out.new.items ≡ size_of mem self.old.part) }
         ensures short { length out.new.items < 2 ^ 32 }
@@ -281,12 +277,12 @@ impl Host {
         ensures signature { self.new.signature ≡ self.old.signature }
         // A fault of the link is told where the link has failed, and only there.
         ensures failed { self.old.broken ≡ None → IsBroken result
-            → HasFailed (L.view link.old).failures (L.view link.new).failures }
+            → HasFailed (L.view link.old) (L.view link.new) }
         ensures sound { self.old.broken ≡ None → UnlessBroken result ((L.view link.new).failures ≡ (L.view link.old).failures) }
         ensures counted { (L.view link.old).failures ≤ (L.view link.new).failures }
         ensures comes { Stays L.comes_of link.old link.new }
         // Of what was heard at most one piece is left.
-        ensures bound { self.old.broken ≡ None → length self.new.unread ≤ LARGEST_FRAME }
+        ensures bound { self.old.broken ≡ None → length self.new.progress.unread ≤ LARGEST_FRAME }
     {
         out.clear();
         if let Some(fault) = self.broken {
@@ -319,20 +315,19 @@ impl Host {
             × (self.new ≡ self.old) × (link.new ≡ link.old) }
         // Else the call is the play of the steps that read the memory and the comparison, or after a fault of the link
         // a front of it. Where memory was refused nothing was sent or heard.
-        ensures played { self.old.broken ≡ None → EndsOrLacks (verifying self.old.part mem image.now) self.old.next
-            self.old.unread
-            (L.view link.old).talk (L.view link.new).talk result self.new.next self.new.unread }
+        ensures played { self.old.broken ≡ None → EndsOrLacks (verifying self.old.part mem image.now) self.old.progress
+            (L.view link.old) (L.view link.new) result self.new.progress }
         ensures lasts { self.old.broken ≡ None → self.new.broken ≡ left_by result }
         ensures part { self.new.part ≡ self.old.part }
         ensures signature { self.new.signature ≡ self.old.signature }
         // A fault of the link is told where the link has failed, and only there.
         ensures failed { self.old.broken ≡ None → IsBroken result
-            → HasFailed (L.view link.old).failures (L.view link.new).failures }
+            → HasFailed (L.view link.old) (L.view link.new) }
         ensures sound { self.old.broken ≡ None → UnlessBroken result ((L.view link.new).failures ≡ (L.view link.old).failures) }
         ensures counted { (L.view link.old).failures ≤ (L.view link.new).failures }
         ensures comes { Stays L.comes_of link.old link.new }
         // Of what was heard at most one piece is left.
-        ensures bound { self.old.broken ≡ None → length self.new.unread ≤ LARGEST_FRAME }
+        ensures bound { self.old.broken ≡ None → length self.new.progress.unread ≤ LARGEST_FRAME }
     {
         if let Some(fault) = self.broken {
             return Err(fault);
@@ -354,19 +349,19 @@ impl Host {
             × (self.new ≡ self.old) × (link.new ≡ link.old) }
         // Else the call is the play of the step that leaves programming mode, or after a fault of the link a front of
         // it.
-        ensures played { self.old.broken ≡ None → EndsCall closing self.old.next self.old.unread
-            (L.view link.old).talk (L.view link.new).talk result self.new.next self.new.unread }
+        ensures played { self.old.broken ≡ None → EndsCall closing self.old.progress
+            (L.view link.old) (L.view link.new) result self.new.progress }
         ensures lasts { self.old.broken ≡ None → self.new.broken ≡ left_by result }
         ensures part { self.new.part ≡ self.old.part }
         ensures signature { self.new.signature ≡ self.old.signature }
         // A fault of the link is told where the link has failed, and only there.
         ensures failed { self.old.broken ≡ None → IsBroken result
-            → HasFailed (L.view link.old).failures (L.view link.new).failures }
+            → HasFailed (L.view link.old) (L.view link.new) }
         ensures sound { self.old.broken ≡ None → UnlessBroken result ((L.view link.new).failures ≡ (L.view link.old).failures) }
         ensures counted { (L.view link.old).failures ≤ (L.view link.new).failures }
         ensures comes { Stays L.comes_of link.old link.new }
         // Of what was heard at most one piece is left.
-        ensures bound { self.old.broken ≡ None → length self.new.unread ≤ LARGEST_FRAME }
+        ensures bound { self.old.broken ≡ None → length self.new.progress.unread ≤ LARGEST_FRAME }
     {
         if let Some(fault) = self.broken {
             return Err(fault);

@@ -1,6 +1,6 @@
 //! The line between the host and a programmer.
-ghost use Rattle.std.specs.Prelude.{◌≡◌, ◌<◌, ◌≤◌, ℕ, length, take, [], ◌∷◌, ◌++◌, Option, IfOk, OnOk, OnErr};
-ghost use Rattle.stk_host.specs.Talk.{LinkView, Sent, Got, Grows, HasFailed, Stays, FitsBuffer, items_of};
+ghost use Rattle.std.specs.Prelude.{◌≡◌, ◌<◌, length};
+ghost use Rattle.stk_host.specs.Talk.{LinkView, Sends, Receives, Stays};
 
 use thiserror::Error;
 
@@ -65,15 +65,7 @@ pub trait Link {
     /// It is 0 for bytes that aren't none only where the link has failed. After a fault no byte counts as sent: a link
     /// that keeps what passed has passed nothing, and one that doesn't may have passed a front of them.
     fn send(&mut self, bytes: &[u8]) -> Result<usize, LinkFault>
-        ensures within { IfOk result (λ n. n ≤ length bytes.now) }
-        ensures ok { IfOk result (λ n. Grows (view self.old).talk (Sent (take n bytes.now) ∷ []) (view self.new).talk) }
-        ensures err { OnErr result (Grows (view self.old).talk [] (view self.new).talk) }
-        ensures counted { (view self.old).failures ≤ (view self.new).failures }
-        ensures failed { OnErr result (HasFailed (view self.old).failures (view self.new).failures) }
-        ensures stuck { IfOk result (λ n. n ≡ 0 → 0 < length bytes.now
-            → HasFailed (view self.old).failures (view self.new).failures) }
-        ensures sound { IfOk result (λ n. 0 < n → (view self.new).failures ≡ (view self.old).failures) }
-        ensures idle { OnOk result (length bytes.now ≡ 0 → (view self.new).failures ≡ (view self.old).failures) }
+        ensures sends { Sends bytes.now (view self.old) (view self.new) result }
         ensures comes { Stays comes_of self.old self.new };
 
     /// Listens: for at least one byte and as many as the buffer holds, a silence or the end.
@@ -81,12 +73,6 @@ pub trait Link {
     /// The buffer isn't empty. After a fault nothing was heard.
     fn recv(&mut self, buffer: &mut [u8]) -> Result<Heard, LinkFault>
         requires { 0 < length buffer.old }
-        ensures within { IfOk result (λ heard. FitsBuffer heard (length buffer.new)) }
-        ensures ok { IfOk result (λ heard. Grows (view self.old).talk (Got (items_of heard buffer.new) ∷ [])
-            (view self.new).talk) }
-        ensures err { OnErr result (Grows (view self.old).talk [] (view self.new).talk) }
-        ensures counted { (view self.old).failures ≤ (view self.new).failures }
-        ensures failed { OnErr result (HasFailed (view self.old).failures (view self.new).failures) }
-        ensures sound { OnOk result ((view self.new).failures ≡ (view self.old).failures) }
+        ensures receives { Receives buffer.new (view self.old) (view self.new) result }
         ensures comes { Stays comes_of self.old self.new };
 }

@@ -3,7 +3,7 @@ ghost use Rattle.std.specs.Prelude.{◌≡◌, ◌<◌, ◌≤◌, ◌++◌, ℕ
 ghost use Rattle.stk_frame.specs.declared.protocol.TheConstants.{LARGEST_FRAME};
 ghost use Rattle.stk_frame.specs.Reader.{Fed, found, Tells, HoldsFrame};
 ghost use Rattle.stk_host.specs.Tape.{is_answer, first_answer};
-ghost use Rattle.stk_host.specs.Talk.{HasFailed, Stays};
+ghost use Rattle.stk_host.specs.Talk.{Counts, Stays};
 ghost use Rattle.stk_host.specs.Reach.{Hears, HearsNone};
 ghost use Rattle.stk_host.specs.Calls.{reading_of, HoldsAnswer};
 
@@ -61,15 +61,13 @@ pub(crate) fn listen<L: Link>(
     seq: u8,
 ) -> Result<Reading, LinkFault>
     requires few { length unread.old ≤ LARGEST_FRAME }
-    ensures ok { IfOk result (λ reading. Hears seq unread.old (L.view link.old).talk (L.view link.new).talk
+    ensures ok { IfOk result (λ reading. Hears seq unread.old (L.view link.old) (L.view link.new)
         (reading_of reading reader.new) unread.new) }
     ensures fits { length unread.new ≤ LARGEST_FRAME }
     ensures holds { IfOk result (λ reading. HoldsAnswer reading reader.new) }
-    ensures err { OnErr result (HearsNone seq unread.old (L.view link.old).talk (L.view link.new).talk) }
-    ensures counted { (L.view link.old).failures ≤ (L.view link.new).failures }
+    ensures err { OnErr result (HearsNone seq unread.old (L.view link.old) (L.view link.new)) }
+    ensures counts { Counts (L.view link.old) (L.view link.new) result }
     ensures comes { Stays L.comes_of link.old link.new }
-    ensures sound { OnOk result ((L.view link.new).failures ≡ (L.view link.old).failures) }
-    ensures failed { OnErr result (HasFailed (L.view link.old).failures (L.view link.new).failures) }
 {
     reader.reset();
     let mut count = 0;

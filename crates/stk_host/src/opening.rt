@@ -18,12 +18,12 @@ fn signature_byte<L: Link>(
     link: &mut L,
     place: u8,
 ) -> Result<u8, Stop>
-    ensures played { EndsSteps (step (read_signature place ∷ [])) conversation.old.next conversation.old.unread
-        (L.view link.old).talk (L.view link.new).talk
-        (λ byte. byte ∷ []) result conversation.new.next conversation.new.unread }
-    ensures counted { CountsLink (L.view link.old).failures (L.view link.new).failures result }
+    ensures played { EndsSteps (step (read_signature place ∷ [])) conversation.old.progress
+        (L.view link.old) (L.view link.new)
+        (λ byte. byte ∷ []) result conversation.new.progress }
+    ensures counted { CountsLink (L.view link.old) (L.view link.new) result }
     ensures comes { Stays L.comes_of link.old link.new }
-    ensures bound { length conversation.new.unread ≤ LARGEST_FRAME }
+    ensures bound { length conversation.new.progress.unread ≤ LARGEST_FRAME }
 {
     let command = Command::read_signature(place);
     conversation.step(link, &[], &command)?;
@@ -32,12 +32,12 @@ fn signature_byte<L: Link>(
 
 /// Signs on, enters programming mode and reads the signature, byte 0 first.
 pub(crate) fn begin<L: Link>(conversation: &mut Conversation, link: &mut L) -> Result<[u8; 3], Stop>
-    ensures played { EndsSteps beginning conversation.old.next conversation.old.unread (L.view link.old).talk
-        (L.view link.new).talk
-        (λ found. found) result conversation.new.next conversation.new.unread }
-    ensures counted { CountsLink (L.view link.old).failures (L.view link.new).failures result }
+    ensures played { EndsSteps beginning conversation.old.progress (L.view link.old)
+        (L.view link.new)
+        (λ found. found) result conversation.new.progress }
+    ensures counted { CountsLink (L.view link.old) (L.view link.new) result }
     ensures comes { Stays L.comes_of link.old link.new }
-    ensures bound { length conversation.new.unread ≤ LARGEST_FRAME }
+    ensures bound { length conversation.new.progress.unread ≤ LARGEST_FRAME }
 {
     conversation.step(link, &[], &Command::SignOn)?;
     conversation.step(link, &[], &Command::enter())?;
@@ -49,12 +49,12 @@ pub(crate) fn begin<L: Link>(conversation: &mut Conversation, link: &mut L) -> R
 
 /// Leaves programming mode.
 pub(crate) fn end<L: Link>(conversation: &mut Conversation, link: &mut L) -> Result<(), Stop>
-    ensures played { EndsSteps (step (leave ∷ [])) conversation.old.next conversation.old.unread (L.view link.old).talk
-        (L.view link.new).talk
-        (λ done. []) result conversation.new.next conversation.new.unread }
-    ensures counted { CountsLink (L.view link.old).failures (L.view link.new).failures result }
+    ensures played { EndsSteps (step (leave ∷ [])) conversation.old.progress (L.view link.old)
+        (L.view link.new)
+        (λ done. []) result conversation.new.progress }
+    ensures counted { CountsLink (L.view link.old) (L.view link.new) result }
     ensures comes { Stays L.comes_of link.old link.new }
-    ensures bound { length conversation.new.unread ≤ LARGEST_FRAME }
+    ensures bound { length conversation.new.progress.unread ≤ LARGEST_FRAME }
 {
     conversation.step(link, &[], &Command::leave())
 }

@@ -64,11 +64,11 @@ fn read_blocks<L: Link>(
     requires empty { out.old.items ≡ [] }
     requires room { parts.size_of mem part.now ≤ vec_capacity out.old }
     ensures played { EndsSteps (play (each_from (block_steps part.now mem) 0 (block_count (parts.size_of mem part.now)))
-        []) conversation.old.next conversation.old.unread (L.view link.old).talk (L.view link.new).talk
-        (λ done. out.new.items) result conversation.new.next conversation.new.unread }
-    ensures counted { CountsLink (L.view link.old).failures (L.view link.new).failures result }
+        []) conversation.old.progress (L.view link.old) (L.view link.new)
+        (λ done. out.new.items) result conversation.new.progress }
+    ensures counted { CountsLink (L.view link.old) (L.view link.new) result }
     ensures comes { Stays L.comes_of link.old link.new }
-    ensures bound { length conversation.old.unread ≤ LARGEST_FRAME → length conversation.new.unread ≤ LARGEST_FRAME }
+    ensures bound { length conversation.old.progress.unread ≤ LARGEST_FRAME → length conversation.new.progress.unread ≤ LARGEST_FRAME }
     ensures size { OnOk result (length out.new.items ≡ parts.size_of mem part.now) }
 {
     let size = part.size_of(mem);
@@ -89,12 +89,12 @@ fn read_signature<L: Link>(
 ) -> Result<(), Stop>
     requires empty { out.old.items ≡ [] }
     requires room { 3 ≤ vec_capacity out.old }
-    ensures played { EndsSteps (play signature_steps []) conversation.old.next conversation.old.unread (L.view link.old).talk
-        (L.view link.new).talk
-        (λ done. out.new.items) result conversation.new.next conversation.new.unread }
-    ensures counted { CountsLink (L.view link.old).failures (L.view link.new).failures result }
+    ensures played { EndsSteps (play signature_steps []) conversation.old.progress (L.view link.old)
+        (L.view link.new)
+        (λ done. out.new.items) result conversation.new.progress }
+    ensures counted { CountsLink (L.view link.old) (L.view link.new) result }
     ensures comes { Stays L.comes_of link.old link.new }
-    ensures bound { length conversation.old.unread ≤ LARGEST_FRAME → length conversation.new.unread ≤ LARGEST_FRAME }
+    ensures bound { length conversation.old.progress.unread ≤ LARGEST_FRAME → length conversation.new.progress.unread ≤ LARGEST_FRAME }
     ensures size { OnOk result (length out.new.items ≡ 3) }
 {
     for place in 0..3 {
@@ -121,12 +121,12 @@ fn read_byte<L: Link>(
     requires one { data_count (shape command.now) ≡ 1 }
     requires empty { out.old.items ≡ [] }
     requires room { 1 ≤ vec_capacity out.old }
-    ensures played { EndsSteps (play ((command.now ∷ []) ∷ []) []) conversation.old.next conversation.old.unread
-        (L.view link.old).talk (L.view link.new).talk
-        (λ done. out.new.items) result conversation.new.next conversation.new.unread }
-    ensures counted { CountsLink (L.view link.old).failures (L.view link.new).failures result }
+    ensures played { EndsSteps (play ((command.now ∷ []) ∷ []) []) conversation.old.progress
+        (L.view link.old) (L.view link.new)
+        (λ done. out.new.items) result conversation.new.progress }
+    ensures counted { CountsLink (L.view link.old) (L.view link.new) result }
     ensures comes { Stays L.comes_of link.old link.new }
-    ensures bound { length conversation.new.unread ≤ LARGEST_FRAME }
+    ensures bound { length conversation.new.progress.unread ≤ LARGEST_FRAME }
     ensures size { OnOk result (length out.new.items ≡ 1) }
 {
     read_step(conversation, link, &[], command, out)
@@ -142,12 +142,12 @@ pub(crate) fn read_memory<L: Link>(
 ) -> Result<(), Stop>
     requires empty { out.old.items ≡ [] }
     requires room { parts.size_of mem part.now ≤ vec_capacity out.old }
-    ensures played { EndsSteps (play (read_steps part.now mem) []) conversation.old.next conversation.old.unread
-        (L.view link.old).talk (L.view link.new).talk
-        (λ done. out.new.items) result conversation.new.next conversation.new.unread }
-    ensures counted { CountsLink (L.view link.old).failures (L.view link.new).failures result }
+    ensures played { EndsSteps (play (read_steps part.now mem) []) conversation.old.progress
+        (L.view link.old) (L.view link.new)
+        (λ done. out.new.items) result conversation.new.progress }
+    ensures counted { CountsLink (L.view link.old) (L.view link.new) result }
     ensures comes { Stays L.comes_of link.old link.new }
-    ensures bound { length conversation.old.unread ≤ LARGEST_FRAME → length conversation.new.unread ≤ LARGEST_FRAME }
+    ensures bound { length conversation.old.progress.unread ≤ LARGEST_FRAME → length conversation.new.progress.unread ≤ LARGEST_FRAME }
     ensures size { OnOk result (length out.new.items ≡ parts.size_of mem part.now) }
 {
     let command = match mem {

@@ -2,7 +2,7 @@
 ghost use Rattle.std.specs.Prelude.{◌≡◌, ◌+◌, ◌≤◌, ◌++◌, ◌∷◌, [], length, All, OnOk, vec_capacity};
 ghost use Rattle.stk_frame.specs.declared.protocol.TheConstants.{LARGEST_FRAME};
 ghost use Rattle.stk_frame.specs.Commands.{shape};
-ghost use Rattle.stk_host.specs.Calls.{EndsInnerStep, CountsLink, FitsFrame, BringsNoData, IsCounted, data_count};
+ghost use Rattle.stk_host.specs.Calls.{with_step, without_step, EndsInnerStep, CountsLink, FitsFrame, BringsNoData, IsCounted, data_count};
 ghost use Rattle.stk_host.specs.Talk.{Stays};
 
 use crate::conversation::Conversation;
@@ -30,12 +30,12 @@ pub(crate) fn play_step<L: Link>(
     requires fits { FitsFrame last.now }
     requires counted { IsCounted (shape last.now) }
     requires no_data { data_count (shape last.now) ≡ 0 }
-    ensures played { EndsInnerStep (first.now ++ last.now ∷ []) [] [] conversation.old.next conversation.old.unread
-        (L.view link.old).talk (L.view link.new).talk
-        result conversation.new.next conversation.new.unread }
-    ensures counted { CountsLink (L.view link.old).failures (L.view link.new).failures result }
+    ensures played { EndsInnerStep (with_step (first.now ++ last.now ∷ []) []) (without_step []) conversation.old.progress
+        (L.view link.old) (L.view link.new)
+        result conversation.new.progress }
+    ensures counted { CountsLink (L.view link.old) (L.view link.new) result }
     ensures comes { Stays L.comes_of link.old link.new }
-    ensures bound { length conversation.new.unread ≤ LARGEST_FRAME }
+    ensures bound { length conversation.new.progress.unread ≤ LARGEST_FRAME }
 {
     conversation.step(link, first, last)
 }
@@ -52,12 +52,12 @@ pub(crate) fn read_step<L: Link>(
     requires fits { FitsFrame last.now }
     requires counted { IsCounted (shape last.now) }
     requires room { length out.old.items + data_count (shape last.now) ≤ vec_capacity out.old }
-    ensures played { EndsInnerStep (first.now ++ last.now ∷ []) out.old.items out.new.items conversation.old.next
-        conversation.old.unread (L.view link.old).talk (L.view link.new).talk
-        result conversation.new.next conversation.new.unread }
-    ensures counted { CountsLink (L.view link.old).failures (L.view link.new).failures result }
+    ensures played { EndsInnerStep (with_step (first.now ++ last.now ∷ []) out.old.items) (without_step out.new.items)
+        conversation.old.progress (L.view link.old) (L.view link.new)
+        result conversation.new.progress }
+    ensures counted { CountsLink (L.view link.old) (L.view link.new) result }
     ensures comes { Stays L.comes_of link.old link.new }
-    ensures bound { length conversation.new.unread ≤ LARGEST_FRAME }
+    ensures bound { length conversation.new.progress.unread ≤ LARGEST_FRAME }
     ensures size { OnOk result (length out.new.items ≡ length out.old.items + data_count (shape last.now)) }
     ensures room { vec_capacity out.old ≤ vec_capacity out.new }
 {

@@ -3,8 +3,8 @@ ghost use Rattle.std.specs.Prelude.{◌≡◌, ◌≢◌, ◌<◌, ◌≤◌, �
 ghost use Rattle.std.specs.IoError.{error_kind};
 ghost use Rattle.std.specs.Io.{ReadsAtMost, WritesAtMost};
 ghost use Rattle.std.specs.Io.KnownBytes.{Keeps, Appends, Consumes, IsAtEnd};
-ghost use Rattle.stk_host.specs.Talk.{Sent, Got, Grows, HasFailed, FitsBuffer, items_of};
-ghost use Rattle.stk_host.specs.Links.{HearsKnown, AppendsFront};
+ghost use Rattle.stk_host.specs.Talk.{Sends, Receives, FitsBuffer};
+ghost use Rattle.stk_host.specs.Links.{stream_view, HearsKnown, AppendsFront};
 
 use crate::link::{Heard, Link, LinkFault};
 use std::io;
@@ -116,20 +116,14 @@ impl<R, W> StreamLink<R, W> {
 }
 
 impl<R: Read + Drop, W: Write + Drop> Link for StreamLink<R, W> {
-    ghost view = { λ link. record { talk = None; failures = link.failures } };
+    ghost view = { stream_view };
 
     ghost Start = { Unit {0} };
 
     ghost comes_of = { λ start link. Unit {0} };
 
     fn send(&mut self, bytes: &[u8]) -> Result<usize, LinkFault>
-        ensures within { IfOk result (λ n. n ≤ length bytes.now) }
-        ensures ok { IfOk result (λ n. Grows None (Sent (take n bytes.now) ∷ []) None) }
-        ensures err { OnErr result (Grows None [] None) }
-        ensures counted { self.old.failures ≤ self.new.failures }
-        ensures failed { OnErr result (HasFailed self.old.failures self.new.failures) }
-        ensures stuck { IfOk result (λ n. n ≡ 0 → 0 < length bytes.now
-            → HasFailed self.old.failures self.new.failures) }
+        ensures sends { Sends bytes.now (stream_view self.old) (stream_view self.new) result }
         // The writer took the bytes that are said to be sent, or at a failure a front of them.
         ensures written { IfOk result (λ n. Appends (W.contents self.old.writer) (W.contents self.new.writer)
             (take n bytes.now)) }
@@ -147,17 +141,12 @@ impl<R: Read + Drop, W: Write + Drop> Link for StreamLink<R, W> {
 
     fn recv(&mut self, buffer: &mut [u8]) -> Result<Heard, LinkFault>
         requires { 0 < length buffer.old }
-        ensures within { IfOk result (λ heard. FitsBuffer heard (length buffer.new)) }
-        ensures ok { IfOk result (λ heard. Grows None (Got (items_of heard buffer.new) ∷ []) None) }
-        ensures err { OnErr result (Grows None [] None) }
-        ensures counted { self.old.failures ≤ self.new.failures }
-        ensures failed { OnErr result (HasFailed self.old.failures self.new.failures) }
+        ensures receives { Receives buffer.new (stream_view self.old) (stream_view self.new) result }
         // The bytes heard are the reader's next ones, none is lost, and an end comes only behind the last.
         ensures read { IfOk result (λ heard. HearsKnown heard buffer.new (R.remaining self.old.reader)
             (R.remaining self.new.reader)) }
         ensures kept { OnErr result (Keeps (R.remaining self.old.reader) (R.remaining self.new.reader)) }
         ensures writer { self.new.writer ≡ self.old.writer }
-        ensures sound { OnOk result (self.new.failures ≡ self.old.failures) }
     {
         let outcome = hear_bytes(&mut self.reader, buffer);
         if outcome.is_err() {

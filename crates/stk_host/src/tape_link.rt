@@ -1,9 +1,9 @@
 //! A link over a tape.
 ghost use Rattle.std.specs.Prelude.{◌≡◌, ◌<◌, ◌≤◌, ◌++◌, ◌∷◌, [], ℕ, List, length, take, drop, min, slice_get, Some, IfOk, OnOk, OnErr};
 ghost use Rattle.stk_host.specs.Tape.{bytes_in};
-ghost use Rattle.stk_host.specs.Talk.{Sent, Got, Grows, HasFailed, FitsBuffer, items_of};
+ghost use Rattle.stk_host.specs.Talk.{Sends, Receives, FitsBuffer, items_of};
 ghost use Rattle.stk_host.specs.Talk as talk;
-ghost use Rattle.stk_host.specs.Links.{next_piece, byte_of};
+ghost use Rattle.stk_host.specs.Links.{tape_view, next_piece, byte_of};
 
 use crate::link::{Heard, Item, Link, LinkFault};
 use crate::log::Log;
@@ -112,20 +112,14 @@ impl TapeLink {
 }
 
 impl Link for TapeLink {
-    ghost view = { λ link. record { talk = Some link.talk; failures = link.failures } };
+    ghost view = { tape_view };
 
     ghost Start = { Unit {0} };
 
     ghost comes_of = { λ start link. Unit {0} };
 
     fn send(&mut self, bytes: &[u8]) -> Result<usize, LinkFault>
-        ensures within { IfOk result (λ n. n ≤ length bytes.now) }
-        ensures ok { IfOk result (λ n. Grows (Some self.old.talk) (Sent (take n bytes.now) ∷ []) (Some self.new.talk)) }
-        ensures err { OnErr result (Grows (Some self.old.talk) [] (Some self.new.talk)) }
-        ensures counted { self.old.failures ≤ self.new.failures }
-        ensures failed { OnErr result (HasFailed self.old.failures self.new.failures) }
-        ensures stuck { IfOk result (λ n. n ≡ 0 → 0 < length bytes.now
-            → HasFailed self.old.failures self.new.failures) }
+        ensures sends { Sends bytes.now (tape_view self.old) (tape_view self.new) result }
         ensures sound { OnOk result (self.new.failures ≡ self.old.failures) }
         // As many bytes are taken as a piece may have.
         ensures count { IfOk result (λ n. n ≡ min self.old.cut (length bytes.now)) }
@@ -143,13 +137,7 @@ impl Link for TapeLink {
 
     fn recv(&mut self, buffer: &mut [u8]) -> Result<Heard, LinkFault>
         requires { 0 < length buffer.old }
-        ensures within { IfOk result (λ heard. FitsBuffer heard (length buffer.new)) }
-        ensures ok { IfOk result (λ heard. Grows (Some self.old.talk) (Got (items_of heard buffer.new) ∷ [])
-            (Some self.new.talk)) }
-        ensures err { OnErr result (Grows (Some self.old.talk) [] (Some self.new.talk)) }
-        ensures counted { self.old.failures ≤ self.new.failures }
-        ensures failed { OnErr result (HasFailed self.old.failures self.new.failures) }
-        ensures sound { OnOk result (self.new.failures ≡ self.old.failures) }
+        ensures receives { Receives buffer.new (tape_view self.old) (tape_view self.new) result }
         // The next piece of the tape is heard, and is no longer there.
         ensures piece { IfOk result (λ heard. items_of heard buffer.new
             ≡ next_piece (min self.old.cut (length buffer.new)) self.old.left) }

@@ -1,6 +1,6 @@
 //! The bytes that were heard and not read yet.
 ghost use Rattle.std.specs.Prelude.{◌≡◌, ◌<◌, ◌≤◌, ◌↔◌, IsTrue, ℕ, length, take, drop, [], ◌∷◌, ◌++◌, IfOk, OnOk, OnErr};
-ghost use Rattle.stk_host.specs.Talk.{Grows, HasFailed, Stays};
+ghost use Rattle.stk_host.specs.Talk.{Grows, Counts, Stays};
 ghost use Rattle.stk_host.specs.Calls.{HearsPiece};
 
 use crate::link::{Heard, Link, LinkFault};
@@ -75,12 +75,10 @@ impl Unread {
         requires room { 0 < most }
         ensures within { length self.new ≤ most }
         ensures fits { length self.new ≤ LARGEST_FRAME }
-        ensures ok { IfOk result (λ heard. HearsPiece heard self.new (L.view link.old).talk (L.view link.new).talk) }
+        ensures ok { IfOk result (λ heard. HearsPiece heard self.new (L.view link.old) (L.view link.new)) }
         ensures err { OnErr result (Grows (L.view link.old).talk [] (L.view link.new).talk) }
-        ensures counted { (L.view link.old).failures ≤ (L.view link.new).failures }
+        ensures counts { Counts (L.view link.old) (L.view link.new) result }
         ensures comes { Stays L.comes_of link.old link.new }
-        ensures sound { OnOk result ((L.view link.new).failures ≡ (L.view link.old).failures) }
-        ensures failed { OnErr result (HasFailed (L.view link.old).failures (L.view link.new).failures) }
     {
         self.start = 0;
         self.end = 0;

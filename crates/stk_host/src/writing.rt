@@ -7,7 +7,7 @@ ghost use Rattle.stk_frame.specs.HostCommands as host;
 ghost use Rattle.stk_host.specs.Places as places;
 ghost use Rattle.stk_host.specs.WriteSteps.{page_step, byte_steps, write_steps};
 ghost use Rattle.stk_host.specs.Steps.{play};
-ghost use Rattle.stk_host.specs.Calls.{EndsInnerStep, EndsSteps, CountsLink};
+ghost use Rattle.stk_host.specs.Calls.{with_step, without_step, EndsInnerStep, EndsSteps, CountsLink};
 ghost use Rattle.stk_host.specs.Talk.{Stays};
 
 use crate::conversation::Conversation;
@@ -31,12 +31,12 @@ fn program_page<L: Link>(
     start: u32,
 ) -> Result<(), Stop>
     requires { start < 2 ^ 20 }
-    ensures played { EndsInnerStep (page_step part.now image.now start) [] [] conversation.old.next
-        conversation.old.unread (L.view link.old).talk (L.view link.new).talk
-        result conversation.new.next conversation.new.unread }
-    ensures counted { CountsLink (L.view link.old).failures (L.view link.new).failures result }
+    ensures played { EndsInnerStep (with_step (page_step part.now image.now start) []) (without_step [])
+        conversation.old.progress (L.view link.old) (L.view link.new)
+        result conversation.new.progress }
+    ensures counted { CountsLink (L.view link.old) (L.view link.new) result }
     ensures comes { Stays L.comes_of link.old link.new }
-    ensures bound { length conversation.new.unread ≤ LARGEST_FRAME }
+    ensures bound { length conversation.new.progress.unread ≤ LARGEST_FRAME }
 {
     let size = page_size(part, Mem::Flash) as usize;
     let mut page = [0; LARGEST_PAGE];
@@ -54,12 +54,11 @@ fn write_flash<L: Link>(
     image: &Image,
 ) -> Result<(), Stop>
     requires { length image.now ≤ size_of Mem.Flash part.now }
-    ensures played { EndsSteps (play (write_steps part.now Mem.Flash image.now) []) conversation.old.next
-        conversation.old.unread (L.view link.old).talk (L.view link.new).talk
-        (λ done. []) result conversation.new.next conversation.new.unread }
-    ensures counted { CountsLink (L.view link.old).failures (L.view link.new).failures result }
+    ensures played { EndsSteps (play (write_steps part.now Mem.Flash image.now) []) conversation.old.progress (L.view link.old) (L.view link.new)
+        (λ done. []) result conversation.new.progress }
+    ensures counted { CountsLink (L.view link.old) (L.view link.new) result }
     ensures comes { Stays L.comes_of link.old link.new }
-    ensures bound { length conversation.old.unread ≤ LARGEST_FRAME → length conversation.new.unread ≤ LARGEST_FRAME }
+    ensures bound { length conversation.old.progress.unread ≤ LARGEST_FRAME → length conversation.new.progress.unread ≤ LARGEST_FRAME }
 {
     let size = page_size(part, Mem::Flash);
     let mut next = 0;
@@ -82,12 +81,12 @@ fn program_run<L: Link>(
     requires order { start ≤ end }
     requires fits { end - start ≤ 256 }
     ensures played { EndsInnerStep
-        (places.load_eeprom start ∷ host.program_eeprom (filled image.now start (end - start)) ∷ [])
-        [] [] conversation.old.next conversation.old.unread (L.view link.old).talk (L.view link.new).talk
-        result conversation.new.next conversation.new.unread }
-    ensures counted { CountsLink (L.view link.old).failures (L.view link.new).failures result }
+        (with_step (places.load_eeprom start ∷ host.program_eeprom (filled image.now start (end - start)) ∷ []) [])
+        (without_step []) conversation.old.progress (L.view link.old) (L.view link.new)
+        result conversation.new.progress }
+    ensures counted { CountsLink (L.view link.old) (L.view link.new) result }
     ensures comes { Stays L.comes_of link.old link.new }
-    ensures bound { length conversation.new.unread ≤ LARGEST_FRAME }
+    ensures bound { length conversation.new.progress.unread ≤ LARGEST_FRAME }
 {
     let size = (end - start) as usize;
     let mut run = [0; LARGEST_PAGE];
@@ -105,12 +104,11 @@ fn write_eeprom<L: Link>(
     image: &Image,
 ) -> Result<(), Stop>
     requires { length image.now ≤ size_of Mem.Eeprom part.now }
-    ensures played { EndsSteps (play (write_steps part.now Mem.Eeprom image.now) []) conversation.old.next
-        conversation.old.unread (L.view link.old).talk (L.view link.new).talk
-        (λ done. []) result conversation.new.next conversation.new.unread }
-    ensures counted { CountsLink (L.view link.old).failures (L.view link.new).failures result }
+    ensures played { EndsSteps (play (write_steps part.now Mem.Eeprom image.now) []) conversation.old.progress (L.view link.old) (L.view link.new)
+        (λ done. []) result conversation.new.progress }
+    ensures counted { CountsLink (L.view link.old) (L.view link.new) result }
     ensures comes { Stays L.comes_of link.old link.new }
-    ensures bound { length conversation.old.unread ≤ LARGEST_FRAME → length conversation.new.unread ≤ LARGEST_FRAME }
+    ensures bound { length conversation.old.progress.unread ≤ LARGEST_FRAME → length conversation.new.progress.unread ≤ LARGEST_FRAME }
 {
     let size = page_size(part, Mem::Eeprom);
     let mut next = 0;
@@ -129,12 +127,11 @@ fn write_fuse<L: Link>(
     fuse: Fuse,
     byte: Option<u8>,
 ) -> Result<(), Stop>
-    ensures played { EndsSteps (play (byte_steps (host.program_fuse fuse) byte) []) conversation.old.next
-        conversation.old.unread (L.view link.old).talk (L.view link.new).talk
-        (λ done. []) result conversation.new.next conversation.new.unread }
-    ensures counted { CountsLink (L.view link.old).failures (L.view link.new).failures result }
+    ensures played { EndsSteps (play (byte_steps (host.program_fuse fuse) byte) []) conversation.old.progress (L.view link.old) (L.view link.new)
+        (λ done. []) result conversation.new.progress }
+    ensures counted { CountsLink (L.view link.old) (L.view link.new) result }
     ensures comes { Stays L.comes_of link.old link.new }
-    ensures bound { length conversation.old.unread ≤ LARGEST_FRAME → length conversation.new.unread ≤ LARGEST_FRAME }
+    ensures bound { length conversation.old.progress.unread ≤ LARGEST_FRAME → length conversation.new.progress.unread ≤ LARGEST_FRAME }
 {
     match byte {
         Some(value) => play_step(conversation, link, &[], &Command::program_fuse(fuse, value)),
@@ -148,12 +145,11 @@ fn write_lock<L: Link>(
     link: &mut L,
     byte: Option<u8>,
 ) -> Result<(), Stop>
-    ensures played { EndsSteps (play (byte_steps host.program_lock byte) []) conversation.old.next
-        conversation.old.unread (L.view link.old).talk (L.view link.new).talk
-        (λ done. []) result conversation.new.next conversation.new.unread }
-    ensures counted { CountsLink (L.view link.old).failures (L.view link.new).failures result }
+    ensures played { EndsSteps (play (byte_steps host.program_lock byte) []) conversation.old.progress (L.view link.old) (L.view link.new)
+        (λ done. []) result conversation.new.progress }
+    ensures counted { CountsLink (L.view link.old) (L.view link.new) result }
     ensures comes { Stays L.comes_of link.old link.new }
-    ensures bound { length conversation.old.unread ≤ LARGEST_FRAME → length conversation.new.unread ≤ LARGEST_FRAME }
+    ensures bound { length conversation.old.progress.unread ≤ LARGEST_FRAME → length conversation.new.progress.unread ≤ LARGEST_FRAME }
 {
     match byte {
         Some(value) => play_step(conversation, link, &[], &Command::program_lock(value)),
@@ -170,12 +166,11 @@ pub(crate) fn write_memory<L: Link>(
     image: &Image,
 ) -> Result<(), Stop>
     requires { length image.now ≤ size_of mem part.now }
-    ensures played { EndsSteps (play (write_steps part.now mem image.now) []) conversation.old.next
-        conversation.old.unread (L.view link.old).talk (L.view link.new).talk
-        (λ done. []) result conversation.new.next conversation.new.unread }
-    ensures counted { CountsLink (L.view link.old).failures (L.view link.new).failures result }
+    ensures played { EndsSteps (play (write_steps part.now mem image.now) []) conversation.old.progress (L.view link.old) (L.view link.new)
+        (λ done. []) result conversation.new.progress }
+    ensures counted { CountsLink (L.view link.old) (L.view link.new) result }
     ensures comes { Stays L.comes_of link.old link.new }
-    ensures bound { length conversation.old.unread ≤ LARGEST_FRAME → length conversation.new.unread ≤ LARGEST_FRAME }
+    ensures bound { length conversation.old.progress.unread ≤ LARGEST_FRAME → length conversation.new.progress.unread ≤ LARGEST_FRAME }
 {
     match mem {
         Mem::Flash => write_flash(conversation, link, part, image),

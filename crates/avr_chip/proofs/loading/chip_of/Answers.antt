@@ -16,12 +16,11 @@ pub returns-in-Err-BadChipFile-clause-goes : goal.returns-in-Err-BadChipFile-cla
 returns-in-Err-BadChipFile-clause-goes g c =
     let gives = c.in-Err-BadChipFile.ensures in
     let told = c.refuse_length.ensures.told in
-    goes_wrong_length c.args.part.now c.args.file.now c.args.bytes.now _ _ _ _ _ _ (rw (c.in-Err-BadChipFile.field-0-is, c.copied.ensures.value) at gives) c.refuse_length.ensures.status
+    goes_wrong_length c.args.part.now c.args.file.now c.args.bytes.now _ _ _ _ (rw (c.in-Err-BadChipFile.field-0-is, c.copied.ensures.value) at gives) c.refuse_length.ensures.status
     (rw c.file_size.ensures at told)
 
 pub returns-in-Err : goal.returns-in-Err
 returns-in-Err g c = record {
-  goes = goes_without_memory (settled (chip_or_line c.args.part.now c.args.file.now c.args.bytes.now)) _ _ _ _ _ c.refuse_memory.ensures.status c.refuse_memory.ensures.told;
+  goes = goes_without_memory (settled (chip_or_line c.args.part.now c.args.file.now c.args.bytes.now)) _ _ _ c.refuse_memory.ensures.status c.refuse_memory.ensures.told;
   part = tt;
-  rises = c.refuse_memory.ensures.rises;
 }

@@ -5,11 +5,11 @@ use Rattle.avr_chip.specs.Loading.{chip_given}
 use Rattle.avr_chip.proofs.loading.unread_chip.Goals as goal
 
 pub returns-in-Absent-clause-goes : goal.returns-in-Absent-clause-goes
-returns-in-Absent-clause-goes g c = λ old before breaks rose counted.
-    goes_opened c.args.file.now (chip_given c.args.part.now c.args.file.now) (Absent c.args.file.now) old _ _ before _ _ _ refl
+returns-in-Absent-clause-goes g c = λ old breaks rose counted.
+    goes_opened c.args.file.now (chip_given c.args.part.now c.args.file.now) (Absent c.args.file.now) old _ _ _ refl
     (rw c.in-Absent.is at breaks) rose c.fresh_chip.ensures.goes
 
 pub returns-in_default-clause-goes : goal.returns-in_default-clause-goes
-returns-in_default-clause-goes g c = λ old before breaks rose counted.
-    goes_broken c.args.file.now (chip_given c.args.part.now c.args.file.now) c.args.fault old _ _ before _ _ _ c.in_default.not-Absent
-    breaks rose counted c.refuse_file.ensures.rises c.refuse_file.ensures.status c.refuse_file.ensures.told
+returns-in_default-clause-goes g c = λ old breaks rose counted.
+    goes_broken c.args.file.now (chip_given c.args.part.now c.args.file.now) c.args.fault old _ _ _ c.in_default.not-Absent
+    breaks rose counted c.refuse_file.ensures.status c.refuse_file.ensures.told

@@ -25,6 +25,6 @@ returns-in-Err-clause-part g c =
     let ps = c.args.pieces.now in
     let i = c.loop-piece.piece-index in
     let d : Piece = Text (record { ref_ptr = (0, 0); now = [] }) in
-    let P : List ℕ → Type 0 = λ b. SendsPart Messages (g.D.Desk.view c.args.desk.now).kept (g.D.Desk.view c.write_piece.new.desk).kept b in
+    let P : List ℕ → Type 0 = λ b. SendsPart Messages (g.D.Desk.view c.args.desk.now) (g.D.Desk.view c.write_piece.new.desk) b in
     subst P (sym (all_text_at ps i d c.loop-piece-test.true))
     (sent_next_part Messages _ _ _ (all_text (take i ps)) (text_of (get_or ps i d)) (all_text (drop (i + 1) ps)) c.loop-piece.invariant.sent c.in-Err.ensures.part)

@@ -5,7 +5,7 @@ use Rattle.avr_plan.proofs.image_file.read_rest.Given as goal
 
 abbrev pub invariant-pieces : goal.invariant-pieces
 invariant-pieces g l = record {
-  going : Going (g.D.Desk.view l.initial.desk).kept (g.D.Desk.view l.desk).kept l.initial.intake l.intake l.initial.left l.left;
+  going : Going (g.D.Desk.view l.initial.desk) (g.D.Desk.view l.desk) l.initial.intake l.intake l.initial.left l.left;
   rises : (g.D.Desk.view l.initial.desk).failures ≤ (g.D.Desk.view l.desk).failures;
   room : counted l.intake + l.left ≤ counted l.initial.intake + l.initial.left;
 }

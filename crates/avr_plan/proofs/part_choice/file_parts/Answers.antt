@@ -7,30 +7,30 @@ use Rattle.avr_plan.proofs.Openings.{breaks_as, counted_as}
 use Rattle.avr_plan.specs.Planning.{judged_parts}
 use Rattle.avr_plan.proofs.part_choice.file_parts.Goals as goal
 
-pub returns-in-Err-clause-goes : goal.returns-in-Err-clause-goes
-returns-in-Err-clause-goes g c =
-    goes_file_fault c.args.file.now 65536 (judged_parts c.args.file.now) c.in-Err.fault _ _ _ _ _ _ _
+pub returns-in-Err : goal.returns-in-Err
+returns-in-Err g c =
+    goes_file_fault c.args.file.now 65536 (judged_parts c.args.file.now) c.in-Err.fault _ _ _ _
     (breaks_as _ _ _ c.in-Err.fault c.in-Err.ensures.kept)
-    c.in-Err.ensures.counts.0 (counted_as _ _ c.in-Err.fault c.in-Err.ensures.counts) c.refuse_file.ensures.rises c.refuse_file.ensures.status
+    c.in-Err.ensures.counts.0 (counted_as _ _ c.in-Err.fault c.in-Err.ensures.counts) c.refuse_file.ensures.status
     c.refuse_file.ensures.told
 
-pub returns-then-not-contents-clause-goes : goal.returns-then-not-contents-clause-goes
-returns-then-not-contents-clause-goes g c =
-    goes_long_parts c.args.file.now c.in-Ok.contents.bytes c.in-Ok.contents.ended _ _ _ _ _ _ _ c.in-Ok.ensures.kept c.in-Ok.ensures.whole
+pub returns-then-not-contents : goal.returns-then-not-contents
+returns-then-not-contents g c =
+    goes_long_parts c.args.file.now c.in-Ok.contents.bytes c.in-Ok.contents.ended _ _ _ _ c.in-Ok.ensures.kept c.in-Ok.ensures.whole
     c.if-not-contents.true
     c.in-Ok.ensures.counts.0 c.refuse_too_long.ensures.status c.refuse_too_long.ensures.told
 
-pub returns-in-Ok-parse_parts-clause-goes : goal.returns-in-Ok-parse_parts-clause-goes
-returns-in-Ok-parse_parts-clause-goes g c =
+pub returns-in-Ok-parse_parts : goal.returns-in-Ok-parse_parts
+returns-in-Ok-parse_parts g c =
     let gives = subst (λ (b : Bytes). GivesOrMemory (parts_of b) c.parse_parts.result) c.as_slice.ensures c.parse_parts.ensures in
     went_parts c.args.file.now c.in-Ok.contents.bytes c.in-Ok.contents.ended _ _ c.in-Ok-parse_parts.parts c.in-Ok.ensures.kept
-    c.in-Ok.ensures.whole c.if-not-contents.false
+    c.in-Ok.ensures.whole c.if-not-contents.false c.in-Ok.ensures.counts.0
     (rw c.in-Ok-parse_parts.is at gives)
 
-pub returns-clause-goes : goal.returns-clause-goes
-returns-clause-goes g c =
+pub returns : goal.returns
+returns g c =
     let gives = subst (λ (b : Bytes). GivesOrMemory (parts_of b) c.parse_parts.result) c.as_slice.ensures c.parse_parts.ensures in
-    goes_bad_parts c.args.file.now c.in-Ok.contents.bytes c.in-Ok.contents.ended _ _ _ _ _ _ _ c.in-Err-parse_parts.fault c.in-Ok.ensures.kept
+    goes_bad_parts c.args.file.now c.in-Ok.contents.bytes c.in-Ok.contents.ended _ _ _ _ c.in-Err-parse_parts.fault c.in-Ok.ensures.kept
     c.in-Ok.ensures.whole
     c.if-not-contents.false c.in-Ok.ensures.counts.0 (rw c.in-Err-parse_parts.is at gives) c.refuse_part_file.ensures.status
     c.refuse_part_file.ensures.told

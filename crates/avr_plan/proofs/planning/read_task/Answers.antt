@@ -11,4 +11,4 @@ returns-in-Ok-clause-goes g c = λ switches part.
     (sym (c.in-Ok.ensures ∙ c.as_str.ensures)))
 
 pub returns-in-Err-clause-goes : goal.returns-in-Err-clause-goes
-returns-in-Err-clause-goes g c = λ switches part. goes_without_memory _ _ _ _ _ _ c.refuse_memory.ensures.status c.refuse_memory.ensures.told
+returns-in-Err-clause-goes g c = λ switches part. goes_without_memory _ _ _ _ c.refuse_memory.ensures.status c.refuse_memory.ensures.told

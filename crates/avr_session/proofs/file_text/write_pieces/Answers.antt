@@ -1,7 +1,7 @@
-use Rattle.std.proofs.Common.{◌∙◌, ap, sym, subst, refl, arith, ◌≡◌, ◌<◌, ℕ, List, [], ◌∷◌, ◌++◌, length, append_assoc, append-nil, Option, option_map, Result, Ok, Err, IsOk, OnOk, OnErr, IsTrue, Bool, true, false}
+use Rattle.std.proofs.Common.{◌∙◌, ap, sym, subst, refl, arith, ◌≡◌, ◌<◌, ℕ, List, [], ◌∷◌, ◌++◌, length, append_assoc, append-nil, Option, None, option_map, Result, Ok, Err, IsOk, OnOk, OnErr, IsTrue, Bool, true, false}
 use Rattle.std.proofs.lemmas.Result.{err_from_is_err_and}
 use Rattle.avr_desk.specs.Fault.{Counts}
-use Rattle.avr_desk.specs.Record.{Record}
+use Rattle.avr_desk.specs.Record.{Record, showing}
 use Rattle.avr_desk.specs.Stream.{after_sent, SendsPart}
 use Rattle.avr_desk.specs.declared.fault.DeskFault.{DeskFault}
 use Rattle.avr_desk.specs.declared.stream.Stream.{Stream}
@@ -29,10 +29,10 @@ all_sent : (s : Stream) (old now new : Option Record) (done waiting text : List 
 all_sent s old now new done waiting text (Ok ok) is before sent = sent_next s old now new done waiting before sent ∙ ap (λ (xs : List ℕ). option_map (after_sent s xs) old) (sym is)
 all_sent s old now new done waiting text (Err fault) is before sent = tt
 
-part_sent : (s : Stream) (old now new : Option Record) (done waiting text : List ℕ) (r : Result (Unit {0}) DeskFault) → text ≡ done ++ waiting → now ≡ option_map (after_sent s done) old → OnErr r (SendsPart s now new waiting)
-    → OnErr r (SendsPart s old new text)
+part_sent : (s : Stream) (old now new : Option Record) (done waiting text : List ℕ) (r : Result (Unit {0}) DeskFault) → text ≡ done ++ waiting → now ≡ option_map (after_sent s done) old → OnErr r (SendsPart s (showing now 0) (showing new 0) waiting)
+    → OnErr r (SendsPart s (showing old 0) (showing new 0) text)
 part_sent s old now new done waiting text (Ok ok) is before part = tt
-part_sent s old now new done waiting text (Err fault) is before part = subst (SendsPart s old new) (sym (is ∙ ap (λ (xs : List ℕ). done ++ xs) (sym (append-nil waiting)))) (sent_next_part s old now new done waiting [] before part)
+part_sent s old now new done waiting text (Err fault) is before part = subst (SendsPart s (showing old 0) (showing new 0)) (sym (is ∙ ap (λ (xs : List ℕ). done ++ xs) (sym (append-nil waiting)))) (sent_next_part s old now new done waiting [] before part)
 
 pub pieces-init : goal.pieces-init
 pieces-init g c = record {
@@ -58,7 +58,7 @@ pub returns-in_err-make_room-clause-part : goal.returns-in_err-make_room-clause-
 returns-in_err-make_room-clause-part g c =
     let p = err_from_is_err_and c.from_residual.result c.from_residual.ensures.1 in
     let i = c.pieces.invariant.sent in
-    rw p.1 (subst (SendsPart c.args.stream (g.D.Desk.view c.args.desk.now).kept (g.D.Desk.view c.make_room.new.desk).kept) (sym i.1)
+    rw p.1 (subst (SendsPart c.args.stream (g.D.Desk.view c.args.desk.now) (g.D.Desk.view c.make_room.new.desk)) (sym i.1)
     (sent_next_part c.args.stream _ _ _ i.0 c.pieces.waiting.items (g.P.Pieces.rest c.pieces.text) i.2 c.in_err-make_room.ensures.part))
 
 pub returns-clause-all : goal.returns-clause-all
@@ -77,4 +77,4 @@ returns-clause-part g c =
 
 pub returns-clause-counts : goal.returns-clause-counts
 returns-clause-counts g c =
-    subst (λ n. Counts n (g.D.Desk.view c.write_all.new.desk).failures c.write_all.result) c.pieces.invariant.counted c.write_all.ensures.counts
+    subst (λ n. Counts (showing None n) (g.D.Desk.view c.write_all.new.desk) c.write_all.result) c.pieces.invariant.counted c.write_all.ensures.counts

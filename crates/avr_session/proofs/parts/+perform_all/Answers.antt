@@ -7,7 +7,7 @@ use Rattle.avr_session.proofs.Performing.{nothing_performs, performs_then, perfo
 use Rattle.avr_session.proofs.parts.+perform_all.Goals as goal
 
 pub returns-in-empty-clause-performs : goal.returns-in-empty-clause-performs
-returns-in-empty-clause-performs g t c = rw (← no_task c.args.tasks.now c.in-empty.len_below) (nothing_performs _ _ _ _ _ _ c.requires.sound)
+returns-in-empty-clause-performs g t c = rw (← no_task c.args.tasks.now c.in-empty.len_below) (nothing_performs _ _ _ c.requires.sound)
 
 pub returns-in_err-fault-in-len1-up-clause-performs : goal.returns-in_err-fault-in-len1-up-clause-performs
 returns-in_err-fault-in-len1-up-clause-performs g t c =

@@ -8,8 +8,7 @@ use Rattle.avr_session.proofs.parts.erase_chip.Goals as goal
 
 pub returns-clause-performs : goal.returns-clause-performs
 returns-clause-performs g c =
-    let reports = rw (c.part.ensures, c.switches.ensures) at c.report_erased-reported.ensures.reports in
-    operation_performs false (fault_or c.args.plan.now.part (λ _. informs c.args.plan.now.switches.quiet (codes "chip erased" ∷ []))) c.erase-erased.result c.report_erased-reported.result c.conclude.result (PrintStops _ _) (print_stops_report _ _ _ _ _ _ _ c.report_erased-reported.ensures.counted) c.conclude.ensures
-    (call_ended _ _ _ _ _ c.erase-erased.result _ _ erasing_lacks_none (c.erase-erased.ensures.played c.requires.sound)) (c.erase-erased.ensures.bound c.requires.sound) reports
-    (told_of _ _ c.args.plan.now.part _ _ _ c.erase-erased.result c.report_erased-reported.result reports) (c.erase-erased.ensures.failed c.requires.sound) (c.erase-erased.ensures.lasts c.requires.sound) c.erase-erased.ensures.part c.erase-erased.ensures.counted
-    c.report_erased-reported.ensures.counted
+    let reports = rw (c.part.ensures, c.switches.ensures) at c.report_erased-reported.ensures in
+    operation_performs false (fault_or c.args.plan.now.part (λ _. informs c.args.plan.now.switches.quiet (codes "chip erased" ∷ []))) c.erase-erased.result c.report_erased-reported.result c.conclude.result PrintStops (print_stops_report _ _ reports) c.conclude.ensures
+    (call_ended _ _ _ _ c.erase-erased.result _ erasing_lacks_none (c.erase-erased.ensures.played c.requires.sound)) (c.erase-erased.ensures.bound c.requires.sound) reports
+    (told_of _ _ c.args.plan.now.part _ c.erase-erased.result c.report_erased-reported.result reports) (c.erase-erased.ensures.failed c.requires.sound) (c.erase-erased.ensures.lasts c.requires.sound) c.erase-erased.ensures.part c.erase-erased.ensures.counted

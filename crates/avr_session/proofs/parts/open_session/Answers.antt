@@ -7,8 +7,7 @@ use Rattle.avr_session.proofs.parts.open_session.Goals as goal
 
 pub returns-clause-performs : goal.returns-clause-performs
 returns-clause-performs g c =
-    let reports = rw (c.part.ensures, c.switches-switches.ensures) at c.report_opening-reported.ensures.reports in
-    operation_performs false (opening_says c.args.plan.now.switches.quiet c.args.plan.now.part) c.open-opened.result c.report_opening-reported.result c.conclude.result (PrintStops _ _) (print_stops_report _ _ _ _ _ _ _ c.report_opening-reported.ensures.counted) c.conclude.ensures
-    (call_ended _ _ _ _ _ c.open-opened.result _ _ (opening_lacks_none _ _) (rw (c.requires.signature, c.switches-switches.ensures) at (c.open-opened.ensures.played c.requires.sound))) (c.open-opened.ensures.bound c.requires.sound) reports
-    (opening_told _ _ c.args.plan.now.switches.quiet c.args.plan.now.part _ _ c.open-opened.result c.report_opening-reported.result reports) (c.open-opened.ensures.failed c.requires.sound) (c.open-opened.ensures.lasts c.requires.sound) c.open-opened.ensures.part c.open-opened.ensures.counted
-    c.report_opening-reported.ensures.counted
+    let reports = rw (c.part.ensures, c.switches-switches.ensures) at c.report_opening-reported.ensures in
+    operation_performs false (opening_says c.args.plan.now.switches.quiet c.args.plan.now.part) c.open-opened.result c.report_opening-reported.result c.conclude.result PrintStops (print_stops_report _ _ reports) c.conclude.ensures
+    (call_ended _ _ _ _ c.open-opened.result _ (opening_lacks_none _ _) (rw (c.requires.signature, c.switches-switches.ensures) at (c.open-opened.ensures.played c.requires.sound))) (c.open-opened.ensures.bound c.requires.sound) reports
+    (opening_told _ _ c.args.plan.now.switches.quiet c.args.plan.now.part c.open-opened.result c.report_opening-reported.result reports) (c.open-opened.ensures.failed c.requires.sound) (c.open-opened.ensures.lasts c.requires.sound) c.open-opened.ensures.part c.open-opened.ensures.counted

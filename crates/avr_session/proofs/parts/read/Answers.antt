@@ -12,11 +12,12 @@ report_read-reported-requires g c = rw c.as_slice.ensures.value c.read-outcome.e
 pub returns-clause-performs : goal.returns-clause-performs
 returns-clause-performs g c =
     let items = c.read-outcome.new.out.items in
-    operation_performs true (fault_or c.args.plan.now.part (read_says c.args.plan.now.switches c.args.mem c.args.target.format c.args.target.file.now)) (given items c.read-outcome.result) c.report_read-reported.result c.conclude.result (ReadStops c.read-outcome.result _ _)
-    (read_stops_report c.args.plan.now.part c.args.plan.now.switches c.args.mem c.args.target.format c.args.target.file.now items c.read-outcome.result _ _ _ _ _ _ c.report_read-reported.ensures.counted)
+    let reports = rw c.as_slice.ensures.value at c.report_read-reported.ensures in
+    operation_performs true (fault_or c.args.plan.now.part (read_says c.args.plan.now.switches c.args.mem c.args.target.format c.args.target.file.now)) (given items c.read-outcome.result) c.report_read-reported.result c.conclude.result (ReadStops c.read-outcome.result)
+    (read_stops_report c.args.plan.now.part c.args.plan.now.switches c.args.mem c.args.target.format c.args.target.file.now items c.read-outcome.result _ _ reports)
     (c.conclude.ensures ∙ sym (given_concluded items c.read-outcome.result c.report_read-reported.result))
-    (lack_ended _ _ _ _ _ (given items c.read-outcome.result) _ _ (rw c.requires.part at (c.read-outcome.ensures.played c.requires.sound))) (c.read-outcome.ensures.bound c.requires.sound)
-    (rw c.as_slice.ensures.value at c.report_read-reported.ensures.reports)
-    (given_told items (read_says c.args.plan.now.switches c.args.mem c.args.target.format c.args.target.file.now) _ _ c.args.plan.now.part _ _ c.read-outcome.result c.report_read-reported.result (rw c.as_slice.ensures.value at c.report_read-reported.ensures.reports))
+    (lack_ended _ _ _ _ (given items c.read-outcome.result) _ (rw c.requires.part at (c.read-outcome.ensures.played c.requires.sound))) (c.read-outcome.ensures.bound c.requires.sound)
+    reports
+    (given_told items (read_says c.args.plan.now.switches c.args.mem c.args.target.format c.args.target.file.now) _ _ c.args.plan.now.part c.read-outcome.result c.report_read-reported.result reports)
     (λ broken. c.read-outcome.ensures.failed c.requires.sound (given_broken items c.read-outcome.result broken)) (c.read-outcome.ensures.lasts c.requires.sound ∙ sym (given_left items c.read-outcome.result)) c.read-outcome.ensures.part
-    c.read-outcome.ensures.counted c.report_read-reported.ensures.counted
+    c.read-outcome.ensures.counted

@@ -8,8 +8,7 @@ use Rattle.avr_session.proofs.parts.verify.Goals as goal
 
 pub returns-clause-performs : goal.returns-clause-performs
 returns-clause-performs g c =
-    let reports = rw (c.part.ensures, c.switches.ensures, c.len-count.ensures) at c.report_done-reported.ensures.reports in
-    operation_performs true (fault_or c.args.plan.now.part (λ _. bytes_say c.args.plan.now.switches.quiet c.args.mem (held c.args.image.now) (codes " bytes verified"))) c.verify-verified.result c.report_done-reported.result c.conclude.result (PrintStops _ _) (print_stops_report _ _ _ _ _ _ _ c.report_done-reported.ensures.counted) c.conclude.ensures
-    (lack_ended _ _ _ _ _ c.verify-verified.result _ _ (rw c.requires.part at (c.verify-verified.ensures.played c.requires.sound))) (c.verify-verified.ensures.bound c.requires.sound) reports
-    (told_of _ _ c.args.plan.now.part _ _ _ c.verify-verified.result c.report_done-reported.result reports) (c.verify-verified.ensures.failed c.requires.sound) (c.verify-verified.ensures.lasts c.requires.sound) c.verify-verified.ensures.part c.verify-verified.ensures.counted
-    c.report_done-reported.ensures.counted
+    let reports = rw (c.part.ensures, c.switches.ensures, c.len-count.ensures) at c.report_done-reported.ensures in
+    operation_performs true (fault_or c.args.plan.now.part (λ _. bytes_say c.args.plan.now.switches.quiet c.args.mem (held c.args.image.now) (codes " bytes verified"))) c.verify-verified.result c.report_done-reported.result c.conclude.result PrintStops (print_stops_report _ _ reports) c.conclude.ensures
+    (lack_ended _ _ _ _ c.verify-verified.result _ (rw c.requires.part at (c.verify-verified.ensures.played c.requires.sound))) (c.verify-verified.ensures.bound c.requires.sound) reports
+    (told_of _ _ c.args.plan.now.part _ c.verify-verified.result c.report_done-reported.result reports) (c.verify-verified.ensures.failed c.requires.sound) (c.verify-verified.ensures.lasts c.requires.sound) c.verify-verified.ensures.part c.verify-verified.ensures.counted

@@ -8,8 +8,7 @@ use Rattle.avr_session.proofs.parts.write.Goals as goal
 
 pub returns-clause-performs : goal.returns-clause-performs
 returns-clause-performs g c =
-    let reports = rw (c.part.ensures, c.switches.ensures, c.len-count.ensures) at c.report_done-reported.ensures.reports in
-    operation_performs false (fault_or c.args.plan.now.part (λ _. bytes_say c.args.plan.now.switches.quiet c.args.mem (held c.args.image.now) (codes " bytes written"))) c.write-written.result c.report_done-reported.result c.conclude.result (PrintStops _ _) (print_stops_report _ _ _ _ _ _ _ c.report_done-reported.ensures.counted) c.conclude.ensures
-    (call_ended _ _ _ _ _ c.write-written.result _ _ (writing_lacks_none c.args.plan.now.part c.args.mem c.args.image.now) (rw c.requires.part at (c.write-written.ensures.played c.requires.sound))) (c.write-written.ensures.bound c.requires.sound) reports
-    (told_of _ _ c.args.plan.now.part _ _ _ c.write-written.result c.report_done-reported.result reports) (c.write-written.ensures.failed c.requires.sound) (c.write-written.ensures.lasts c.requires.sound) c.write-written.ensures.part c.write-written.ensures.counted
-    c.report_done-reported.ensures.counted
+    let reports = rw (c.part.ensures, c.switches.ensures, c.len-count.ensures) at c.report_done-reported.ensures in
+    operation_performs false (fault_or c.args.plan.now.part (λ _. bytes_say c.args.plan.now.switches.quiet c.args.mem (held c.args.image.now) (codes " bytes written"))) c.write-written.result c.report_done-reported.result c.conclude.result PrintStops (print_stops_report _ _ reports) c.conclude.ensures
+    (call_ended _ _ _ _ c.write-written.result _ (writing_lacks_none c.args.plan.now.part c.args.mem c.args.image.now) (rw c.requires.part at (c.write-written.ensures.played c.requires.sound))) (c.write-written.ensures.bound c.requires.sound) reports
+    (told_of _ _ c.args.plan.now.part _ c.write-written.result c.report_done-reported.result reports) (c.write-written.ensures.failed c.requires.sound) (c.write-written.ensures.lasts c.requires.sound) c.write-written.ensures.part c.write-written.ensures.counted

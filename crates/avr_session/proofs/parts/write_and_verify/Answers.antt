@@ -8,7 +8,7 @@ use Rattle.avr_session.proofs.parts.write_and_verify.Goals as goal
 pub returns-then-switches-clause-performs : goal.returns-then-switches-clause-performs
 returns-then-switches-clause-performs g c =
     let is_dry = rw c.switches.ensures at c.if-switches.true in
-    rw is_dry (left_out_performs _ (left_out_write c.args.plan.now.switches c.args.mem c.args.image.now) _ c.leave_out_write.result c.requires.sound c.leave_out_write.ensures.leaves)
+    rw is_dry (left_out_performs _ (left_out_write c.args.plan.now.switches c.args.mem c.args.image.now) c.leave_out_write.result c.requires.sound c.leave_out_write.ensures)
 
 pub returns-in_err-fault-clause-performs : goal.returns-in_err-fault-clause-performs
 returns-in_err-fault-clause-performs g c =

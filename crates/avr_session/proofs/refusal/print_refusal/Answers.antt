@@ -16,3 +16,11 @@ returns-in-TooMany-clause-printed g c = rw c.in-TooMany.is c.print_text-in-TooMa
 pub returns-in-BadProgrammer-clause-printed : goal.returns-in-BadProgrammer-clause-printed
 unfolding refusal_line
 returns-in-BadProgrammer-clause-printed g c = rw (c.in-BadProgrammer.is, ← c.as_str.ensures) c.print_unknown.ensures.printed
+
+pub returns-in-StandardTaken-clause-printed : goal.returns-in-StandardTaken-clause-printed
+unfolding refusal_line
+returns-in-StandardTaken-clause-printed g c = rw c.in-StandardTaken.is c.print_text-in-StandardTaken.ensures.printed
+
+pub returns-in-Memory-clause-printed : goal.returns-in-Memory-clause-printed
+unfolding refusal_line
+returns-in-Memory-clause-printed g c = rw c.in-Memory.is c.print_text-in-Memory.ensures.printed

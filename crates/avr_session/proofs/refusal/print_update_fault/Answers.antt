@@ -11,3 +11,6 @@ returns-in-BadFormat-clause-printed g c = rw c.in-BadFormat.is c.print_update-in
 
 pub returns-in-NoFile-clause-printed : goal.returns-in-NoFile-clause-printed
 returns-in-NoFile-clause-printed g c = rw c.in-NoFile.is c.print_update-in-NoFile.ensures.printed
+
+pub returns-in-Memory-clause-printed : goal.returns-in-Memory-clause-printed
+returns-in-Memory-clause-printed g c = rw c.in-Memory.is c.print_text.ensures.printed

@@ -2,19 +2,24 @@ use Rattle.std.proofs.Common.{[], ◌∷◌, refl}
 use Rattle.avr_message.specs.Said.{Writes}
 use Rattle.avr_session.specs.FileText.{file_text}
 use Rattle.avr_session.specs.Runs.{NotCreated, cause_line}
+use Rattle.avr_session.specs.Saving.{SaveStops}
 use Rattle.avr_session.proofs.Reporting.{file_stops}
-use Rattle.avr_message.proofs.Telling.{failed_by}
+use Rattle.avr_message.proofs.Telling.{failed_by, follows_on}
 use Rattle.avr_session.proofs.Saves.{not_created, created_then}
 use Rattle.avr_session.proofs.saving.create_file.Goals as goal
 
-pub returns-in-Ok-clause-reports : goal.returns-in-Ok-clause-reports
-returns-in-Ok-clause-reports g c =
-    created_then _ _ (g.D.Desk.view c.write_file.new.desk).kept c.args.target.file.now (file_text c.args.target.format c.args.bytes.now) _ (g.D.Desk.view c.create.new.self).failures _ c.create.result c.write_file.result c.in-Ok.is c.create.ensures.kept c.create.ensures.counts.0 c.write_file.ensures.writes
+pub returns-in-Ok : goal.returns-in-Ok
+returns-in-Ok g c =
+    created_then _ (g.D.Desk.view c.create.new.self) _ c.args.target.file.now (file_text c.args.target.format c.args.bytes.now) c.create.result c.write_file.result c.in-Ok.is c.create.ensures.kept c.create.ensures.counts.0
+    c.write_file.ensures.follows c.write_file.ensures.writes
 
-pub returns-in-Err-clause-reports : goal.returns-in-Err-clause-reports
+pub returns-in-Err : goal.returns-in-Err
 unfolding cause_line
-returns-in-Err-clause-reports g c =
-    let failed = failed_by _ _ c.create.result _ c.in-Err.is c.create.ensures.fault c.create.ensures.counts in
-    file_stops _ _ _ _ c.args.target.file.now NotCreated _ (g.D.Desk.view c.create.new.self).failures _ _
-    (not_created _ _ c.args.target.file.now c.create.result _ (Writes (file_text c.args.target.format c.args.bytes.now) ∷ []) c.in-Err.is c.create.ensures.kept)
-    failed c.create.ensures.counts.0 c.tell_trouble.ensures.counted (λ told stops. (refl, stops)) c.tell_trouble.ensures.told
+returns-in-Err g c =
+    let failed = failed_by (g.D.Desk.view c.args.desk.now) (g.D.Desk.view c.create.new.self) c.create.result _ c.in-Err.is c.create.ensures.fault c.create.ensures.counts in
+    record {
+      says = file_stops (SaveStops c.args.target.file.now) _ (g.D.Desk.view c.create.new.self) _ _ c.args.target.file.now NotCreated
+          (not_created _ _ c.args.target.file.now c.create.result _ (Writes (file_text c.args.target.format c.args.bytes.now) ∷ []) c.in-Err.is c.create.ensures.kept)
+          failed c.create.ensures.counts.0 (λ told stops. (refl, stops)) c.tell_trouble.ensures;
+      follows = follows_on (g.D.Desk.view c.args.desk.now) (g.D.Desk.view c.create.new.self) (g.D.Desk.view c.tell_trouble.new.desk) c.create.ensures.counts.0 c.tell_trouble.ensures.follows;
+    }

@@ -8,15 +8,15 @@ use Rattle.avr_session.proofs.session.close_after_fault.Goals as goal
 
 pub returns-clause-performs : goal.returns-clause-performs
 returns-clause-performs g c =
-    let closes = quietly_performs {old = c.args.host.now} {new = c.close-closed.new.self} (g.D.Desk.view c.args.desk.now).kept (g.D.Desk.view c.args.desk.now).failures c.close-closed.result c.conclude.result c.conclude.ensures
-    (call_ended _ _ _ _ _ c.close-closed.result _ _ closing_lacks_none (c.close-closed.ensures.played c.requires)) (c.close-closed.ensures.bound c.requires) (c.close-closed.ensures.failed c.requires) (c.close-closed.ensures.lasts c.requires)
+    let closes = quietly_performs {old = c.args.host.now} {new = c.close-closed.new.self} (g.D.Desk.view c.args.desk.now) c.close-closed.result c.conclude.result c.conclude.ensures
+    (call_ended _ _ _ _ c.close-closed.result _ closing_lacks_none (c.close-closed.ensures.played c.requires)) (c.close-closed.ensures.bound c.requires) (c.close-closed.ensures.failed c.requires) (c.close-closed.ensures.lasts c.requires)
     c.close-closed.ensures.part c.close-closed.ensures.counted in
     quietly_on (λ _. Done Over) _ Over refl tt (rw c.in_ok-conclude.was at closes)
 
 pub returns-in_err-conclude-clause-performs : goal.returns-in_err-conclude-clause-performs
 returns-in_err-conclude-clause-performs g c =
     let p = err_from_is_err_and c.from_residual.result c.from_residual.ensures.1 in
-    let closes = quietly_performs {old = c.args.host.now} {new = c.close-closed.new.self} (g.D.Desk.view c.args.desk.now).kept (g.D.Desk.view c.args.desk.now).failures c.close-closed.result c.conclude.result c.conclude.ensures
-    (call_ended _ _ _ _ _ c.close-closed.result _ _ closing_lacks_none (c.close-closed.ensures.played c.requires)) (c.close-closed.ensures.bound c.requires) (c.close-closed.ensures.failed c.requires) (c.close-closed.ensures.lasts c.requires)
+    let closes = quietly_performs {old = c.args.host.now} {new = c.close-closed.new.self} (g.D.Desk.view c.args.desk.now) c.close-closed.result c.conclude.result c.conclude.ensures
+    (call_ended _ _ _ _ c.close-closed.result _ closing_lacks_none (c.close-closed.ensures.played c.requires)) (c.close-closed.ensures.bound c.requires) (c.close-closed.ensures.failed c.requires) (c.close-closed.ensures.lasts c.requires)
     c.close-closed.ensures.part c.close-closed.ensures.counted in
     rw p.1 (performs_until (λ _. Done Over) p.0 (rw c.in_err-conclude.was at closes))

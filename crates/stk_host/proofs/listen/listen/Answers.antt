@@ -8,7 +8,7 @@ pub loop-count-init : goal.loop-count-init
 loop-count-init g c = record {
   in_range = omega arith;
   fits = c.requires.few;
-  listening = rw c.reset.ensures (begins c.args.seq c.args.unread.now (g.L.Link.view c.args.link.now).talk (omega (arith, c.requires.few)));
+  listening = rw c.reset.ensures (begins c.args.seq c.args.unread.now (g.L.Link.view c.args.link.now) (omega (arith, c.requires.few)));
   counted = refl;
   comes = λ start of. of;
 }
@@ -28,7 +28,7 @@ returns-in_err-hear-clause-err g c =
 
 pub returns-then-is_answer-clause-ok : goal.returns-then-is_answer-clause-ok
 returns-then-is_answer-clause-ok g c =
-    let l : Listening c.args.seq c.args.unread.now (g.L.Link.view c.args.link.now).talk c.loop-count.reader c.loop-count.count c.if-is_empty.unread (g.L.Link.view c.if-is_empty.link).talk =
+    let l : Listening c.args.seq c.args.unread.now (g.L.Link.view c.args.link.now) c.loop-count.reader c.loop-count.count c.if-is_empty.unread (g.L.Link.view c.if-is_empty.link) =
     elim c.if-is_empty.branch [
       | then-is_empty+in_ok-hear+in-Bytes w ↦ rw (w.unread-is, w.link-is) (heard_bytes _ _ _ _ c.loop-count.invariant.listening (c.is_empty.ensures.0 w.if-is_empty.true) (omega arith) (omega (arith, w.in_ok-hear.ensures.within)) w.in-Bytes.is w.in_ok-hear.ensures.ok)
       | else-is_empty w ↦ rw (w.unread-is, w.link-is) c.loop-count.invariant.listening
@@ -37,7 +37,7 @@ returns-then-is_answer-clause-ok g c =
 
 pub loop-count-preserved : goal.loop-count-preserved
 loop-count-preserved g c =
-    let l : Listening c.args.seq c.args.unread.now (g.L.Link.view c.args.link.now).talk c.loop-count.reader c.loop-count.count c.if-is_empty.unread (g.L.Link.view c.if-is_empty.link).talk =
+    let l : Listening c.args.seq c.args.unread.now (g.L.Link.view c.args.link.now) c.loop-count.reader c.loop-count.count c.if-is_empty.unread (g.L.Link.view c.if-is_empty.link) =
     elim c.if-is_empty.branch [
       | then-is_empty+in_ok-hear+in-Bytes w ↦ rw (w.unread-is, w.link-is) (heard_bytes _ _ _ _ c.loop-count.invariant.listening (c.is_empty.ensures.0 w.if-is_empty.true) (omega arith) (omega (arith, w.in_ok-hear.ensures.within)) w.in-Bytes.is w.in_ok-hear.ensures.ok)
       | else-is_empty w ↦ rw (w.unread-is, w.link-is) c.loop-count.invariant.listening
@@ -47,7 +47,7 @@ loop-count-preserved g c =
       fits = c.read_on-used.ensures.fits;
       listening = reads_on _ _ _ _ l c.read_on-used.ensures.fed (c.is_answer.ensures.no c.if-is_answer.false);
       counted = elim c.if-is_empty.branch [
-        | then-is_empty+in_ok-hear+in-Bytes w ↦ rw w.link-is (omega (arith, w.in_ok-hear.ensures.sound, c.loop-count.invariant.counted))
+        | then-is_empty+in_ok-hear+in-Bytes w ↦ rw w.link-is (omega (arith, w.in_ok-hear.ensures.counts.sound, c.loop-count.invariant.counted))
         | else-is_empty w ↦ rw w.link-is c.loop-count.invariant.counted
       ];
       comes = elim c.if-is_empty.branch [

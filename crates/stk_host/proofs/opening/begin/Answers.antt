@@ -3,9 +3,9 @@ use Rattle.std.proofs.lemmas.Result.{err_from_is_err_and}
 use Rattle.stk_frame.specs.declared.command.Command.{Command}
 use Rattle.stk_frame.specs.declared.command.Command.TheVariants.{SignOn}
 use Rattle.stk_frame.specs.HostCommands.{enter, read_signature}
-use Rattle.stk_host.specs.Talk.{Talk}
+use Rattle.stk_host.specs.Talk.{LinkView}
 use Rattle.stk_host.specs.Dialog.{Dialog, ◌>>=◌}
-use Rattle.stk_host.specs.Play.{PlaysOver}
+use Rattle.stk_host.specs.Play.{Progress, PlaysOver}
 use Rattle.stk_host.specs.Reach.{Reaches}
 use Rattle.stk_host.specs.Steps.{Outcome, if_done, step, play}
 use Rattle.stk_host.specs.ReadSteps.{signature_steps}
@@ -18,49 +18,49 @@ entering : Dialog ⊥ Outcome
 entering = step (enter ∷ []) >>= if_done (λ nothing. play signature_steps [])
 
 -- after SIGN_ON
-signed_on : {m n : ℕ} {u v : List ℕ} {o p : Option Talk} {name : List ℕ} → PlaysOver (step (SignOn ∷ [])) m u o p (Ok name) n v → Reaches beginning m u o entering n v p
+signed_on : {m n : Progress} {o p : LinkView} {name : List ℕ} → PlaysOver (step (SignOn ∷ [])) m o p (Ok name) n → Reaches beginning m o entering n p
 unfolding beginning entering
 signed_on {name = name} f = goes_on (λ name. step (enter ∷ []) >>= if_done (λ nothing. play signature_steps [])) name f
 
 -- after ENTER
-entered : {k m n : ℕ} {s u v : List ℕ} {r o p : Option Talk} {nothing : List ℕ} {command : Command} → command ≡ enter → Reaches beginning k s r entering m u o → PlaysOver (step (command ∷ [])) m u o p (Ok nothing) n v
-    → Reaches beginning k s r (play signature_steps []) n v p
+entered : {k m n : Progress} {r o p : LinkView} {nothing : List ℕ} {command : Command} → command ≡ enter → Reaches beginning k r entering m o → PlaysOver (step (command ∷ [])) m o p (Ok nothing) n
+    → Reaches beginning k r (play signature_steps []) n p
 unfolding entering
-entered {m = m} {n = n} {u = u} {v = v} {o = o} {p = p} {nothing = nothing} is f g =
-    reaches_on f (goes_on (λ nothing. play signature_steps []) nothing (subst (λ x. PlaysOver (step (x ∷ [])) m u o p (Ok nothing) n v) is g))
+entered {m = m} {n = n} {o = o} {p = p} {nothing = nothing} is f g =
+    reaches_on f (goes_on (λ nothing. play signature_steps []) nothing (subst (λ x. PlaysOver (step (x ∷ [])) m o p (Ok nothing) n) is g))
 
 pub returns-in_err-step-clause-played : goal.returns-in_err-step-clause-played
 unfolding beginning
 returns-in_err-step-clause-played g c =
     let p = err_from_is_err_and c.from_residual.result c.from_residual.ensures.1 in
-    rw (p.1, p.2) (stops_there (step (SignOn ∷ [])) (λ name. step (enter ∷ []) >>= if_done (λ nothing. play signature_steps [])) _ _ _ _ _ _ _ c.in_err-step.ensures.played)
+    rw (p.1, p.2) (stops_there (step (SignOn ∷ [])) (λ name. step (enter ∷ []) >>= if_done (λ nothing. play signature_steps [])) _ _ _ _ _ c.in_err-step.ensures.played)
 
 pub returns-in_err-step-2-clause-played : goal.returns-in_err-step-2-clause-played
 unfolding entering
 returns-in_err-step-2-clause-played g c =
     let p = err_from_is_err_and c.from_residual-in_err-step-2.result c.from_residual-in_err-step-2.ensures.1 in
-    rw (p.1, p.2) (stops_on _ _ _ _ (signed_on c.in_ok-step.ensures.played) (stops_there (step (enter ∷ [])) (λ nothing. play signature_steps []) _ _ _ _ _ _ _ (rw c.enter.ensures.value at c.in_err-step-2.ensures.played)))
+    rw (p.1, p.2) (stops_on _ _ _ (signed_on c.in_ok-step.ensures.played) (stops_there (step (enter ∷ [])) (λ nothing. play signature_steps []) _ _ _ _ _ (rw c.enter.ensures.value at c.in_err-step-2.ensures.played)))
 
 pub returns-in_err-first-clause-played : goal.returns-in_err-first-clause-played
 returns-in_err-first-clause-played g c =
     let p = err_from_is_err_and c.from_residual-in_err-first.result c.from_residual-in_err-first.ensures.1 in
-    rw (p.1, p.2) (stops_on _ _ _ _ (entered c.enter.ensures.value (signed_on c.in_ok-step.ensures.played) c.in_ok-step-2.ensures.played)
-    (play_stops (read_signature 0 ∷ []) _ [] _ _ _ _ _ _ _ c.in_err-first.ensures.played))
+    rw (p.1, p.2) (stops_on _ _ _ (entered c.enter.ensures.value (signed_on c.in_ok-step.ensures.played) c.in_ok-step-2.ensures.played)
+    (play_stops (read_signature 0 ∷ []) _ [] _ _ _ _ _ c.in_err-first.ensures.played))
 
 pub returns-in_err-second-clause-played : goal.returns-in_err-second-clause-played
 returns-in_err-second-clause-played g c =
     let p = err_from_is_err_and c.from_residual-in_err-second.result c.from_residual-in_err-second.ensures.1 in
-    rw (p.1, p.2) (stops_on _ _ _ _ (reaches_on (entered c.enter.ensures.value (signed_on c.in_ok-step.ensures.played) c.in_ok-step-2.ensures.played)
+    rw (p.1, p.2) (stops_on _ _ _ (reaches_on (entered c.enter.ensures.value (signed_on c.in_ok-step.ensures.played) c.in_ok-step-2.ensures.played)
     (play_on (read_signature 0 ∷ []) _ [] _ c.in_ok-first.ensures.played))
-    (play_stops (read_signature 1 ∷ []) _ _ _ _ _ _ _ _ _ c.in_err-second.ensures.played))
+    (play_stops (read_signature 1 ∷ []) _ _ _ _ _ _ _ c.in_err-second.ensures.played))
 
 pub returns-in_err-third-clause-played : goal.returns-in_err-third-clause-played
 returns-in_err-third-clause-played g c =
     let p = err_from_is_err_and c.from_residual-in_err-third.result c.from_residual-in_err-third.ensures.1 in
-    rw (p.1, p.2) (stops_on _ _ _ _ (reaches_on (reaches_on (entered c.enter.ensures.value (signed_on c.in_ok-step.ensures.played) c.in_ok-step-2.ensures.played)
+    rw (p.1, p.2) (stops_on _ _ _ (reaches_on (reaches_on (entered c.enter.ensures.value (signed_on c.in_ok-step.ensures.played) c.in_ok-step-2.ensures.played)
     (play_on (read_signature 0 ∷ []) _ [] _ c.in_ok-first.ensures.played))
     (play_on (read_signature 1 ∷ []) _ _ _ c.in_ok-second.ensures.played))
-    (play_stops (read_signature 2 ∷ []) _ _ _ _ _ _ _ _ _ c.in_err-third.ensures.played))
+    (play_stops (read_signature 2 ∷ []) _ _ _ _ _ _ _ c.in_err-third.ensures.played))
 
 pub returns-clause-played : goal.returns-clause-played
 returns-clause-played g c =

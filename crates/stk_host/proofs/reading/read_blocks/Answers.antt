@@ -8,7 +8,7 @@ use Rattle.stk_host.proofs.reading.read_blocks.Goals as goal
 
 pub loop-block-init : goal.loop-block-init
 loop-block-init g c = record {
-  reaches = rw c.requires.empty (begins_at (block_steps c.args.part.now c.args.mem) (block_count (size_of c.args.mem c.args.part.now)) [] _ _ _);
+  reaches = rw c.requires.empty (begins_at (block_steps c.args.part.now c.args.mem) (block_count (size_of c.args.mem c.args.part.now)) [] _ _);
   size = omega (arith, ap length c.requires.empty);
   room = c.requires.room;
   counted = refl;
@@ -20,7 +20,7 @@ pub returns-in_err-read_step-clause-played : goal.returns-in_err-read_step-claus
 returns-in_err-read_step-clause-played g c =
     let p = err_from_is_err_and c.from_residual.result c.from_residual.ensures.1 in
     let before = rw c.size_of-size.ensures.value at c.loop-block-test.true in
-    rw (p.1, p.2) (stops_next _ _ _ _ _ _ _ [] _ c.loop-block.invariant.reaches
+    rw (p.1, p.2) (stops_next _ _ _ _ _ _ [] _ c.loop-block.invariant.reaches
     (next_block_is _ _ _ _ _ _ _ _ before c.load_block-load.ensures.value c.read_block-read.ensures.value c.block_size.ensures c.size_of-size.ensures.value) c.in_err-read_step.ensures.played)
 
 pub loop-block-preserved : goal.loop-block-preserved

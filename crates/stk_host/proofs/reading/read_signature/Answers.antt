@@ -8,7 +8,7 @@ use Rattle.stk_host.proofs.reading.read_signature.Goals as goal
 
 pub loop-place-init : goal.loop-place-init
 loop-place-init g c = record {
-  reaches = rw c.requires.empty (reaches_here _ _ _ _);
+  reaches = rw c.requires.empty (reaches_here _ _ _);
   size = ap length c.requires.empty;
   room = c.requires.room;
   counted = refl;
@@ -19,7 +19,7 @@ loop-place-init g c = record {
 pub returns-in_err-read_step-clause-played : goal.returns-in_err-read_step-clause-played
 returns-in_err-read_step-clause-played g c =
     let p = err_from_is_err_and c.from_residual.result c.from_residual.ensures.1 in
-    rw (p.1, p.2) (stops_next _ _ _ _ _ _ _ [] _ c.loop-place.invariant.reaches (next_signature _ _ c.loop-place-test.true c.read_signature.ensures.value) c.in_err-read_step.ensures.played)
+    rw (p.1, p.2) (stops_next _ _ _ _ _ _ [] _ c.loop-place.invariant.reaches (next_signature _ _ c.loop-place-test.true c.read_signature.ensures.value) c.in_err-read_step.ensures.played)
 
 pub loop-place-preserved : goal.loop-place-preserved
 loop-place-preserved g c =

@@ -9,11 +9,11 @@ use Rattle.stk_host.proofs.reading.read_signature.Given as goal
 
 abbrev pub invariant-loop-place : goal.invariant-loop-place
 invariant-loop-place g l = record {
-  reaches : Reaches (play signature_steps []) l.fn.conversation.next l.fn.conversation.unread (g.L.Link.view l.fn.link).talk
-      (play (each_from signature_step l.place (3 - l.place)) l.out.items) l.conversation.next l.conversation.unread (g.L.Link.view l.link).talk;
+  reaches : Reaches (play signature_steps []) l.fn.conversation.progress (g.L.Link.view l.fn.link)
+      (play (each_from signature_step l.place (3 - l.place)) l.out.items) l.conversation.progress (g.L.Link.view l.link);
   size : length l.out.items ≡ l.place;
   room : 3 ≤ vec_capacity l.out;
   counted : (g.L.Link.view l.link).failures ≡ (g.L.Link.view l.fn.link).failures;
   comes : Stays g.L.Link.comes_of l.fn.link l.link;
-  bound : length l.fn.conversation.unread ≤ 281 → length l.conversation.unread ≤ 281;
+  bound : length l.fn.conversation.progress.unread ≤ 281 → length l.conversation.progress.unread ≤ 281;
 }

@@ -9,7 +9,7 @@ append-requires g c = rw c.data_read.ensures (rw (counted_data _ _ c.requires.co
 pub returns-in_err-step-clause-played : goal.returns-in_err-step-clause-played
 returns-in_err-step-clause-played g c =
     let p = err_from_is_err_and c.from_residual.result c.from_residual.ensures.1 in
-    rw (p.1, p.2) (stops_with _ _ [] _ _ _ _ _ _ _ c.in_err-step.ensures.played)
+    rw (p.1, p.2) (stops_with _ _ [] _ _ _ _ _ c.in_err-step.ensures.played)
 
 pub returns-clause-played : goal.returns-clause-played
 returns-clause-played g c = rw (c.append.ensures.items, c.data_read.ensures) (goes_with _ _ _ c.in_ok-step.ensures.played)

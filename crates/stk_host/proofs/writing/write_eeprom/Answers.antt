@@ -8,7 +8,7 @@ use Rattle.stk_host.proofs.writing.write_eeprom.Goals as goal
 
 pub loop-start-init : goal.loop-start-init
 loop-start-init g c = record {
-  reaches = begins_at (run_steps c.args.part.now c.args.image.now) c.args.part.now.eeprom_size [] _ _ _;
+  reaches = begins_at (run_steps c.args.part.now c.args.image.now) c.args.part.now.eeprom_size [] _ _;
   within = omega arith;
   border = inl (zero_border c.args.part.now.eeprom_page);
   counted = refl;
@@ -30,7 +30,7 @@ pub returns-in_err-program_run-clause-played : goal.returns-in_err-program_run-c
 returns-in_err-program_run-clause-played g c =
     let walk = walks_to_run c.args.part.now c.args.image.now c.loop-start.next c.in-Some.start c.run_from-end.result c.page_size-size.result c.page_size-size.ensures.is_part c.page_size-size.ensures.value c.requires c.loop-start.invariant.border (sym c.first_from.ensures ∙ c.in-Some.is) c.run_from-end.ensures in
     let p = err_from_is_err_and c.from_residual.result c.from_residual.ensures.1 in
-    rw (p.1, p.2) (stops_next _ _ _ _ _ _ _ [] _ c.loop-start.invariant.reaches walk.steps c.in_err-program_run.ensures.played)
+    rw (p.1, p.2) (stops_next _ _ _ _ _ _ [] _ c.loop-start.invariant.reaches walk.steps c.in_err-program_run.ensures.played)
 
 pub loop-start-smaller : goal.loop-start-smaller
 loop-start-smaller g c =

@@ -7,7 +7,7 @@ use Rattle.stk_host.proofs.writing.write_flash.Goals as goal
 
 pub loop-addr-init : goal.loop-addr-init
 loop-addr-init g c = record {
-  reaches = begins_at (page_steps c.args.part.now c.args.image.now) (c.args.part.now.flash_size / c.args.part.now.flash_page) [] _ _ _;
+  reaches = begins_at (page_steps c.args.part.now c.args.image.now) (c.args.part.now.flash_size / c.args.part.now.flash_page) [] _ _;
   within = omega arith;
   counted = refl;
   comes = λ start of. of;
@@ -23,7 +23,7 @@ pub returns-in_err-program_page-clause-played : goal.returns-in_err-program_page
 returns-in_err-program_page-clause-played g c =
     let walk = walks_to_page c.args.part.now c.args.image.now c.loop-addr.next c.in-Some.addr c.page_size-size.result c.page_size-size.ensures.is_part c.page_size-size.ensures.value c.requires (sym c.first_from.ensures ∙ c.in-Some.is) in
     let p = err_from_is_err_and c.from_residual.result c.from_residual.ensures.1 in
-    rw (p.1, p.2) (stops_next _ _ _ _ _ _ _ [] _ c.loop-addr.invariant.reaches walk.steps c.in_err-program_page.ensures.played)
+    rw (p.1, p.2) (stops_next _ _ _ _ _ _ [] _ c.loop-addr.invariant.reaches walk.steps c.in_err-program_page.ensures.played)
 
 pub loop-addr-smaller : goal.loop-addr-smaller
 loop-addr-smaller g c =

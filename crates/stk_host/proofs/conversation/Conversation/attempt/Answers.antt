@@ -18,7 +18,7 @@ its_own first item i lt is all = subst BringsNoData (sym is) (All-get_or BringsN
 
 pub loop-command-init : goal.loop-command-init
 loop-command-init g c = record {
-  reaches = reaches_here _ _ _ _;
+  reaches = reaches_here _ _ _;
   counted = refl;
   comes = λ start of. of;
 }
@@ -43,7 +43,7 @@ pub loop-command-preserved : goal.loop-command-preserved
 loop-command-preserved g c = record {
   reaches = rw add-one (turn_data _ _ _ _ _ c.loop-command.invariant.reaches (next_command c.args.first.now c.args.last.now _ c.loop-command.command-index c.loop-command-test.true c.command-item.is) c.in_ok-exchange.ensures.ok c.in-Data.is
       (c.in_ok-exchange.ensures.quiet (its_own c.args.first.now _ c.loop-command.command-index c.loop-command-test.true c.command-item.is c.requires.quiet) c.in-Data.is));
-  counted = omega (arith, c.in_ok-exchange.ensures.sound, c.loop-command.invariant.counted);
+  counted = omega (arith, c.in_ok-exchange.ensures.counts.sound, c.loop-command.invariant.counted);
   comes = λ start of. c.exchange.ensures.comes start (c.loop-command.invariant.comes start of);
 }
 

@@ -6,8 +6,8 @@ use Rattle.stk_host.proofs.conversation.Conversation.attempt.Given as goal
 
 abbrev pub invariant-loop-command : goal.invariant-loop-command
 invariant-loop-command g l = record {
-  reaches : Reaches (attempt (l.first ++ l.last ∷ []) []) l.fn.self.next l.fn.self.unread (g.L.Link.view l.fn.link).talk
-      (attempt (drop l.command-index l.first ++ l.last ∷ []) []) l.self.next l.self.unread (g.L.Link.view l.link).talk;
+  reaches : Reaches (attempt (l.first ++ l.last ∷ []) []) l.fn.self.progress (g.L.Link.view l.fn.link)
+      (attempt (drop l.command-index l.first ++ l.last ∷ []) []) l.self.progress (g.L.Link.view l.link);
   counted : (g.L.Link.view l.link).failures ≡ (g.L.Link.view l.fn.link).failures;
   comes : Stays g.L.Link.comes_of l.fn.link l.link;
 }

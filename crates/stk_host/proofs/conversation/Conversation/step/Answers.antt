@@ -5,7 +5,7 @@ use Rattle.stk_host.proofs.conversation.Conversation.step.Goals as goal
 
 pub loop-tried-init : goal.loop-tried-init
 loop-tried-init g c = record {
-  reaches = reaches_here _ _ _ _;
+  reaches = reaches_here _ _ _;
   bound = λ some. absurd (omega (arith, some));
   counted = refl;
   comes = λ start of. of;
@@ -27,7 +27,7 @@ pub loop-tried-preserved : goal.loop-tried-preserved
 loop-tried-preserved g c = record {
   reaches = try_again (4 - c.loop-tried.tried) (4 - (c.loop-tried.tried + 1)) _ _ _ _ _ (omega arith) c.loop-tried.invariant.reaches c.in-Ok-Again.ensures.ok c.in-Ok-Again.field-0-is;
   bound = λ some. c.attempt.ensures.bound;
-  counted = omega (arith, c.in-Ok-Again.ensures.sound, c.loop-tried.invariant.counted);
+  counted = omega (arith, c.in-Ok-Again.ensures.counts.sound, c.loop-tried.invariant.counted);
   comes = λ start of. c.attempt.ensures.comes start (c.loop-tried.invariant.comes start of);
 }
 

@@ -6,9 +6,9 @@ use Rattle.stk_host.proofs.conversation.Conversation.step.Given as goal
 
 abbrev pub invariant-loop-tried : goal.invariant-loop-tried
 invariant-loop-tried g l = record {
-  reaches : Reaches (step (l.first ++ l.last ∷ [])) l.fn.self.next l.fn.self.unread (g.L.Link.view l.fn.link).talk
-      (tries (4 - l.tried) (l.first ++ l.last ∷ []) l.fault) l.self.next l.self.unread (g.L.Link.view l.link).talk;
-  bound : 0 < l.tried → length l.self.unread ≤ 281;
+  reaches : Reaches (step (l.first ++ l.last ∷ [])) l.fn.self.progress (g.L.Link.view l.fn.link)
+      (tries (4 - l.tried) (l.first ++ l.last ∷ []) l.fault) l.self.progress (g.L.Link.view l.link);
+  bound : 0 < l.tried → length l.self.progress.unread ≤ 281;
   counted : (g.L.Link.view l.link).failures ≡ (g.L.Link.view l.fn.link).failures;
   comes : Stays g.L.Link.comes_of l.fn.link l.link;
 }

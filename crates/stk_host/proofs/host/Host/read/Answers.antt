@@ -2,7 +2,7 @@ use Rattle.stk_host.proofs.Going.{reading_ends, read_sized, read_short, size_fit
 use Rattle.stk_host.proofs.host.Host.read.Goals as goal
 
 pub returns-clause-played : goal.returns-clause-played
-returns-clause-played g c = λ sound. rw (← c.self.view_is) (rw (c.keep.ensures, c.judge_end-outcome.ensures) (reading_ends _ c.read_memory-taken.new.out.items _ _ _ _ _ _ _ c.read_memory-taken.ensures.played))
+returns-clause-played g c = λ sound. rw (← c.self.view_is) (rw (c.keep.ensures, c.judge_end-outcome.ensures) (reading_ends _ c.read_memory-taken.new.out.items _ _ _ _ _ c.read_memory-taken.ensures.played))
 
 pub returns-clause-sized : goal.returns-clause-sized
 returns-clause-sized g c = rw (← c.self.view_is) (rw (c.keep.ensures, c.judge_end-outcome.ensures) (read_sized c.read_memory-taken.result c.read_memory-taken.new.out.items _ c.read_memory-taken.ensures.size))
