@@ -4,7 +4,7 @@ use Rattle.std.specs.Prelude.{ℕ, ◌+◌, ◌*◌, ◌≡◌, ◌≤◌, ◌�
 use Rattle.avr_desk.specs.Record.{DeskView}
 use Rattle.avr_message.specs.Said.{Saying}
 use Rattle.avr_plan.specs.Plan.{Plan}
-use Rattle.avr_session.specs.Runs.{BrokeOff, Stops}
+use Rattle.avr_session.specs.Runs.{devices, start, untold, BrokeOff}
 use Rattle.avr_session.specs.Session.{session, is_erase_due, takes_memory}
 use Rattle.stk_emu.specs.Device.{device}
 use Rattle.stk_emu.specs.Effect.{Memories, memories_of}
@@ -15,7 +15,7 @@ use Rattle.stk_frame.specs.Commands.{body}
 use Rattle.stk_frame.specs.Cut.{body_of, frames}
 use Rattle.stk_frame.specs.declared.command.Command.{Command}
 use Rattle.stk_host.specs.Dialog.{Event, played}
-use Rattle.stk_host.specs.Talk.{sent, heard}
+use Rattle.stk_host.specs.Talk.{LinkView, sent, heard}
 use Rattle.avr_emulated.specs.Again.{AgreesAnyway}
 use Rattle.avr_emulated.specs.Bound.{run_steps}
 use Rattle.avr_emulated.specs.Outcome.{IsCourse, IsDone, MakesStrokes}
@@ -42,12 +42,16 @@ memories w = memories_of w.wire.programmer.chip
 abbrev pub frames_over : State → List (List ℕ)
 frames_over w = frames (sent w.talk)
 
+-- what a wire shows as any link does
+abbrev pub shown_by : State → LinkView
+shown_by w = record { talk = Some w.talk; failures = w.failures }
+
 -- It stopped as it was played: a device failed, by the count of its failures, or memory was refused to a plan that
 -- takes memory.
 abbrev pub Stopped : Plan → State → State → DeskView → DeskView → Type 0
 Stopped plan before after old now =
-    BrokeOff (session plan) 1 [] (Some before.talk) (Some after.talk) old.kept now.kept
-    (Stops (takes_memory plan) before.failures after.failures old.failures now.failures)
+    BrokeOff (session plan) start (devices (shown_by before) old) (devices (shown_by after) now)
+    (untold (takes_memory plan))
 
 -- Whatever is told among these events was true of the chip as the frames sent before had left it.
 abbrev pub WereTrue : Plan → State → List (Event Saying) → Type 0
