@@ -1,43 +1,42 @@
 -- A run over a port of the network, from settings to status.
-use Rattle.std.specs.Prelude.{ℕ, ◌≡◌, ◌≤◌, ◌⊎◌, Option, None, Err, codes}
+use Rattle.std.specs.Prelude.{ℕ, ◌≡◌, ◌⊎◌, None, Err, codes}
 use Rattle.avr_cli.specs.declared.chosen.Settings.{Settings}
-use Rattle.avr_desk.specs.Record.{Record}
+use Rattle.avr_desk.specs.Record.{DeskView}
 use Rattle.avr_message.specs.Lines.{Bytes}
 use Rattle.avr_message.specs.Said.{Tells}
 use Rattle.avr_plan.specs.Plan.{Plan}
 use Rattle.avr_plan.specs.Planning.{planned}
 use Rattle.avr_plan.specs.Playing.{Goes, Went}
 use Rattle.avr_plan.specs.Stage.{Made}
-use Rattle.avr_session.specs.Runs.{Stops, RunsTo}
+use Rattle.avr_session.specs.Runs.{devices, RunsTo}
 use Rattle.avr_session.specs.Session.{session, takes_memory}
+use Rattle.stk_host.specs.Talk.{LinkView}
 use Rattle.avr_net.specs.Lines.{unopened_line}
 
--- The plan was made, and its session was run over the port. A socket doesn't show what passed over it, and the failures
--- that the connection counts, from 0, are its own.
-pub record PlaysOverNet (settings : Settings) (old new : Option Record) (before now status : ℕ) : Type 0 where
+-- what a connection shows as a link: nothing of what passed over it, and its failures, which it counts from 0
+abbrev pub connection : ℕ → LinkView
+connection failures = record { talk = None; failures = failures }
+
+-- The plan was made, and its session was run over the port.
+pub record PlaysOverNet (settings : Settings) (old new : DeskView) (status : ℕ) : Type 0 where
   pub plan : Plan
-  pub planned_desk : Option Record
-  pub planned_failures : ℕ
+  pub planned_desk : DeskView
   pub link_failures : ℕ
   pub made : Went (planned settings) old planned_desk (Made plan)
-  pub rises : before ≤ planned_failures
-  pub runs : RunsTo (session plan) None None planned_desk new
-      (Stops (takes_memory plan) 0 link_failures planned_failures now) status
+  pub runs : RunsTo (session plan) (devices (connection 0) planned_desk) (devices (connection link_failures) new)
+      (takes_memory plan) status
 
 -- The plan was made, but the port could not be opened: that was told, nothing else was done at the desk, and the status
 -- is 1.
-pub record LacksPort (settings : Settings) (address : Bytes) (old new : Option Record)
-    (before now status : ℕ) : Type 0 where
+pub record LacksPort (settings : Settings) (address : Bytes) (old new : DeskView) (status : ℕ) : Type 0 where
   pub plan : Plan
-  pub planned_desk : Option Record
-  pub planned_failures : ℕ
+  pub planned_desk : DeskView
   pub made : Went (planned settings) old planned_desk (Made plan)
-  pub rises : before ≤ planned_failures
-  pub told : Tells planned_desk new (unopened_line (codes "net:") address) planned_failures now
+  pub told : Tells planned_desk new (unopened_line (codes "net:") address)
   pub status_is : status ≡ 1
 
 -- the one or the other, or there is no plan (that the port was left alone then, no clause says)
-abbrev pub RunsOverNet : Settings → Bytes → Option Record → Option Record → ℕ → ℕ → ℕ → Type 0
-RunsOverNet settings address old new before now status =
-    PlaysOverNet settings old new before now status
-    ⊎ (LacksPort settings address old new before now status ⊎ Goes (planned settings) old new before now (Err status))
+abbrev pub RunsOverNet : Settings → Bytes → DeskView → DeskView → ℕ → Type 0
+RunsOverNet settings address old new status =
+    PlaysOverNet settings old new status
+    ⊎ (LacksPort settings address old new status ⊎ Goes (planned settings) old new (Err status))

@@ -15,8 +15,7 @@ const UNOPENED: u8 = 1;
 #[tactic(auto, unfolding(crate::specs::Lines::unopened_line))]
 pub(crate) fn refuse_unopened<'a, D: Desk>(desk: &mut D, scheme: &'a str, name: &'a str) -> u8
     ensures status { result ≡ 1 }
-    ensures told { Tells (D.view desk.old).kept (D.view desk.new).kept (unopened_line scheme.now name.now) (D.view desk.old).failures
-        (D.view desk.new).failures }
+    ensures told { Tells (D.view desk.old) (D.view desk.new) (unopened_line scheme.now name.now) }
 {
     let _ = print_error(
         desk,

@@ -21,8 +21,7 @@ pub fn run_net<R: Net, D: Desk>(
     address: &str,
     desk: &mut D,
 ) -> u8
-    ensures runs { RunsOverNet settings.now address.now (D.view desk.old).kept (D.view desk.new).kept (D.view desk.old).failures
-        (D.view desk.new).failures result }
+    ensures runs { RunsOverNet settings.now address.now (D.view desk.old) (D.view desk.new) result }
 {
     let plan = match plan(alloc, settings, desk) {
         Ok(plan) => plan,

@@ -27,8 +27,7 @@ pub fn serve_on<L: OpenListener, D: Desk>(
 ) -> u8
 where
     L::Stream: Read + Write + OpenStream,
-    ensures serves { ServesOn chip port.now file.now (D.view desk.old).kept (D.view desk.new).kept (D.view desk.old).failures
-        (D.view desk.new).failures result }
+    ensures serves { ServesOn chip port.now file.now (D.view desk.old) (D.view desk.new) result }
 {
     let mut link = match accept(listener) {
         Ok(link) => link,
@@ -46,8 +45,7 @@ fn serve_at<R: Net, D: Desk>(
     file: &str,
     desk: &mut D,
 ) -> u8
-    ensures serves { ServesAt (number_of port.now) chip port.now file.now (D.view desk.old).kept (D.view desk.new).kept
-        (D.view desk.old).failures (D.view desk.new).failures result }
+    ensures serves { ServesAt (number_of port.now) chip port.now file.now (D.view desk.old) (D.view desk.new) result }
 {
     let Some(number) = port_number(port) else {
         return refuse_unopened(desk, "", port);
@@ -74,8 +72,7 @@ pub fn serve_net<R: Net, D: Desk>(
     file: &str,
     desk: &mut D,
 ) -> u8
-    ensures serves { ServesNet settings.now port.now file.now (D.view desk.old).kept (D.view desk.new).kept (D.view desk.old).failures
-        (D.view desk.new).failures result }
+    ensures serves { ServesNet settings.now port.now file.now (D.view desk.old) (D.view desk.new) result }
 {
     let chip = match find_chip(alloc, settings, file, desk) {
         Ok(chip) => chip,

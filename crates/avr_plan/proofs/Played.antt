@@ -223,3 +223,9 @@ goes_saying_part old new line fault part is counts = (
 pub went_into : {A B : Type 0} (stage : Stage A) (f : A → B) (old new : DeskView) (a : A) → Went stage old new (Made a)
     → Went (stage >>= λ x. settled (Ok (f x))) old new (Made (f a))
 went_into stage f old new a went = went_went stage (λ x. settled (Ok (f x))) old new new a (Made (f a)) went (went_nowhere new (f a))
+
+-- however a stage goes, the count of failures never falls
+pub goes_follows : {A : Type 0} (stage : Stage A) (old new : DeskView) (result : Result A ℕ) → Goes stage old new result → Follows old new
+goes_follows stage old new (Ok a) went = went.follows
+goes_follows stage old new (Err status) (one, inl went) = went.follows
+goes_follows stage old new (Err status) (one, inr broke) = broke.follows

@@ -2,7 +2,7 @@
 use Rattle.std.proofs.Common.{◌≡◌, ℕ, ◌+◌, ◌<◌, List, [], ◌++◌, length, take, drop, refl, sym, ap, ◌∙◌, subst, arith, Option, length-drop}
 use Rattle.std.proofs.lemmas.List.{take-append-drop}
 use Rattle.std.proofs.Math.Seq.{take-add}
-use Rattle.stk_host.specs.Talk.{Talk, sent}
+use Rattle.stk_host.specs.Talk.{Talk, LinkView, sent}
 use Rattle.stk_host.specs.Reach.{Says, SaysPart}
 use Rattle.stk_host.proofs.Talks.{sent_append, grows_none, grows_on, quiet_append}
 use Rattle.stk_emu.specs.Emulator.{Machine, Answers}
@@ -18,19 +18,19 @@ says_both x y a b c first then = record {
   bytes_sent = sent_append first.during then.during ∙ (ap (λ bs. bs ++ sent then.during) first.bytes_sent ∙ ap (λ bs. x ++ bs) then.bytes_sent);
 }
 
-pub replies_none : (machine : Machine) (o : Option Talk) → Replies machine [] o o machine
+pub replies_none : (machine : Machine) (o : LinkView) → Replies machine [] o o machine
 replies_none machine o = record {
   out = [];
-  says = record { during = []; grows = grows_none o; quiet = tt; bytes_sent = refl };
+  says = record { during = []; grows = grows_none o.talk; quiet = tt; bytes_sent = refl };
   answers = λ p text f. all_nothing p text machine f;
 }
 
 -- what is behind the first n bytes is fed, up to the first answer, which is sent
-pub replies_more : (piece part out : List ℕ) (n used : ℕ) (old mid now : Machine) (a b c : Option Talk) → Replies old (take n piece) a b mid → part ≡ drop n piece
-    → Answers mid (take used part) now out → Says out b c → Replies old (take (n + used) piece) a c now
+pub replies_more : (piece part out : List ℕ) (n used : ℕ) (old mid now : Machine) (a b c : LinkView) → Replies old (take n piece) a b mid → part ≡ drop n piece
+    → Answers mid (take used part) now out → Says out b.talk c.talk → Replies old (take (n + used) piece) a c now
 replies_more piece part out n used old mid now a b c r is one says = record {
   out = r.out ++ out;
-  says = says_both r.out out a b c r.says says;
+  says = says_both r.out out a.talk b.talk c.talk r.says says;
   answers = λ p text f.
       let first = r.answers p text f in
       subst (λ bs. AnswersAll p text bs (r.out ++ out) now) (ap (λ bs. take n piece ++ take used bs) is ∙ sym (take-add n used piece))
@@ -38,11 +38,11 @@ replies_more piece part out n used old mid now a b c r is one says = record {
 }
 
 -- or of which only a part is sent
-pub replies_part : (piece part out : List ℕ) (n used : ℕ) (old mid now : Machine) (a b c : Option Talk) → Replies old (take n piece) a b mid → part ≡ drop n piece
-    → Answers mid (take used part) now out → SaysPart out b c → RepliesPart old piece a c now
+pub replies_part : (piece part out : List ℕ) (n used : ℕ) (old mid now : Machine) (a b c : LinkView) → Replies old (take n piece) a b mid → part ≡ drop n piece
+    → Answers mid (take used part) now out → SaysPart out b.talk c.talk → RepliesPart old piece a c now
 replies_part piece part out n used old mid now a b c r is one s = record {
   out = r.out ++ s.part;
-  says = says_both r.out s.part a b c r.says s.says;
+  says = says_both r.out s.part a.talk b.talk c.talk r.says s.says;
   breaks = λ p text f.
       let first = r.answers p text f in
       subst (λ bs. BreaksOff p text bs (r.out ++ s.part) now)

@@ -2,7 +2,8 @@
 use Rattle.std.proofs.Common.{◌≡◌, ◌≤◌, ℕ, List, [], ap₂, subst, Option, Result, Err}
 use Rattle.avr_chip.specs.Loading.{chip_stage}
 use Rattle.avr_cli.specs.declared.chosen.Settings.{Settings}
-use Rattle.avr_desk.specs.Record.{Record}
+use Rattle.avr_desk.specs.Fault.{Follows}
+use Rattle.avr_desk.specs.Record.{DeskView}
 use Rattle.avr_message.specs.Lines.{Bytes}
 use Rattle.avr_part.specs.ChipFile.{chip_file}
 use Rattle.avr_part.specs.Part.{Part}
@@ -11,53 +12,50 @@ use Rattle.avr_plan.specs.Planning.{parts_stage, part_stage}
 use Rattle.avr_plan.specs.Playing.{Goes, Went}
 use Rattle.avr_plan.specs.Stage.{Made}
 use Rattle.avr_plan.proofs.Played.{goes_on, goes_no_further}
-use Rattle.stk_host.specs.Talk.{Talk}
+use Rattle.stk_host.specs.Talk.{LinkView}
 use Rattle.stk_emu.specs.Programmer.{fresh_programmer}
 use Rattle.stk_emu.specs.Emulator.{Machine, IsFed}
 use Rattle.avr_serve.specs.declared.serving.Served.{Served}
 use Rattle.avr_serve.specs.Serving.{Serves, FailsBy}
-use Rattle.avr_serve.specs.ServedRun.{settings_part, settings_chip, fresh_machine, TellsEnd, IsSaved, ServesChip}
+use Rattle.avr_serve.specs.ServedRun.{sides, settings_part, settings_chip, fresh_machine, TellsEnd, IsSaved, ServesChip}
 
-pub goes_without_parts : (s : Settings) (old new : Option Record) (before now status : ℕ) → Goes (parts_stage s.parts) old new before now (Err status)
-    → Goes (settings_part s) old new before now (Err status)
-goes_without_parts s old new before now status goes = goes_no_further (parts_stage s.parts) (λ parts. part_stage s.part parts) old new before now status goes
+pub goes_without_parts : (s : Settings) (old new : DeskView) (status : ℕ) → Goes (parts_stage s.parts) old new (Err status)
+    → Goes (settings_part s) old new (Err status)
+goes_without_parts s old new status goes = goes_no_further (parts_stage s.parts) (λ parts. part_stage s.part parts) old new status goes
 
-pub goes_with_parts : (s : Settings) (id : Bytes) (old mid new : Option Record) (before between now : ℕ) (parts : List Part) (result : Result Part ℕ)
-    → id ≡ s.part → before ≤ between
-    → Went (parts_stage s.parts) old mid (Made parts) → Goes (part_stage id parts) mid new between now result → Goes (settings_part s) old new before now result
-goes_with_parts s id old mid new before between now parts result same rises went goes =
-    goes_on (parts_stage s.parts) (λ parts. part_stage s.part parts) old mid new parts before between now result went rises
-    (subst (λ (i : Bytes). Goes (part_stage i parts) mid new between now result) same goes)
+pub goes_with_parts : (s : Settings) (id : Bytes) (old mid new : DeskView) (parts : List Part) (result : Result Part ℕ)
+    → id ≡ s.part
+    → Went (parts_stage s.parts) old mid (Made parts) → Goes (part_stage id parts) mid new result → Goes (settings_part s) old new result
+goes_with_parts s id old mid new parts result same went goes =
+    goes_on (parts_stage s.parts) (λ parts. part_stage s.part parts) old mid new parts result went
+    (subst (λ (i : Bytes). Goes (part_stage i parts) mid new result) same goes)
 
-pub goes_without_part : (s : Settings) (file : Bytes) (old new : Option Record) (before now status : ℕ) → Goes (settings_part s) old new before now (Err status)
-    → Goes (settings_chip s file) old new before now (Err status)
-goes_without_part s file old new before now status goes = goes_no_further (settings_part s) (λ part. chip_stage part file) old new before now status goes
+pub goes_without_part : (s : Settings) (file : Bytes) (old new : DeskView) (status : ℕ) → Goes (settings_part s) old new (Err status)
+    → Goes (settings_chip s file) old new (Err status)
+goes_without_part s file old new status goes = goes_no_further (settings_part s) (λ part. chip_stage part file) old new status goes
 
-pub goes_with_part : (s : Settings) (file : Bytes) (old mid new : Option Record) (before between now : ℕ) (part : Part) (result : Result chips.State ℕ)
-    → before ≤ between
-    → Went (settings_part s) old mid (Made part) → Goes (chip_stage part file) mid new between now result → Goes (settings_chip s file) old new before now result
-goes_with_part s file old mid new before between now part result rises went goes =
-    goes_on (settings_part s) (λ part. chip_stage part file) old mid new part before between now result went rises goes
+pub goes_with_part : (s : Settings) (file : Bytes) (old mid new : DeskView) (part : Part) (result : Result chips.State ℕ)
+    → Went (settings_part s) old mid (Made part) → Goes (chip_stage part file) mid new result → Goes (settings_chip s file) old new result
+goes_with_part s file old mid new part result went goes =
+    goes_on (settings_part s) (λ part. chip_stage part file) old mid new part result went goes
 
 is_fresh : (chip : chips.State) (machine : Machine) → machine.held ≡ [] → machine.programmer ≡ fresh_programmer chip → machine ≡ fresh_machine chip
 is_fresh chip machine held programmer = ap₂ (λ h p. record { held = h; programmer = p }) held programmer
 
 -- an emulator that was fed nothing served, and that was told and saved
-pub serves_chip : (chip : chips.State) (machine left : Machine) (file : Bytes) (turns : ℕ) (served : Served) (talk talked : Option Talk) (link_before link_now : ℕ)
-    (old mid new : Option Record) (before between now status : ℕ)
+pub serves_chip : (chip : chips.State) (machine left : Machine) (file : Bytes) (turns : ℕ) (served : Served) (o p : LinkView) (old mid new : DeskView) (status : ℕ)
     → machine.held ≡ [] → machine.programmer ≡ fresh_programmer chip → IsFed (fresh_programmer chip) [] machine
-    → Serves machine turns served talk talked left → FailsBy served link_before link_now → TellsEnd served old mid before between → before ≤ between
-    → IsSaved served mid new file (chip_file left.programmer.chip) between now status → between ≤ now
-    → ServesChip chip file turns talk talked link_before link_now old new before now status
-serves_chip chip machine left file turns served talk talked link_before link_now old mid new before between now status held programmer fed serves fails told rises saved counted =
+    → Serves machine turns served o p left → FailsBy served o p → TellsEnd served old mid → Follows old mid
+    → IsSaved served mid new file (chip_file left.programmer.chip) status → Follows mid new
+    → ServesChip chip file turns (sides o old) (sides p new) status
+serves_chip chip machine left file turns served o p old mid new status held programmer fed serves fails told rises saved follows =
     let is = is_fresh chip machine held programmer in
-    let own = subst (λ (m : Machine). Serves m turns served talk talked left) is serves in
+    let own = subst (λ (m : Machine). Serves m turns served o p left) is serves in
     let none = subst (λ (m : Machine). IsFed (fresh_programmer chip) [] m) is fed in
     record {
       served = served;
       left = left;
       told_desk = mid;
-      told_failures = between;
       serves = own;
       in_turn = own.in_turn (fresh_programmer chip) [] none;
       leaves = own.leaves (fresh_programmer chip) [] none;
@@ -65,5 +63,5 @@ serves_chip chip machine left file turns served talk talked link_before link_now
       told = told;
       rises = rises;
       saved = saved;
-      counted = counted;
+      follows = follows;
     }

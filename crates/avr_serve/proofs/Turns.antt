@@ -4,7 +4,7 @@ use Rattle.std.specs.Prelude.{◌≢◌}
 use Rattle.std.proofs.lemmas.List.{append-nil}
 use Rattle.stk_host.specs.declared.link.Item.TheVariants.{Silence, End}
 use Rattle.stk_host.specs.Tape.{on_tape}
-use Rattle.stk_host.specs.Talk.{Talk, Got, sent, heard as heard_in, Grows}
+use Rattle.stk_host.specs.Talk.{Talk, Got, sent, heard as heard_in, Grows, LinkView, HasRisen}
 use Rattle.stk_host.specs.Reach.{IsQuiet}
 use Rattle.stk_host.proofs.Talks.{sent_append, heard_append, heard_quiet, grows_none, grows_on}
 use Rattle.stk_emu.specs.Programmer.{Programmer}
@@ -58,20 +58,20 @@ hears_more RecvFailed turns x y first then = (no_end_both x y first.0 then.0, om
 hears_more SendFailed turns x y first then = (no_end_both x y first.0 then.0, omega (arith, reads_append x y, first.1, then.1))
 hears_more TooManyReads turns x y first then = (no_end_both x y first.0 then.0, omega (arith, reads_append x y, first.1, then.1))
 
-pub serves_none : (machine : Machine) (o : Option Talk) → Serves machine 0 TooManyReads o o machine
+pub serves_none : (machine : Machine) (o : LinkView) → Serves machine 0 TooManyReads o o machine
 serves_none machine o = record {
   during = [];
-  grows = grows_none o;
+  grows = grows_none o.talk;
   hears = (tt, refl);
   in_turn = λ p text f. tt;
   leaves = λ p text f. all_nothing p text machine f;
 }
 
-pub serves_more : (served : Served) (turns : ℕ) (old mid now : Machine) (a b c : Option Talk) → Serves old turns TooManyReads a b mid → Serves mid 1 served b c now
+pub serves_more : (served : Served) (turns : ℕ) (old mid now : Machine) (a b c : LinkView) → Serves old turns TooManyReads a b mid → Serves mid 1 served b c now
     → Serves old (turns + 1) served a c now
 serves_more served turns old mid now a b c first then = record {
   during = first.during ++ then.during;
-  grows = grows_on a b c first.during then.during first.grows then.grows;
+  grows = grows_on a.talk b.talk c.talk first.during then.during first.grows then.grows;
   hears = hears_more served turns first.during then.during first.hears then.hears;
   in_turn = λ p text f.
       let done = first.leaves p text f in
@@ -89,7 +89,7 @@ hears_within RecvFailed few many talk other le h = (h.0, omega (arith, h.1))
 hears_within SendFailed few many talk other le h = (h.0, omega (arith, h.1))
 hears_within TooManyReads few many talk other le h = absurd (other refl)
 
-pub serves_within : (served : Served) (few many : ℕ) (old now : Machine) (a b : Option Talk) → served ≢ TooManyReads → few ≤ many → Serves old few served a b now → Serves old many served a b now
+pub serves_within : (served : Served) (few many : ℕ) (old now : Machine) (a b : LinkView) → served ≢ TooManyReads → few ≤ many → Serves old few served a b now → Serves old many served a b now
 serves_within served few many old now a b other le s = record {
   during = s.during;
   grows = s.grows;
@@ -98,12 +98,15 @@ serves_within served few many old now a b other le s = record {
   leaves = s.leaves;
 }
 
-pub fails_more : (served : Served) (a b c : ℕ) → b ≡ a → FailsBy served b c → FailsBy served a c
-fails_more served a b c same f = subst (λ n. FailsBy served n c) same f
+pub fails_more : (served : Served) (a b c : LinkView) → b.failures ≡ a.failures → FailsBy served b c → FailsBy served a c
+fails_more Ended a b c same f = f ∙ same
+fails_more RecvFailed a b c same f = subst (λ n. HasRisen n c.failures) same f
+fails_more SendFailed a b c same f = subst (λ n. HasRisen n c.failures) same f
+fails_more TooManyReads a b c same f = f ∙ same
 
 -- what one read comes to
 
-pub read_failed : (machine : Machine) (a b : Option Talk) → Grows a [] b → Serves machine 1 RecvFailed a b machine
+pub read_failed : (machine : Machine) (a b : LinkView) → Grows a.talk [] b.talk → Serves machine 1 RecvFailed a b machine
 read_failed machine a b g = record {
   during = [];
   grows = g;
@@ -112,7 +115,7 @@ read_failed machine a b g = record {
   leaves = λ p text f. all_nothing p text machine f;
 }
 
-pub read_end : (machine : Machine) (a b : Option Talk) → Grows a (Got (End ∷ []) ∷ []) b → Serves machine 1 Ended a b machine
+pub read_end : (machine : Machine) (a b : LinkView) → Grows a.talk (Got (End ∷ []) ∷ []) b.talk → Serves machine 1 Ended a b machine
 read_end machine a b g = record {
   during = Got (End ∷ []) ∷ [];
   grows = g;
@@ -121,7 +124,7 @@ read_end machine a b g = record {
   leaves = λ p text f. all_nothing p text machine f;
 }
 
-pub read_silence : (machine : Machine) (a b : Option Talk) → Grows a (Got (Silence ∷ []) ∷ []) b → Serves machine 1 TooManyReads a b machine
+pub read_silence : (machine : Machine) (a b : LinkView) → Grows a.talk (Got (Silence ∷ []) ∷ []) b.talk → Serves machine 1 TooManyReads a b machine
 read_silence machine a b g = record {
   during = Got (Silence ∷ []) ∷ [];
   grows = g;
@@ -137,12 +140,12 @@ heard_piece piece talk quiet = ap (λ t. on_tape piece ++ t) (heard_quiet talk q
 bytes_heard : (piece : List ℕ) (talk : Talk) → IsQuiet talk → piece ≡ bytes_of (on_tape piece ++ heard_in talk)
 bytes_heard piece talk quiet = sym (ap bytes_of (heard_piece piece talk quiet) ∙ bytes_on_tape piece)
 
-pub read_answered : (piece : List ℕ) (old now : Machine) (a b c : Option Talk) → Grows a (Got (on_tape piece) ∷ []) b → Replies old piece b c now → Serves old 1 TooManyReads a c now
+pub read_answered : (piece : List ℕ) (old now : Machine) (a b c : LinkView) → Grows a.talk (Got (on_tape piece) ∷ []) b.talk → Replies old piece b c now → Serves old 1 TooManyReads a c now
 read_answered piece old now a b c g r =
     let talk : Talk = r.says.during in
     record {
       during = Got (on_tape piece) ∷ talk;
-      grows = grows_on a b c (Got (on_tape piece) ∷ []) talk g r.says.grows;
+      grows = grows_on a.talk b.talk c.talk (Got (on_tape piece) ∷ []) talk g r.says.grows;
       hears = (subst HasNoEnd (sym (heard_piece piece talk r.says.quiet)) (no_end_on_tape piece), ap (λ n. n + 1) (reads_quiet talk r.says.quiet));
       in_turn = λ p text f. (refl, in_turn_quiet p (text ++ bytes_of (on_tape piece)) (emulate p text) talk r.says.quiet);
       leaves = λ p text f.
@@ -150,12 +153,12 @@ read_answered piece old now a b c g r =
           (subst (λ o. AnswersAll p text piece o now) (sym r.says.bytes_sent) (r.answers p text f));
     }
 
-pub read_broken : (piece : List ℕ) (old now : Machine) (a b c : Option Talk) → Grows a (Got (on_tape piece) ∷ []) b → RepliesPart old piece b c now → Serves old 1 SendFailed a c now
+pub read_broken : (piece : List ℕ) (old now : Machine) (a b c : LinkView) → Grows a.talk (Got (on_tape piece) ∷ []) b.talk → RepliesPart old piece b c now → Serves old 1 SendFailed a c now
 read_broken piece old now a b c g r =
     let talk : Talk = r.says.during in
     record {
       during = Got (on_tape piece) ∷ talk;
-      grows = grows_on a b c (Got (on_tape piece) ∷ []) talk g r.says.grows;
+      grows = grows_on a.talk b.talk c.talk (Got (on_tape piece) ∷ []) talk g r.says.grows;
       hears = (subst HasNoEnd (sym (heard_piece piece talk r.says.quiet)) (no_end_on_tape piece), omega (arith, reads_quiet talk r.says.quiet));
       in_turn = λ p text f. (refl, in_turn_quiet p (text ++ bytes_of (on_tape piece)) (emulate p text) talk r.says.quiet);
       leaves = λ p text f.

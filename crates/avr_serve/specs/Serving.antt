@@ -1,9 +1,9 @@
 -- An emulated programmer that answers what it hears on a link.
-use Rattle.std.specs.Prelude.{ℕ, List, [], ◌∷◌, ◌++◌, ◌+◌, ◌≡◌, ◌<◌, ◌≤◌, length, Option}
+use Rattle.std.specs.Prelude.{ℕ, List, [], ◌∷◌, ◌++◌, ◌+◌, ◌≡◌, ◌<◌, ◌≤◌, length}
 use Rattle.stk_frame.specs.Cut.{frames}
 use Rattle.stk_host.specs.declared.link.Item.TheVariants.{Byte, Silence, End}
 use Rattle.stk_host.specs.Tape.{Tape}
-use Rattle.stk_host.specs.Talk.{Talk, Sent, Got, sent, heard, Grows, HasFailed}
+use Rattle.stk_host.specs.Talk.{Talk, LinkView, Sent, Got, sent, heard, Grows, HasFailed}
 use Rattle.stk_host.specs.Play.{IsPrefixOf}
 use Rattle.stk_emu.specs.Programmer.{Programmer}
 use Rattle.stk_emu.specs.Device.{device, answers, answer_frame, after_all}
@@ -76,20 +76,20 @@ Leaves SendFailed p text talk now =
     × BreaksOff p text (bytes_of (heard talk)) (sent talk) now
 Leaves _ p text talk now = AnswersAll p text (bytes_of (heard talk)) (sent talk) now
 
--- An emulator served a link that showed these talks before and after it, in at most so many reads, and this is how it
--- ended: so it is whatever programmer it began with and whatever text it was fed before.
-pub record Serves (old : Machine) (turns : ℕ) (served : Served) (before after : Option Talk)
+-- An emulator served a link that showed this before and after it, in at most so many reads, and this is how it ended:
+-- so it is whatever programmer it began with and whatever text it was fed before.
+pub record Serves (old : Machine) (turns : ℕ) (served : Served) (before after : LinkView)
     (now : Machine) : Type 0 where
   pub during : Talk
-  pub grows : Grows before during after
+  pub grows : Grows before.talk during after.talk
   pub hears : Hears served turns during
   pub in_turn : (p : Programmer) (text : List ℕ) → IsFed p text old → AnswersInTurn p text (emulate p text) during
   pub leaves : (p : Programmer) (text : List ℕ) → IsFed p text old → Leaves served p text during now
 
 -- Where the link is said to have failed, its count of failures rose or stands at its end; where it isn't, the count is
 -- what it was.
-abbrev pub FailsBy : Served → ℕ → ℕ → Type 0
-FailsBy Ended before now = now ≡ before
-FailsBy RecvFailed before now = HasFailed before now
-FailsBy SendFailed before now = HasFailed before now
-FailsBy TooManyReads before now = now ≡ before
+abbrev pub FailsBy : Served → LinkView → LinkView → Type 0
+FailsBy Ended before after = after.failures ≡ before.failures
+FailsBy RecvFailed before after = HasFailed before after
+FailsBy SendFailed before after = HasFailed before after
+FailsBy TooManyReads before after = after.failures ≡ before.failures

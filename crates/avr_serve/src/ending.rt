@@ -1,5 +1,6 @@
 //! How serving ended is told, and the chip is saved.
-ghost use Rattle.std.specs.Prelude.{◌≡◌, ◌≤◌, ◌∷◌, []};
+ghost use Rattle.std.specs.Prelude.{◌≡◌, ◌∷◌, []};
+ghost use Rattle.avr_desk.specs.Fault.{Follows};
 ghost use Rattle.avr_message.specs.Lines.{error};
 ghost use Rattle.avr_message.specs.Said.{Tells};
 ghost use Rattle.avr_part.specs.ChipFile.{chip_file};
@@ -14,17 +15,15 @@ use std::alloc::Global;
 
 /// Prints an error, as far as the desk takes it.
 fn tell<D: Desk>(desk: &mut D, text: &str)
-    ensures told { Tells (D.view desk.old).kept (D.view desk.new).kept (error (text.now ∷ [])) (D.view desk.old).failures
-        (D.view desk.new).failures }
-    ensures rises { (D.view desk.old).failures ≤ (D.view desk.new).failures }
+    ensures { Tells (D.view desk.old) (D.view desk.new) (error (text.now ∷ [])) }
 {
     let _ = print_error(desk, &[Piece::Text(text)]);
 }
 
 /// Tells how serving ended, if not with an end that was heard.
 pub(crate) fn tell_end<D: Desk>(desk: &mut D, served: Served)
-    ensures told { TellsEnd served (D.view desk.old).kept (D.view desk.new).kept (D.view desk.old).failures (D.view desk.new).failures }
-    ensures rises { (D.view desk.old).failures ≤ (D.view desk.new).failures }
+    ensures told { TellsEnd served (D.view desk.old) (D.view desk.new) }
+    ensures follows { Follows (D.view desk.old) (D.view desk.new) }
 {
     match served {
         Served::Ended => {}
@@ -52,9 +51,8 @@ pub(crate) fn save_served<D: Desk>(
     desk: &mut D,
     served: Served,
 ) -> u8
-    ensures saved { IsSaved served (D.view desk.old).kept (D.view desk.new).kept file.now (chip_file chip.now)
-        (D.view desk.old).failures (D.view desk.new).failures result }
-    ensures rises { (D.view desk.old).failures ≤ (D.view desk.new).failures }
+    ensures saved { IsSaved served (D.view desk.old) (D.view desk.new) file.now (chip_file chip.now) result }
+    ensures follows { Follows (D.view desk.old) (D.view desk.new) }
 {
     match save_chip(alloc, chip, file, desk) {
         Ok(()) => status_of(served),

@@ -1,7 +1,8 @@
 //! Serving an emulated programmer, from settings to status.
 ghost use Rattle.std.specs.Prelude.{◌≤◌};
+ghost use Rattle.avr_desk.specs.Fault.{Follows};
 ghost use Rattle.avr_plan.specs.Playing.{Goes};
-ghost use Rattle.avr_serve.specs.ServedRun.{RunsServed, ServesChip, settings_part, settings_chip};
+ghost use Rattle.avr_serve.specs.ServedRun.{sides, RunsServed, ServesChip, settings_part, settings_chip};
 
 use crate::ending::{save_served, tell_end};
 use crate::serving::answer_all;
@@ -19,9 +20,7 @@ pub const READS: u32 = 16_777_216;
 
 /// The part of the settings: looked up in their part file, where they have one, before the built-in parts.
 fn find_part<D: Desk>(alloc: Global, desk: &mut D, settings: &Settings) -> Result<Part, u8>
-    ensures goes { Goes (settings_part settings.now) (D.view desk.old).kept (D.view desk.new).kept (D.view desk.old).failures
-        (D.view desk.new).failures result }
-    ensures rises { (D.view desk.old).failures ≤ (D.view desk.new).failures }
+    ensures { Goes (settings_part settings.now) (D.view desk.old) (D.view desk.new) result }
 {
     let parts = match given_parts(alloc, desk, &settings.parts) {
         Ok(parts) => parts,
@@ -41,9 +40,7 @@ pub fn find_chip<D: Desk>(
     file: &str,
     desk: &mut D,
 ) -> Result<Chip, u8>
-    ensures goes { Goes (settings_chip settings.now file.now) (D.view desk.old).kept (D.view desk.new).kept (D.view desk.old).failures
-        (D.view desk.new).failures result }
-    ensures rises { (D.view desk.old).failures ≤ (D.view desk.new).failures }
+    ensures { Goes (settings_chip settings.now file.now) (D.view desk.old) (D.view desk.new) result }
 {
     let part = match find_part(alloc, desk, settings) {
         Ok(part) => part,
@@ -68,10 +65,9 @@ pub fn serve_chip<D: Desk, L: Link>(
     link: &mut L,
     turns: u32,
 ) -> u8
-    ensures serves { ServesChip chip file.now turns (L.view link.old).talk (L.view link.new).talk (L.view link.old).failures
-        (L.view link.new).failures
-        (D.view desk.old).kept (D.view desk.new).kept (D.view desk.old).failures (D.view desk.new).failures result }
-    ensures rises { (D.view desk.old).failures ≤ (D.view desk.new).failures }
+    ensures serves { ServesChip chip file.now turns (sides (L.view link.old) (D.view desk.old))
+        (sides (L.view link.new) (D.view desk.new)) result }
+    ensures follows { Follows (D.view desk.old) (D.view desk.new) }
     ensures counted { (L.view link.old).failures ≤ (L.view link.new).failures }
 {
     let mut emulator = Emulator::new(chip);
@@ -96,10 +92,9 @@ pub fn serve_for<D: Desk, L: Link>(
     link: &mut L,
     turns: u32,
 ) -> u8
-    ensures runs { RunsServed settings.now file.now turns (L.view link.old).talk (L.view link.new).talk (L.view link.old).failures
-        (L.view link.new).failures
-        (D.view desk.old).kept (D.view desk.new).kept (D.view desk.old).failures (D.view desk.new).failures result }
-    ensures rises { (D.view desk.old).failures ≤ (D.view desk.new).failures }
+    ensures runs { RunsServed settings.now file.now turns (sides (L.view link.old) (D.view desk.old))
+        (sides (L.view link.new) (D.view desk.new)) result }
+    ensures follows { Follows (D.view desk.old) (D.view desk.new) }
     ensures counted { (L.view link.old).failures ≤ (L.view link.new).failures }
 {
     let chip = match find_chip(alloc, settings, file, desk) {
@@ -117,10 +112,9 @@ pub fn serve<D: Desk, L: Link>(
     desk: &mut D,
     link: &mut L,
 ) -> u8
-    ensures runs { RunsServed settings.now file.now 16777216 (L.view link.old).talk (L.view link.new).talk (L.view link.old).failures
-        (L.view link.new).failures
-        (D.view desk.old).kept (D.view desk.new).kept (D.view desk.old).failures (D.view desk.new).failures result }
-    ensures rises { (D.view desk.old).failures ≤ (D.view desk.new).failures }
+    ensures runs { RunsServed settings.now file.now 16777216 (sides (L.view link.old) (D.view desk.old))
+        (sides (L.view link.new) (D.view desk.new)) result }
+    ensures follows { Follows (D.view desk.old) (D.view desk.new) }
     ensures counted { (L.view link.old).failures ≤ (L.view link.new).failures }
 {
     serve_for(alloc, settings, file, desk, link, READS)

@@ -27,11 +27,11 @@ fn answer_piece<L: Link>(
     link: &mut L,
     piece: &[u8],
 ) -> Result<(), LinkFault>
-    ensures ok { OnOk result (Replies emulator.old piece.now (L.view link.old).talk (L.view link.new).talk emulator.new) }
-    ensures err { OnErr result (RepliesPart emulator.old piece.now (L.view link.old).talk (L.view link.new).talk emulator.new) }
+    ensures ok { OnOk result (Replies emulator.old piece.now (L.view link.old) (L.view link.new) emulator.new) }
+    ensures err { OnErr result (RepliesPart emulator.old piece.now (L.view link.old) (L.view link.new) emulator.new) }
     ensures counted { (L.view link.old).failures ≤ (L.view link.new).failures }
     ensures sound { OnOk result ((L.view link.new).failures ≡ (L.view link.old).failures) }
-    ensures failed { OnErr result (HasFailed (L.view link.old).failures (L.view link.new).failures) }
+    ensures failed { OnErr result (HasFailed (L.view link.old) (L.view link.new)) }
 {
     let mut answer = ArrayVec::new();
     let mut used = 0;
@@ -45,9 +45,9 @@ fn answer_piece<L: Link>(
 /// Serves one read of the link, which is one too many where it brings no end.
 #[tactic(auto, using(crate::proofs::Turns::read_answered, crate::proofs::Turns::read_broken))]
 fn answer_next<L: Link>(emulator: &mut Emulator, link: &mut L) -> Served
-    ensures serves { Serves emulator.old 1 result (L.view link.old).talk (L.view link.new).talk emulator.new }
+    ensures serves { Serves emulator.old 1 result (L.view link.old) (L.view link.new) emulator.new }
     ensures counted { (L.view link.old).failures ≤ (L.view link.new).failures }
-    ensures failed { FailsBy result (L.view link.old).failures (L.view link.new).failures }
+    ensures failed { FailsBy result (L.view link.old) (L.view link.new) }
 {
     // room for the longest frame
     let mut buffer = [0; 281];
@@ -69,9 +69,9 @@ fn answer_next<L: Link>(emulator: &mut Emulator, link: &mut L) -> Served
 ///
 /// A silence counts for nothing but the read that it took. What the last read brings is still answered.
 pub fn answer_all<L: Link>(emulator: &mut Emulator, link: &mut L, turns: u32) -> Served
-    ensures serves { Serves emulator.old turns result (L.view link.old).talk (L.view link.new).talk emulator.new }
+    ensures serves { Serves emulator.old turns result (L.view link.old) (L.view link.new) emulator.new }
     ensures counted { (L.view link.old).failures ≤ (L.view link.new).failures }
-    ensures failed { FailsBy result (L.view link.old).failures (L.view link.new).failures }
+    ensures failed { FailsBy result (L.view link.old) (L.view link.new) }
 {
     for turn in 0..turns {
         match answer_next(emulator, link) {

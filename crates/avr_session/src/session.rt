@@ -81,7 +81,8 @@ fn close_after_fault<D: Desk, L: Link>(
     plan: &Plan,
 ) -> Result<Standing, Stopped>
     requires { host.old.broken ≡ None }
-    ensures performs { PerformsBehind (record { takes = false; was_told = true }) (ending plan.now.part plan.now.switches Faulty) host.old host.new
+    ensures performs { PerformsBehind (record { takes = false; was_told = true })
+        (ending plan.now.part plan.now.switches Faulty) host.old host.new
         (devices (L.view link.old) (D.view desk.old)) (devices (L.view link.new) (D.view desk.new)) result }
     ensures comes { Stays L.comes_of link.old link.new }
 {

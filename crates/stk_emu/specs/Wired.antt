@@ -1,10 +1,10 @@
 -- A wire as a link, and that what passes over it is what the fates say.
-use Rattle.std.specs.Prelude.{ℕ, List, [], ◌∷◌, ◌++◌, ◌≡◌, ◌≢◌, length, take, drop, ◌<◌, filter}
+use Rattle.std.specs.Prelude.{ℕ, List, [], ◌∷◌, ◌++◌, ◌≡◌, ◌≢◌, length, take, drop, ◌<◌, filter, Some}
 use Rattle.stk_frame.specs.Cut.{frames, is_frame}
 use Rattle.stk_frame.specs.Reader.{Stands, Fed}
 use Rattle.stk_host.specs.declared.link.Item.TheVariants.{Silence}
 use Rattle.stk_host.specs.Tape.{Tape}
-use Rattle.stk_host.specs.Talk.{Talk, Sent, Got, sent, heard}
+use Rattle.stk_host.specs.Talk.{Talk, LinkView, Sent, Got, sent, heard}
 use Rattle.stk_emu.specs.declared.fate.Fate.{Fate}
 use Rattle.stk_emu.specs.Programmer.{Programmer, fresh_programmer}
 use Rattle.stk_emu.specs.Device.{device}
@@ -17,6 +17,10 @@ pub record State : Type 0 where
   pub waits : Tape
   pub talk : Talk
   pub failures : ℕ
+
+-- it keeps all that passed
+abbrev pub wired_view : State → LinkView
+wired_view wired = record { talk = Some wired.talk; failures = wired.failures }
 
 -- what the frames of these bytes bring over a wire that nothing passed yet
 abbrev pub brought : Programmer → List Fate → List ℕ → Tape

@@ -5,10 +5,10 @@ ghost use Rattle.std.specs.Prelude.{◌≡◌, ◌+◌, ◌<◌, ◌≤◌, ◌+
 ghost use Rattle.stk_host.specs.declared.link.Item.TheVariants as item;
 ghost use Rattle.stk_host.specs.Tape.{Tape, on_tape};
 ghost use Rattle.stk_host.specs.Talk as talk;
-ghost use Rattle.stk_host.specs.Talk.{Grows, HasFailed, Stays, FitsBuffer, items_of};
+ghost use Rattle.stk_host.specs.Talk.{HasRisen, Sends, Receives, Stays, FitsBuffer, items_of};
 ghost use Rattle.stk_emu.specs.Programmer.{fresh_programmer};
 ghost use Rattle.stk_emu.specs.Wire.{AreLawful, fresh};
-ghost use Rattle.stk_emu.specs.Wired.{Start, ComesOf, IsFresh, Passes, IsNext, after_hearing};
+ghost use Rattle.stk_emu.specs.Wired.{Start, wired_view, ComesOf, IsFresh, Passes, IsNext, after_hearing};
 
 use crate::fate::Fate;
 use crate::line::Line;
@@ -125,7 +125,7 @@ impl Wired {
     /// Counts a failure.
     fn fail(&mut self)
         ensures same { self.new ≡ record self.old { failures = self.new.failures } }
-        ensures counted { HasFailed self.old.failures self.new.failures }
+        ensures counted { HasRisen self.old.failures self.new.failures }
         ensures kept { self.old.failures ≤ self.new.failures }
     {
         self.failures = self.failures.saturating_add(1);
@@ -194,21 +194,14 @@ impl Wired {
 }
 
 impl Link for Wired {
-    ghost view = { λ link. record { talk = Some link.talk; failures = link.failures } };
+    ghost view = { wired_view };
 
     ghost Start = { Start };
 
     ghost comes_of = { ComesOf };
 
     fn send(&mut self, bytes: &[u8]) -> Result<usize, LinkFault>
-        ensures within { IfOk result (λ n. n ≤ length bytes.now) }
-        ensures ok { IfOk result (λ n. Grows (Some self.old.talk) (talk.Sent (take n bytes.now) ∷ [])
-            (Some self.new.talk)) }
-        ensures err { OnErr result (Grows (Some self.old.talk) [] (Some self.new.talk)) }
-        ensures counted { self.old.failures ≤ self.new.failures }
-        ensures failed { OnErr result (HasFailed self.old.failures self.new.failures) }
-        ensures stuck { IfOk result (λ n. n ≡ 0 → 0 < length bytes.now
-            → HasFailed self.old.failures self.new.failures) }
+        ensures sends { Sends bytes.now (wired_view self.old) (wired_view self.new) result }
         ensures sound { OnOk result (self.new.failures ≡ self.old.failures) }
         // Whatever was sent and heard before, and whoever listened idly, what the frames bring waits behind what
         // waited.
@@ -228,13 +221,7 @@ impl Link for Wired {
 
     fn recv(&mut self, buffer: &mut [u8]) -> Result<Heard, LinkFault>
         requires { 0 < length buffer.old }
-        ensures within { IfOk result (λ heard. FitsBuffer heard (length buffer.new)) }
-        ensures ok { IfOk result (λ heard. Grows (Some self.old.talk) (talk.Got (items_of heard buffer.new) ∷ [])
-            (Some self.new.talk)) }
-        ensures err { OnErr result (Grows (Some self.old.talk) [] (Some self.new.talk)) }
-        ensures counted { self.old.failures ≤ self.new.failures }
-        ensures failed { OnErr result (HasFailed self.old.failures self.new.failures) }
-        ensures sound { OnOk result (self.new.failures ≡ self.old.failures) }
+        ensures receives { Receives buffer.new (wired_view self.old) (wired_view self.new) result }
         // What is heard is what waited first; where nothing waited, a silence.
         ensures heard { IfOk result (λ heard. self.new ≡ after_hearing (items_of heard buffer.new) self.old) }
         ensures next { IfOk result (λ heard. IsNext (items_of heard buffer.new) self.old.waits) }

@@ -5,11 +5,9 @@ pub returns : goal.returns
 returns g c = record {
   runs = inl (record {
     plan = c.in-Ok.plan;
-    planned_desk = (g.D.Desk.view c.plan.new.desk).kept;
-    planned_failures = (g.D.Desk.view c.plan.new.desk).failures;
+    planned_desk = g.D.Desk.view c.plan.new.desk;
     link_failures = c.drive.new.link.failures;
-    made = rw c.in-Ok.is at c.plan.ensures.goes;
-    rises = c.plan.ensures.rises;
+    made = rw c.in-Ok.is at c.plan.ensures;
     runs = rw c.in-Ok-connect.ensures.fresh at c.drive.ensures.runs;
   });
 }

@@ -1,5 +1,5 @@
 use Rattle.avr_message.proofs.Telling.{tells_line}
 use Rattle.avr_serve.proofs.ending.tell.Goals as goal
 
-pub returns-clause-told : goal.returns-clause-told
-returns-clause-told g c = tells_line _ _ _ _ _ c.print_error.result c.print_error.ensures.printed c.print_error.ensures.counts c.print_error.ensures.fault
+pub returns : goal.returns
+returns g c = tells_line _ _ _ c.print_error.result c.print_error.ensures.printed c.print_error.ensures.counts c.print_error.ensures.fault

@@ -5,7 +5,7 @@ use Rattle.avr_serve.proofs.serving.answer_all.Goals as goal
 
 pub loop-turn-init : goal.loop-turn-init
 loop-turn-init g c = record {
-  serves = serves_none c.args.emulator.now (g.L.Link.view c.args.link.now).talk;
+  serves = serves_none c.args.emulator.now (g.L.Link.view c.args.link.now);
   counted = refl;
 }
 

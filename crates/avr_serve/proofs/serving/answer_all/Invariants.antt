@@ -5,6 +5,6 @@ use Rattle.avr_serve.proofs.serving.answer_all.Given as goal
 
 abbrev pub invariant-loop-turn : goal.invariant-loop-turn
 invariant-loop-turn g l = record {
-  serves : Serves l.fn.emulator l.turn TooManyReads (g.L.Link.view l.fn.link).talk (g.L.Link.view l.link).talk l.emulator;
+  serves : Serves l.fn.emulator l.turn TooManyReads (g.L.Link.view l.fn.link) (g.L.Link.view l.link) l.emulator;
   counted : (g.L.Link.view l.link).failures ≡ (g.L.Link.view l.fn.link).failures;
 }

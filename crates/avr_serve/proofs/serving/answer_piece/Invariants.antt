@@ -5,7 +5,7 @@ use Rattle.avr_serve.proofs.serving.answer_piece.Given as goal
 abbrev pub invariant-loop-used : goal.invariant-loop-used
 invariant-loop-used g l = record {
   in_range : l.used ≤ length l.piece;
-  replies : Replies l.fn.emulator (take l.used l.piece) (g.L.Link.view l.fn.link).talk (g.L.Link.view l.link).talk l.emulator;
+  replies : Replies l.fn.emulator (take l.used l.piece) (g.L.Link.view l.fn.link) (g.L.Link.view l.link) l.emulator;
   counted : (g.L.Link.view l.link).failures ≡ (g.L.Link.view l.fn.link).failures;
 }
 
