@@ -21,12 +21,12 @@ use Rattle.stk_emu.specs.Leads.{Leads, GoesAlong}
 use Rattle.stk_emu.specs.Programmer.{Programmer, fresh_programmer}
 use Rattle.stk_emu.specs.Settled.{Idle, FitsPart}
 use Rattle.stk_emu.specs.Wire as line
-use Rattle.stk_emu.specs.Wired.{State, Keeps, ComesOf, IsFresh}
+use Rattle.stk_emu.specs.Wired.{State, Keeps, ComesOf, IsFresh, wired_view}
 use Rattle.stk_emu.proofs.Beginning.{fresh_idle, fresh_fits}
 use Rattle.stk_emu.proofs.SaidAlong.{whole_said}
 use Rattle.stk_emu.proofs.Turning.{whole_along, broken_along, never_idle, shown_front}
 use Rattle.avr_emulated.specs.Again.{AgreesAnyway}
-use Rattle.avr_emulated.specs.AnyLine.{shown_by, weighed, bodies_in, memories, frames_over, Stopped, WereTrue, OverAnyLine}
+use Rattle.avr_emulated.specs.AnyLine.{weighed, bodies_in, memories, frames_over, Stopped, WereTrue, OverAnyLine}
 use Rattle.avr_emulated.specs.Bound.{run_steps}
 use Rattle.avr_emulated.specs.Course.{course}
 use Rattle.avr_emulated.specs.Told.{IsTrue, SaidTrue}
@@ -71,10 +71,10 @@ module _ (plan : Plan) (w v : State) (fresh : IsFresh w) (stays : Stays ComesOf 
 
   -- it was played, or it stopped
   abbrev Whole : Type 0
-  Whole = IsPlayed (session plan) (devices (shown_by w) old) (devices (shown_by v) now) status
+  Whole = IsPlayed (session plan) (devices (wired_view w) old) (devices (wired_view v) now) status
 
   abbrev Either : Type 0
-  Either = RunsTo (session plan) (devices (shown_by w) old) (devices (shown_by v) now) (takes_memory plan) status
+  Either = RunsTo (session plan) (devices (wired_view w) old) (devices (wired_view v) now) (takes_memory plan) status
 
   sound : IsPart plan.part
   sound = subst IsPart part_is is_sound.part
@@ -211,7 +211,7 @@ module _ (plan : Plan) (w v : State) (fresh : IsFresh w) (stays : Stays ComesOf 
 
 -- what was told is a front of what the session tells over what was heard
 module _ (plan : Plan) (w v : State) (d e : DeskView) (status : ℕ) (silent : w.talk ≡ []) (over : OverAnyLine plan w v d e status) where
-  pub played_truly : (whole : IsPlayed (session plan) (devices (shown_by w) d) (devices (shown_by v) e) status) → WereTrue plan w whole.1.events
+  pub played_truly : (whole : IsPlayed (session plan) (devices (wired_view w) d) (devices (wired_view v) e) status) → WereTrue plan w whole.1.events
   played_truly whole =
       let over_heard = ap (λ t. (played (session plan) 1 t).events) (ap heard (sym (all_passed w.talk v.talk whole.1.during silent whole.1.grows)) ∙ sym (append-nil (heard whole.1.during))) in
       subst (WereTrue plan w) (over_heard ∙ ap (λ x. x.events) (whole.1.plays.plays [])) over.believable

@@ -16,10 +16,10 @@ ghost use Rattle.stk_emu.specs.Leads.{Leads};
 ghost use Rattle.stk_emu.specs.Programmer.{Programmer};
 ghost use Rattle.stk_emu.specs.Settled.{Idle, FitsPart};
 ghost use Rattle.stk_emu.specs.Tallies.{Tallies};
-ghost use Rattle.stk_emu.specs.Wired.{State};
+ghost use Rattle.stk_emu.specs.Wired.{State, wired_view};
 ghost use Rattle.stk_emu.specs.declared.fate.Fate.{Fate};
 ghost use Rattle.stk_host.specs.Bound.{SendsAtMost, commands_in};
-ghost use Rattle.avr_emulated.specs.AnyLine.{OverAnyLine, Stopped, WereTrue, shown_by};
+ghost use Rattle.avr_emulated.specs.AnyLine.{OverAnyLine, Stopped, WereTrue};
 ghost use Rattle.avr_emulated.specs.Bound.{run_steps, ListensAtMost};
 ghost use Rattle.avr_emulated.specs.Made.{made_by};
 ghost use Rattle.avr_emulated.specs.Told.{TellsTrue, IsTrue};
@@ -71,7 +71,7 @@ pub fn what_a_run_tells_is_true()
 pub fn what_was_told_was_true()
     ensures played { (plan : Plan) (w v : State) (d e : DeskView) (status : ℕ)
         → w.talk ≡ [] → OverAnyLine plan w v d e status
-        → (whole : IsPlayed (session plan) (devices (shown_by w) d) (devices (shown_by v) e) status)
+        → (whole : IsPlayed (session plan) (devices (wired_view w) d) (devices (wired_view v) e) status)
         → WereTrue plan w whole.1.events }
     ensures stopped { (plan : Plan) (w v : State) (d e : DeskView) (status : ℕ)
         → w.talk ≡ [] → OverAnyLine plan w v d e status

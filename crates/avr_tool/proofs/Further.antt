@@ -10,9 +10,9 @@ use Rattle.avr_session.proofs.SoundRuns.{broke_lacks}
 use Rattle.stk_emu.specs.Effect.{keeps_eeprom}
 use Rattle.stk_emu.specs.Few.{AreFew}
 use Rattle.stk_emu.specs.Settled.{FitsPart}
-use Rattle.stk_emu.specs.Wired.{State}
+use Rattle.stk_emu.specs.Wired.{State, wired_view}
 use Rattle.avr_emulated.specs.Again.{AreKeeping, AgreesAnyway}
-use Rattle.avr_emulated.specs.AnyLine.{shown_by, Stopped, OverAnyLine, memories}
+use Rattle.avr_emulated.specs.AnyLine.{Stopped, OverAnyLine, memories}
 use Rattle.avr_emulated.specs.Items.{items}
 use Rattle.avr_emulated.specs.Outcome.{IsTouched, IsDone, IsCourse}
 use Rattle.avr_emulated.specs.Written.{IsWritten}
@@ -28,7 +28,7 @@ module _ (plan : Plan) (w v : State) (d e : Record) (a b status : ℕ) (few : Ar
   now = keeping e b
 
   goes_on : Stopped plan w v old now → ⊥
-  goes_on broke = has_memory (broke_lacks (session plan) start (shown_by w) (shown_by v) d e a b (takes_memory plan) sound broke)
+  goes_on broke = has_memory (broke_lacks (session plan) start (wired_view w) (wired_view v) d e a b (takes_memory plan) sound broke)
 
   pub sound_course : OverAnyLine plan w v old now status → IsCourse plan (memories w) (memories v) old now status
   sound_course is_over = elim (is_over.few_bad few) [ inl is ↦ is | inr stopped ↦ absurd (goes_on stopped) ]

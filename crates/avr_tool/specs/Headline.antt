@@ -22,7 +22,7 @@ use Rattle.avr_plan.specs.Stage as stage
 use Rattle.avr_plan.specs.Stage.{Answer, Made, Refused, Unread}
 use Rattle.avr_session.specs.Runs.{Devices, devices, start, untold, BrokeOff}
 use Rattle.avr_session.specs.Session.{session, takes_memory}
-use Rattle.avr_emulated.specs.AnyLine.{Weight, weighed, bodies_in, shown_by, Stopped, OverAnyLine}
+use Rattle.avr_emulated.specs.AnyLine.{Weight, weighed, bodies_in, Stopped, OverAnyLine}
 use Rattle.avr_emulated.specs.Bound.{run_steps}
 use Rattle.avr_emulated.specs.Course.{course}
 use Rattle.avr_emulated.specs.Outcome.{IsDone, MakesStrokes}
@@ -31,7 +31,7 @@ use Rattle.stk_emu.specs.Effect.{memories_of}
 use Rattle.stk_emu.specs.Lawful.{none_late}
 use Rattle.stk_emu.specs.Programmer.{Programmer, fresh_programmer}
 use Rattle.stk_emu.specs.Wire.{AreLawful}
-use Rattle.stk_emu.specs.Wired.{State}
+use Rattle.stk_emu.specs.Wired.{State, wired_view}
 use Rattle.stk_emu.specs.declared.fate.Fate.{Fate}
 use Rattle.stk_frame.specs.Cut.{body_of, frames}
 use Rattle.stk_host.specs.Dialog.{Event, Said, Played, played, behind, bytes_sent, sayings}
@@ -137,7 +137,7 @@ pub record IsNew (w : State) : Type 0 where
 
 -- a wire and a desk
 abbrev pub over : State → DeskView → Devices
-over w desk = devices (shown_by w) desk
+over w desk = devices (wired_view w) desk
 
 -- A plan was made of these openings; its session was run, or stopped; and if the chip is of the plan's part, that is
 -- what became of it. A failure of the desk that stopped it is one since before the run.

@@ -115,8 +115,9 @@ pub fn a_further_run_heals()
 pub fn a_worked_run_has_one_outcome()
     ensures status { (talk : Talk) (a b : ℕ) (d e : DeskView)
         → heard talk ≡ answers → IsRun asked (devices (talking [] a) d) (devices (talking talk b) e) 1 → ⊥ }
-    ensures frames { (talk : Talk) (a b : ℕ) (d e : DeskView) (status : ℕ) → heard talk ≡ answers
-        → (sent talk ≡ frames_due → ⊥) → IsRun asked (devices (talking [] a) d) (devices (talking talk b) e) status → ⊥ }
+    ensures frames { (talk : Talk) (a b : ℕ) (d e : DeskView) (status : ℕ)
+        → heard talk ≡ answers → (sent talk ≡ frames_due → ⊥)
+        → IsRun asked (devices (talking [] a) d) (devices (talking talk b) e) status → ⊥ }
     ensures lines { (talk : Talk) (a b : ℕ) (d e : DeskView) (status : ℕ)
         → heard talk ≡ answers → (Passes (after_all lines_due) d e → ⊥)
         → IsRun asked (devices (talking [] a) d) (devices (talking talk b) e) status → ⊥ }
