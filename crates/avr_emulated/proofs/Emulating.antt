@@ -1,7 +1,8 @@
 -- A run over the emulated programmer, from its stages.
-use Rattle.std.proofs.Common.{◌≡◌, ◌≤◌, ℕ, [], All, ap, subst, ◌∙◌}
+use Rattle.std.proofs.Common.{◌≡◌, ℕ, [], All, ap, subst, ◌∙◌}
 use Rattle.avr_chip.specs.Loading.{chip_stage}
 use Rattle.avr_cli.specs.declared.chosen.Settings.{Settings}
+use Rattle.avr_desk.specs.Fault.{Follows}
 use Rattle.avr_desk.specs.Record.{DeskView}
 use Rattle.avr_message.specs.Lines.{Bytes}
 use Rattle.avr_part.specs.ChipFile.{chip_file}
@@ -34,11 +35,11 @@ module _ (settings : Settings) (file : Bytes) (plan : Plan) (chip : Chip) (w v :
 
   pub runs_over_emulator : (old planned_desk loaded_desk played_desk now : DeskView) (ran status : ℕ)
       → Went (planned settings) old planned_desk (Made plan) → Went (chip_stage plan.part file) planned_desk loaded_desk (Made chip)
-      → old.failures ≤ planned_desk.failures → planned_desk.failures ≤ loaded_desk.failures → loaded_desk.failures ≤ played_desk.failures → played_desk.failures ≤ now.failures
+      → Follows loaded_desk played_desk → Follows played_desk now
       → Stays ComesOf w v → (w.wire.programmer.chip.part ≡ plan.part → OverAnyLine plan w v loaded_desk played_desk ran)
       → IsSaved (sent v.talk) played_desk now file (chip_file v.wire.programmer.chip) ran status
       → RunsOverEmulator settings file old now status
-  runs_over_emulator old planned_desk loaded_desk played_desk now ran status made is_loaded by_planning by_loading by_playing by_saving comes line saved = record {
+  runs_over_emulator old planned_desk loaded_desk played_desk now ran status made is_loaded by_playing by_saving comes line saved = record {
     plan = plan;
     chip = chip;
     after = v;
@@ -54,5 +55,5 @@ module _ (settings : Settings) (file : Bytes) (plan : Plan) (chip : Chip) (w v :
     comes = subst (λ (x : State). Stays ComesOf x v) is_new comes;
     line = subst (λ (x : State). OverAnyLine plan x v loaded_desk played_desk ran) is_new (line (ap (λ x. x.programmer.chip.part) begun ∙ part_is));
     saved = saved;
-    in_order = (by_planning, by_loading, by_playing, by_saving);
+    in_order = (by_playing, by_saving);
   }

@@ -10,7 +10,7 @@ use Rattle.stk_frame.specs.Cut.{frames}
 use Rattle.stk_host.specs.Dialog.{played, bytes_sent, sayings}
 use Rattle.stk_host.specs.Play.{Plays, Breaks, InTurn, IsPrefixOf}
 use Rattle.stk_host.specs.Talk.{Talk, Stays, sent, heard}
-use Rattle.avr_session.specs.Runs.{Stops, RunsTo}
+use Rattle.avr_session.specs.Runs.{devices, RunsTo}
 use Rattle.avr_session.specs.Session.{session, is_erase_due, takes_memory}
 use Rattle.avr_session.specs.Stopping.{IsPlayed}
 use Rattle.stk_emu.specs.Along.{along, said_along, AsksBodies}
@@ -21,7 +21,7 @@ use Rattle.stk_emu.specs.Leads.{Leads, GoesAlong}
 use Rattle.stk_emu.specs.Programmer.{Programmer, fresh_programmer}
 use Rattle.stk_emu.specs.Settled.{Idle, FitsPart}
 use Rattle.stk_emu.specs.Wire as line
-use Rattle.stk_emu.specs.Wired.{State, Keeps, ComesOf, IsFresh}
+use Rattle.stk_emu.specs.Wired.{State, Keeps, ComesOf, IsFresh, wired_view}
 use Rattle.stk_emu.proofs.Beginning.{fresh_idle, fresh_fits}
 use Rattle.stk_emu.proofs.SaidAlong.{whole_said}
 use Rattle.stk_emu.proofs.Turning.{whole_along, broken_along, never_idle, shown_front}
@@ -71,10 +71,10 @@ module _ (plan : Plan) (w v : State) (fresh : IsFresh w) (stays : Stays ComesOf 
 
   -- it was played, or it stopped
   abbrev Whole : Type 0
-  Whole = IsPlayed (session plan) (Some w.talk) (Some v.talk) old.kept now.kept status
+  Whole = IsPlayed (session plan) (devices (wired_view w) old) (devices (wired_view v) now) status
 
   abbrev Either : Type 0
-  Either = RunsTo (session plan) (Some w.talk) (Some v.talk) old.kept now.kept (Stops (takes_memory plan) w.failures v.failures old.failures now.failures) status
+  Either = RunsTo (session plan) (devices (wired_view w) old) (devices (wired_view v) now) (takes_memory plan) status
 
   sound : IsPart plan.part
   sound = subst IsPart part_is is_sound.part
@@ -96,14 +96,14 @@ module _ (plan : Plan) (w v : State) (fresh : IsFresh w) (stays : Stays ComesOf 
 
   -- a run that was played whole went along the line to its status
   module _ (whole : Whole) where
-    plays : Plays (session plan) 1 [] v.talk whole.2.events status whole.0 whole.1
-    plays = subst (λ talk. Plays (session plan) 1 [] talk whole.2.events status whole.0 whole.1) (all_passed w.talk v.talk whole.2.during fresh.silent whole.2.grows) whole.2.plays
+    plays : Plays (session plan) 1 [] v.talk whole.1.events status whole.0.next whole.0.unread
+    plays = subst (λ talk. Plays (session plan) 1 [] talk whole.1.events status whole.0.next whole.0.unread) (all_passed w.talk v.talk whole.1.during fresh.silent whole.1.grows) whole.1.plays
 
-    goes : GoesAlong (session plan) begun w.wire.fates v status whole.1
-    goes = whole_along (session plan) 1 begun w.wire.fates v asks fresh.lawful keeps plays.in_turn whole.2.events status whole.0 whole.1 plays
+    goes : GoesAlong (session plan) begun w.wire.fates v status whole.0.unread
+    goes = whole_along (session plan) 1 begun w.wire.fates v asks fresh.lawful keeps plays.in_turn whole.1.events status whole.0.next whole.0.unread plays
 
-    says : sayings whole.2.events ≡ said_along device count (session plan) begun w.wire.fates
-    says = whole_said (session plan) 1 begun w.wire.fates v whole.2.events status whole.0 whole.1 asks fresh.lawful keeps plays
+    says : sayings whole.1.events ≡ said_along device count (session plan) begun w.wire.fates
+    says = whole_said (session plan) 1 begun w.wire.fates v whole.1.events status whole.0.next whole.0.unread asks fresh.lawful keeps plays
 
     ran_done : status ≡ 0 → IsDone plan before after
     ran_done zero = subst (λ (q : Programmer). IsDone plan before (memories_of q.chip)) (sym goes.programmer) (leads.after count status goes.result zero)
@@ -112,7 +112,7 @@ module _ (plan : Plan) (w v : State) (fresh : IsFresh w) (stays : Stays ComesOf 
     has_course : Came status (course plan before).status (said_along device count (session plan) begun w.wire.fates) (course plan before).says
         (memories_of (along device count (session plan) begun w.wire.fates).programmer.chip ≡ (course plan before).memories) → IsCourse plan before after old now status
     has_course c = record {
-      said = whole.2.kept ∙ ap (λ said. option_map (after_all said) old.kept) (says ∙ c.sayings);
+      said = whole.1.kept ∙ ap (λ said. option_map (after_all said) old.kept) (says ∙ c.sayings);
       status_is = c.result;
       memories = ap (λ (q : Programmer). memories_of q.chip) goes.programmer ∙ c.after;
     }
@@ -211,10 +211,10 @@ module _ (plan : Plan) (w v : State) (fresh : IsFresh w) (stays : Stays ComesOf 
 
 -- what was told is a front of what the session tells over what was heard
 module _ (plan : Plan) (w v : State) (d e : DeskView) (status : ℕ) (silent : w.talk ≡ []) (over : OverAnyLine plan w v d e status) where
-  pub played_truly : (whole : IsPlayed (session plan) (Some w.talk) (Some v.talk) d.kept e.kept status) → WereTrue plan w whole.2.events
+  pub played_truly : (whole : IsPlayed (session plan) (devices (wired_view w) d) (devices (wired_view v) e) status) → WereTrue plan w whole.1.events
   played_truly whole =
-      let over_heard = ap (λ t. (played (session plan) 1 t).events) (ap heard (sym (all_passed w.talk v.talk whole.2.during silent whole.2.grows)) ∙ sym (append-nil (heard whole.2.during))) in
-      subst (WereTrue plan w) (over_heard ∙ ap (λ x. x.events) (whole.2.plays.plays [])) over.believable
+      let over_heard = ap (λ t. (played (session plan) 1 t).events) (ap heard (sym (all_passed w.talk v.talk whole.1.during silent whole.1.grows)) ∙ sym (append-nil (heard whole.1.during))) in
+      subst (WereTrue plan w) (over_heard ∙ ap (λ x. x.events) (whole.1.plays.plays [])) over.believable
 
   pub stopped_truly : (stopped : Stopped plan w v d e) → WereTrue plan w stopped.breaks.front.whole
   stopped_truly stopped =

@@ -1,16 +1,16 @@
 -- Section 4 of the page (avr_tool's specs/Headline): what the session of a plan does over a wire to the emulated
 -- programmer, whatever the line loses, delays and spoils.
-use Rattle.std.specs.Prelude.{ℕ, ◌+◌, ◌*◌, ◌≡◌, ◌≤◌, ◌⊎◌, true, false, List, [], ◌∷◌, ◌++◌, map, length, Some}
+use Rattle.std.specs.Prelude.{ℕ, ◌+◌, ◌*◌, ◌≡◌, ◌≤◌, ◌⊎◌, true, false, List, [], ◌∷◌, ◌++◌, map, length}
 use Rattle.avr_desk.specs.Record.{DeskView}
 use Rattle.avr_message.specs.Said.{Saying}
 use Rattle.avr_plan.specs.Plan.{Plan}
-use Rattle.avr_session.specs.Runs.{BrokeOff, Stops}
+use Rattle.avr_session.specs.Runs.{devices, start, untold, BrokeOff}
 use Rattle.avr_session.specs.Session.{session, is_erase_due, takes_memory}
 use Rattle.stk_emu.specs.Device.{device}
 use Rattle.stk_emu.specs.Effect.{Memories, memories_of}
 use Rattle.stk_emu.specs.Few.{AreFew}
 use Rattle.stk_emu.specs.Programmer.{fresh_programmer}
-use Rattle.stk_emu.specs.Wired.{State}
+use Rattle.stk_emu.specs.Wired.{State, wired_view}
 use Rattle.stk_frame.specs.Commands.{body}
 use Rattle.stk_frame.specs.Cut.{body_of, frames}
 use Rattle.stk_frame.specs.declared.command.Command.{Command}
@@ -46,8 +46,8 @@ frames_over w = frames (sent w.talk)
 -- takes memory.
 abbrev pub Stopped : Plan → State → State → DeskView → DeskView → Type 0
 Stopped plan before after old now =
-    BrokeOff (session plan) 1 [] (Some before.talk) (Some after.talk) old.kept now.kept
-    (Stops (takes_memory plan) before.failures after.failures old.failures now.failures)
+    BrokeOff (session plan) start (devices (wired_view before) old) (devices (wired_view after) now)
+    (untold (takes_memory plan))
 
 -- Whatever is told among these events was true of the chip as the frames sent before had left it.
 abbrev pub WereTrue : Plan → State → List (Event Saying) → Type 0
@@ -72,8 +72,8 @@ pub record OverAnyLine (plan : Plan) (before after : State) (old now : DeskView)
   -- at most four frames for each command of the plan's steps, by every weight of bodies
   pub four : (weight : Weight) → weighed weight (map body_of (frames_over after))
       ≤ 4 * weighed weight (bodies_in (run_steps plan))
-  -- whatever the status: each line that the session tells and each file that it writes, over what was heard, was true of
-  -- the chip at that moment; and what was told and written is a front of that
+  -- whatever the status: each line that the session tells and each file that it writes, over what was heard, was true
+  -- of the chip at that moment; and what was told and written is a front of that
   pub believable : WereTrue plan before (played (session plan) 1 (heard after.talk)).events
   -- a line that is bad, but not too bad, changes nothing: where of any seven frames in a row at most three go wrong,
   -- of which a reset counts four, the session is its course, unless it stopped

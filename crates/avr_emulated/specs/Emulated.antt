@@ -1,8 +1,9 @@
 -- Section 6 of the page (avr_tool's specs/Headline): a run over the emulator, whose chip has a file.
-use Rattle.std.specs.Prelude.{◌≡◌, ◌≤◌, ◌⊎◌, ℕ, List, [], ◌∷◌, All, Ok, Err}
+use Rattle.std.specs.Prelude.{◌≡◌, ◌⊎◌, ℕ, List, [], ◌∷◌, All, Ok, Err}
 use Rattle.avr_chip.specs.Loading.{chip_stage}
 use Rattle.avr_chip.specs.Saving.{Saves}
 use Rattle.avr_cli.specs.declared.chosen.Settings.{Settings}
+use Rattle.avr_desk.specs.Fault.{Follows}
 use Rattle.avr_desk.specs.Record.{DeskView}
 use Rattle.avr_message.specs.Lines.{Bytes}
 use Rattle.avr_part.specs.ChipFile.{chip_file}
@@ -21,7 +22,7 @@ use Rattle.avr_emulated.specs.AnyLine.{OverAnyLine}
 
 -- The chip's file is written again if anything was sent; where it can't be, the status is 1.
 abbrev pub IsSaved : List ℕ → DeskView → DeskView → Bytes → Bytes → ℕ → ℕ → Type 0
-IsSaved [] old now file bytes ran status = (now.kept ≡ old.kept) × (status ≡ ran)
+IsSaved [] old now file bytes ran status = (now ≡ old) × (status ≡ ran)
 IsSaved (byte ∷ sent) old now file bytes ran status =
     (Saves old now file bytes (Ok tt) × (status ≡ ran))
     ⊎ ((fault : ℕ) × Saves old now file bytes (Err fault) × (status ≡ 1))
@@ -51,20 +52,17 @@ pub record RunsOverEmulator (settings : Settings) (file : Bytes) (old now : Desk
   pub comes : Stays ComesOf (new_wire chip []) after
   pub line : OverAnyLine plan (new_wire chip []) after loaded_desk played_desk ran
   pub saved : IsSaved (sent after.talk) played_desk now file (chip_file after.wire.programmer.chip) ran status
-  pub in_order : (old.failures ≤ planned_desk.failures) × (planned_desk.failures ≤ loaded_desk.failures)
-      × (loaded_desk.failures ≤ played_desk.failures) × (played_desk.failures ≤ now.failures)
+  pub in_order : Follows loaded_desk played_desk × Follows played_desk now
 
 -- there is a plan, but no chip: nothing was sent
 pub record LacksChip (settings : Settings) (file : Bytes) (old now : DeskView) (status : ℕ) : Type 0 where
   pub plan : Plan
   pub between : DeskView
   pub made : Went (planned settings) old between (Made plan)
-  pub in_order : old.failures ≤ between.failures
   pub refused : Goes (chip_stage plan.part file) between now (Err status)
 
 -- a whole run; or there is no chip, or no plan, and the status is 1
 abbrev pub RunsEmulator : Settings → Bytes → DeskView → DeskView → ℕ → Type 0
 RunsEmulator settings file old now status =
     RunsOverEmulator settings file old now status
-    ⊎ (LacksChip settings file old now status
-    ⊎ Goes (planned settings) old now (Err status))
+    ⊎ (LacksChip settings file old now status ⊎ Goes (planned settings) old now (Err status))

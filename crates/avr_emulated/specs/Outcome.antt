@@ -1,6 +1,6 @@
 -- What a run leaves in a chip, whatever the line did.
-use Rattle.std.specs.Prelude.{ℕ, suc, ◌≡◌, ◌≤◌, ◌-◌, List, option_map, take}
-use Rattle.avr_desk.specs.Record.{DeskView}
+use Rattle.std.specs.Prelude.{ℕ, suc, ◌≡◌, ◌≤◌, ◌-◌, List, take}
+use Rattle.avr_desk.specs.Record.{DeskView, Passes}
 use Rattle.avr_message.specs.Said.{after_all}
 use Rattle.avr_plan.specs.Plan.{Plan}
 use Rattle.stk_emu.specs.declared.fate.Fate.{Fate}
@@ -37,6 +37,6 @@ pub record IsDone (plan : Plan) (before after : Memories) : Type 0 where
 
 -- A run that went as its course says: what was said at the desk, its status, and the memories.
 pub record IsCourse (plan : Plan) (before after : Memories) (old new : DeskView) (status : ℕ) : Type 0 where
-  pub said : new.kept ≡ option_map (after_all (course plan before).says) old.kept
+  pub said : Passes (after_all (course plan before).says) old new
   pub status_is : status ≡ (course plan before).status
   pub memories : after ≡ (course plan before).memories

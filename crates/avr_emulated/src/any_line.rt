@@ -1,11 +1,12 @@
 //! What a run leaves in a chip, whatever the line does, and in which order; and how much it sends. No code.
 #![tactic(auto)]
 
-ghost use Rattle.std.specs.Prelude.{◌≡◌, ◌*◌, ℕ, List, [], All, Some, take};
+ghost use Rattle.std.specs.Prelude.{◌≡◌, ◌*◌, ℕ, List, [], All, take};
 ghost use Rattle.avr_desk.specs.Record.{DeskView};
 ghost use Rattle.avr_message.specs.Said.{SaidPart};
 ghost use Rattle.avr_part.specs.Part.{IsPart};
 ghost use Rattle.avr_plan.specs.Plan.{Plan, IsFitted};
+ghost use Rattle.avr_session.specs.Runs.{devices};
 ghost use Rattle.avr_session.specs.Session.{session};
 ghost use Rattle.avr_session.specs.Stopping.{IsPlayed};
 ghost use Rattle.stk_emu.specs.Along.{AsksBodies};
@@ -15,7 +16,7 @@ ghost use Rattle.stk_emu.specs.Leads.{Leads};
 ghost use Rattle.stk_emu.specs.Programmer.{Programmer};
 ghost use Rattle.stk_emu.specs.Settled.{Idle, FitsPart};
 ghost use Rattle.stk_emu.specs.Tallies.{Tallies};
-ghost use Rattle.stk_emu.specs.Wired.{State};
+ghost use Rattle.stk_emu.specs.Wired.{State, wired_view};
 ghost use Rattle.stk_emu.specs.declared.fate.Fate.{Fate};
 ghost use Rattle.stk_host.specs.Bound.{SendsAtMost, commands_in};
 ghost use Rattle.avr_emulated.specs.AnyLine.{OverAnyLine, Stopped, WereTrue};
@@ -70,8 +71,8 @@ pub fn what_a_run_tells_is_true()
 pub fn what_was_told_was_true()
     ensures played { (plan : Plan) (w v : State) (d e : DeskView) (status : ℕ)
         → w.talk ≡ [] → OverAnyLine plan w v d e status
-        → (whole : IsPlayed (session plan) (Some w.talk) (Some v.talk) d.kept e.kept status)
-        → WereTrue plan w whole.2.events }
+        → (whole : IsPlayed (session plan) (devices (wired_view w) d) (devices (wired_view v) e) status)
+        → WereTrue plan w whole.1.events }
     ensures stopped { (plan : Plan) (w v : State) (d e : DeskView) (status : ℕ)
         → w.talk ≡ [] → OverAnyLine plan w v d e status
         → (stopped : Stopped plan w v d e) → WereTrue plan w stopped.breaks.front.whole }

@@ -1,5 +1,5 @@
 //! A run over the emulated programmer, from settings to status.
-ghost use Rattle.std.specs.Prelude.{◌≤◌};
+ghost use Rattle.avr_desk.specs.Fault.{Follows};
 ghost use Rattle.avr_part.specs.ChipFile.{chip_file};
 ghost use Rattle.stk_host.specs.Talk.{sent};
 ghost use Rattle.avr_emulated.specs.Emulated.{IsSaved, RunsEmulator};
@@ -16,7 +16,7 @@ use stk_emu::Wired;
 fn save_if_sent<D: Desk>(alloc: Global, wire: &Wired, file: &str, desk: &mut D, status: u8) -> u8
     ensures saved { IsSaved (sent wire.now.talk) (D.view desk.old) (D.view desk.new) file.now
         (chip_file wire.now.wire.programmer.chip) status result }
-    ensures rises { (D.view desk.old).failures ≤ (D.view desk.new).failures }
+    ensures follows { Follows (D.view desk.old) (D.view desk.new) }
 {
     if wire.sent().is_empty() {
         return status;

@@ -1,9 +1,10 @@
 //! A run over a wire to the emulated programmer.
-ghost use Rattle.std.specs.Prelude.{◌≡◌, ◌≤◌, Some};
+ghost use Rattle.std.specs.Prelude.{◌≡◌};
+ghost use Rattle.avr_desk.specs.Fault.{Follows};
 ghost use Rattle.avr_emulated.specs.AnyLine.{OverAnyLine};
-ghost use Rattle.avr_session.specs.Runs.{RunsTo, Stops};
+ghost use Rattle.avr_session.specs.Runs.{RunsTo, devices};
 ghost use Rattle.avr_session.specs.Session.{session, takes_memory};
-ghost use Rattle.stk_emu.specs.Wired.{ComesOf, IsFresh};
+ghost use Rattle.stk_emu.specs.Wired.{ComesOf, IsFresh, wired_view};
 ghost use Rattle.stk_host.specs.Talk.{Stays};
 
 use avr_desk::Desk;
@@ -18,11 +19,10 @@ use stk_emu::Wired;
 pub fn drive_wired<D: Desk>(alloc: Global, plan: &Plan, desk: &mut D, wire: &mut Wired) -> u8
     requires fresh { IsFresh wire.old }
     // What is sent, said and answered is the play of the session.
-    ensures runs { RunsTo (session plan.now) (Some wire.old.talk) (Some wire.new.talk)
-        (D.view desk.old).kept (D.view desk.new).kept (Stops (takes_memory plan.now)
-        wire.old.failures wire.new.failures (D.view desk.old).failures (D.view desk.new).failures) result }
+    ensures runs { RunsTo (session plan.now) (devices (wired_view wire.old) (D.view desk.old))
+        (devices (wired_view wire.new) (D.view desk.new)) (takes_memory plan.now) result }
     // The count of the desk's failures never falls.
-    ensures rises { (D.view desk.old).failures ≤ (D.view desk.new).failures }
+    ensures follows { Follows (D.view desk.old) (D.view desk.new) }
     // Whatever the wire began as, it is still one that did.
     ensures comes { Stays ComesOf wire.old wire.new }
     // With a chip of the plan's part this is what became of it, whatever the line loses, delays and spoils.

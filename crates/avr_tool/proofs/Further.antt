@@ -1,15 +1,16 @@
 -- A run over a line on which few frames go wrong, and the same one once more, over the chip that a first one left.
-use Rattle.std.proofs.Common.{◌≡◌, ◌⊎◌, ℕ, All, ◌∙◌, inl, inr, true, false, Some, []}
+use Rattle.std.proofs.Common.{◌≡◌, ◌⊎◌, ℕ, All, ◌∙◌, inl, inr, true, false}
 use Rattle.avr_desk.specs.Record.{DeskView, Record}
 use Rattle.avr_part.specs.Part.{IsPart}
 use Rattle.avr_plan.specs.Plan.{Plan, IsFitted}
+use Rattle.avr_session.specs.Runs.{start}
 use Rattle.avr_session.specs.Session.{session, is_erase_due, takes_memory}
-use Rattle.avr_session.specs.Stopping.{IsSound, LacksMemory}
+use Rattle.avr_session.specs.Stopping.{IsSound, LacksMemory, keeping}
 use Rattle.avr_session.proofs.SoundRuns.{broke_lacks}
 use Rattle.stk_emu.specs.Effect.{keeps_eeprom}
 use Rattle.stk_emu.specs.Few.{AreFew}
 use Rattle.stk_emu.specs.Settled.{FitsPart}
-use Rattle.stk_emu.specs.Wired.{State}
+use Rattle.stk_emu.specs.Wired.{State, wired_view}
 use Rattle.avr_emulated.specs.Again.{AreKeeping, AgreesAnyway}
 use Rattle.avr_emulated.specs.AnyLine.{Stopped, OverAnyLine, memories}
 use Rattle.avr_emulated.specs.Items.{items}
@@ -17,23 +18,24 @@ use Rattle.avr_emulated.specs.Outcome.{IsTouched, IsDone, IsCourse}
 use Rattle.avr_emulated.specs.Written.{IsWritten}
 use Rattle.avr_emulated.proofs.AgainAgrees.{agrees_anyway}
 use Rattle.avr_emulated.proofs.AgainHeals.{done_again}
+use Rattle.avr_tool.specs.Headline.{over}
 
-module _ (plan : Plan) (w v : State) (d e : Record) (a b status : ℕ) (few : AreFew w.wire.fates) (sound : IsSound w.failures v.failures a b) (has_memory : LacksMemory e.messages → ⊥) where
+module _ (plan : Plan) (w v : State) (d e : Record) (a b status : ℕ) (few : AreFew w.wire.fates) (sound : IsSound (over w (keeping d a)) (over v (keeping e b))) (has_memory : LacksMemory e.messages → ⊥) where
   abbrev old : DeskView
-  old = record { kept = Some d; failures = a }
+  old = keeping d a
 
   abbrev now : DeskView
-  now = record { kept = Some e; failures = b }
+  now = keeping e b
 
   goes_on : Stopped plan w v old now → ⊥
-  goes_on broke = has_memory (broke_lacks (session plan) 1 [] (Some w.talk) (Some v.talk) d e (takes_memory plan) w.failures v.failures a b sound broke)
+  goes_on broke = has_memory (broke_lacks (session plan) start (wired_view w) (wired_view v) d e a b (takes_memory plan) sound broke)
 
   pub sound_course : OverAnyLine plan w v old now status → IsCourse plan (memories w) (memories v) old now status
-  sound_course over = elim (over.few_bad few) [ inl is ↦ is | inr stopped ↦ absurd (goes_on stopped) ]
+  sound_course is_over = elim (is_over.few_bad few) [ inl is ↦ is | inr stopped ↦ absurd (goes_on stopped) ]
 
   pub sound_images : plan.switches.dry ≡ false → plan.switches.no_verify ≡ false → is_erase_due plan.switches plan.tasks ≡ true → AgreesAnyway plan
       → OverAnyLine plan w v old now status → (status ≡ 0) × IsWritten plan (memories w) (memories v)
-  sound_images wet verified due both over = elim (over.again few wet due both) [ inl zero ↦ (zero, over.images zero wet verified) | inr stopped ↦ absurd (goes_on stopped) ]
+  sound_images wet verified due both is_over = elim (is_over.again few wet due both) [ inl zero ↦ (zero, is_over.images zero wet verified) | inr stopped ↦ absurd (goes_on stopped) ]
 
 pub further_heals : (plan : Plan) (w v x y : State) (d e f g : DeskView) (status further : ℕ)
     → IsPart plan.part → All (IsFitted plan.part) plan.tasks → FitsPart plan.part (memories w)

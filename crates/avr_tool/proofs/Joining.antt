@@ -16,6 +16,7 @@ use Rattle.stk_host.specs.Tape.{Tape, on_tape}
 use Rattle.stk_host.specs.Play.{TurnsFrom, IsFront}
 use Rattle.stk_host.proofs.Talks.{grows_none}
 use Rattle.avr_session.specs.Run.{RunsSettings}
+use Rattle.avr_session.specs.Runs.{Devices, devices}
 use Rattle.avr_session.specs.Session.{session}
 use Rattle.avr_session.specs.Stopping.{IsPlayed}
 use Rattle.avr_tool.specs.Headline.{run, after_planning, IsInTurn, IsRun, IsFrontOfRun, StoppedPlaying, IsStopped}
@@ -40,31 +41,31 @@ turns settings openings says left plan is tape bytes (Got items ∷ talk) due =
     )
 
 -- what a plan made, and its session whole
-pub ran_whole : (settings : Settings) (plan : Plan) (k l : LinkView) (d between e : DeskView) (status : ℕ)
-    → Went (planned settings) d between (Made plan) → IsPlayed (session plan) k.talk l.talk between.kept e.kept status → IsRun settings k l d e status
-ran_whole settings plan k l d between e status went whole =
-    let ran = whole.2 in
+pub ran_whole : (settings : Settings) (plan : Plan) (x y : Devices) (between : DeskView) (status : ℕ)
+    → Went (planned settings) x.desk between (Made plan) → IsPlayed (session plan) (devices x.link between) y status → IsRun settings x y status
+ran_whole settings plan x y between status went whole =
+    let ran = whole.1 in
     record {
       openings = went.passed;
       during = ran.during;
       events = map Said went.says ++ ran.events;
-      next = whole.0;
-      left = whole.1;
+      next = whole.0.next;
+      left = whole.0.unread;
       is = λ later more. ap (λ q. after_planning q (heard ran.during ++ more)) (went.comes later) ∙ ap (behind (map Said went.says)) (ran.plays.plays more);
       in_turn = λ later. turns settings (went.passed ++ later) went.says later plan (went.comes later) [] [] ran.during ran.plays.in_turn;
       all_sent = said_bytes went.says ran.events ∙ ran.plays.all_sent;
       grows = ran.grows;
-      kept = kept_append went.says (sayings ran.events) d.kept between.kept e.kept went.kept ran.kept ∙ ap (λ says. option_map (after_all says) d.kept) (sym (said_sayings went.says ran.events));
+      kept = kept_append went.says (sayings ran.events) x.desk.kept between.kept y.desk.kept went.kept ran.kept ∙ ap (λ says. option_map (after_all says) x.desk.kept) (sym (said_sayings went.says ran.events));
       few = ran.few (omega arith);
     }
 
-pub ran_openings : (settings : Settings) (plan : Plan) (k l : LinkView) (d between e : DeskView) (status : ℕ) (went : Went (planned settings) d between (Made plan))
-    (whole : IsPlayed (session plan) k.talk l.talk between.kept e.kept status) → (ran_whole settings plan k l d between e status went whole).openings ≡ went.passed
+pub ran_openings : (settings : Settings) (plan : Plan) (x y : Devices) (between : DeskView) (status : ℕ) (went : Went (planned settings) x.desk between (Made plan))
+    (whole : IsPlayed (session plan) (devices x.link between) y status) → (ran_whole settings plan x y between status went whole).openings ≡ went.passed
 unfolding ran_whole
-ran_openings settings plan k l d between e status went whole = refl
+ran_openings settings plan x y between status went whole = refl
 
-pub refused_whole : (settings : Settings) (k l : LinkView) (d e : DeskView) → l.talk ≡ k.talk → Went (planned settings) d e Refused → IsRun settings k l d e 1
-refused_whole settings k l d e same went = record {
+pub refused_whole : (settings : Settings) (x y : Devices) → y.link ≡ x.link → Went (planned settings) x.desk y.desk Refused → IsRun settings x y 1
+refused_whole settings x y same went = record {
   openings = went.passed;
   during = [];
   events = map Said went.says ++ [];
@@ -73,21 +74,18 @@ refused_whole settings k l d e same went = record {
   is = λ later more. ap (λ q. after_planning q more) (went.comes later);
   in_turn = λ later. tt;
   all_sent = said_bytes went.says [];
-  grows = subst (Grows k.talk []) (sym same) (grows_none k.talk);
-  kept = went.kept ∙ ap (λ says. option_map (after_all says) d.kept) (sym (said_sayings went.says [] ∙ append-nil went.says));
+  grows = subst (λ (l : LinkView). Grows x.link.talk [] l.talk) (sym same) (grows_none x.link.talk);
+  kept = went.kept ∙ ap (λ says. option_map (after_all says) x.desk.kept) (sym (said_sayings went.says [] ∙ append-nil went.says));
   few = omega arith;
 }
 
-pub is_run : (settings : Settings) (k l : LinkView) (d e : DeskView) (status : ℕ) → RunsSettings settings k.talk l.talk d.kept e.kept k.failures l.failures d.failures e.failures status
-    → IsRun settings k l d e status ⊎ IsStopped settings k l d e status
-is_run settings k l d e status (inl runs) =
-    let between : DeskView = record { kept = runs.between; failures = runs.count } in
-    elim runs.runs [
-      | inl whole ↦ inl (ran_whole settings runs.plan k l d between e status runs.made whole)
-      | inr broke ↦ inr (inl (record { plan = runs.plan; between = between; made = runs.made; rises = runs.rises; broke = broke.0; status_is = broke.1 }))
-    ]
-is_run settings k l d e status (inr none) = elim none.refused [
-  | inl went ↦ inl (subst (IsRun settings k l d e) (sym none.status_is) (refused_whole settings k l d e none.same went))
+pub is_run : (settings : Settings) (x y : Devices) (status : ℕ) → RunsSettings settings x y status → IsRun settings x y status ⊎ IsStopped settings x y status
+is_run settings x y status (inl runs) = elim runs.runs [
+  | inl whole ↦ inl (ran_whole settings runs.plan x y runs.between status runs.made whole)
+  | inr broke ↦ inr (inl (record { plan = runs.plan; between = runs.between; made = runs.made; broke = broke.0; status_is = broke.1 }))
+]
+is_run settings x y status (inr none) = elim none.refused [
+  | inl went ↦ inl (subst (IsRun settings x y) (sym none.status_is) (refused_whole settings x y none.same went))
   | inr broke ↦ inr (inr (record { broke = broke; same = none.same; status_is = none.status_is }))
 ]
 
@@ -101,8 +99,8 @@ behind_front says f = record {
   part = f.part;
 }
 
-pub stopped_front : (settings : Settings) (k l : LinkView) (d e : DeskView) (status : ℕ) → StoppedPlaying settings k l d e status → IsFrontOfRun settings k l
-stopped_front settings k l d e status stopped = record {
+pub stopped_front : (settings : Settings) (x y : Devices) (status : ℕ) → StoppedPlaying settings x y status → IsFrontOfRun settings x y
+stopped_front settings x y status stopped = record {
   openings = stopped.made.passed;
   during = stopped.broke.during;
   shown = map Said stopped.made.says ++ stopped.broke.shown;
@@ -117,8 +115,8 @@ some_is : {A : Type 0} (a b : A) → Some a ≡ Some b → a ≡ b
 some_is a b e = cc
 
 -- the same openings and the same items heard come to one status
-pub one_status : (settings : Settings) (i j k l : LinkView) (d e f g : DeskView) (m n : ℕ) (x : IsRun settings i j d e m) (y : IsRun settings k l f g n) → x.openings ≡ y.openings → heard x.during ≡ heard y.during → m ≡ n
-one_status settings i j k l d e f g m n x y same alike =
+pub one_status : (settings : Settings) (h i j k : Devices) (m n : ℕ) (x : IsRun settings h i m) (y : IsRun settings j k n) → x.openings ≡ y.openings → heard x.during ≡ heard y.during → m ≡ n
+one_status settings h i j k m n x y same alike =
     let both : run settings (x.openings ++ []) (heard x.during ++ []) ≡ run settings (y.openings ++ []) (heard y.during ++ []) = ap (λ os. run settings (os ++ []) (heard x.during ++ [])) same ∙ ap (λ t. run settings (y.openings ++ []) (t ++ [])) alike in
     let outcomes = sym (ap (λ z. z.outcome) (x.is [] [])) ∙ (ap (λ z. z.outcome) both ∙ ap (λ z. z.outcome) (y.is [] [])) in
     ap (λ z. z.0) (some_is (m, x.next, on_tape x.left ++ []) (n, y.next, on_tape y.left ++ []) outcomes)

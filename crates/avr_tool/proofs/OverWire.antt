@@ -1,13 +1,14 @@
 -- A run over a wire to the emulated programmer, by the page's words.
-use Rattle.std.proofs.Common.{◌≡◌, ◌≤◌, ◌⊎◌, ℕ, [], ◌++◌, refl, sym, ap, ◌∙◌, subst, inl, inr, Some}
+use Rattle.std.proofs.Common.{◌≡◌, ◌⊎◌, ℕ, [], ◌++◌, refl, sym, ap, ◌∙◌, subst, inl, inr, Err}
 use Rattle.avr_cli.specs.declared.chosen.Settings.{Settings}
+use Rattle.avr_desk.specs.Fault.{Follows}
 use Rattle.avr_desk.specs.Record.{DeskView}
 use Rattle.avr_plan.specs.Plan.{Plan}
 use Rattle.avr_plan.specs.Planning.{planned}
 use Rattle.avr_plan.specs.Playing as planning
-use Rattle.avr_plan.specs.Playing.{Went}
+use Rattle.avr_plan.specs.Playing.{Went, Goes}
 use Rattle.avr_plan.specs.Stage.{Made, Refused}
-use Rattle.avr_session.specs.Runs.{Stops, RunsTo}
+use Rattle.avr_session.specs.Runs.{RunsTo}
 use Rattle.avr_session.specs.Session.{session, takes_memory}
 use Rattle.stk_frame.specs.Cut.{frames}
 use Rattle.stk_frame.specs.Reader.{Stands}
@@ -19,7 +20,7 @@ use Rattle.stk_emu.specs.Wire as wire
 use Rattle.stk_emu.specs.Wire.{Wire, wire_after}
 use Rattle.stk_emu.specs.Wired.{State, IsFresh}
 use Rattle.avr_emulated.specs.AnyLine.{Stopped, OverAnyLine}
-use Rattle.avr_tool.specs.Headline.{IsRun, StoppedPlanning, IsNew, shown_by, RunsOverWire, RunsNowhere}
+use Rattle.avr_tool.specs.Headline.{IsRun, StoppedPlanning, IsNew, over, RunsOverWire, RunsNowhere}
 use Rattle.avr_tool.proofs.Joining.{ran_whole, ran_openings, refused_whole}
 
 -- a new wire keeps what its frames have brought, as there are none
@@ -40,29 +41,28 @@ is_fresh w new = record {
 
 module _ (settings : Settings) (old now : DeskView) (status : ℕ) where
   -- a plan that was made, and its session
-  module _ (plan : Plan) (w v : State) (between : DeskView) (made : Went (planned settings) old between (Made plan)) (rises : old.failures ≤ between.failures) (until : between.failures ≤ now.failures) where
-    run_or_stop : RunsTo (session plan) (Some w.talk) (Some v.talk) between.kept now.kept (Stops (takes_memory plan) w.failures v.failures between.failures now.failures) status
-        → ((r : IsRun settings (shown_by w) (shown_by v) old now status) × (r.openings ≡ made.passed))
-        ⊎ (Stopped plan w v between now × (status ≡ 1))
-    run_or_stop (inl whole) = inl (ran_whole settings plan (shown_by w) (shown_by v) old between now status made whole, ran_openings settings plan (shown_by w) (shown_by v) old between now status made whole)
+  module _ (plan : Plan) (w v : State) (between : DeskView) (made : Went (planned settings) old between (Made plan)) (follows : Follows between now) where
+    run_or_stop : RunsTo (session plan) (over w between) (over v now) (takes_memory plan) status
+        → ((r : IsRun settings (over w old) (over v now) status) × (r.openings ≡ made.passed)) ⊎ (Stopped plan w v between now × (status ≡ 1))
+    run_or_stop (inl whole) = inl (ran_whole settings plan (over w old) (over v now) between status made whole, ran_openings settings plan (over w old) (over v now) between status made whole)
     run_or_stop (inr broke) = inr broke
 
-    pub runs_over_wire : RunsTo (session plan) (Some w.talk) (Some v.talk) between.kept now.kept (Stops (takes_memory plan) w.failures v.failures between.failures now.failures) status
+    pub runs_over_wire : RunsTo (session plan) (over w between) (over v now) (takes_memory plan) status
         → (w.wire.programmer.chip.part ≡ plan.part → OverAnyLine plan w v between now status) → RunsOverWire settings w v old now status
     runs_over_wire runs line = record {
       plan = plan;
       between = between;
       made = made;
-      in_order = (rises, until);
+      follows = follows;
       runs = run_or_stop runs;
       line = line;
     }
 
   -- no plan
-  pub runs_nowhere : (w : State) → (status ≡ 1) × (Went (planned settings) old now Refused ⊎ planning.BrokeOff (planned settings) old now) → RunsNowhere settings w w old now status
+  pub runs_nowhere : (w : State) → Goes {A = Plan} (planned settings) old now (Err status) → RunsNowhere settings w w old now status
   runs_nowhere w none = record { runs = either none.1; untouched = refl; status_is = none.0 }
     where
       either : Went (planned settings) old now Refused ⊎ planning.BrokeOff (planned settings) old now
-          → IsRun settings (shown_by w) (shown_by w) old now status ⊎ StoppedPlanning settings (shown_by w) (shown_by w) old now status
-      either (inl went) = inl (subst (IsRun settings (shown_by w) (shown_by w) old now) (sym none.0) (refused_whole settings (shown_by w) (shown_by w) old now refl went))
+          → IsRun settings (over w old) (over w now) status ⊎ StoppedPlanning settings (over w old) (over w now) status
+      either (inl went) = inl (subst (IsRun settings (over w old) (over w now)) (sym none.0) (refused_whole settings (over w old) (over w now) refl went))
       either (inr broke) = inr (record { broke = broke; same = refl; status_is = none.0 })

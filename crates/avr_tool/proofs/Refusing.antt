@@ -1,15 +1,17 @@
 -- Outcomes that the page refuses.
 use Rattle.std.proofs.Common.{◌≡◌, ◌<◌, ◌*◌, ℕ, List, [], ◌++◌, map, ap, sym, ◌∙◌, subst, refl, arith, Option, option_map, Some}
-use Rattle.avr_desk.specs.Record.{DeskView}
+use Rattle.avr_desk.specs.Record.{DeskView, Passes}
 use Rattle.avr_desk.specs.declared.record.Opening.{Opening}
 use Rattle.avr_message.specs.Said.{after_all}
 use Rattle.avr_plan.specs.Plan.{Plan}
+use Rattle.avr_session.specs.Runs.{devices}
 use Rattle.avr_session.specs.Session.{session}
+use Rattle.avr_session.specs.Stopping.{talking}
 use Rattle.stk_frame.specs.Cut.{body_of}
 use Rattle.stk_host.specs.Dialog.{bytes_sent, sayings}
 use Rattle.stk_host.specs.Operations.{beginning, opening, closing, operation}
 use Rattle.stk_host.specs.Steps.{exchange, attempt, tries, play}
-use Rattle.stk_host.specs.Talk.{LinkView, Talk, sent, heard, Grows}
+use Rattle.stk_host.specs.Talk.{Talk, sent, heard}
 use Rattle.stk_host.specs.Tape.{answer, on_tape}
 use Rattle.stk_emu.specs.Effect.{effects}
 use Rattle.stk_emu.specs.Wired.{State}
@@ -30,7 +32,7 @@ too_much plan w v d e status weight more over = let most = over.four weight in a
 pub not_all_written : (plan : Plan) (w v : State) (d e : DeskView) → (memories v ≡ effects plan.part (items plan) (memories w) → ⊥) → OverAnyLine plan w v d e 0 → ⊥
 not_all_written plan w v d e other over = other (over.done refl).memories
 
-pub said_otherwise : (plan : Plan) (w v : State) (d e : DeskView) → (e.kept ≡ option_map (after_all (course plan (memories w)).says) d.kept → ⊥) → OverAnyLine plan w v d e 0 → ⊥
+pub said_otherwise : (plan : Plan) (w v : State) (d e : DeskView) → (Passes (after_all (course plan (memories w)).says) d e → ⊥) → OverAnyLine plan w v d e 0 → ⊥
 said_otherwise plan w v d e other over = other (over.success refl).said
 
 pub touched_in_silence : (plan : Plan) (w v : State) (d e : DeskView) (status : ℕ) → frames_over v ≡ [] → (memories v ≡ memories w → ⊥) → OverAnyLine plan w v d e status → ⊥
@@ -50,9 +52,9 @@ said_due : (openings : List Opening) → sayings (run asked openings answers).ev
 unfolding session opening beginning operation closing play tries attempt exchange answer
 said_due openings = refl
 
-module _ (talk : Talk) (k l : LinkView) (d e : DeskView) (status : ℕ) (silent : k.talk ≡ Some []) (shown : l.talk ≡ Some talk) (all : heard talk ≡ answers) (x : IsRun asked k l d e status) where
+module _ (talk : Talk) (a b : ℕ) (d e : DeskView) (status : ℕ) (all : heard talk ≡ answers) (x : IsRun asked (devices (talking [] a) d) (devices (talking talk b) e) status) where
   passed : x.during ≡ talk
-  passed = sym (some_is talk x.during (subst (λ o. Grows o x.during (Some talk)) silent (subst (Grows k.talk x.during) shown x.grows)))
+  passed = sym (some_is talk x.during x.grows)
 
   played_over : run asked (x.openings ++ []) (answers ++ []) ≡ record { events = x.events; outcome = Some (status, x.next, on_tape x.left ++ []) }
   played_over = subst (λ tape. run asked (x.openings ++ []) (tape ++ []) ≡ record { events = x.events; outcome = Some (status, x.next, on_tape x.left ++ []) }) (ap heard passed ∙ all) (x.is [] [])
@@ -66,15 +68,15 @@ module _ (talk : Talk) (k l : LinkView) (d e : DeskView) (status : ℕ) (silent 
   worked_said : sayings x.events ≡ lines_due
   worked_said = sym (ap (λ p. sayings p.events) played_over) ∙ said_due (x.openings ++ [])
 
-pub another_status : (talk : Talk) (k l : LinkView) (d e : DeskView) → k.talk ≡ Some [] → l.talk ≡ Some talk → heard talk ≡ answers → IsRun asked k l d e 1 → ⊥
-another_status talk k l d e silent shown all x = absurd (one_no (worked_status talk k l d e 1 silent shown all x))
+pub another_status : (talk : Talk) (a b : ℕ) (d e : DeskView) → heard talk ≡ answers → IsRun asked (devices (talking [] a) d) (devices (talking talk b) e) 1 → ⊥
+another_status talk a b d e all x = absurd (one_no (worked_status talk a b d e 1 all x))
   where
     one_no : ◌≡◌ {A = ℕ} 1 0 → ⊥
     one_no e = cc
 
-pub another_frame : (talk : Talk) (k l : LinkView) (d e : DeskView) (status : ℕ) → k.talk ≡ Some [] → l.talk ≡ Some talk → heard talk ≡ answers → (sent talk ≡ frames_due → ⊥) → IsRun asked k l d e status → ⊥
-another_frame talk k l d e status silent shown all other x = other (worked_sent talk k l d e status silent shown all x)
+pub another_frame : (talk : Talk) (a b : ℕ) (d e : DeskView) (status : ℕ) → heard talk ≡ answers → (sent talk ≡ frames_due → ⊥) → IsRun asked (devices (talking [] a) d) (devices (talking talk b) e) status → ⊥
+another_frame talk a b d e status all other x = other (worked_sent talk a b d e status all x)
 
-pub another_line : (talk : Talk) (k l : LinkView) (d e : DeskView) (status : ℕ) → k.talk ≡ Some [] → l.talk ≡ Some talk → heard talk ≡ answers
-    → (e.kept ≡ option_map (after_all lines_due) d.kept → ⊥) → IsRun asked k l d e status → ⊥
-another_line talk k l d e status silent shown all other x = other (x.kept ∙ ap (λ said. option_map (after_all said) d.kept) (worked_said talk k l d e status silent shown all x))
+pub another_line : (talk : Talk) (a b : ℕ) (d e : DeskView) (status : ℕ) → heard talk ≡ answers → (Passes (after_all lines_due) d e → ⊥)
+    → IsRun asked (devices (talking [] a) d) (devices (talking talk b) e) status → ⊥
+another_line talk a b d e status all other x = other (x.kept ∙ ap (λ said. option_map (after_all said) d.kept) (worked_said talk a b d e status all x))

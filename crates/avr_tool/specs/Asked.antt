@@ -1,12 +1,12 @@
 -- What the words of a command line ask for.
-use Rattle.std.specs.Prelude.{◌≡◌, ℕ, true, List, [], Option, Result, Ok, Err}
+use Rattle.std.specs.Prelude.{◌≡◌, ℕ, true, List, [], Result, Ok, Err}
 use Rattle.clap.specs.Words.{takes, fault_of, kind_of, HasKind}
 use Rattle.clap.specs.declared.error.kind.ErrorKind.TheVariants.{OutOfMemory}
 use Rattle.avr_cli.specs.Command.{avrstk, asked_by}
 use Rattle.avr_cli.specs.Settings.{GivesOrMemory, TellsAnyway}
 use Rattle.avr_cli.specs.declared.chosen.Settings.{Settings}
 use Rattle.avr_cli.specs.declared.chosen.SettingsFault.{SettingsFault}
-use Rattle.avr_desk.specs.Record.{Record, showing}
+use Rattle.avr_desk.specs.Record.{DeskView}
 use Rattle.avr_message.specs.Lines.{Bytes}
 use Rattle.avr_message.specs.Said.{Tells}
 use Rattle.avr_session.specs.Refusal.{refusal_line}
@@ -14,19 +14,17 @@ use Rattle.avr_tool.specs.declared.asking.NotAsked.{NotAsked}
 use Rattle.avr_tool.specs.declared.asking.NotAsked.TheVariants.{Words, Refused}
 
 -- That fault, or that memory was refused, has its line, and the status is 1.
-pub record IsRefused (words : List Bytes) (old new : Option Record) (before now status : ℕ) : Type 0 where
+pub record IsRefused (words : List Bytes) (old new : DeskView) (status : ℕ) : Type 0 where
   pub fault : SettingsFault
   pub is : GivesOrMemory (asked_by words) (Err fault)
   pub anyway : TellsAnyway (asked_by words) (Err fault)
-  pub told : Tells (showing old before) (showing new now) (refusal_line fault)
+  pub told : Tells old new (refusal_line fault)
   pub status_is : status ≡ 1
 
 -- Settings are those of words that the command takes. A fault of them was told. Other words have an error of a kind
 -- that they call for; words that the command takes, only for want of memory; and then nothing was done at the desk.
-abbrev pub Asks : List Bytes → Option Record → Option Record → ℕ → ℕ → Result Settings NotAsked → Type 0
-Asks words old new before now (Ok settings) =
-    (Ok settings ≡ asked_by words) × (fault_of avrstk words ≡ []) × (new ≡ old) × (now ≡ before)
-Asks words old new before now (Err (Refused status)) = IsRefused words old new before now status
-Asks words old new before now (Err (Words error)) =
+abbrev pub Asks : List Bytes → DeskView → DeskView → Result Settings NotAsked → Type 0
+Asks words old new (Ok settings) = (Ok settings ≡ asked_by words) × (fault_of avrstk words ≡ []) × (new ≡ old)
+Asks words old new (Err (Refused status)) = IsRefused words old new status
+Asks words old new (Err (Words error)) =
     HasKind (fault_of avrstk words) error × (takes avrstk words ≡ true → kind_of error ≡ OutOfMemory) × (new ≡ old)
-    × (now ≡ before)

@@ -8,9 +8,10 @@
 -- so no clause orders a line and a frame, but as events of the run. That a run succeeds is said only of a line on which
 -- few frames go wrong. Whether memory was refused nothing counts. Nothing is said of time, nor of a chip that loses its
 -- power in the middle of a write.
-use Rattle.std.specs.Prelude.{ℕ, ◌+◌, ◌*◌, ◌≡◌, ◌≤◌, ◌⊎◌, false, List, [], ◌∷◌, ◌++◌, map, length, option_map, Some, None}
+use Rattle.std.specs.Prelude.{ℕ, ◌+◌, ◌*◌, ◌≡◌, ◌≤◌, ◌⊎◌, false, List, [], ◌∷◌, ◌++◌, map, length, Some, None}
 use Rattle.avr_cli.specs.declared.chosen.Settings.{Settings}
-use Rattle.avr_desk.specs.Record.{DeskView}
+use Rattle.avr_desk.specs.Fault.{Follows}
+use Rattle.avr_desk.specs.Record.{DeskView, Passes}
 use Rattle.avr_desk.specs.declared.record.Opening.{Opening}
 use Rattle.avr_message.specs.Said.{Saying, SaidPart, after_all}
 use Rattle.avr_plan.specs.Plan.{Plan}
@@ -19,7 +20,7 @@ use Rattle.avr_plan.specs.Playing as planning
 use Rattle.avr_plan.specs.Playing.{Went}
 use Rattle.avr_plan.specs.Stage as stage
 use Rattle.avr_plan.specs.Stage.{Answer, Made, Refused, Unread}
-use Rattle.avr_session.specs.Runs.{BrokeOff, Stops}
+use Rattle.avr_session.specs.Runs.{Devices, devices, start, untold, BrokeOff}
 use Rattle.avr_session.specs.Session.{session, takes_memory}
 use Rattle.avr_emulated.specs.AnyLine.{Weight, weighed, bodies_in, Stopped, OverAnyLine}
 use Rattle.avr_emulated.specs.Bound.{run_steps}
@@ -30,12 +31,12 @@ use Rattle.stk_emu.specs.Effect.{memories_of}
 use Rattle.stk_emu.specs.Lawful.{none_late}
 use Rattle.stk_emu.specs.Programmer.{Programmer, fresh_programmer}
 use Rattle.stk_emu.specs.Wire.{AreLawful}
-use Rattle.stk_emu.specs.Wired.{State}
+use Rattle.stk_emu.specs.Wired.{State, wired_view}
 use Rattle.stk_emu.specs.declared.fate.Fate.{Fate}
 use Rattle.stk_frame.specs.Cut.{body_of, frames}
 use Rattle.stk_host.specs.Dialog.{Event, Said, Played, played, behind, bytes_sent, sayings}
 use Rattle.stk_host.specs.Play.{IsFront}
-use Rattle.stk_host.specs.Talk.{LinkView, Talk, Sent, Got, sent, heard, Grows}
+use Rattle.stk_host.specs.Talk.{Talk, Sent, Got, sent, heard, Grows}
 use Rattle.stk_host.specs.Tape.{Tape, on_tape}
 
 -- ---- 1. The run, as one function of the settings, of what the openings of files give, and of what comes over the line
@@ -69,8 +70,7 @@ IsInTurn plays tape bytes (Got items ∷ talk) = Waits (plays tape) bytes × IsI
 -- For these openings and what was heard, whatever follows on either, the run is these events and this status. What was
 -- sent are its frames, what the desk was given to do are its sayings, in their order, and at most one piece heard is
 -- left.
-pub record IsRun (settings : Settings) (link_before link_now : LinkView) (desk_before desk_now : DeskView)
-    (status : ℕ) : Type 0 where
+pub record IsRun (settings : Settings) (before now : Devices) (status : ℕ) : Type 0 where
   pub openings : List Opening
   pub during : Talk
   pub events : List (Event Saying)
@@ -80,44 +80,39 @@ pub record IsRun (settings : Settings) (link_before link_now : LinkView) (desk_b
       ≡ record { events = events; outcome = Some (status, next, on_tape left ++ more) }
   pub in_turn : (later : List Opening) → IsInTurn (run settings (openings ++ later)) [] [] during
   pub all_sent : bytes_sent events ≡ sent during
-  pub grows : Grows link_before.talk during link_now.talk
-  pub kept : desk_now.kept ≡ option_map (after_all (sayings events)) desk_before.kept
+  pub grows : Grows before.link.talk during now.link.talk
+  pub kept : Passes (after_all (sayings events)) before.desk now.desk
   pub few : length left ≤ 281
 
 -- ---- 3. Or it stopped: a device failed, or memory was refused. The status is 1.
 
 -- As its plan was played: a front of what the session sends and says went out, and then what was told of the cause.
-pub record StoppedPlaying (settings : Settings) (link_before link_now : LinkView) (desk_before desk_now : DeskView)
-    (status : ℕ) : Type 0 where
+pub record StoppedPlaying (settings : Settings) (before now : Devices) (status : ℕ) : Type 0 where
   pub plan : Plan
   pub between : DeskView
-  pub made : Went (planned settings) desk_before between (Made plan)
-  pub rises : desk_before.failures ≤ between.failures
-  pub broke : BrokeOff (session plan) 1 [] link_before.talk link_now.talk between.kept desk_now.kept
-      (Stops (takes_memory plan) link_before.failures link_now.failures between.failures desk_now.failures)
+  pub made : Went (planned settings) before.desk between (Made plan)
+  pub broke : BrokeOff (session plan) start (devices before.link between) now (untold (takes_memory plan))
   pub status_is : status ≡ 1
 
 -- As it was planned: a front of what planning says was done, and nothing was sent or heard.
-pub record StoppedPlanning (settings : Settings) (link_before link_now : LinkView) (desk_before desk_now : DeskView)
-    (status : ℕ) : Type 0 where
-  pub broke : planning.BrokeOff (planned settings) desk_before desk_now
-  pub same : link_now.talk ≡ link_before.talk
+pub record StoppedPlanning (settings : Settings) (before now : Devices) (status : ℕ) : Type 0 where
+  pub broke : planning.BrokeOff (planned settings) before.desk now.desk
+  pub same : now.link ≡ before.link
   pub status_is : status ≡ 1
 
-abbrev pub IsStopped : Settings → LinkView → LinkView → DeskView → DeskView → ℕ → Type 0
-IsStopped settings link_before link_now desk_before desk_now status =
-    StoppedPlaying settings link_before link_now desk_before desk_now status
-    ⊎ StoppedPlanning settings link_before link_now desk_before desk_now status
+abbrev pub IsStopped : Settings → Devices → Devices → ℕ → Type 0
+IsStopped settings before now status =
+    StoppedPlaying settings before now status ⊎ StoppedPlanning settings before now status
 
 -- So what happened of a stop is a front of the run over what was heard, the last event perhaps in part.
-pub record IsFrontOfRun (settings : Settings) (link_before link_now : LinkView) : Type 0 where
+pub record IsFrontOfRun (settings : Settings) (before now : Devices) : Type 0 where
   pub openings : List Opening
   pub during : Talk
   pub shown : List (Event Saying)
   pub front : (later : List Opening) → IsFront SaidPart shown (run settings (openings ++ later) (heard during)).events
   pub in_turn : (later : List Opening) → IsInTurn (run settings (openings ++ later)) [] [] during
   pub all_sent : bytes_sent shown ≡ sent during
-  pub grows : Grows link_before.talk during link_now.talk
+  pub grows : Grows before.link.talk during now.link.talk
 
 -- ---- 4. Over the emulated programmer, whatever the line loses, delays and spoils: avr_emulated's specs/AnyLine
 --
@@ -140,9 +135,9 @@ pub record IsNew (w : State) : Type 0 where
   pub programmer : w.wire.programmer ≡ fresh_programmer w.wire.programmer.chip
   pub lawful : AreLawful w.wire.fates
 
--- what a wire shows as any link does
-abbrev pub shown_by : State → LinkView
-shown_by w = record { talk = Some w.talk; failures = w.failures }
+-- a wire and a desk
+abbrev pub over : State → DeskView → Devices
+over w desk = devices (wired_view w) desk
 
 -- A plan was made of these openings; its session was run, or stopped; and if the chip is of the plan's part, that is
 -- what became of it. A failure of the desk that stopped it is one since before the run.
@@ -151,17 +146,16 @@ pub record RunsOverWire (settings : Settings) (before after : State) (desk_befor
   pub plan : Plan
   pub between : DeskView
   pub made : Went (planned settings) desk_before between (Made plan)
-  pub in_order : (desk_before.failures ≤ between.failures) × (between.failures ≤ desk_now.failures)
-  pub runs : ((r : IsRun settings (shown_by before) (shown_by after) desk_before desk_now status)
-      × (r.openings ≡ made.passed))
+  pub follows : Follows between desk_now
+  pub runs : ((r : IsRun settings (over before desk_before) (over after desk_now) status) × (r.openings ≡ made.passed))
       ⊎ (Stopped plan before after between desk_now × (status ≡ 1))
   pub line : before.wire.programmer.chip.part ≡ plan.part → OverAnyLine plan before after between desk_now status
 
 -- There is no plan: that was told, or planning stopped, and the wire is untouched.
 pub record RunsNowhere (settings : Settings) (before after : State) (desk_before desk_now : DeskView)
     (status : ℕ) : Type 0 where
-  pub runs : IsRun settings (shown_by before) (shown_by after) desk_before desk_now status
-      ⊎ StoppedPlanning settings (shown_by before) (shown_by after) desk_before desk_now status
+  pub runs : IsRun settings (over before desk_before) (over after desk_now) status
+      ⊎ StoppedPlanning settings (over before desk_before) (over after desk_now) status
   pub untouched : after ≡ before
   pub status_is : status ≡ 1
 

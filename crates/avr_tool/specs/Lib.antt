@@ -6,6 +6,7 @@ pub use Rattle.avr_net.specs.OverNet
 pub use Rattle.avr_net.specs.ServedNet
 pub use Rattle.avr_serve.specs.ServedRun
 pub use Rattle.avr_session.specs.Run
+pub use Rattle.avr_session.specs.Runs
 pub use Rattle.stk_host.specs.Talk
 -- its own
 pub mod Ports

@@ -1,7 +1,7 @@
 -- Serving an emulated programmer to the first caller of a listener, from settings to status.
-use Rattle.std.specs.Prelude.{ℕ, ◌≤◌, ◌⊎◌, Option, Err}
+use Rattle.std.specs.Prelude.{ℕ, ◌⊎◌, Err}
 use Rattle.avr_cli.specs.declared.chosen.Settings.{Settings}
-use Rattle.avr_desk.specs.Record.{Record, showing}
+use Rattle.avr_desk.specs.Record.{DeskView}
 use Rattle.avr_message.specs.Lines.{Bytes}
 use Rattle.avr_part.specs.State as chips
 use Rattle.avr_plan.specs.Playing.{Goes, Went}
@@ -10,17 +10,13 @@ use Rattle.avr_serve.specs.ServedRun.{settings_chip}
 use Rattle.avr_net.specs.ServedNet.{ServesOn}
 
 -- The chip of the settings was loaded; then it was served, or no connection could be accepted.
-pub record ServesFirst (settings : Settings) (port file : Bytes) (old new : Option Record)
-    (before now status : ℕ) : Type 0 where
+pub record ServesFirst (settings : Settings) (port file : Bytes) (old new : DeskView) (status : ℕ) : Type 0 where
   pub chip : chips.State
-  pub loaded_desk : Option Record
-  pub loaded_failures : ℕ
-  pub loaded : Went (settings_chip settings file) (showing old before) (showing loaded_desk loaded_failures) (Made chip)
-  pub rises : before ≤ loaded_failures
-  pub serves : ServesOn chip port file loaded_desk new loaded_failures now status
+  pub loaded_desk : DeskView
+  pub loaded : Went (settings_chip settings file) old loaded_desk (Made chip)
+  pub serves : ServesOn chip port file loaded_desk new status
 
 -- so it was, or there is no chip
-abbrev pub ServesListener : Settings → Bytes → Bytes → Option Record → Option Record → ℕ → ℕ → ℕ → Type 0
-ServesListener settings port file old new before now status =
-    ServesFirst settings port file old new before now status
-    ⊎ Goes (settings_chip settings file) (showing old before) (showing new now) (Err status)
+abbrev pub ServesListener : Settings → Bytes → Bytes → DeskView → DeskView → ℕ → Type 0
+ServesListener settings port file old new status =
+    ServesFirst settings port file old new status ⊎ Goes (settings_chip settings file) old new (Err status)

@@ -19,8 +19,7 @@ pub enum NotAsked {
 
 /// The settings that the words of a command line ask for, the program's name first.
 pub fn asked<D: Desk>(alloc: Global, words: &[String], desk: &mut D) -> Result<Settings, NotAsked>
-    ensures asks { Asks (map string_bytes words.now) (D.view desk.old).kept (D.view desk.new).kept
-        (D.view desk.old).failures (D.view desk.new).failures result }
+    ensures asks { Asks (map string_bytes words.now) (D.view desk.old) (D.view desk.new) result }
 {
     let matches = match read_words(alloc, words) {
         Ok(matches) => matches,

@@ -1,8 +1,8 @@
 //! Laws of runs. No code.
 
-ghost use Rattle.std.specs.Prelude.{◌≡◌, ◌<◌, ◌*◌, ◌⊎◌, ℕ, true, false, List, [], All, Some, map, option_map};
+ghost use Rattle.std.specs.Prelude.{◌≡◌, ◌<◌, ◌*◌, ◌⊎◌, ℕ, true, false, List, [], All, Some, map};
 ghost use Rattle.avr_cli.specs.declared.chosen.Settings.{Settings as AnySettings};
-ghost use Rattle.avr_desk.specs.Record.{DeskView, Record};
+ghost use Rattle.avr_desk.specs.Record.{DeskView, Passes, Record};
 ghost use Rattle.avr_emulated.specs.Again.{AgreesAnyway, AreKeeping};
 ghost use Rattle.avr_emulated.specs.AnyLine.{Stopped, OverAnyLine, Weight, weighed, bodies_in, memories, frames_over};
 ghost use Rattle.avr_emulated.specs.Bound.{run_steps};
@@ -16,9 +16,10 @@ ghost use Rattle.avr_part.specs.Sound.{IsSound as IsSoundChip};
 ghost use Rattle.avr_part.specs.State.{State as Chip};
 ghost use Rattle.avr_plan.specs.Plan.{Plan, IsFitted};
 ghost use Rattle.avr_session.specs.Run.{RunsSettings};
+ghost use Rattle.avr_session.specs.Runs.{Devices, devices};
 ghost use Rattle.avr_session.specs.Session.{session, is_erase_due};
-ghost use Rattle.avr_session.specs.Stopping.{IsSound, LacksMemory};
-ghost use Rattle.avr_tool.specs.Headline.{IsRun, IsStopped, StoppedPlaying, IsFrontOfRun, OverAnyLink};
+ghost use Rattle.avr_session.specs.Stopping.{IsSound, LacksMemory, keeping, talking};
+ghost use Rattle.avr_tool.specs.Headline.{IsRun, IsStopped, StoppedPlaying, IsFrontOfRun, OverAnyLink, over};
 ghost use Rattle.avr_tool.specs.Worked.{asked, answers, frames_due, lines_due};
 ghost use Rattle.stk_emu.specs.Along.{along, said_along};
 ghost use Rattle.stk_emu.specs.Device.{device};
@@ -31,7 +32,7 @@ ghost use Rattle.stk_emu.specs.Wired.{State};
 ghost use Rattle.stk_frame.specs.Cut.{body_of};
 ghost use Rattle.stk_emu.specs.declared.fate.Fate.{Fate};
 ghost use Rattle.stk_host.specs.Dialog.{Done, Event, played, bytes_sent};
-ghost use Rattle.stk_host.specs.Talk.{LinkView, Talk, heard, sent};
+ghost use Rattle.stk_host.specs.Talk.{Talk, heard, sent};
 ghost use Rattle.stk_host.specs.Tape.{Tape};
 
 /// Whatever the line does, a session that comes to status 0 has said what its course says, and no more, and leaves the
@@ -53,17 +54,14 @@ pub fn a_run_of_status_0_is_its_course()
 /// What runs as the settings say is the one function, or it stopped.
 #[tactic(auto, using(crate::proofs::Joining::is_run))]
 pub fn a_run_is_one_function()
-    ensures { (s : AnySettings) (k l : LinkView) (d e : DeskView) (status : ℕ)
-        → RunsSettings s k.talk l.talk d.kept e.kept k.failures l.failures d.failures e.failures status
-        → IsRun s k l d e status ⊎ IsStopped s k l d e status }
+    ensures { (s : AnySettings) (x y : Devices) (status : ℕ)
+        → RunsSettings s x y status → IsRun s x y status ⊎ IsStopped s x y status }
 {}
 
 /// What stopped as it was played did a front of the run; and a run comes to one status.
 pub fn a_stop_is_a_front()
-    ensures front { (s : AnySettings) (k l : LinkView) (d e : DeskView) (status : ℕ)
-        → StoppedPlaying s k l d e status → IsFrontOfRun s k l }
-    ensures one { (s : AnySettings) (i j k l : LinkView) (d e f g : DeskView) (m n : ℕ) (x : IsRun s i j d e m)
-        (y : IsRun s k l f g n)
+    ensures front { (s : AnySettings) (x y : Devices) (status : ℕ) → StoppedPlaying s x y status → IsFrontOfRun s x y }
+    ensures one { (s : AnySettings) (h i j k : Devices) (m n : ℕ) (x : IsRun s h i m) (y : IsRun s j k n)
         → x.openings ≡ y.openings → heard x.during ≡ heard y.during → m ≡ n }
 {}
 
@@ -74,7 +72,7 @@ pub fn a_wrong_outcome_is_refused()
     ensures memories { (plan : Plan) (w v : State) (d e : DeskView)
         → (memories v ≡ effects plan.part (items plan) (memories w) → ⊥) → OverAnyLine plan w v d e 0 → ⊥ }
     ensures sayings { (plan : Plan) (w v : State) (d e : DeskView)
-        → (e.kept ≡ option_map (after_all (course plan (memories w)).says) d.kept → ⊥)
+        → (Passes (after_all (course plan (memories w)).says) d e → ⊥)
         → OverAnyLine plan w v d e 0 → ⊥ }
     ensures silence { (plan : Plan) (w v : State) (d e : DeskView) (status : ℕ)
         → frames_over v ≡ [] → (memories v ≡ memories w → ⊥) → OverAnyLine plan w v d e status → ⊥ }
@@ -88,15 +86,14 @@ pub fn a_wrong_outcome_is_refused()
 /// 00 and on one of FF, has status 0 and, verified, leaves its images, whatever the chip was.
 pub fn a_sound_run_is_its_course()
     ensures course { (plan : Plan) (w v : State) (d e : Record) (a b status : ℕ)
-        → AreFew w.wire.fates → IsSound w.failures v.failures a b → (LacksMemory e.messages → ⊥)
-        → OverAnyLine plan w v (record { kept = Some d; failures = a }) (record { kept = Some e; failures = b }) status
-        → IsCourse plan (memories w) (memories v)
-        (record { kept = Some d; failures = a }) (record { kept = Some e; failures = b }) status }
+        → AreFew w.wire.fates → IsSound (over w (keeping d a)) (over v (keeping e b)) → (LacksMemory e.messages → ⊥)
+        → OverAnyLine plan w v (keeping d a) (keeping e b) status
+        → IsCourse plan (memories w) (memories v) (keeping d a) (keeping e b) status }
     ensures images { (plan : Plan) (w v : State) (d e : Record) (a b status : ℕ)
-        → AreFew w.wire.fates → IsSound w.failures v.failures a b → (LacksMemory e.messages → ⊥)
+        → AreFew w.wire.fates → IsSound (over w (keeping d a)) (over v (keeping e b)) → (LacksMemory e.messages → ⊥)
         → plan.switches.dry ≡ false → plan.switches.no_verify ≡ false
         → is_erase_due plan.switches plan.tasks ≡ true → AgreesAnyway plan
-        → OverAnyLine plan w v (record { kept = Some d; failures = a }) (record { kept = Some e; failures = b }) status
+        → OverAnyLine plan w v (keeping d a) (keeping e b) status
         → (status ≡ 0) × IsWritten plan (memories w) (memories v) }
 {}
 
@@ -116,14 +113,14 @@ pub fn a_further_run_heals()
 
 /// A worked run, `-p m328p`, to which all answers came: another status, another frame or another line is no run.
 pub fn a_worked_run_has_one_outcome()
-    ensures status { (talk : Talk) (k l : LinkView) (d e : DeskView) → k.talk ≡ Some [] → l.talk ≡ Some talk
-        → heard talk ≡ answers → IsRun asked k l d e 1 → ⊥ }
-    ensures frames { (talk : Talk) (k l : LinkView) (d e : DeskView) (status : ℕ)
-        → k.talk ≡ Some [] → l.talk ≡ Some talk → heard talk ≡ answers → (sent talk ≡ frames_due → ⊥)
-        → IsRun asked k l d e status → ⊥ }
-    ensures lines { (talk : Talk) (k l : LinkView) (d e : DeskView) (status : ℕ)
-        → k.talk ≡ Some [] → l.talk ≡ Some talk → heard talk ≡ answers
-        → (e.kept ≡ option_map (after_all lines_due) d.kept → ⊥) → IsRun asked k l d e status → ⊥ }
+    ensures status { (talk : Talk) (a b : ℕ) (d e : DeskView)
+        → heard talk ≡ answers → IsRun asked (devices (talking [] a) d) (devices (talking talk b) e) 1 → ⊥ }
+    ensures frames { (talk : Talk) (a b : ℕ) (d e : DeskView) (status : ℕ)
+        → heard talk ≡ answers → (sent talk ≡ frames_due → ⊥)
+        → IsRun asked (devices (talking [] a) d) (devices (talking talk b) e) status → ⊥ }
+    ensures lines { (talk : Talk) (a b : ℕ) (d e : DeskView) (status : ℕ)
+        → heard talk ≡ answers → (Passes (after_all lines_due) d e → ⊥)
+        → IsRun asked (devices (talking [] a) d) (devices (talking talk b) e) status → ⊥ }
 {}
 
 /// Over any link that behaves as the definition of a line with fates has it, a session that was played whole did what

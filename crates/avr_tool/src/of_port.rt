@@ -1,7 +1,7 @@
 //! Runs over the port that the settings name, and services at it.
 ghost use Rattle.avr_net.specs.OverNet.{RunsOverNet};
 ghost use Rattle.avr_net.specs.ServedNet.{ServesNet};
-ghost use Rattle.avr_serve.specs.ServedRun.{RunsServed};
+ghost use Rattle.avr_serve.specs.ServedRun.{RunsServed, sides};
 ghost use Rattle.avr_emulated.specs.Emulated.{RunsEmulator};
 ghost use Rattle.avr_tool.specs.Ports.{IsEmulated, IsNetwork, IsServed, name_of, chip_file_of};
 ghost use Rattle.avr_tool.specs.ServedOn.{ServesListener};
@@ -33,8 +33,7 @@ pub fn run_emu<D: Desk>(alloc: Global, settings: &Settings, desk: &mut D) -> u8
 /// Runs what the settings ask for over the network, as [`avr_net::run_net`] does with the address of their port.
 pub fn run_net<R: Net, D: Desk>(rt: &R, alloc: Global, settings: &Settings, desk: &mut D) -> u8
     requires port { IsNetwork settings.now.port }
-    ensures runs { RunsOverNet settings.now (name_of settings.now.port) (D.view desk.old).kept (D.view desk.new).kept
-        (D.view desk.old).failures (D.view desk.new).failures result }
+    ensures runs { RunsOverNet settings.now (name_of settings.now.port) (D.view desk.old) (D.view desk.new) result }
 {
     let Port::Network(address) = &settings.port else {
         unreachable!()
@@ -45,9 +44,8 @@ pub fn run_net<R: Net, D: Desk>(rt: &R, alloc: Global, settings: &Settings, desk
 /// Serves the emulator over a link, as [`avr_serve::serve`] does with the chip file of the settings.
 pub fn serve<D: Desk, L: Link>(alloc: Global, settings: &Settings, desk: &mut D, link: &mut L) -> u8
     requires port { IsServed settings.now.port }
-    ensures runs { RunsServed settings.now (chip_file_of settings.now.port) 16777216 (L.view link.old).talk (L.view link.new).talk
-        (L.view link.old).failures (L.view link.new).failures (D.view desk.old).kept (D.view desk.new).kept
-        (D.view desk.old).failures (D.view desk.new).failures result }
+    ensures runs { RunsServed settings.now (chip_file_of settings.now.port) 16777216
+        (sides (L.view link.old) (D.view desk.old)) (sides (L.view link.new) (D.view desk.new)) result }
 {
     let Port::Served { chip, .. } = &settings.port else {
         unreachable!()
@@ -66,8 +64,7 @@ fn serve_first<L: OpenListener, D: Desk>(
 ) -> u8
 where
     L::Stream: Read + Write + OpenStream,
-    ensures serves { ServesListener settings.now port.now file.now (D.view desk.old).kept (D.view desk.new).kept
-        (D.view desk.old).failures (D.view desk.new).failures result }
+    ensures serves { ServesListener settings.now port.now file.now (D.view desk.old) (D.view desk.new) result }
 {
     let chip = match find_chip(alloc, settings, file, desk) {
         Ok(chip) => chip,
@@ -92,7 +89,7 @@ where
     L::Stream: Read + Write + OpenStream,
     requires port { IsServed settings.now.port }
     ensures serves { ServesListener settings.now (name_of settings.now.port) (chip_file_of settings.now.port)
-        (D.view desk.old).kept (D.view desk.new).kept (D.view desk.old).failures (D.view desk.new).failures result }
+        (D.view desk.old) (D.view desk.new) result }
 {
     let Port::Served { port, chip } = &settings.port else {
         unreachable!()
@@ -112,7 +109,7 @@ where
 pub fn serve_net<R: Net, D: Desk>(rt: &R, alloc: Global, settings: &Settings, desk: &mut D) -> u8
     requires port { IsServed settings.now.port }
     ensures serves { ServesNet settings.now (name_of settings.now.port) (chip_file_of settings.now.port)
-        (D.view desk.old).kept (D.view desk.new).kept (D.view desk.old).failures (D.view desk.new).failures result }
+        (D.view desk.old) (D.view desk.new) result }
 {
     let Port::Served { port, chip } = &settings.port else {
         unreachable!()

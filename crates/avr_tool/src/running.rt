@@ -1,5 +1,6 @@
 //! Runs by the words of the headline: over any line, and over the emulated programmer behind a line of any fates.
 ghost use Rattle.std.specs.Prelude.{◌⊎◌};
+ghost use Rattle.avr_session.specs.Runs.{devices};
 ghost use Rattle.avr_tool.specs.Headline.{IsNew, IsRun, IsStopped, RunsWired};
 ghost use Rattle.stk_host.specs.Talk.{Stays};
 
@@ -16,8 +17,10 @@ use stk_host::Link;
 /// fault came, else 1. What is refused is told before any frame is sent or file created.
 #[tactic(auto, using(crate::proofs::Joining::is_run))]
 pub fn run<D: Desk, L: Link>(alloc: Global, settings: &Settings, desk: &mut D, link: &mut L) -> u8
-    ensures runs { IsRun settings.now (L.view link.old) (L.view link.new) (D.view desk.old) (D.view desk.new) result
-        ⊎ IsStopped settings.now (L.view link.old) (L.view link.new) (D.view desk.old) (D.view desk.new) result }
+    ensures runs { IsRun settings.now (devices (L.view link.old) (D.view desk.old))
+        (devices (L.view link.new) (D.view desk.new)) result
+        ⊎ IsStopped settings.now (devices (L.view link.old) (D.view desk.old))
+        (devices (L.view link.new) (D.view desk.new)) result }
     ensures comes { Stays L.comes_of link.old link.new }
 {
     run_over(alloc, settings, desk, link)

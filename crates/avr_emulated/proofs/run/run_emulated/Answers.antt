@@ -10,7 +10,6 @@ returns-in-Err-load_chip g c = record {
     plan = c.in-Ok.plan;
     between = g.D.Desk.view c.plan.new.desk;
     made = rw c.in-Ok.is at c.plan.ensures;
-    in_order = (rw c.in-Ok.is at c.plan.ensures).follows;
     refused = rw (c.part.ensures, c.in-Err-load_chip.is) at c.load_chip.ensures.goes;
   }));
 }
@@ -20,6 +19,6 @@ returns g c = record {
   runs = inl (runs_over_emulator c.args.settings.now c.args.file.now c.in-Ok.plan c.in-Ok-load_chip.chip c.new-wire.result c.drive_wired-status.new.wire c.new-wire.ensures.held
       (c.new-wire.ensures.wire ∙ ap (λ fates. fresh (fresh_programmer c.in-Ok-load_chip.chip) fates) c.new.ensures.items) c.new-wire.ensures.waits c.new-wire.ensures.talk c.new-wire.ensures.sound
       c.tasks-tasks.ensures.fitted (rw (c.part.ensures, c.in-Ok-load_chip.is) at c.load_chip.ensures.part) c.part-part.ensures.sound
-      _ _ _ _ _ _ _ (rw c.in-Ok.is at c.plan.ensures) (rw (c.part.ensures, c.in-Ok-load_chip.is) at c.load_chip.ensures.goes) (rw c.in-Ok.is at c.plan.ensures).follows (rw (c.part.ensures, c.in-Ok-load_chip.is) at c.load_chip.ensures.goes).follows c.drive_wired-status.ensures.rises c.save_if_sent.ensures.rises
+      _ _ _ _ _ _ _ (rw c.in-Ok.is at c.plan.ensures) (rw (c.part.ensures, c.in-Ok-load_chip.is) at c.load_chip.ensures.goes) c.drive_wired-status.ensures.follows c.save_if_sent.ensures.follows
       c.drive_wired-status.ensures.comes c.drive_wired-status.ensures.line c.save_if_sent.ensures.saved);
 }

@@ -10,6 +10,6 @@ returns-in-Err g c = record { runs = inr (runs_nowhere c.args.settings.now _ _ _
 
 pub returns : goal.returns
 returns g c = record {
-  runs = inl (runs_over_wire c.args.settings.now _ _ _ c.in-Ok.plan c.args.wire.now c.drive_wired.new.wire _ (rw c.in-Ok.is at c.plan.ensures) (rw c.in-Ok.is at c.plan.ensures).follows c.drive_wired.ensures.rises
+  runs = inl (runs_over_wire c.args.settings.now _ _ _ c.in-Ok.plan c.args.wire.now c.drive_wired.new.wire _ (rw c.in-Ok.is at c.plan.ensures) c.drive_wired.ensures.follows
       c.drive_wired.ensures.runs c.drive_wired.ensures.line);
 }
