@@ -11,55 +11,55 @@ use Rattle.avr_message.specs.Said.{Tells}
 use Rattle.avr_part.specs.ChipFile.{chip_file_size, chip_in, state_in}
 use Rattle.avr_part.specs.Part.{Part}
 use Rattle.avr_part.specs.PartFile.{GivesOrMemory}
-use Rattle.avr_part.specs.State.{State, fresh_state}
+use Rattle.avr_part.specs.State.{ChipState, fresh_state}
 use Rattle.avr_part.specs.declared.fault.PartFault.{PartFault}
 use Rattle.avr_part.specs.declared.fault.PartFault.TheVariants.{BadChipFile}
 use Rattle.avr_plan.proofs.Openings.{goes_opened, goes_judged}
 use Rattle.avr_plan.proofs.Played.{went_settled, goes_unsettled}
 use Rattle.avr_plan.specs.Lines.{too_long_line}
 use Rattle.avr_plan.specs.Playing.{Goes, Went}
-use Rattle.avr_plan.specs.Stage.{Made, settled}
+use Rattle.avr_plan.specs.Stage.{Made, verdict_stage}
 use Rattle.avr_chip.specs.Lines.{length_line}
 use Rattle.avr_chip.specs.Loading.{chip_or_line, judged_chip, chip_given, chip_stage}
 
 -- ---- a fresh chip
 
-pub went_fresh : (part : Part) (chip : State) (d : DeskView) → GivesOrMemory (Ok (fresh_state part)) (Ok chip)
-    → Went (settled (Ok (fresh_state part))) d d (Made chip)
+pub went_fresh : (part : Part) (chip : ChipState) (d : DeskView) → GivesOrMemory (Ok (fresh_state part)) (Ok chip)
+    → Went (verdict_stage (Ok (fresh_state part))) d d (Made chip)
 went_fresh part chip d (inl gives) = let same : fresh_state part ≡ chip = cc in went_settled (Ok (fresh_state part)) chip d (ap Ok same)
 went_fresh part chip d (inr memory) = cc
 
 -- ---- the chip of some bytes
 
 -- a chip in place of a fault is the good one, and the test holds
-chip_is : (test : Bool) (good chip : State) (n : ℕ) → (if test then Ok good else Err (BadChipFile n)) ≡ Ok chip → (test ≡ true) × (chip ≡ good)
+chip_is : (test : Bool) (good chip : ChipState) (n : ℕ) → (if test then Ok good else Err (BadChipFile n)) ≡ Ok chip → (test ≡ true) × (chip ≡ good)
 chip_is true good chip n is = (refl, cc)
 chip_is false good chip n is = cc
 
 -- a fault in place of a chip says that it doesn't
-none_is : (test : Bool) (good : State) (n : ℕ) (fault : PartFault) → (if test then Ok good else Err (BadChipFile n)) ≡ Err fault → test ≡ false
+none_is : (test : Bool) (good : ChipState) (n : ℕ) (fault : PartFault) → (if test then Ok good else Err (BadChipFile n)) ≡ Err fault → test ≡ false
 none_is true good n fault is = cc
 none_is false good n fault is = refl
 
-right_length : (part : Part) (bytes : Bytes) (chip : State) → GivesOrMemory (chip_in part bytes) (Ok chip)
+right_length : (part : Part) (bytes : Bytes) (chip : ChipState) → GivesOrMemory (chip_in part bytes) (Ok chip)
     → ((length bytes == chip_file_size part) ≡ true) × (chip ≡ state_in part bytes)
 right_length part bytes chip (inl gives) = chip_is (length bytes == chip_file_size part) (state_in part bytes) chip (length bytes) (sym gives)
 right_length part bytes chip (inr memory) = cc
 
-pub went_chip : (part : Part) (file bytes : Bytes) (chip : State) (d : DeskView) → GivesOrMemory (chip_in part bytes) (Ok chip)
-    → Went (settled (chip_or_line part file bytes)) d d (Made chip)
+pub went_chip : (part : Part) (file bytes : Bytes) (chip : ChipState) (d : DeskView) → GivesOrMemory (chip_in part bytes) (Ok chip)
+    → Went (verdict_stage (chip_or_line part file bytes)) d d (Made chip)
 went_chip part file bytes chip d gives =
     let right = right_length part bytes chip gives in
     let given : chip_or_line part file bytes ≡ Ok chip = rw (right.0, right.1) refl in
     went_settled (chip_or_line part file bytes) chip d given
 
-pub chip_of_part : (part : Part) (bytes : Bytes) (chip : State) → GivesOrMemory (chip_in part bytes) (Ok chip) → chip.part ≡ part
-chip_of_part part bytes chip gives = ap (λ (c : State). c.part) (right_length part bytes chip gives).1
+pub chip_of_part : (part : Part) (bytes : Bytes) (chip : ChipState) → GivesOrMemory (chip_in part bytes) (Ok chip) → chip.part ≡ part
+chip_of_part part bytes chip gives = ap (λ (c : ChipState). c.part) (right_length part bytes chip gives).1
 
 pub goes_wrong_length : (part : Part) (file bytes : Bytes) (n : ℕ) (old new : DeskView) (status : ℕ)
     → GivesOrMemory (chip_in part bytes) (Err (BadChipFile n)) → status ≡ 1
     → Tells old new (length_line file (length bytes) (chip_file_size part))
-    → Goes (settled (chip_or_line part file bytes)) old new (Err status)
+    → Goes (verdict_stage (chip_or_line part file bytes)) old new (Err status)
 goes_wrong_length part file bytes n old new status (inl gives) one told =
     let wrong = none_is (length bytes == chip_file_size part) (state_in part bytes) (length bytes) (BadChipFile n) (sym gives) in
     let line = length_line file (length bytes) (chip_file_size part) in
@@ -70,18 +70,18 @@ goes_wrong_length part file bytes n old new status (inr memory) one told = cc
 -- ---- the chip of a file that was read
 
 -- the judgment of what the file gave
-goes_whole : (part : Part) (file bytes : Bytes) (ended : Bool) (old mid new : DeskView) (result : Result State ℕ)
+goes_whole : (part : Part) (file bytes : Bytes) (ended : Bool) (old mid new : DeskView) (result : Result ChipState ℕ)
     → Passes (with_read file bytes ended) old mid → IsWhole 4194304 (record { bytes = bytes; ended = ended }) → Follows old mid
-    → Goes (settled (judged_chip part file bytes)) mid new result → Goes (chip_stage part file) old new result
+    → Goes (verdict_stage (judged_chip part file bytes)) mid new result → Goes (chip_stage part file) old new result
 goes_whole part file bytes ended old mid new result kept whole rose goes =
     let reading : Reading = record { name = file; bytes = bytes; ended = ended } in
     goes_opened file (chip_given part file) (Found reading) old mid new result refl kept rose
     (goes_judged file 4194304 (judged_chip part file) reading mid new result whole goes)
 
 -- to its end
-pub goes_ended : (part : Part) (file bytes : Bytes) (ended : Bool) (old mid new : DeskView) (result : Result State ℕ)
+pub goes_ended : (part : Part) (file bytes : Bytes) (ended : Bool) (old mid new : DeskView) (result : Result ChipState ℕ)
     → Passes (with_read file bytes ended) old mid → IsWhole 4194304 (record { bytes = bytes; ended = ended }) → ended ≡ true → Follows old mid
-    → Goes (settled (chip_or_line part file bytes)) mid new result → Goes (chip_stage part file) old new result
+    → Goes (verdict_stage (chip_or_line part file bytes)) mid new result → Goes (chip_stage part file) old new result
 goes_ended part file bytes false old mid new result kept whole is rose goes = cc
 goes_ended part file bytes true old mid new result kept whole is rose goes =
     let fits : nat_le (length bytes) 4194304 ≡ true = grind (arith, nat_tests, whole) in

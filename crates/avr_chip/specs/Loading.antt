@@ -5,27 +5,27 @@ use Rattle.avr_desk.specs.declared.record.Opening.TheVariants.{Absent, Found}
 use Rattle.avr_message.specs.Lines.{Bytes}
 use Rattle.avr_part.specs.ChipFile.{chip_file_size, state_in}
 use Rattle.avr_part.specs.Part.{Part}
-use Rattle.avr_part.specs.State.{State, fresh_state}
+use Rattle.avr_part.specs.State.{ChipState, fresh_state}
 use Rattle.avr_plan.specs.Lines.{too_long_line}
-use Rattle.avr_plan.specs.Stage.{Stage, ◌>>=◌, settled, opened, judged}
+use Rattle.avr_plan.specs.Stage.{Stage, ◌>>=◌, verdict_stage, open_stage, content_stage}
 use Rattle.avr_chip.specs.Lines.{length_line}
 
 -- the chip of these bytes; another length than the part's is refused
-abbrev pub chip_or_line : Part → Bytes → Bytes → Result State Bytes
+abbrev pub chip_or_line : Part → Bytes → Bytes → Result ChipState Bytes
 chip_or_line part file bytes =
     if length bytes == chip_file_size part then Ok (state_in part bytes)
     else Err (length_line file (length bytes) (chip_file_size part))
 
 -- a file past the limit is refused, whatever the part
-abbrev pub judged_chip : Part → Bytes → Bytes → Result State Bytes
+abbrev pub judged_chip : Part → Bytes → Bytes → Result ChipState Bytes
 judged_chip part file bytes =
     if nat_le (length bytes) 4194304 then chip_or_line part file bytes else Err (too_long_line file 4194304)
 
 -- where there is no such file the chip is fresh
-abbrev pub chip_given : Part → Bytes → Opening → Stage State
-chip_given part file (Absent name) = settled (Ok (fresh_state part))
-chip_given part file (Found reading) = judged file 4194304 (judged_chip part file) (Found reading)
+abbrev pub chip_given : Part → Bytes → Opening → Stage ChipState
+chip_given part file (Absent name) = verdict_stage (Ok (fresh_state part))
+chip_given part file (Found reading) = content_stage file 4194304 (judged_chip part file) (Found reading)
 
 -- the chip of this part that its file holds
-abbrev pub chip_stage : Part → Bytes → Stage State
-chip_stage part file = opened file >>= chip_given part file
+abbrev pub chip_stage : Part → Bytes → Stage ChipState
+chip_stage part file = open_stage file >>= chip_given part file

@@ -8,33 +8,33 @@ use Rattle.avr_chip.specs.Lines.{not_created_line, not_written_line}
 
 -- What stood in the way: memory was refused for the bytes; the file could not be created; or not be written behind
 -- these bytes.
-pub data Trouble : Type 0 where
-  NoMemory : Trouble
-  NotCreated : Trouble
-  NotWritten : Bytes → Trouble
+pub data SavingTrouble : Type 0 where
+  NoMemory : SavingTrouble
+  NotCreated : SavingTrouble
+  NotWritten : Bytes → SavingTrouble
 
 -- what was done before
-abbrev pub done_before : Bytes → Trouble → List Saying
+abbrev pub done_before : Bytes → SavingTrouble → List Saying
 done_before file NoMemory = []
 done_before file NotCreated = []
 done_before file (NotWritten front) = Creates file ∷ Writes front ∷ []
 
 -- only a front of the file's bytes was written
-abbrev pub IsFront : Bytes → Trouble → Type 0
-IsFront bytes (NotWritten front) = IsPrefixOf front bytes
-IsFront bytes _ = Unit {0}
+abbrev pub WritesPrefix : Bytes → SavingTrouble → Type 0
+WritesPrefix bytes (NotWritten front) = IsPrefixOf front bytes
+WritesPrefix bytes _ = Unit {0}
 
 -- The line of memory was told; or the desk failed at the file, and from then on the line of that was told.
-abbrev pub TellsTrouble : Bytes → Trouble → Bytes → DeskView → DeskView → Type 0
+abbrev pub TellsTrouble : Bytes → SavingTrouble → Bytes → DeskView → DeskView → Type 0
 TellsTrouble file NoMemory told old new = TellsLine memory_line told old new
 TellsTrouble file NotCreated told old new = TellsFailure (not_created_line file) told old new
 TellsTrouble file (NotWritten front) told old new = TellsFailure (not_written_line file) told old new
 
 -- Something stood in the way, and that was told.
 pub record Unsaved (old new : DeskView) (file bytes : Bytes) : Type 0 where
-  pub trouble : Trouble
+  pub trouble : SavingTrouble
   pub told : Bytes
-  pub front : IsFront bytes trouble
+  pub front : WritesPrefix bytes trouble
   pub tells : TellsTrouble file trouble told old new
   pub kept : Passes (after_all (done_before file trouble ++ Line told ∷ [])) old new
 

@@ -6,7 +6,7 @@ ghost use Rattle.avr_part.specs.ChipFile.{chip_file_size};
 ghost use Rattle.avr_part.specs.State.{fresh_state};
 ghost use Rattle.avr_plan.specs.ImageReading.{FileBreaks, IsCounted};
 ghost use Rattle.avr_plan.specs.Playing.{Goes};
-ghost use Rattle.avr_plan.specs.Stage.{settled};
+ghost use Rattle.avr_plan.specs.Stage.{verdict_stage};
 ghost use Rattle.avr_chip.specs.Loading.{chip_or_line, chip_stage};
 
 use crate::refusal::refuse_length;
@@ -27,7 +27,7 @@ fn file_size(part: &Part) -> u32
 
 /// A chip of this part as it comes new.
 fn fresh_chip<D: Desk>(alloc: Global, part: &Part, desk: &mut D) -> Result<Chip, u8>
-    ensures goes { Goes (settled (Ok (fresh_state part.now))) (D.view desk.old) (D.view desk.new) result }
+    ensures goes { Goes (verdict_stage (Ok (fresh_state part.now))) (D.view desk.old) (D.view desk.new) result }
     ensures part { IfOk result (λ c. c.part ≡ part.now) }
 {
     match Chip::fresh(alloc, part.copied()) {
@@ -45,7 +45,7 @@ fn chip_of<D: Desk>(
     desk: &mut D,
 ) -> Result<Chip, u8>
     requires { length bytes.now ≤ 4194304 }
-    ensures goes { Goes (settled (chip_or_line part.now file.now bytes.now)) (D.view desk.old) (D.view desk.new)
+    ensures goes { Goes (verdict_stage (chip_or_line part.now file.now bytes.now)) (D.view desk.old) (D.view desk.new)
         result }
     ensures part { IfOk result (λ c. c.part ≡ part.now) }
 {

@@ -2,7 +2,7 @@
 use Rattle.std.specs.Prelude.{◌≡◌, ◌⊎◌, ◌==◌, ◌-◌, ◌&&◌, ℕ, nat_le, List, [], ◌∷◌, ◌++◌, Option, Some, None, Result, Ok, Err, IsOk}
 use Rattle.std.specs.Prelude.{codes, length, take, slice_index, find, if◌then◌else◌}
 use Rattle.std.specs.Str.{bytes_eq}
-use Rattle.avr_part.specs.Mem.{name_of, named}
+use Rattle.avr_part.specs.Mem.{name_of, memory_named}
 use Rattle.avr_part.specs.declared.mem.Mem.{Mem}
 use Rattle.avr_part.specs.declared.mem.Mem.TheVariants.{Flash}
 use Rattle.avr_cli.specs.Split.{Bytes, colon, split_first}
@@ -93,7 +93,7 @@ with_memory (Some memory) after =
 -- a text without a colon is a file, written to flash in whatever format it has
 abbrev pub update_cut : Bytes → Option (Bytes × Bytes) → Result Update UpdateFault
 update_cut text None = update_by Flash Write (text, None)
-update_cut text (Some parts) = with_memory (named parts.0) parts.1
+update_cut text (Some parts) = with_memory (memory_named parts.0) parts.1
 
 -- the update that a text asks for
 abbrev pub update_of : Bytes → Result Update UpdateFault

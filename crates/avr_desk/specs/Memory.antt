@@ -2,7 +2,7 @@
 use Rattle.std.specs.Prelude.{ℕ, List, ◌++◌, drop, length, codes, Option, Some, None, if◌then◌else◌}
 use Rattle.std.specs.Str.{bytes_eq}
 use Rattle.avr_desk.specs.Record.{DeskView, Record, Bytes, all_files, showing}
-use Rattle.avr_desk.specs.Named.{newest, given}
+use Rattle.avr_desk.specs.Named.{newest, bytes_given}
 use Rattle.avr_desk.specs.declared.record.Writing.{Writing}
 
 -- what passed, the failures, the standard input, the files that were put there, and the whole
@@ -15,8 +15,8 @@ pub record Memory : Type 0 where
   pub opened : Bytes
 
 -- what it shows as any desk does
-abbrev pub shown_by : Memory → DeskView
-shown_by m = showing (Some m.kept) m.failures
+abbrev pub memory_view : Memory → DeskView
+memory_view m = showing (Some m.kept) m.failures
 
 -- the file of this name: the one that was created last, else the one that was put there last
 abbrev pub file_named : Bytes → Memory → Option Bytes
@@ -27,5 +27,5 @@ abbrev pub contents : Bytes → Memory → Option Bytes
 contents name m = if bytes_eq name (codes "-") then Some m.input else file_named name m
 
 -- what the open file has not given yet
-abbrev pub unread : Memory → Bytes
-unread m = drop (length (given m.kept.current)) m.opened
+abbrev pub unread_bytes : Memory → Bytes
+unread_bytes m = drop (length (bytes_given m.kept.current)) m.opened

@@ -16,6 +16,6 @@ newest name older [] = older
 newest name older (f ∷ fs) = newest name (or_older name older f) fs
 
 -- the bytes that the open file has given
-abbrev pub given : Open → Bytes
-given (ToRead x) = x.bytes
-given o = []
+abbrev pub bytes_given : Open → Bytes
+bytes_given (ToRead x) = x.bytes
+bytes_given o = []

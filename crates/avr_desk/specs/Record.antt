@@ -87,9 +87,9 @@ written_on bytes (ToWrite x) = ToWrite (record x { bytes = x.bytes ++ bytes })
 written_on bytes o = o
 
 -- the bytes that a call took
-abbrev pub taken : Bytes → Result ℕ DeskFault → Bytes
-taken bytes (Ok n) = take n bytes
-taken bytes (Err fault) = []
+abbrev pub bytes_taken : Bytes → Result ℕ DeskFault → Bytes
+bytes_taken bytes (Ok n) = take n bytes
+bytes_taken bytes (Err fault) = []
 
 abbrev pub after_write : Bytes → Record → Record
 after_write bytes r = record r { current = written_on bytes r.current }

@@ -35,7 +35,7 @@ impl Model for Kept {
 impl Kept {
     ghost use Rattle.avr_desk.specs.Record.{after_err, after_out, after_write, with_open, with_absent, nothing_kept, all_files, is_to_read, is_to_write};
     ghost use Rattle.avr_desk.specs.Files.{after_reading};
-    ghost use Rattle.avr_desk.specs.Named.{given, newest};
+    ghost use Rattle.avr_desk.specs.Named.{bytes_given, newest};
 
     pub fn new(alloc: Global) -> Kept
         ensures { result ≡ nothing_kept }
@@ -81,7 +81,7 @@ impl Kept {
 
     /// The bytes that the open file has given.
     pub fn given(&self) -> &[u8]
-        ensures { result.now ≡ given self.now.current }
+        ensures { result.now ≡ bytes_given self.now.current }
     {
         match &self.current {
             Open::ToRead(reading) => reading.bytes.as_slice(),

@@ -148,11 +148,11 @@ impl MemDesk {
 }
 
 impl Desk for MemDesk {
-    ghost use Rattle.avr_desk.specs.Record.{after_open, after_create, after_read, after_write, after_out, after_err, taken, is_to_read, is_to_write};
+    ghost use Rattle.avr_desk.specs.Record.{after_open, after_create, after_read, after_write, after_out, after_err, bytes_taken, is_to_read, is_to_write};
     ghost use Rattle.avr_desk.specs.Fault.{Counts, WriteCounts};
-    ghost use Rattle.avr_desk.specs.Memory.{contents, shown_by, unread};
+    ghost use Rattle.avr_desk.specs.Memory.{contents, memory_view, unread_bytes};
 
-    ghost view = { shown_by };
+    ghost view = { memory_view };
 
     fn open(&mut self, name: &str) -> Result<(), DeskFault>
         ensures kept { self.new ≡ record self.old {
@@ -163,7 +163,7 @@ impl Desk for MemDesk {
         ensures found { OnOk result (contents name.now self.old ≡ Some self.new.opened) }
         ensures absent { result ≡ Err DeskFault.NotFound → contents name.now self.old ≡ None }
         ensures leaves { OnErr result (self.new.opened ≡ self.old.opened) }
-        ensures counts { Counts (shown_by self.old) (shown_by self.new) result }
+        ensures counts { Counts (memory_view self.old) (memory_view self.new) result }
     {
         let Ok(kept_name) = Bytes::copied(self.alloc, name.as_bytes()) else {
             return Err(self.fail());
@@ -194,7 +194,7 @@ impl Desk for MemDesk {
           kept = after_create name.now result self.old.kept;
           failures = self.new.failures;
         } }
-        ensures counts { Counts (shown_by self.old) (shown_by self.new) result }
+        ensures counts { Counts (memory_view self.old) (memory_view self.new) result }
         ensures fault { IfErr result (λ e. e ≡ DeskFault.Failed) }
     {
         let Ok(name) = Bytes::copied(self.alloc, name.as_bytes()) else {
@@ -212,14 +212,14 @@ impl Desk for MemDesk {
     }
 
     fn read(&mut self, buf: &mut [u8]) -> Result<usize, DeskFault>
-        ensures count { IfOk result (λ n. n ≡ min (length buf.old) (length (unread self.old))) }
-        ensures gives { IfOk result (λ n. take n buf.new ≡ take n (unread self.old)) }
+        ensures count { IfOk result (λ n. n ≡ min (length buf.old) (length (unread_bytes self.old))) }
+        ensures gives { IfOk result (λ n. take n buf.new ≡ take n (unread_bytes self.old)) }
         ensures kept { self.new ≡ record self.old {
           kept = after_read buf.new result self.old.kept;
           failures = self.new.failures;
         } }
         ensures has_file { OnOk result (is_to_read self.old.kept.current ≡ true) }
-        ensures counts { Counts (shown_by self.old) (shown_by self.new) result }
+        ensures counts { Counts (memory_view self.old) (memory_view self.new) result }
         ensures fault { IfErr result (λ e. e ≡ DeskFault.Failed) }
     {
         if !self.kept.is_reading() {
@@ -238,11 +238,11 @@ impl Desk for MemDesk {
     fn write(&mut self, bytes: &[u8]) -> Result<usize, DeskFault>
         ensures all { IfOk result (λ n. n ≡ length bytes.now) }
         ensures kept { self.new ≡ record self.old {
-          kept = after_write (taken bytes.now result) self.old.kept;
+          kept = after_write (bytes_taken bytes.now result) self.old.kept;
           failures = self.new.failures;
         } }
         ensures has_file { OnOk result (is_to_write self.old.kept.current ≡ true) }
-        ensures counts { WriteCounts bytes.now (shown_by self.old) (shown_by self.new) result }
+        ensures counts { WriteCounts bytes.now (memory_view self.old) (memory_view self.new) result }
         ensures fault { IfErr result (λ e. e ≡ DeskFault.Failed) }
     {
         if !self.kept.is_writing() {
@@ -257,10 +257,10 @@ impl Desk for MemDesk {
     fn out(&mut self, bytes: &[u8]) -> Result<usize, DeskFault>
         ensures all { IfOk result (λ n. n ≡ length bytes.now) }
         ensures kept { self.new ≡ record self.old {
-          kept = after_out (taken bytes.now result) self.old.kept;
+          kept = after_out (bytes_taken bytes.now result) self.old.kept;
           failures = self.new.failures;
         } }
-        ensures counts { WriteCounts bytes.now (shown_by self.old) (shown_by self.new) result }
+        ensures counts { WriteCounts bytes.now (memory_view self.old) (memory_view self.new) result }
         ensures fault { IfErr result (λ e. e ≡ DeskFault.Failed) }
     {
         if self.kept.print(bytes).is_err() {
@@ -272,10 +272,10 @@ impl Desk for MemDesk {
     fn err(&mut self, bytes: &[u8]) -> Result<usize, DeskFault>
         ensures all { IfOk result (λ n. n ≡ length bytes.now) }
         ensures kept { self.new ≡ record self.old {
-          kept = after_err (taken bytes.now result) self.old.kept;
+          kept = after_err (bytes_taken bytes.now result) self.old.kept;
           failures = self.new.failures;
         } }
-        ensures counts { WriteCounts bytes.now (shown_by self.old) (shown_by self.new) result }
+        ensures counts { WriteCounts bytes.now (memory_view self.old) (memory_view self.new) result }
         ensures fault { IfErr result (λ e. e ≡ DeskFault.Failed) }
     {
         if self.kept.report(bytes).is_err() {

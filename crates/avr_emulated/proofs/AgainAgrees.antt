@@ -15,7 +15,7 @@ use Rattle.avr_plan.specs.Plan.{Plan}
 use Rattle.avr_plan.specs.declared.task.Task.{Task}
 use Rattle.avr_plan.specs.declared.task.Task.TheVariants as task
 use Rattle.avr_session.specs.Session.{is_erase_due}
-use Rattle.stk_emu.specs.Effect.{Image, Memories, Item, Erase, Write, laid, and_in, and_with, locked, keeps_eeprom, effect, effects}
+use Rattle.stk_emu.specs.Effect.{Image, Memories, Item, Erase, Write, with_image, and_in, and_with, are_locked, erase_keeps_eeprom, effect, effects}
 use Rattle.stk_emu.specs.Given.{Holds}
 use Rattle.stk_emu.specs.Settled.{FitsPart}
 use Rattle.avr_emulated.specs.Again.{AreWrites, chip_of, AgreesAnyway}
@@ -37,7 +37,7 @@ third_laid : (b : Option ℕ) (z o m : ℕ) → Third z o m → Third (unwrap_or
 third_laid None z o m t = t
 third_laid (Some x) z o m t = λ e. refl
 
-thirds_laid : (image : Image) (zs os ms : List ℕ) → Thirds zs os ms → Thirds (laid image zs) (laid image os) (laid image ms)
+thirds_laid : (image : Image) (zs os ms : List ℕ) → Thirds zs os ms → Thirds (with_image image zs) (with_image image os) (with_image image ms)
 thirds_laid [] [] [] [] t = tt
 thirds_laid (b ∷ image) [] [] [] t = tt
 thirds_laid [] (z ∷ zs) (o ∷ os) (m ∷ ms) t = t
@@ -48,7 +48,7 @@ thirds_laid image (z ∷ zs) [] ms t = absurd t
 thirds_laid image (z ∷ zs) (o ∷ os) [] t = absurd t
 
 thirds_unless : (l lo lm : Bool) → lo ≡ l → lm ≡ l → (image : Image) (zs os ms : List ℕ) → Thirds zs os ms
-    → Thirds (if l then zs else laid image zs) (if lo then os else laid image os) (if lm then ms else laid image ms)
+    → Thirds (if l then zs else with_image image zs) (if lo then os else with_image image os) (if lm then ms else with_image image ms)
 thirds_unless true true true e f image zs os ms t = t
 thirds_unless false false false e f image zs os ms t = thirds_laid image zs os ms t
 thirds_unless true false lm e f image zs os ms t = absurd (true≢false (sym e))
@@ -103,14 +103,14 @@ record Between (z o m : Memories) : Type 0 where
   hfuse : Third z.hfuse o.hfuse m.hfuse
   efuse : Third z.efuse o.efuse m.efuse
 
-locked_as : (a b : Memories) → a.lock ≡ b.lock → locked a ≡ locked b
+locked_as : (a b : Memories) → a.lock ≡ b.lock → are_locked a ≡ are_locked b
 locked_as a b e = ap (λ (k : ℕ). bit_at k 0 == 0) e
 
 module _ (part : Part) where
   write_between : (mem : Mem) (image : Image) (z o m : Memories) → Between z o m → Between (effect part (Write mem image) z) (effect part (Write mem image) o) (effect part (Write mem image) m)
   write_between Flash image z o m t = record {
-    flash_o = same_unless (locked z) (locked o) (locked_as o z t.lock_o) image z.flash o.flash t.flash_o;
-    flash_m = same_unless (locked z) (locked m) (locked_as m z t.lock_m) image z.flash m.flash t.flash_m;
+    flash_o = same_unless (are_locked z) (are_locked o) (locked_as o z t.lock_o) image z.flash o.flash t.flash_o;
+    flash_m = same_unless (are_locked z) (are_locked m) (locked_as m z t.lock_m) image z.flash m.flash t.flash_m;
     lock_o = t.lock_o;
     lock_m = t.lock_m;
     eeprom = t.eeprom;
@@ -123,7 +123,7 @@ module _ (part : Part) where
     flash_m = t.flash_m;
     lock_o = t.lock_o;
     lock_m = t.lock_m;
-    eeprom = thirds_unless (locked z) (locked o) (locked m) (locked_as o z t.lock_o) (locked_as m z t.lock_m) image z.eeprom o.eeprom m.eeprom t.eeprom;
+    eeprom = thirds_unless (are_locked z) (are_locked o) (are_locked m) (locked_as o z t.lock_o) (locked_as m z t.lock_m) image z.eeprom o.eeprom m.eeprom t.eeprom;
     lfuse = t.lfuse;
     hfuse = t.hfuse;
     efuse = t.efuse;
@@ -134,7 +134,7 @@ module _ (part : Part) where
     lock_o = t.lock_o;
     lock_m = t.lock_m;
     eeprom = t.eeprom;
-    lfuse = third_unless (locked z) (locked o) (locked m) (locked_as o z t.lock_o) (locked_as m z t.lock_m) (byte_at image 0) z.lfuse o.lfuse m.lfuse t.lfuse;
+    lfuse = third_unless (are_locked z) (are_locked o) (are_locked m) (locked_as o z t.lock_o) (locked_as m z t.lock_m) (byte_at image 0) z.lfuse o.lfuse m.lfuse t.lfuse;
     hfuse = t.hfuse;
     efuse = t.efuse;
   }
@@ -145,7 +145,7 @@ module _ (part : Part) where
     lock_m = t.lock_m;
     eeprom = t.eeprom;
     lfuse = t.lfuse;
-    hfuse = third_unless (locked z) (locked o) (locked m) (locked_as o z t.lock_o) (locked_as m z t.lock_m) (byte_at image 0) z.hfuse o.hfuse m.hfuse t.hfuse;
+    hfuse = third_unless (are_locked z) (are_locked o) (are_locked m) (locked_as o z t.lock_o) (locked_as m z t.lock_m) (byte_at image 0) z.hfuse o.hfuse m.hfuse t.hfuse;
     efuse = t.efuse;
   }
   write_between Efuse image z o m t = record {
@@ -156,7 +156,7 @@ module _ (part : Part) where
     eeprom = t.eeprom;
     lfuse = t.lfuse;
     hfuse = t.hfuse;
-    efuse = third_unless (locked z) (locked o) (locked m) (locked_as o z t.lock_o) (locked_as m z t.lock_m) (byte_at image 0) z.efuse o.efuse m.efuse t.efuse;
+    efuse = third_unless (are_locked z) (are_locked o) (are_locked m) (locked_as o z t.lock_o) (locked_as m z t.lock_m) (byte_at image 0) z.efuse o.efuse m.efuse t.efuse;
   }
   write_between Lock image z o m t = record {
     flash_o = t.flash_o;
@@ -238,9 +238,9 @@ module _ (part : Part) where
   begins_between m f =
       let n = part.eeprom_size in
       let k = part.flash_size in
-      let zeros : (if keeps_eeprom part (chip_of part 0) then replicate n 0 else blank (replicate n 0)) ≡ replicate n 0 =
-      kept_zeros (keeps_eeprom part (chip_of part 0)) n (ap (λ (b : ℕ). b == 0) (bit_at-zero part.eesave_bit)) in
-      let ones : (if keeps_eeprom part (chip_of part 255) then replicate n 255 else blank (replicate n 255)) ≡ replicate n 255 = kept_ones (keeps_eeprom part (chip_of part 255)) n in
+      let zeros : (if erase_keeps_eeprom part (chip_of part 0) then replicate n 0 else blank (replicate n 0)) ≡ replicate n 0 =
+      kept_zeros (erase_keeps_eeprom part (chip_of part 0)) n (ap (λ (b : ℕ). b == 0) (bit_at-zero part.eesave_bit)) in
+      let ones : (if erase_keeps_eeprom part (chip_of part 255) then replicate n 255 else blank (replicate n 255)) ≡ replicate n 255 = kept_ones (erase_keeps_eeprom part (chip_of part 255)) n in
       let mine = (effect part Erase m).eeprom in
       record {
         flash_o = blank_as (replicate k 255) (replicate k 0) k (length-replicate {A = ℕ} k 255) (length-replicate {A = ℕ} k 0);
@@ -248,7 +248,7 @@ module _ (part : Part) where
         lock_o = refl;
         lock_m = refl;
         eeprom = subst (λ zs. Thirds zs (effect part Erase (chip_of part 255)).eeprom mine) (sym zeros)
-            (subst (λ os. Thirds (replicate n 0) os mine) (sym ones) (any_third n mine (kept_size (keeps_eeprom part m) m.eeprom n f.eeprom)));
+            (subst (λ os. Thirds (replicate n 0) os mine) (sym ones) (any_third n mine (kept_size (erase_keeps_eeprom part m) m.eeprom n f.eeprom)));
         lfuse = no_third m.lfuse;
         hfuse = no_third m.hfuse;
         efuse = no_third m.efuse;

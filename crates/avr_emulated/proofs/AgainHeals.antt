@@ -6,7 +6,7 @@ use Rattle.std.specs.Prelude.{◌<◌, All}
 use Rattle.avr_part.specs.Part.{Part, IsPart}
 use Rattle.avr_plan.specs.Plan.{Plan, IsFitted}
 use Rattle.avr_session.specs.Session.{is_erase_due}
-use Rattle.stk_emu.specs.Effect.{Memories, keeps_eeprom, effects}
+use Rattle.stk_emu.specs.Effect.{Memories, erase_keeps_eeprom, effects}
 use Rattle.stk_emu.specs.Settled.{FitsPart}
 use Rattle.avr_emulated.specs.Again.{AreKeeping, chip_of, AgreesAnyway, Heals}
 use Rattle.avr_emulated.specs.Agrees.{Agrees}
@@ -33,7 +33,7 @@ two_of_all plan all = record {
 
 pub healed : (plan : Plan) (k : ℕ) (m : Memories) → IsPart plan.part → All (IsFitted plan.part) plan.tasks → FitsPart plan.part m
     → plan.switches.dry ≡ false → is_erase_due plan.switches plan.tasks ≡ true → AgreesAnyway plan
-    → (keeps_eeprom plan.part m ≡ true → AreKeeping plan.part (items plan))
+    → (erase_keeps_eeprom plan.part m ≡ true → AreKeeping plan.part (items plan))
     → Heals plan m (effects plan.part (take k (strokes plan)) m)
 healed plan k m sound fitted f wet due both kept =
     let some = effects plan.part (take k (strokes plan)) m in
@@ -46,14 +46,14 @@ healed plan k m sound fitted f wet due both kept =
 
 pub touched_healed : (plan : Plan) (before after : Memories) → IsPart plan.part → All (IsFitted plan.part) plan.tasks → FitsPart plan.part before
     → plan.switches.dry ≡ false → is_erase_due plan.switches plan.tasks ≡ true → AgreesAnyway plan
-    → (keeps_eeprom plan.part before ≡ true → AreKeeping plan.part (items plan))
+    → (erase_keeps_eeprom plan.part before ≡ true → AreKeeping plan.part (items plan))
     → IsTouched plan before after → Heals plan before after
 touched_healed plan before after sound fitted f wet due both kept touched =
     subst (Heals plan before) (sym touched.memories) (healed plan touched.count before sound fitted f wet due both kept)
 
 -- a second run that did all comes to what the first one would have come to
 pub done_again : (plan : Plan) (before left after : Memories) → IsPart plan.part → All (IsFitted plan.part) plan.tasks → FitsPart plan.part before
-    → (is_erase_due plan.switches plan.tasks ≡ true → keeps_eeprom plan.part before ≡ true → AreKeeping plan.part (items plan))
+    → (is_erase_due plan.switches plan.tasks ≡ true → erase_keeps_eeprom plan.part before ≡ true → AreKeeping plan.part (items plan))
     → IsTouched plan before left → IsDone plan left after → after ≡ effects plan.part (items plan) before
 done_again plan before left after sound fitted f kept touched all =
     all.memories ∙ (ap (effects plan.part (items plan)) touched.memories ∙ plan_again plan touched.count before sound fitted f kept)

@@ -16,8 +16,8 @@ use Rattle.stk_frame.specs.declared.command.Command.{Command}
 use Rattle.stk_frame.specs.declared.host_command.Fuse.TheVariants.{Low, High, Extended}
 use Rattle.stk_frame.specs.HostCommands.{program_fuse, program_lock}
 use Rattle.stk_host.specs.Places.{each_from}
-use Rattle.stk_host.specs.WriteSteps.{is_used, page_step, page_steps, begins_run, run_step, run_steps, byte_steps, write_steps}
-use Rattle.stk_emu.specs.Effect.{Image, Memories, Item, Erase, Write, locked, keeps_eeprom, effect, effects}
+use Rattle.stk_host.specs.WriteSteps.{is_used, page_step, page_steps, begins_run, run_step, run_steps_at, byte_steps, write_steps}
+use Rattle.stk_emu.specs.Effect.{Image, Memories, Item, Erase, Write, are_locked, erase_keeps_eeprom, effect, effects}
 use Rattle.stk_emu.specs.Settled.{FitsPart}
 use Rattle.stk_emu.specs.Strokes.{strokes_of, all_steps, AllFitItems}
 use Rattle.stk_emu.proofs.ItemStrokes.{items_do, effect_sizes}
@@ -77,23 +77,23 @@ module _ (part : Part) where
   fuse_keeps false None fuse e k = e
   fuse_keeps false (Some byte) fuse e k = k
 
-  item_keeps : (want : Type 0) → want → (item : Item) (m : Memories) → Mild part want item → keeps_eeprom part m ≡ true → keeps_eeprom part (effect part item m) ≡ true
+  item_keeps : (want : Type 0) → want → (item : Item) (m : Memories) → Mild part want item → erase_keeps_eeprom part m ≡ true → erase_keeps_eeprom part (effect part item m) ≡ true
   item_keeps want w Erase m f e = e
   item_keeps want w (Write Flash image) m f e = e
   item_keeps want w (Write Eeprom image) m f e = e
   item_keeps want w (Write Lfuse image) m f e = e
-  item_keeps want w (Write Hfuse image) m f e = fuse_keeps (locked m) (byte_at image 0) m.hfuse e (f w)
+  item_keeps want w (Write Hfuse image) m f e = fuse_keeps (are_locked m) (byte_at image 0) m.hfuse e (f w)
   item_keeps want w (Write Efuse image) m f e = e
   item_keeps want w (Write Lock image) m f e = e
   item_keeps want w (Write Signature image) m f e = e
   item_keeps want w (Write Calibration image) m f e = e
 
-  items_keep : (want : Type 0) → want → (xs : List Item) (m : Memories) → AllMild part want xs → keeps_eeprom part m ≡ true → keeps_eeprom part (effects part xs m) ≡ true
+  items_keep : (want : Type 0) → want → (xs : List Item) (m : Memories) → AllMild part want xs → erase_keeps_eeprom part m ≡ true → erase_keeps_eeprom part (effects part xs m) ≡ true
   items_keep want w [] m f e = e
   items_keep want w (x ∷ xs) m f e = items_keep want w xs (effect part x m) f.1 (item_keeps want w x m f.0 e)
 
-  first_keep : (want : Type 0) → want → (k : ℕ) (xs : List Item) (m : Memories) → AllMild part want xs → keeps_eeprom part m ≡ true
-      → keeps_eeprom part (effects part (take k (Erase ∷ xs)) m) ≡ true
+  first_keep : (want : Type 0) → want → (k : ℕ) (xs : List Item) (m : Memories) → AllMild part want xs → erase_keeps_eeprom part m ≡ true
+      → erase_keeps_eeprom part (effects part (take k (Erase ∷ xs)) m) ≡ true
   first_keep want w zero xs m f e = e
   first_keep want w (suc k) xs m f e = items_keep want w (take k xs) (effect part Erase m) (mild_take part want k xs f) e
 
@@ -133,7 +133,7 @@ module _ (part : Part) where
     write_mild : (mem : Mem) (image : Image) → Mild part want (Write mem image) → MildSteps (write_steps part mem image)
     write_mild Flash image f =
         each_mild (page_steps part image) 0 (part.flash_size / part.flash_page) (λ n. either_mild (is_used part.flash_page image (n * part.flash_page)) (page_step part image (n * part.flash_page) ∷ []) (tt, tt))
-    write_mild Eeprom image f = each_mild (run_steps part image) 0 part.eeprom_size (λ a. either_mild (begins_run part.eeprom_page image a) (run_step part image a ∷ []) (tt, tt))
+    write_mild Eeprom image f = each_mild (run_steps_at part image) 0 part.eeprom_size (λ a. either_mild (begins_run part.eeprom_page image a) (run_step part image a ∷ []) (tt, tt))
     write_mild Lfuse image f = low_mild (byte_at image 0)
     write_mild Hfuse image f = high_mild (byte_at image 0) f
     write_mild Efuse image f = extended_mild (byte_at image 0)
@@ -177,26 +177,26 @@ items_are plan wet due =
     ∙ ap (λ d. (if d then Erase ∷ [] else []) ++ more) due
 
 some_strokes_again : (part : Part) (sound : IsPart part) (xs : List Item) (k : ℕ) (m : Memories) → AllFitItems part xs → FitsPart part m → AreWrites xs
-    → (keeps_eeprom part m ≡ true → AreKeeping part xs)
+    → (erase_keeps_eeprom part m ≡ true → AreKeeping part xs)
     → effects part (Erase ∷ xs) (effects part (take k (strokes_of (all_steps part (Erase ∷ xs)))) m) ≡ effects part (Erase ∷ xs) m
 some_strokes_again part sound xs k m fits f writes kept =
-    let want : Type 0 = keeps_eeprom part m ≡ true in
+    let want : Type 0 = erase_keeps_eeprom part m ≡ true in
     let ys = strokes_of (all_steps part xs) in
-    let mild : AllMild part (keeps_eeprom part m ≡ true) ys = strokes_mild part (keeps_eeprom part m ≡ true) xs (all_mild part (keeps_eeprom part m ≡ true) xs writes kept) in
+    let mild : AllMild part (erase_keeps_eeprom part m ≡ true) ys = strokes_mild part (erase_keeps_eeprom part m ≡ true) xs (all_mild part (erase_keeps_eeprom part m ≡ true) xs writes kept) in
     let some = effects part (take k (Erase ∷ ys)) m in
     let same : (x : Memories) → FitsPart part x → effects part (Erase ∷ ys) x ≡ effects part (Erase ∷ xs) x =
     λ x g. items_do part sound xs (effect part Erase x) fits (effect_sizes part sound Erase x g) in
     sym (same some (all_sizes part sound (take k (Erase ∷ ys)) m f))
-    ∙ (first_again part k ys m (mild_writes part (keeps_eeprom part m ≡ true) ys mild) (λ e. first_keep part (keeps_eeprom part m ≡ true) e k ys m mild e)
+    ∙ (first_again part k ys m (mild_writes part (erase_keeps_eeprom part m ≡ true) ys mild) (λ e. first_keep part (erase_keeps_eeprom part m ≡ true) e k ys m mild e)
     ∙ same m f)
 
 pub strokes_again : (plan : Plan) (k : ℕ) (m : Memories) → IsPart plan.part → All (IsFitted plan.part) plan.tasks → FitsPart plan.part m
-    → plan.switches.dry ≡ false → is_erase_due plan.switches plan.tasks ≡ true → (keeps_eeprom plan.part m ≡ true → AreKeeping plan.part (items plan))
+    → plan.switches.dry ≡ false → is_erase_due plan.switches plan.tasks ≡ true → (erase_keeps_eeprom plan.part m ≡ true → AreKeeping plan.part (items plan))
     → effects plan.part (items plan) (effects plan.part (take k (strokes plan)) m) ≡ effects plan.part (items plan) m
 strokes_again plan k m sound fitted f wet due kept =
     let xs = tasks_items plan.switches plan.tasks in
     let are = items_are plan wet due in
-    let kept_all : keeps_eeprom plan.part m ≡ true → AreKeeping plan.part (Erase ∷ xs) = λ e. subst (AreKeeping plan.part) are (kept e) in
+    let kept_all : erase_keeps_eeprom plan.part m ≡ true → AreKeeping plan.part (Erase ∷ xs) = λ e. subst (AreKeeping plan.part) are (kept e) in
     subst (λ all. effects plan.part all (effects plan.part (take k (strokes_of (all_steps plan.part all))) m) ≡ effects plan.part all m) (sym are)
     (some_strokes_again plan.part sound xs k m (tasks_fit plan.part sound plan.switches plan.tasks fitted) f (tasks_writes plan.switches plan.tasks) (λ e. (kept_all e).1))
 
@@ -221,7 +221,7 @@ unerased_again plan k m sound fitted f are =
 
 -- any plan
 pub plan_again : (plan : Plan) (k : ℕ) (m : Memories) → IsPart plan.part → All (IsFitted plan.part) plan.tasks → FitsPart plan.part m
-    → (is_erase_due plan.switches plan.tasks ≡ true → keeps_eeprom plan.part m ≡ true → AreKeeping plan.part (items plan))
+    → (is_erase_due plan.switches plan.tasks ≡ true → erase_keeps_eeprom plan.part m ≡ true → AreKeeping plan.part (items plan))
     → effects plan.part (items plan) (effects plan.part (take k (strokes plan)) m) ≡ effects plan.part (items plan) m
 plan_again plan k m sound fitted f kept =
     let more = tasks_items plan.switches plan.tasks in

@@ -21,7 +21,7 @@ use Rattle.stk_emu.proofs.Counting.{items_counted}
 use Rattle.stk_emu.proofs.LeadsOn.{leads_done, leads_wider, leads_bind, leads_closing}
 use Rattle.avr_session.specs.declared.standing.Standing.{Standing}
 use Rattle.avr_session.specs.declared.standing.Standing.TheVariants.{Fine, Faulty, Over}
-use Rattle.avr_session.specs.Session.{standing, reported, closed_says, opening_part, erasing_part, tasks_part, beginning, working, ending, playing, status_of, session}
+use Rattle.avr_session.specs.Session.{standing, reported, closed_says, opening_phase, erasing_phase, tasks_phase, beginning, working, ending, playing, status_of, session}
 use Rattle.avr_emulated.specs.Items.{erasing_items, task_items, tasks_items, items}
 use Rattle.avr_emulated.specs.Agrees.{Agrees}
 use Rattle.avr_emulated.specs.Outcome.{IsTouched, IsDone}
@@ -102,7 +102,7 @@ module _ (plan : Plan) (sound : IsPart plan.part) (fitted : All (IsFitted plan.p
   goes_beginning =
       let part = plan.part in
       let s = plan.switches in
-      goes_then part sound (Idle part m) m [] (erasing_items s plan.tasks) ⊤ ⊤ (opening_part part s) (erasing_part part s plan.tasks) tt f
+      goes_then part sound (Idle part m) m [] (erasing_items s plan.tasks) ⊤ ⊤ (opening_phase part s) (erasing_phase part s plan.tasks) tt f
       (goes_opening part sound s m f) (goes_erasing part sound s plan.tasks m f)
 
   goes_working : Goes plan.part (Idle plan.part m) m (items plan) Checks (working plan)
@@ -110,7 +110,7 @@ module _ (plan : Plan) (sound : IsPart plan.part) (fitted : All (IsFitted plan.p
       let part = plan.part in
       let s = plan.switches in
       let erased = erasing_items s plan.tasks in
-      goes_then part sound (Idle part m) m erased (tasks_items s plan.tasks) (⊤ × ⊤) (Agrees plan m) (beginning plan) (tasks_part part s plan.tasks)
+      goes_then part sound (Idle part m) m erased (tasks_items s plan.tasks) (⊤ × ⊤) (Agrees plan m) (beginning plan) (tasks_phase part s plan.tasks)
       (erasing_fits part sound s plan.tasks) f goes_beginning
       (goes_tasks part sound s plan.tasks (effects part erased m) fitted (effects_sizes part sound erased m f))
 

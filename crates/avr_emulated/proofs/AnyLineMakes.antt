@@ -13,7 +13,7 @@ use Rattle.stk_emu.specs.declared.fate.Fate.{Fate}
 use Rattle.stk_emu.specs.Programmer.{Programmer}
 use Rattle.stk_emu.specs.Device.{device}
 use Rattle.stk_emu.specs.Along.{along}
-use Rattle.stk_emu.specs.Climbs.{counted, steps_done}
+use Rattle.stk_emu.specs.Climbs.{step_count, steps_done}
 use Rattle.stk_emu.specs.Effect.{Memories, Item, effects}
 use Rattle.stk_emu.specs.Settled.{Idle, Settled, FitsPart}
 use Rattle.stk_emu.specs.Strokes.{struck, struck_by, all_steps, AreSteps, AllFitItems}
@@ -88,7 +88,7 @@ struck_min part (suc count) (commands ∷ steps) m =
     ap (λ n. struck_by part n (commands ∷ steps) m) (let e : min (suc count) (suc (length steps)) ≡ suc (min count (length steps)) = omega arith in e)
     ∙ struck_min part count steps (struck part commands m)
 
-counted_most : (d : Dialog ⊥ Outcome) (n total : ℕ) → n ≤ total → counted d n ≤ suc total
+counted_most : (d : Dialog ⊥ Outcome) (n total : ℕ) → n ≤ total → step_count d n ≤ suc total
 counted_most (Done (Ok bytes)) n total l = omega (arith, l)
 counted_most (Done (Err fault)) n total l = omega arith
 counted_most (Say s d) n total l = absurd s

@@ -14,7 +14,7 @@ use Rattle.stk_host.specs.declared.fault.HostFault.{HostFault}
 use Rattle.stk_host.specs.declared.fault.HostFault.TheVariants.{ReadOnly}
 use Rattle.stk_host.specs.Dialog.{Dialog, Done, Say, Ask, ◌>>=◌}
 use Rattle.stk_host.specs.WriteSteps.{write_steps}
-use Rattle.stk_host.specs.Operations.{done, erasing, closing, operation}
+use Rattle.stk_host.specs.Operations.{no_result, erasing, closing, operation}
 use Rattle.stk_emu.specs.declared.fate.Fate.{Fate}
 use Rattle.stk_emu.specs.Programmer.{Programmer}
 use Rattle.stk_emu.specs.Device.{device}
@@ -31,7 +31,7 @@ use Rattle.stk_emu.proofs.LeadsOn.{leads_done, leads_bind, leads_closing}
 use Rattle.stk_emu.proofs.Tallying.{tallies_wider, tallies_told, tallies_bind}
 use Rattle.avr_session.specs.declared.standing.Standing.{Standing}
 use Rattle.avr_session.specs.declared.standing.Standing.TheVariants.{Fine, Faulty, Over}
-use Rattle.avr_session.specs.Session.{says, standing, reported, unless_fault, erased_says, written_says, closed_says, opening_part, is_erase_due, left_out_erase, erasing_part, verifying_part, writing_part, read_back_part, left_out_write, write_part, reading_part, task_part, tasks_part, beginning, working, ending, playing, status_of, session}
+use Rattle.avr_session.specs.Session.{says, standing, reported, unless_fault, erased_says, written_says, closed_says, opening_phase, is_erase_due, left_out_erase, erasing_phase, verifying_phase, writing_phase, reading_back_phase, left_out_write, write_task_phase, reading_phase, task_phase, tasks_phase, beginning, working, ending, playing, status_of, session}
 use Rattle.avr_emulated.specs.Items.{erasing_items, task_items, tasks_items, items}
 use Rattle.avr_emulated.specs.Agrees.{Shows, Unless, TaskAgrees}
 use Rattle.avr_emulated.specs.Made.{none_made, erasing_made, task_made, tasks_made, beginning_made, made_by}
@@ -56,7 +56,7 @@ either_none true k p fates = refl
 either_none false k p fates = refl
 
 module _ (part : Part) (sound : IsPart part) (s : Switches) where
-  makes_erasing : (tasks : List Task) (m : Memories) → Strikes part (Settled part m) m (erasing_items s tasks) (erasing_made part s tasks) (erasing_part part s tasks)
+  makes_erasing : (tasks : List Task) (m : Memories) → Strikes part (Settled part m) m (erasing_items s tasks) (erasing_made part s tasks) (erasing_phase part s tasks)
   makes_erasing tasks m = by_switch s.dry (is_erase_due s tasks)
     where
       by_switch : (dry due : Bool) → Strikes part (Settled part m) m (if dry then [] else if due then Erase ∷ [] else [])
@@ -64,35 +64,35 @@ module _ (part : Part) (sound : IsPart part) (s : Switches) where
           (if dry then says (left_out_erase s) (Done Fine) else if due then reported erasing (erased_says s.quiet part) else Done Fine)
       by_switch true due p fates settled = makes_none part m (says (left_out_erase s) (Done Fine)) p fates (Comes part m [] ⊤) (goes_saying part sound m (left_out_erase s) p fates settled)
       by_switch false true p fates settled =
-          makes_items part sound m (Erase ∷ []) (steps_of part Erase) done (erased_says s.quiet part) p fates refl (item_are_steps part sound Erase tt) settled
+          makes_items part sound m (Erase ∷ []) (steps_of part Erase) no_result (erased_says s.quiet part) p fates refl (item_are_steps part sound Erase tt) settled
       by_switch false false p fates settled = makes_none part m (Done Fine) p fates (Comes part m [] ⊤) (goes_saying part sound m [] p fates settled)
 
   makes_writing : (mem : Mem) (image : Image) (m : Memories) → length image ≤ size_of mem part → is_writable mem ≡ true
-      → Strikes part (Settled part m) m (Write mem image ∷ []) (steps_done device (write_steps part mem image)) (writing_part part s mem image)
+      → Strikes part (Settled part m) m (Write mem image ∷ []) (steps_done device (write_steps part mem image)) (writing_phase part s mem image)
   makes_writing mem image m fits can = by_kind (is_writable mem) can
     where
       by_kind : (b : Bool) → b ≡ true
           → Strikes part (Settled part m) m (Write mem image ∷ []) (steps_done device (write_steps part mem image))
-          (reported (if b then operation (write_steps part mem image) done else Done (Err (ReadOnly mem))) (written_says s.quiet part mem image))
+          (reported (if b then operation (write_steps part mem image) no_result else Done (Err (ReadOnly mem))) (written_says s.quiet part mem image))
       by_kind true e p fates settled =
-          makes_items part sound m (Write mem image ∷ []) (write_steps part mem image) done (written_says s.quiet part mem image) p fates (sym (append-nil (write_steps part mem image)))
+          makes_items part sound m (Write mem image ∷ []) (write_steps part mem image) no_result (written_says s.quiet part mem image) p fates (sym (append-nil (write_steps part mem image)))
           (write_are_steps part sound mem image fits) settled
       by_kind false e p fates settled = absurd cc
 
   makes_write : (mem : Mem) (image : Image) (m : Memories) → length image ≤ size_of mem part → is_writable mem ≡ true → FitsPart part m
-      → Strikes part (Settled part m) m (task_items s (task.Write mem image)) (task_made part s (task.Write mem image)) (write_part part s mem image)
+      → Strikes part (Settled part m) m (task_items s (task.Write mem image)) (task_made part s (task.Write mem image)) (write_task_phase part s mem image)
   makes_write mem image m fits can f = by_switch s.dry
     where
       by_switch : (dry : Bool) → Strikes part (Settled part m) m (if dry then [] else Write mem image ∷ []) (if dry then none_made else steps_done device (write_steps part mem image))
-          (if dry then says (left_out_write s mem image) (Done Fine) else writing_part part s mem image >>= unless_fault (read_back_part part s mem image))
+          (if dry then says (left_out_write s mem image) (Done Fine) else writing_phase part s mem image >>= unless_fault (reading_back_phase part s mem image))
       by_switch true p fates settled =
           makes_none part m (says (left_out_write s mem image) (Done Fine)) p fates (Comes part m [] ⊤) (goes_saying part sound m (left_out_write s mem image) p fates settled)
       by_switch false p fates settled =
           let item = Write mem image in
           let left = effects part (item ∷ []) m in
           let writes : Count Programmer = steps_done device (write_steps part mem image) in
-          let d = writing_part part s mem image in
-          let next = read_back_part part s mem image in
+          let d = writing_phase part s mem image in
+          let next = reading_back_phase part s mem image in
           let after : Standing → Count Programmer = λ standing. if status_of standing == 0 then none_made else none_made in
           makes_same part m (item ∷ []) (d >>= unless_fault next) (then_count device d writes after) writes p fates
           (λ k.
@@ -104,21 +104,21 @@ module _ (part : Part) (sound : IsPart part) (s : Switches) where
           makes_none part left next q fs (Comes part left [] (Unless s.no_verify (Shows part mem image left)))
           (goes_read_back part sound s mem image left (effects_sizes part sound (item ∷ []) m f) q fs there)))
 
-  makes_task : (task : Task) (m : Memories) → IsFitted part task → FitsPart part m → Strikes part (Settled part m) m (task_items s task) (task_made part s task) (task_part part s task)
+  makes_task : (task : Task) (m : Memories) → IsFitted part task → FitsPart part m → Strikes part (Settled part m) m (task_items s task) (task_made part s task) (task_phase part s task)
   makes_task (task.Write mem image) m fitted f = makes_write mem image m (let size = fitted.0 in omega (arith, size)) fitted.1 f
   makes_task (task.Verify mem image) m fitted f = λ p fates settled.
-      makes_none part m (verifying_part part s mem image) p fates (Comes part m [] (Shows part mem image m)) (goes_verifying part sound s mem image m f p fates settled)
+      makes_none part m (verifying_phase part s mem image) p fates (Comes part m [] (Shows part mem image m)) (goes_verifying part sound s mem image m f p fates settled)
   makes_task (task.Read mem format file) m fitted f = λ p fates settled.
-      makes_none part m (reading_part part s mem format file) p fates (Comes part m [] ⊤) (goes_task part sound s (task.Read mem format file) m fitted f p fates settled)
+      makes_none part m (reading_phase part s mem format file) p fates (Comes part m [] ⊤) (goes_task part sound s (task.Read mem format file) m fitted f p fates settled)
 
   makes_tasks : (tasks : List Task) (m : Memories) → All (IsFitted part) tasks → FitsPart part m
-      → Strikes part (Settled part m) m (tasks_items s tasks) (tasks_made part s tasks) (tasks_part part s tasks)
+      → Strikes part (Settled part m) m (tasks_items s tasks) (tasks_made part s tasks) (tasks_phase part s tasks)
   makes_tasks [] m fitted f p fates settled = makes_none part m (Done Fine) p fates (Comes part m [] ⊤) (goes_saying part sound m [] p fates settled)
   makes_tasks (task ∷ tasks) m fitted f p fates settled =
       let first = task_items s task in
       let left = effects part first m in
       let fits = first_of (IsFitted part) task tasks fitted in
-      makes_then part sound m first (tasks_items s tasks) (TaskAgrees part s task left) (task_part part s task) (tasks_part part s tasks) (task_made part s task)
+      makes_then part sound m first (tasks_items s tasks) (TaskAgrees part s task left) (task_phase part s task) (tasks_phase part s tasks) (task_made part s task)
       (tasks_made part s tasks) p fates
       (task_fits part sound s task fits) f (goes_task part sound s task m fits f p fates settled) (makes_task task m fits f p fates settled)
       (λ q fs there. makes_tasks tasks left (rest_of (IsFitted part) task tasks fitted) (effects_sizes part sound first m f) q fs there)
@@ -147,15 +147,15 @@ module _ (plan : Plan) (sound : IsPart plan.part) (fitted : All (IsFitted plan.p
       let part = plan.part in
       let s = plan.switches in
       let opens = goes_opening part sound s m f p fates idle in
-      makes_then part sound m [] (erasing_items s plan.tasks) ⊤ (opening_part part s) (erasing_part part s plan.tasks) none_made (erasing_made part s plan.tasks) p fates tt f
-      opens (makes_none part m (opening_part part s) p fates (Comes part m [] ⊤) opens) (λ q fs there. makes_erasing part sound s plan.tasks m q fs there)
+      makes_then part sound m [] (erasing_items s plan.tasks) ⊤ (opening_phase part s) (erasing_phase part s plan.tasks) none_made (erasing_made part s plan.tasks) p fates tt f
+      opens (makes_none part m (opening_phase part s) p fates (Comes part m [] ⊤) opens) (λ q fs there. makes_erasing part sound s plan.tasks m q fs there)
 
   makes_working : Makes plan.part m (items plan) (working plan) (made_by plan) p fates
   makes_working =
       let part = plan.part in
       let s = plan.switches in
       let erased = erasing_items s plan.tasks in
-      makes_then part sound m erased (tasks_items s plan.tasks) (⊤ × ⊤) (beginning plan) (tasks_part part s plan.tasks) (beginning_made plan) (tasks_made part s plan.tasks) p fates
+      makes_then part sound m erased (tasks_items s plan.tasks) (⊤ × ⊤) (beginning plan) (tasks_phase part s plan.tasks) (beginning_made plan) (tasks_made part s plan.tasks) p fates
       (erasing_fits part sound s plan.tasks) f (goes_beginning plan sound fitted m f p fates idle) makes_beginning
       (λ q fs there. makes_tasks part sound s plan.tasks (effects part erased m) fitted (effects_sizes part sound erased m f) q fs there)
 

@@ -16,7 +16,7 @@ use Rattle.stk_host.specs.declared.fault.HostFault.TheVariants.{Differs, ReadOnl
 use Rattle.stk_host.specs.Dialog.{Dialog, Done, ◌>>=◌, lifted}
 use Rattle.stk_host.specs.WriteSteps.{write_steps}
 use Rattle.stk_host.specs.ReadSteps.{read_steps}
-use Rattle.stk_host.specs.Operations.{Difference, opening, done, erasing, difference_from, differs, compared, operation}
+use Rattle.stk_host.specs.Operations.{Difference, opening, no_result, erasing, difference_from, differs, comparison, operation}
 use Rattle.stk_emu.specs.declared.fate.Fate.{Fate}
 use Rattle.stk_emu.specs.Programmer.{Programmer}
 use Rattle.stk_emu.specs.Device.{device}
@@ -33,7 +33,7 @@ use Rattle.stk_emu.proofs.Comparing.{no_difference}
 use Rattle.stk_emu.proofs.LeadsOn.{leads_done, leads_say, leads_lifted, leads_wider, leads_bind, leads_operation, leads_opening}
 use Rattle.avr_session.specs.declared.standing.Standing.{Standing}
 use Rattle.avr_session.specs.declared.standing.Standing.TheVariants.{Fine, Faulty, Over}
-use Rattle.avr_session.specs.Session.{says, standing, reported, unless_fault, fault_or, opening_says, erased_says, written_says, verified_says, read_says, opening_part, is_erase_due, left_out_erase, erasing_part, verifying_part, writing_part, read_back_part, left_out_write, write_part, task_part, tasks_part}
+use Rattle.avr_session.specs.Session.{says, standing, reported, unless_fault, fault_or, opening_says, erased_says, written_says, verified_says, read_says, opening_phase, is_erase_due, left_out_erase, erasing_phase, verifying_phase, writing_phase, reading_back_phase, left_out_write, write_task_phase, task_phase, tasks_phase}
 use Rattle.avr_emulated.specs.Items.{erasing_items, task_items, tasks_items}
 use Rattle.avr_emulated.specs.Agrees.{Shows, Unless, TaskAgrees, TasksAgree}
 use Rattle.avr_emulated.proofs.Standings.{after_fault}
@@ -160,9 +160,9 @@ module _ (part : Part) (sound : IsPart part) where
 
   -- the steps of items
   goes_items : (m : Memories) (items : List Item) (steps : List (List Command)) (outcome_says : Result ⊤ HostFault → List Saying) → steps ≡ all_steps part items
-      → AllFitItems part items → FitsPart part m → AreSteps part steps → Goes part (Settled part m) m items ⊤ (reported (operation steps done) outcome_says)
+      → AllFitItems part items → FitsPart part m → AreSteps part steps → Goes part (Settled part m) m items ⊤ (reported (operation steps no_result) outcome_says)
   goes_items m items steps outcome_says same fits f are =
-      goes_operation m items ⊤ steps done outcome_says fits f are
+      goes_operation m items ⊤ steps no_result outcome_says fits f are
       (λ q r. reached_rests part (all_steps part items) m q (subst (λ all. Reached part all m q) same r))
       (ap (λ all. struck_by part (length all) all m) same ∙ all_struck part sound items m fits f)
       (λ a e. tt)
@@ -173,7 +173,7 @@ module _ (part : Part) (sound : IsPart part) where
     opened m (Ok found) q after = (after.0, tt)
     opened m (Err fault) q after = rests_here part [] m q after
 
-    pub goes_opening : (m : Memories) → FitsPart part m → Goes part (Idle part m) m [] ⊤ (opening_part part s)
+    pub goes_opening : (m : Memories) → FitsPart part m → Goes part (Idle part m) m [] ⊤ (opening_phase part s)
     goes_opening m f p fates idle =
         leads_reported (opening part.signature s.force) (opening_says s.quiet part) p fates (Rests part [] m) (CameTo part m [] ⊤) (Comes part m [] ⊤)
         (λ r q came. came_rests m [] ⊤ r q tt f came) (λ r q came. come_standing part m [] ⊤ r q came)
@@ -183,7 +183,7 @@ module _ (part : Part) (sound : IsPart part) where
     goes_chip_erasing : (m : Memories) → FitsPart part m → Goes part (Settled part m) m (Erase ∷ []) ⊤ (reported erasing (erased_says s.quiet part))
     goes_chip_erasing m f = goes_items m (Erase ∷ []) (steps_of part Erase) (erased_says s.quiet part) refl (tt, tt) f (item_are_steps part sound Erase tt)
 
-    pub goes_erasing : (tasks : List Task) (m : Memories) → FitsPart part m → Goes part (Settled part m) m (erasing_items s tasks) ⊤ (erasing_part part s tasks)
+    pub goes_erasing : (tasks : List Task) (m : Memories) → FitsPart part m → Goes part (Settled part m) m (erasing_items s tasks) ⊤ (erasing_phase part s tasks)
     goes_erasing tasks m f = by_switch s.dry (is_erase_due s tasks)
       where
         by_switch : (dry due : Bool) → Goes part (Settled part m) m (if dry then [] else if due then Erase ∷ [] else []) ⊤
@@ -205,26 +205,26 @@ module _ (part : Part) (sound : IsPart part) where
     ok_same mem None a e = refl
     ok_same mem (Some d) a e = absurd (ok_is a (Differs mem d.addr d.want d.found) (sym e))
 
-    pub goes_verifying : (mem : Mem) (image : Image) (m : Memories) → FitsPart part m → Goes part (Settled part m) m [] (Shows part mem image m) (verifying_part part s mem image)
+    pub goes_verifying : (mem : Mem) (image : Image) (m : Memories) → FitsPart part m → Goes part (Settled part m) m [] (Shows part mem image m) (verifying_phase part s mem image)
     goes_verifying mem image m f =
-        goes_reading m (Shows part mem image m) mem (compared mem image) (verified_says s.quiet part mem image) f
+        goes_reading m (Shows part mem image m) mem (comparison mem image) (verified_says s.quiet part mem image) f
         (λ a e. no_difference 0 image (memory_in part mem m) (ok_same mem (difference_from 0 image (memory_in part mem m)) a e))
 
     pub goes_read_back : (mem : Mem) (image : Image) (m : Memories) → FitsPart part m
-        → Goes part (Settled part m) m [] (Unless s.no_verify (Shows part mem image m)) (read_back_part part s mem image)
+        → Goes part (Settled part m) m [] (Unless s.no_verify (Shows part mem image m)) (reading_back_phase part s mem image)
     goes_read_back mem image m f = by_switch s.no_verify
       where
-        by_switch : (b : Bool) → Goes part (Settled part m) m [] (Unless b (Shows part mem image m)) (if b then Done Fine else verifying_part part s mem image)
+        by_switch : (b : Bool) → Goes part (Settled part m) m [] (Unless b (Shows part mem image m)) (if b then Done Fine else verifying_phase part s mem image)
         by_switch true = goes_saying m []
         by_switch false = goes_verifying mem image m f
 
     pub goes_writing : (mem : Mem) (image : Image) (m : Memories) → length image ≤ size_of mem part → is_writable mem ≡ true → FitsPart part m
-        → Goes part (Settled part m) m (Write mem image ∷ []) ⊤ (writing_part part s mem image)
+        → Goes part (Settled part m) m (Write mem image ∷ []) ⊤ (writing_phase part s mem image)
     goes_writing mem image m fits can f = by_kind (is_writable mem) can
       where
         by_kind : (b : Bool) → b ≡ true
             → Goes part (Settled part m) m (Write mem image ∷ []) ⊤
-            (reported (if b then operation (write_steps part mem image) done else Done (Err (ReadOnly mem))) (written_says s.quiet part mem image))
+            (reported (if b then operation (write_steps part mem image) no_result else Done (Err (ReadOnly mem))) (written_says s.quiet part mem image))
         by_kind true e =
             goes_items m (Write mem image ∷ []) (write_steps part mem image) (written_says s.quiet part mem image) (sym (append-nil (write_steps part mem image))) (fits, tt) f
             (write_are_steps part sound mem image fits)
@@ -232,22 +232,22 @@ module _ (part : Part) (sound : IsPart part) where
 
     goes_write : (mem : Mem) (image : Image) (m : Memories) → length image ≤ size_of mem part → is_writable mem ≡ true → FitsPart part m
         → Goes part (Settled part m) m (task_items s (task.Write mem image)) (TaskAgrees part s (task.Write mem image) (effects part (task_items s (task.Write mem image)) m))
-        (write_part part s mem image)
+        (write_task_phase part s mem image)
     goes_write mem image m fits can f = by_switch s.dry
       where
         by_switch : (dry : Bool) → Goes part (Settled part m) m (if dry then [] else Write mem image ∷ [])
             (Unless (dry || s.no_verify) (Shows part mem image (effects part (if dry then [] else Write mem image ∷ []) m)))
-            (if dry then says (left_out_write s mem image) (Done Fine) else writing_part part s mem image >>= unless_fault (read_back_part part s mem image))
+            (if dry then says (left_out_write s mem image) (Done Fine) else writing_phase part s mem image >>= unless_fault (reading_back_phase part s mem image))
         by_switch true = goes_saying m (left_out_write s mem image)
         by_switch false =
             let left = effect part (Write mem image) m in
             let Check = Unless s.no_verify (Shows part mem image left) in
-            goes_wider (Settled part m) m (Write mem image ∷ []) (⊤ × Check) Check (writing_part part s mem image >>= unless_fault (read_back_part part s mem image)) (λ both. both.1)
-            (goes_then (Settled part m) m (Write mem image ∷ []) [] ⊤ Check (writing_part part s mem image) (read_back_part part s mem image) (fits, tt) f
+            goes_wider (Settled part m) m (Write mem image ∷ []) (⊤ × Check) Check (writing_phase part s mem image >>= unless_fault (reading_back_phase part s mem image)) (λ both. both.1)
+            (goes_then (Settled part m) m (Write mem image ∷ []) [] ⊤ Check (writing_phase part s mem image) (reading_back_phase part s mem image) (fits, tt) f
             (goes_writing mem image m fits can f) (goes_read_back mem image left (effect_sizes part sound (Write mem image) m f)))
 
     pub goes_task : (task : Task) (m : Memories) → IsFitted part task → FitsPart part m
-        → Goes part (Settled part m) m (task_items s task) (TaskAgrees part s task (effects part (task_items s task) m)) (task_part part s task)
+        → Goes part (Settled part m) m (task_items s task) (TaskAgrees part s task (effects part (task_items s task) m)) (task_phase part s task)
     goes_task (task.Write mem image) m fitted f = goes_write mem image m (let size = fitted.0 in omega (arith, size)) fitted.1 f
     goes_task (task.Verify mem image) m fitted f = goes_verifying mem image m f
     goes_task (task.Read mem format file) m fitted f = goes_reading m ⊤ mem Ok (fault_or part (read_says s mem format file)) f (λ a e. tt)
@@ -262,12 +262,12 @@ module _ (part : Part) (sound : IsPart part) where
     task_fits (task.Read mem format file) fitted = tt
 
     pub goes_tasks : (tasks : List Task) (m : Memories) → All (IsFitted part) tasks → FitsPart part m
-        → Goes part (Settled part m) m (tasks_items s tasks) (TasksAgree part s tasks m) (tasks_part part s tasks)
+        → Goes part (Settled part m) m (tasks_items s tasks) (TasksAgree part s tasks m) (tasks_phase part s tasks)
     goes_tasks [] m fitted f = goes_saying m []
     goes_tasks (task ∷ tasks) m fitted f =
         let first = task_items s task in
         let left = effects part first m in
         let fits = first_of (IsFitted part) task tasks fitted in
-        goes_then (Settled part m) m first (tasks_items s tasks) (TaskAgrees part s task left) (TasksAgree part s tasks left) (task_part part s task) (tasks_part part s tasks)
+        goes_then (Settled part m) m first (tasks_items s tasks) (TaskAgrees part s task left) (TasksAgree part s tasks left) (task_phase part s task) (tasks_phase part s tasks)
         (task_fits task fits) f
         (goes_task task m fits f) (goes_tasks tasks left (rest_of (IsFitted part) task tasks fitted) (effects_sizes part sound first m f))

@@ -6,30 +6,30 @@ use Rattle.avr_desk.specs.Fault.{Follows}
 use Rattle.avr_desk.specs.Record.{DeskView}
 use Rattle.avr_message.specs.Lines.{Bytes}
 use Rattle.avr_part.specs.ChipFile.{chip_file}
-use Rattle.avr_part.specs.Sound.{IsSound}
-use Rattle.avr_part.specs.State.{State as Chip}
+use Rattle.avr_part.specs.Sound.{IsSoundChip}
+use Rattle.avr_part.specs.State.{ChipState as Chip}
 use Rattle.avr_plan.specs.Plan.{Plan, IsFitted}
 use Rattle.avr_plan.specs.Planning.{planned}
 use Rattle.avr_plan.specs.Playing.{Went}
 use Rattle.avr_plan.specs.Stage.{Made}
 use Rattle.stk_host.specs.Talk.{Stays, sent}
 use Rattle.stk_emu.specs.Programmer.{fresh_programmer}
-use Rattle.stk_emu.specs.Wire.{fresh}
-use Rattle.stk_emu.specs.Wired.{State, ComesOf}
+use Rattle.stk_emu.specs.Wire.{fresh_wire}
+use Rattle.stk_emu.specs.Wired.{WiredState, ComesOf}
 use Rattle.avr_emulated.specs.AnyLine.{OverAnyLine}
 use Rattle.avr_emulated.specs.Emulated.{IsSaved, new_wire, RunsOverEmulator}
 
 -- a wire that holds, brings and has passed nothing is a new one
-as_new : (chip : Chip) (w : State) → w.held ≡ [] → w.wire ≡ fresh (fresh_programmer chip) [] → w.waits ≡ [] → w.talk ≡ [] → w.failures ≡ 0 → w ≡ new_wire chip []
+as_new : (chip : Chip) (w : WiredState) → w.held ≡ [] → w.wire ≡ fresh_wire (fresh_programmer chip) [] → w.waits ≡ [] → w.talk ≡ [] → w.failures ≡ 0 → w ≡ new_wire chip []
 as_new chip w held wire waits talk failures =
     ap (λ x. record w { held = x }) held
     ∙ (ap (λ x. record w { held = []; wire = x }) wire
-    ∙ (ap (λ x. record w { held = []; wire = fresh (fresh_programmer chip) []; waits = x }) waits
-    ∙ (ap (λ x. record w { held = []; wire = fresh (fresh_programmer chip) []; waits = []; talk = x }) talk
-    ∙ ap (λ x. record { held = []; wire = fresh (fresh_programmer chip) []; waits = []; talk = []; failures = x }) failures)))
+    ∙ (ap (λ x. record w { held = []; wire = fresh_wire (fresh_programmer chip) []; waits = x }) waits
+    ∙ (ap (λ x. record w { held = []; wire = fresh_wire (fresh_programmer chip) []; waits = []; talk = x }) talk
+    ∙ ap (λ x. record { held = []; wire = fresh_wire (fresh_programmer chip) []; waits = []; talk = []; failures = x }) failures)))
 
-module _ (settings : Settings) (file : Bytes) (plan : Plan) (chip : Chip) (w v : State) (held : w.held ≡ []) (begun : w.wire ≡ fresh (fresh_programmer chip) []) (waits : w.waits ≡ []) (silent : w.talk ≡ []) (unfailed : w.failures ≡ 0)
-    (fitted : All (IsFitted plan.part) plan.tasks) (part_is : chip.part ≡ plan.part) (is_sound : IsSound chip) where
+module _ (settings : Settings) (file : Bytes) (plan : Plan) (chip : Chip) (w v : WiredState) (held : w.held ≡ []) (begun : w.wire ≡ fresh_wire (fresh_programmer chip) []) (waits : w.waits ≡ []) (silent : w.talk ≡ []) (unfailed : w.failures ≡ 0)
+    (fitted : All (IsFitted plan.part) plan.tasks) (part_is : chip.part ≡ plan.part) (is_sound : IsSoundChip chip) where
   is_new : w ≡ new_wire chip []
   is_new = as_new chip w held begun waits silent unfailed
 
@@ -52,8 +52,8 @@ module _ (settings : Settings) (file : Bytes) (plan : Plan) (chip : Chip) (w v :
     loaded = is_loaded;
     part = part_is;
     sound = is_sound;
-    comes = subst (λ (x : State). Stays ComesOf x v) is_new comes;
-    line = subst (λ (x : State). OverAnyLine plan x v loaded_desk played_desk ran) is_new (line (ap (λ x. x.programmer.chip.part) begun ∙ part_is));
+    comes = subst (λ (x : WiredState). Stays ComesOf x v) is_new comes;
+    line = subst (λ (x : WiredState). OverAnyLine plan x v loaded_desk played_desk ran) is_new (line (ap (λ x. x.programmer.chip.part) begun ∙ part_is));
     saved = saved;
     in_order = (by_playing, by_saving);
   }

@@ -14,7 +14,7 @@ use Rattle.stk_host.specs.declared.fault.HostFault.{HostFault}
 use Rattle.stk_host.specs.Dialog.{Dialog, Done, ◌>>=◌, lifted}
 use Rattle.stk_host.specs.Bound.{commands_in}
 use Rattle.stk_host.specs.Operations as host
-use Rattle.stk_host.specs.Operations.{compared}
+use Rattle.stk_host.specs.Operations.{comparison}
 use Rattle.stk_emu.specs.declared.fate.Fate.{Fate}
 use Rattle.stk_emu.specs.Along.{along}
 use Rattle.stk_emu.specs.Device.{device}
@@ -78,64 +78,64 @@ module _ (part : Part) (sound : IsPart part) (s : Switches) where
   follows_then c more d next p fates good first rest = follows_from c c.standing more d next p fates good refl first rest
 
   opening_follows : (m : Memories) (p : Programmer) (fates : List Fate) → FitsPart part m → Idle part m p → AreFew fates
-      → Follows part (session.opening_part part s) (course.opening part s m) p fates
+      → Follows part (session.opening_phase part s) (course.opening_course part s m) p fates
   opening_follows m p fates sizes idle good =
       ends_reported (host.opening part.signature s.force) (opening_says s.quiet part) (Ok part.signature) (Stands part m) p fates good
       (ends_opening part sound s.force m p fates sizes idle good)
 
-  erasing_goes : (tasks : List Task) (m : Memories) → Goes part (session.erasing_part part s tasks) m (course.erasing part s tasks m)
+  erasing_goes : (tasks : List Task) (m : Memories) → Goes part (session.erasing_phase part s tasks) m (course.erasing_course part s tasks m)
   erasing_goes tasks m p fates good t = by_switches s.dry (is_erase_due s tasks)
     where
       erased : Course
-      erased = course.reported (erased_says s.quiet part) (Ok tt) (effect part item.Erase m)
+      erased = course.reported_course (erased_says s.quiet part) (Ok tt) (effect part item.Erase m)
 
-      by_switches : (dry due : Bool) → Follows part (if dry then says (left_out_erase s) (Done Fine) else if due then session.chip_erasing_part part s else Done Fine)
+      by_switches : (dry due : Bool) → Follows part (if dry then says (left_out_erase s) (Done Fine) else if due then session.chip_erasing_phase part s else Done Fine)
           (if dry then course.fine (left_out_erase s) m else if due then erased else course.fine [] m) p fates
       by_switches true due = ends_says (left_out_erase s) Fine (Stands part m) p fates t
       by_switches false true = ends_reported host.erasing (erased_says s.quiet part) (Ok tt) (Stands part erased.memories) p fates good (ends_erasing part sound m p fates t good)
       by_switches false false = ends_done Fine (Stands part m) p fates t
 
-  verifying_goes : (mem : Mem) (image : Image) (m : Memories) → Goes part (session.verifying_part part s mem image) m (course.verifying part s mem image m)
+  verifying_goes : (mem : Mem) (image : Image) (m : Memories) → Goes part (session.verifying_phase part s mem image) m (course.verifying_course part s mem image m)
   verifying_goes mem image m p fates good t =
-      ends_reported (host.verifying part mem image) (verified_says s.quiet part mem image) (compared mem image (memory_in part mem m)) (Stands part m) p fates good
+      ends_reported (host.verifying part mem image) (verified_says s.quiet part mem image) (comparison mem image (memory_in part mem m)) (Stands part m) p fates good
       (ends_verifying part sound mem image m p fates t good)
 
-  reading_back_goes : (mem : Mem) (image : Image) (m : Memories) → Goes part (session.read_back_part part s mem image) m (course.reading_back part s mem image m)
+  reading_back_goes : (mem : Mem) (image : Image) (m : Memories) → Goes part (session.reading_back_phase part s mem image) m (course.reading_back_course part s mem image m)
   reading_back_goes mem image m p fates good t = by_switch s.no_verify
     where
-      by_switch : (left : Bool) → Follows part (if left then Done Fine else session.verifying_part part s mem image)
-          (if left then course.fine [] m else course.verifying part s mem image m) p fates
+      by_switch : (left : Bool) → Follows part (if left then Done Fine else session.verifying_phase part s mem image)
+          (if left then course.fine [] m else course.verifying_course part s mem image m) p fates
       by_switch true = ends_done Fine (Stands part m) p fates t
       by_switch false = verifying_goes mem image m p fates good t
 
-  writing_goes : (mem : Mem) (image : Image) (m : Memories) → IsFitted part (Write mem image) → Goes part (session.write_part part s mem image) m (course.writing part s mem image m)
+  writing_goes : (mem : Mem) (image : Image) (m : Memories) → IsFitted part (Write mem image) → Goes part (session.write_task_phase part s mem image) m (course.writing_course part s mem image m)
   writing_goes mem image m fitted p fates good t = by_switch s.dry
     where
       written : Course
-      written = course.reported (written_says s.quiet part mem image) (Ok tt) (effect part (item.Write mem image) m)
+      written = course.reported_course (written_says s.quiet part mem image) (Ok tt) (effect part (item.Write mem image) m)
 
       by_switch : (dry : Bool)
-          → Follows part (if dry then says (left_out_write s mem image) (Done Fine) else session.writing_part part s mem image >>= unless_fault (session.read_back_part part s mem image))
-          (if dry then course.fine (left_out_write s mem image) m else then_from written written.standing (course.reading_back part s mem image)) p fates
+          → Follows part (if dry then says (left_out_write s mem image) (Done Fine) else session.writing_phase part s mem image >>= unless_fault (session.reading_back_phase part s mem image))
+          (if dry then course.fine (left_out_write s mem image) m else then_from written written.standing (course.reading_back_course part s mem image)) p fates
       by_switch true = ends_says (left_out_write s mem image) Fine (Stands part m) p fates t
       by_switch false =
-          follows_then written (course.reading_back part s mem image) (session.writing_part part s mem image) (session.read_back_part part s mem image) p fates good
+          follows_then written (course.reading_back_course part s mem image) (session.writing_phase part s mem image) (session.reading_back_phase part s mem image) p fates good
           (ends_reported (host.writing part mem image) (written_says s.quiet part mem image) (Ok tt) (Stands part written.memories) p fates good
           (ends_writing part sound mem image m p fates (let size = fitted.0 in omega (arith, size)) fitted.1 t good))
           (reading_back_goes mem image written.memories)
 
-  task_goes : (task : Task) (m : Memories) → IsFitted part task → Goes part (session.task_part part s task) m (course.task_course part s task m)
+  task_goes : (task : Task) (m : Memories) → IsFitted part task → Goes part (session.task_phase part s task) m (course.task_course part s task m)
   task_goes (Write mem image) m fitted p fates good t = writing_goes mem image m fitted p fates good t
   task_goes (Verify mem image) m fitted p fates good t = verifying_goes mem image m p fates good t
   task_goes (Read mem format file) m fitted p fates good t =
       ends_reported (host.reading part mem) (fault_or part (read_says s mem format file)) (Ok (memory_in part mem m)) (Stands part m) p fates good
       (ends_reading part sound mem m p fates t good)
 
-  tasks_go : (tasks : List Task) (m : Memories) → All (IsFitted part) tasks → Goes part (session.tasks_part part s tasks) m (course.tasks_course part s tasks m)
+  tasks_go : (tasks : List Task) (m : Memories) → All (IsFitted part) tasks → Goes part (session.tasks_phase part s tasks) m (course.tasks_course part s tasks m)
   tasks_go [] m fitted p fates good t = ends_done Fine (Stands part m) p fates t
   tasks_go (task ∷ tasks) m fitted p fates good t =
       let first = course.task_course part s task m in
-      follows_then first (course.tasks_course part s tasks) (session.task_part part s task) (session.tasks_part part s tasks) p fates good
+      follows_then first (course.tasks_course part s tasks) (session.task_phase part s task) (session.tasks_phase part s tasks) p fates good
       (task_goes task m (All-head (IsFitted part) task tasks fitted) p fates good t)
       (tasks_go tasks first.memories (All-tail (IsFitted part) task tasks fitted))
 
@@ -151,14 +151,14 @@ status_is Over = refl
 
 module _ (plan : Plan) (sound : IsPart plan.part) (fitted : All (IsFitted plan.part) plan.tasks) where
   working_follows : (m : Memories) (p : Programmer) (fates : List Fate) → FitsPart plan.part m → Idle plan.part m p → AreFew fates
-      → Follows plan.part (session.working plan) (course.working plan m) p fates
+      → Follows plan.part (session.working plan) (course.working_course plan m) p fates
   working_follows m p fates sizes idle good =
       let part = plan.part in
       let s = plan.switches in
-      let opened = course.opening part s m in
-      let begun = then_from opened opened.standing (course.erasing part s plan.tasks) in
-      follows_then part sound s begun (course.tasks_course part s plan.tasks) (session.beginning plan) (session.tasks_part part s plan.tasks) p fates good
-      (follows_then part sound s opened (course.erasing part s plan.tasks) (session.opening_part part s) (session.erasing_part part s plan.tasks) p fates good
+      let opened = course.opening_course part s m in
+      let begun = then_from opened opened.standing (course.erasing_course part s plan.tasks) in
+      follows_then part sound s begun (course.tasks_course part s plan.tasks) (session.beginning plan) (session.tasks_phase part s plan.tasks) p fates good
+      (follows_then part sound s opened (course.erasing_course part s plan.tasks) (session.opening_phase part s) (session.erasing_phase part s plan.tasks) p fates good
       (opening_follows part sound s m p fates sizes idle good)
       (erasing_goes part sound s plan.tasks m))
       (tasks_go part sound s plan.tasks begun.memories fitted)
@@ -179,7 +179,7 @@ module _ (plan : Plan) (sound : IsPart plan.part) (fitted : All (IsFitted plan.p
       → Ends (session.session plan) (course.course plan m).status (course.course plan m).says (λ q. memories_of q.chip ≡ (course.course plan m).memories) p fates
   unfolding session.session
   session_ends m p fates sizes idle good =
-      let c = course.working plan m in
+      let c = course.working_course plan m in
       let rest = Idle plan.part c.memories in
       let said = c.says ++ ending_says plan c.standing in
       let played : Ends (session.playing plan) (at_end c.standing) said rest p fates =

@@ -19,7 +19,7 @@ use Rattle.stk_host.specs.Places.{each_from}
 use Rattle.stk_host.specs.ReadSteps.{block_count, block_steps, signature_steps, read_steps}
 use Rattle.stk_host.specs.WriteSteps.{write_steps}
 use Rattle.stk_host.specs.Operations as host
-use Rattle.stk_host.specs.Operations.{judged_by, operation, signature_judged, ended, done, compared}
+use Rattle.stk_host.specs.Operations.{judged_by, operation, signature_judged, without_bytes, no_result, comparison}
 use Rattle.stk_emu.specs.declared.fate.Fate.{Fate}
 use Rattle.stk_emu.specs.Programmer.{Programmer}
 use Rattle.stk_emu.specs.Device.{device}
@@ -28,7 +28,7 @@ use Rattle.stk_emu.specs.Effect.{Image, Memories, Erase, Write, effect, effects,
 use Rattle.stk_emu.specs.Settled.{Idle, Ready, FitsPart}
 use Rattle.stk_emu.specs.Fits.{Fits}
 use Rattle.stk_emu.specs.Strokes.{AreSteps, strokes_of, struck_by}
-use Rattle.stk_emu.specs.Given.{gathered, all_given}
+use Rattle.stk_emu.specs.Given.{joined_reply, all_given}
 use Rattle.stk_emu.specs.Few.{AreFew}
 use Rattle.stk_emu.proofs.FewFates.{step_steady, play_few, play_ready}
 use Rattle.stk_emu.proofs.ItemStrokes.{struck_all, item_does, item_are_steps, read_are_steps, effect_sizes}
@@ -48,7 +48,7 @@ nothing_said (saying ∷ sayings) = absurd saying
 
 -- a step of at most two commands, which have these data from under the one condition and the other
 ends_step : (commands : List Command) (got : List ℕ) (Before After : Programmer → Type 0) (p : Programmer) (fates : List Fate)
-    → Fits steady commands Before After → Before p → length commands ≤ 2 → ((q : Programmer) → Before q ⊎ After q → gathered device commands [] q ≡ Data got) → AreFew fates → Ends (step commands) (Ok got) [] After p fates
+    → Fits steady commands Before After → Before p → length commands ≤ 2 → ((q : Programmer) → Before q ⊎ After q → joined_reply device commands [] q ≡ Data got) → AreFew fates → Ends (step commands) (Ok got) [] After p fates
 ends_step commands got Before After p fates fits before short has few = record {
   ends = λ k o e.
       let comes = step_steady Before After commands got fits has k p fates o short few before e in
@@ -129,18 +129,18 @@ module _ (part : Part) (sound : IsPart part) where
   ends_reading mem m p fates s few = ends_reads mem Ok m p fates s few
 
   pub ends_verifying : (mem : Mem) (image : Image) (m : Memories) (p : Programmer) (fates : List Fate) → Stands part m p → AreFew fates
-      → Ends (host.verifying part mem image) (compared mem image (memory_in part mem m)) [] (Stands part m) p fates
-  ends_verifying mem image m p fates s few = ends_reads mem (compared mem image) m p fates s few
+      → Ends (host.verifying part mem image) (comparison mem image (memory_in part mem m)) [] (Stands part m) p fates
+  ends_verifying mem image m p fates s few = ends_reads mem (comparison mem image) m p fates s few
 
   pub ends_erasing : (m : Memories) (p : Programmer) (fates : List Fate) → Stands part m p → AreFew fates → Ends host.erasing (Ok tt) [] (Stands part (effect part Erase m)) p fates
   ends_erasing m p fates s few =
-      ends_operation ((erase ∷ []) ∷ []) done m (effect part Erase m) p fates (item_are_steps part sound Erase tt) s few refl (effect_sizes part sound Erase m s.sizes)
+      ends_operation ((erase ∷ []) ∷ []) no_result m (effect part Erase m) p fates (item_are_steps part sound Erase tt) s few refl (effect_sizes part sound Erase m s.sizes)
 
   pub ends_writing : (mem : Mem) (image : Image) (m : Memories) (p : Programmer) (fates : List Fate) → length image ≤ size_of mem part → is_writable mem ≡ true
       → Stands part m p → AreFew fates → Ends (host.writing part mem image) (Ok tt) [] (Stands part (effect part (Write mem image) m)) p fates
   ends_writing mem image m p fates fits can s few =
       subst (λ d. Ends d (Ok tt) [] (Stands part (effect part (Write mem image) m)) p fates) (sym (chosen (is_writable mem) _ _ can))
-      (ends_operation (write_steps part mem image) done m (effect part (Write mem image) m) p fates (item_are_steps part sound (Write mem image) fits) s few
+      (ends_operation (write_steps part mem image) no_result m (effect part (Write mem image) m) p fates (item_are_steps part sound (Write mem image) fits) s few
       (struck_all part (write_steps part mem image) m ∙ item_does part sound (Write mem image) m fits s.sizes)
       (effect_sizes part sound (Write mem image) m s.sizes))
 
@@ -152,8 +152,8 @@ module _ (part : Part) (sound : IsPart part) where
       (ends_play signature_steps m p fates (read_are_steps part sound Signature) s few))
 
   ends_beginning : (m : Memories) (p : Programmer) (fates : List Fate) → FitsPart part m → Idle part m p → AreFew fates
-      → Ends host.beginning (Ok part.signature) [] (Stands part m) p fates
-  unfolding host.beginning
+      → Ends host.handshake (Ok part.signature) [] (Stands part m) p fates
+  unfolding host.handshake
   ends_beginning m p fates sizes idle few =
       let read : List ℕ → Dialog ⊥ Outcome = λ nothing. play signature_steps [] in
       let name = 0x53 ∷ 0x54 ∷ 0x4B ∷ 0x35 ∷ 0x30 ∷ 0x30 ∷ 0x5F ∷ 0x32 ∷ [] in
@@ -169,9 +169,9 @@ module _ (part : Part) (sound : IsPart part) where
   unfolding host.opening
   ends_opening force m p fates sizes idle few =
       subst (λ r. Ends (host.opening part.signature force) r [] (Stands part m) p fates) (signature_taken part.signature force)
-      (ends_told host.beginning (signature_judged part.signature force) (Ok part.signature) (Stands part m) p fates few (ends_beginning m p fates sizes idle few))
+      (ends_told host.handshake (signature_judged part.signature force) (Ok part.signature) (Stands part m) p fates few (ends_beginning m p fates sizes idle few))
 
 pub ends_closing : (part : Part) (m : Memories) (p : Programmer) (fates : List Fate) → Idle part m p → AreFew fates → Ends host.closing (Ok tt) [] (Idle part m) p fates
 unfolding host.closing
 ends_closing part m p fates idle few =
-    ends_told (step (leave ∷ [])) ended (Ok []) (Idle part m) p fates few (ends_step (leave ∷ []) [] (Idle part m) (Idle part m) p fates (leave_steady part m) idle (omega arith) (λ q stands. refl) few)
+    ends_told (step (leave ∷ [])) without_bytes (Ok []) (Idle part m) p fates few (ends_step (leave ∷ []) [] (Idle part m) (Idle part m) p fates (leave_steady part m) idle (omega arith) (λ q stands. refl) few)

@@ -5,7 +5,7 @@ use Rattle.avr_image.specs.Image.{byte_at}
 use Rattle.avr_part.specs.Part.{Part}
 use Rattle.avr_part.specs.declared.mem.Mem.TheVariants.{Flash, Eeprom, Lfuse, Hfuse, Efuse, Lock, Signature, Calibration}
 use Rattle.avr_plan.specs.Plan.{Plan}
-use Rattle.stk_emu.specs.Effect.{Image, Item, Erase, Write, Memories, and_with, and_in, locked, effect, effects}
+use Rattle.stk_emu.specs.Effect.{Image, Item, Erase, Write, Memories, and_with, and_in, are_locked, effect, effects}
 use Rattle.stk_emu.proofs.Images.{length-and_in, get_and_in}
 use Rattle.avr_emulated.specs.Items.{items}
 use Rattle.avr_emulated.specs.Outcome.{strokes, IsTouched, IsDone}
@@ -81,7 +81,7 @@ module _ (part : Part) (addr : ℕ) where
       (made xs (effect part Erase m) (omega (arith, l, length-replicate {A = ℕ} (length m.flash) 255)))
   made (Write Flash image ∷ xs) m l =
       joined image xs addr (byte m) (byte (effect part (Write Flash image) m)) (byte (effects part xs (effect part (Write Flash image) m)))
-      (writes image m.flash addr (locked m) l) (made xs (effect part (Write Flash image) m) (still_inside image m.flash addr (locked m) l))
+      (writes image m.flash addr (are_locked m) l) (made xs (effect part (Write Flash image) m) (still_inside image m.flash addr (are_locked m) l))
   made (Write Eeprom image ∷ xs) m l = later (Write Eeprom image) xs addr (byte m) (byte (effects part xs (effect part (Write Eeprom image) m))) (made xs (effect part (Write Eeprom image) m) l)
   made (Write Lfuse image ∷ xs) m l = later (Write Lfuse image) xs addr (byte m) (byte (effects part xs (effect part (Write Lfuse image) m))) (made xs (effect part (Write Lfuse image) m) l)
   made (Write Hfuse image ∷ xs) m l = later (Write Hfuse image) xs addr (byte m) (byte (effects part xs (effect part (Write Hfuse image) m))) (made xs (effect part (Write Hfuse image) m) l)

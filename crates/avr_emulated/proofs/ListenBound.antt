@@ -14,7 +14,7 @@ use Rattle.stk_host.specs.Bound.{AsksAtMost, commands_in}
 use Rattle.stk_host.specs.Dialog.{Dialog, Done, Say, Ask, Event, Frame, Played, behind, by_answer, next, played, frames_in}
 use Rattle.stk_host.specs.Play.{Plays, InTurn, IsDue, TurnsFrom}
 use Rattle.stk_host.specs.Talk.{Talk, Sent, Got, sent, heard}
-use Rattle.stk_host.specs.Tape.{Tape, Reading, on_tape, bytes_in, answer, read_to, stopped, first_answer, is_answer, further, limit, Babbled}
+use Rattle.stk_host.specs.Tape.{Tape, Reading, on_tape, bytes_in, answer, read_to, silence_or_end, first_answer, is_answer, further, limit, Babbled}
 use Rattle.stk_host.specs.declared.link.Item.TheVariants.{Byte, Silence, End}
 use Rattle.stk_host.proofs.Bounds.{sends_most}
 use Rattle.stk_emu.specs.Along.{AsksBodies}
@@ -108,7 +108,7 @@ cut_within bytes =
     let all : length (concat (cut bytes)) + length (rest bytes) ≡ length bytes = sym (length-append (concat (cut bytes)) (rest bytes)) ∙ ap length (cut_joined bytes) in
     omega (arith, all)
 
-stopped_costs : (tape : Tape) (reading : Reading) (left : Tape) → stopped tape ≡ Some (reading, left) → (silences tape ≤ suc (silences left)) × (bytes_on tape ≡ bytes_on left)
+stopped_costs : (tape : Tape) (reading : Reading) (left : Tape) → silence_or_end tape ≡ Some (reading, left) → (silences tape ≤ suc (silences left)) × (bytes_on tape ≡ bytes_on left)
 stopped_costs [] reading left e = absurd (cc)
 stopped_costs (Byte b ∷ tape) reading left e = absurd (cc)
 stopped_costs (Silence ∷ tape) reading left e =
@@ -127,13 +127,13 @@ read_costs tape bytes (Some (body, used)) reading left few within each e =
 read_costs tape bytes None reading left few within each e = elim (cases_Bool (nat_le limit (length bytes))) [
   | inl full ↦
       let enough : limit ≤ length bytes = leb-true limit (length bytes) full in
-      let is : drop limit tape ≡ left = ap left_of (sym (chosen (nat_le limit (length bytes)) (Some (Babbled, drop limit tape)) (stopped (drop (length bytes) tape)) full) ∙ e) in
+      let is : drop limit tape ≡ left = ap left_of (sym (chosen (nat_le limit (length bytes)) (Some (Babbled, drop limit tape)) (silence_or_end (drop (length bytes) tape)) full) ∙ e) in
       subst (Costs tape) is (dropped_costs limit tape (drop limit tape) (omega arith) (drops limit tape (omega (arith, enough, within))))
   | inr part ↦
       let d = drops (length bytes) tape within in
       let silent = d.silent in
       let some = d.bytes in
-      let s = stopped_costs (drop (length bytes) tape) reading left (sym (refused (nat_le limit (length bytes)) (Some (Babbled, drop limit tape)) (stopped (drop (length bytes) tape)) part) ∙ e) in
+      let s = stopped_costs (drop (length bytes) tape) reading left (sym (refused (nat_le limit (length bytes)) (Some (Babbled, drop limit tape)) (silence_or_end (drop (length bytes) tape)) part) ∙ e) in
       let s0 = s.0 in
       let s1 = s.1 in
       record { silent = omega (arith, silent, s0); bytes = omega (arith, some, s1, few) }
@@ -149,7 +149,7 @@ answer_costs seq tape reading left e =
 
 -- ---- where it waits for more
 
-all_waiting : (tape : Tape) → stopped (drop (length (bytes_in tape)) tape) ≡ None → (silences tape ≡ 0) × (bytes_on tape ≡ length (bytes_in tape))
+all_waiting : (tape : Tape) → silence_or_end (drop (length (bytes_in tape)) tape) ≡ None → (silences tape ≡ 0) × (bytes_on tape ≡ length (bytes_in tape))
 all_waiting [] e = (refl, refl)
 all_waiting (Byte b ∷ tape) e = let more = all_waiting tape e in let bytes = more.1 in (more.0, omega (arith, bytes))
 all_waiting (Silence ∷ tape) e = absurd (cc)
@@ -160,12 +160,12 @@ read_waits tape (Some (body, used)) e = absurd (cc)
 read_waits tape None e =
     let bytes = take limit (bytes_in tape) in
     elim (cases_Bool (nat_le limit (length bytes))) [
-      | inl full ↦ let no_none = sym (chosen (nat_le limit (length bytes)) (Some (Babbled, drop limit tape)) (stopped (drop (length bytes) tape)) full) ∙ e in absurd (cc)
+      | inl full ↦ let no_none = sym (chosen (nat_le limit (length bytes)) (Some (Babbled, drop limit tape)) (silence_or_end (drop (length bytes) tape)) full) ∙ e in absurd (cc)
       | inr part ↦
           let few : length bytes < limit = leb-false limit (length bytes) part in
           let whole : length bytes ≡ length (bytes_in tape) = take_short limit (bytes_in tape) few in
-          let none = sym (refused (nat_le limit (length bytes)) (Some (Babbled, drop limit tape)) (stopped (drop (length bytes) tape)) part) ∙ e in
-          let w = all_waiting tape (subst (λ (n : ℕ). stopped (drop n tape) ≡ None) whole none) in
+          let none = sym (refused (nat_le limit (length bytes)) (Some (Babbled, drop limit tape)) (silence_or_end (drop (length bytes) tape)) part) ∙ e in
+          let w = all_waiting tape (subst (λ (n : ℕ). silence_or_end (drop n tape) ≡ None) whole none) in
           let bytes_are = w.1 in
           (w.0, omega (arith, bytes_are, whole, few))
     ]

@@ -13,13 +13,13 @@ use Rattle.stk_host.specs.declared.fault.HostFault.{HostFault}
 use Rattle.stk_host.specs.Dialog.{Dialog, Done, ◌>>=◌, lifted}
 use Rattle.stk_host.specs.WriteSteps.{write_steps}
 use Rattle.stk_host.specs.ReadSteps.{read_steps}
-use Rattle.stk_host.specs.Operations.{opening, closing, done, erasing, writing, reading, compared, verifying}
+use Rattle.stk_host.specs.Operations.{opening, closing, no_result, erasing, writing, reading, comparison, verifying}
 use Rattle.stk_host.specs.Bound.{AsksAtMost, SendsAtMost, commands_in, opening_steps, erasing_steps, closing_steps}
 use Rattle.stk_host.proofs.Bounds.{asks_bind, asks_lifted, sends_asked, operation_most, opening_most, closing_most, writing_most}
 use Rattle.stk_emu.specs.Effect.{Image}
 use Rattle.avr_session.specs.declared.standing.Standing.{Standing}
 use Rattle.avr_session.specs.declared.standing.Standing.TheVariants.{Fine, Faulty, Over}
-use Rattle.avr_session.specs.Session.{says, standing, reported, unless_fault, fault_or, opening_says, erased_says, written_says, verified_says, closed_says, read_says, opening_part, is_erase_due, left_out_erase, erasing_part, verifying_part, writing_part, read_back_part, left_out_write, write_part, task_part, tasks_part, working, ending, playing, status_of, session}
+use Rattle.avr_session.specs.Session.{says, standing, reported, unless_fault, fault_or, opening_says, erased_says, written_says, verified_says, closed_says, read_says, opening_phase, is_erase_due, left_out_erase, erasing_phase, verifying_phase, writing_phase, reading_back_phase, left_out_write, write_task_phase, task_phase, tasks_phase, working, ending, playing, status_of, session}
 use Rattle.avr_emulated.specs.Bound.{due_erase_steps, read_back_steps, task_steps, tasks_steps, run_steps}
 
 -- dialogs, one after another
@@ -63,50 +63,50 @@ then_part_most xs ys d next asks more = most_on xs ys d (unless_fault next) asks
     after Over = tt
 
 module _ (part : Part) (s : Switches) where
-  opening_part_most : AsksAtMost (4 * commands_in opening_steps) (opening_part part s)
+  opening_part_most : AsksAtMost (4 * commands_in opening_steps) (opening_phase part s)
   opening_part_most =
       reported_most (4 * commands_in opening_steps) (opening part.signature s.force) (opening_says s.quiet part) (opening_most part.signature s.force)
 
-  erasing_part_most : (tasks : List Task) → AsksAtMost (4 * commands_in (due_erase_steps s tasks)) (erasing_part part s tasks)
+  erasing_part_most : (tasks : List Task) → AsksAtMost (4 * commands_in (due_erase_steps s tasks)) (erasing_phase part s tasks)
   erasing_part_most tasks = by_switch s.dry (is_erase_due s tasks)
     where
       by_switch : (dry due : Bool) → AsksAtMost (4 * commands_in (if dry then [] else if due then erasing_steps else []))
           (if dry then says (left_out_erase s) (Done Fine) else if due then reported erasing (erased_says s.quiet part) else Done Fine)
       by_switch true due = says_most 0 (left_out_erase s) Fine
-      by_switch false true = reported_most (4 * commands_in erasing_steps) erasing (erased_says s.quiet part) (operation_most erasing_steps done)
+      by_switch false true = reported_most (4 * commands_in erasing_steps) erasing (erased_says s.quiet part) (operation_most erasing_steps no_result)
       by_switch false false = tt
 
-  verifying_part_most : (mem : Mem) (image : Image) → AsksAtMost (4 * commands_in (read_steps part mem)) (verifying_part part s mem image)
+  verifying_part_most : (mem : Mem) (image : Image) → AsksAtMost (4 * commands_in (read_steps part mem)) (verifying_phase part s mem image)
   verifying_part_most mem image =
-      reported_most (4 * commands_in (read_steps part mem)) (verifying part mem image) (verified_says s.quiet part mem image) (operation_most (read_steps part mem) (compared mem image))
+      reported_most (4 * commands_in (read_steps part mem)) (verifying part mem image) (verified_says s.quiet part mem image) (operation_most (read_steps part mem) (comparison mem image))
 
-  read_back_most : (mem : Mem) (image : Image) → AsksAtMost (4 * commands_in (read_back_steps part s mem)) (read_back_part part s mem image)
+  read_back_most : (mem : Mem) (image : Image) → AsksAtMost (4 * commands_in (read_back_steps part s mem)) (reading_back_phase part s mem image)
   read_back_most mem image = by_switch s.no_verify
     where
-      by_switch : (b : Bool) → AsksAtMost (4 * commands_in (if b then [] else read_steps part mem)) (if b then Done Fine else verifying_part part s mem image)
+      by_switch : (b : Bool) → AsksAtMost (4 * commands_in (if b then [] else read_steps part mem)) (if b then Done Fine else verifying_phase part s mem image)
       by_switch true = tt
       by_switch false = verifying_part_most mem image
 
-  write_part_most : (mem : Mem) (image : Image) → AsksAtMost (4 * commands_in (task_steps part s (Write mem image))) (write_part part s mem image)
+  write_part_most : (mem : Mem) (image : Image) → AsksAtMost (4 * commands_in (task_steps part s (Write mem image))) (write_task_phase part s mem image)
   write_part_most mem image = by_switch s.dry
     where
       by_switch : (b : Bool) → AsksAtMost (4 * commands_in (if b then [] else write_steps part mem image ++ read_back_steps part s mem))
-          (if b then says (left_out_write s mem image) (Done Fine) else writing_part part s mem image >>= unless_fault (read_back_part part s mem image))
+          (if b then says (left_out_write s mem image) (Done Fine) else writing_phase part s mem image >>= unless_fault (reading_back_phase part s mem image))
       by_switch true = says_most 0 (left_out_write s mem image) Fine
       by_switch false =
-          then_part_most (write_steps part mem image) (read_back_steps part s mem) (writing_part part s mem image) (read_back_part part s mem image)
+          then_part_most (write_steps part mem image) (read_back_steps part s mem) (writing_phase part s mem image) (reading_back_phase part s mem image)
           (reported_most (4 * commands_in (write_steps part mem image)) (writing part mem image) (written_says s.quiet part mem image) (writing_most part mem image)) (read_back_most mem image)
 
-  task_part_most : (task : Task) → AsksAtMost (4 * commands_in (task_steps part s task)) (task_part part s task)
+  task_part_most : (task : Task) → AsksAtMost (4 * commands_in (task_steps part s task)) (task_phase part s task)
   task_part_most (Write mem image) = write_part_most mem image
   task_part_most (Verify mem image) = verifying_part_most mem image
   task_part_most (Read mem format file) =
       reported_most (4 * commands_in (read_steps part mem)) (reading part mem) (fault_or part (read_says s mem format file)) (operation_most (read_steps part mem) Ok)
 
-  tasks_part_most : (tasks : List Task) → AsksAtMost (4 * commands_in (tasks_steps part s tasks)) (tasks_part part s tasks)
+  tasks_part_most : (tasks : List Task) → AsksAtMost (4 * commands_in (tasks_steps part s tasks)) (tasks_phase part s tasks)
   tasks_part_most [] = tt
   tasks_part_most (task ∷ tasks) =
-      then_part_most (task_steps part s task) (tasks_steps part s tasks) (task_part part s task) (tasks_part part s tasks) (task_part_most task) (tasks_part_most tasks)
+      then_part_most (task_steps part s task) (tasks_steps part s tasks) (task_phase part s task) (tasks_phase part s tasks) (task_part_most task) (tasks_part_most tasks)
 
   ending_most : (standing : Standing) → AsksAtMost (4 * commands_in closing_steps) (ending part s standing)
   ending_most Fine = reported_most (4 * commands_in closing_steps) closing (closed_says s.quiet part) closing_most
@@ -128,8 +128,8 @@ playing_most plan =
     let tasks = tasks_steps part s plan.tasks in
     subst (λ steps. AsksAtMost (4 * commands_in steps) (playing plan)) (regrouped opening_steps erase tasks closing_steps)
     (most_on ((opening_steps ++ erase) ++ tasks) closing_steps (working plan) (ending part s)
-    (then_part_most (opening_steps ++ erase) tasks (opening_part part s >>= unless_fault (erasing_part part s plan.tasks)) (tasks_part part s plan.tasks)
-    (then_part_most opening_steps erase (opening_part part s) (erasing_part part s plan.tasks) (opening_part_most part s) (erasing_part_most part s plan.tasks))
+    (then_part_most (opening_steps ++ erase) tasks (opening_phase part s >>= unless_fault (erasing_phase part s plan.tasks)) (tasks_phase part s plan.tasks)
+    (then_part_most opening_steps erase (opening_phase part s) (erasing_phase part s plan.tasks) (opening_part_most part s) (erasing_part_most part s plan.tasks))
     (tasks_part_most part s plan.tasks))
     (ending_most part s))
 

@@ -19,7 +19,7 @@ use Rattle.stk_host.specs.Dialog.{Dialog, Done, Say, Ask, ◌>>=◌, lifted}
 use Rattle.stk_host.specs.ReadSteps.{read_steps}
 use Rattle.stk_host.specs.WriteSteps.{write_steps}
 use Rattle.stk_host.specs.Operations as host
-use Rattle.stk_host.specs.Operations.{compared, operation, done}
+use Rattle.stk_host.specs.Operations.{comparison, operation, no_result}
 use Rattle.stk_emu.specs.declared.fate.Fate.{Fate}
 use Rattle.stk_emu.specs.Programmer.{Programmer}
 use Rattle.stk_emu.specs.Device.{device}
@@ -123,14 +123,14 @@ module _ (part : Part) (sound : IsPart part) where
 
   erasing_succeeds : (m : Memories) (p : Programmer) (fates : List Fate) → Stands part m p → Succeeds IsOk host.erasing (Ok tt) [] (Stands part (effect part item.Erase m)) p fates
   erasing_succeeds m p fates s =
-      operation_succeeds ((erase ∷ []) ∷ []) done m (effect part item.Erase m) p fates (item_are_steps part sound item.Erase tt) s refl (effect_sizes part sound item.Erase m s.sizes)
+      operation_succeeds ((erase ∷ []) ∷ []) no_result m (effect part item.Erase m) p fates (item_are_steps part sound item.Erase tt) s refl (effect_sizes part sound item.Erase m s.sizes)
 
   writing_succeeds : (mem : Mem) (image : Image) (m : Memories) (p : Programmer) (fates : List Fate) → length image ≤ size_of mem part → is_writable mem ≡ true
       → Stands part m p → Succeeds IsOk (host.writing part mem image) (Ok tt) [] (Stands part (effect part (item.Write mem image) m)) p fates
   writing_succeeds mem image m p fates fits can s =
       let after = effect part (item.Write mem image) m in
       subst (λ d. Succeeds IsOk d (Ok tt) [] (Stands part after) p fates) (sym (chosen (is_writable mem) _ _ can))
-      (operation_succeeds (write_steps part mem image) done m after p fates (item_are_steps part sound (item.Write mem image) fits) s
+      (operation_succeeds (write_steps part mem image) no_result m after p fates (item_are_steps part sound (item.Write mem image) fits) s
       (struck_all part (write_steps part mem image) m ∙ item_does part sound (item.Write mem image) m fits s.sizes)
       (effect_sizes part sound (item.Write mem image) m s.sizes))
 
@@ -179,64 +179,64 @@ module _ (part : Part) (sound : IsPart part) where
     follows_then c more d next p fates first rest = follows_from c c.standing more d next p fates refl first rest
 
     opening_follows : (m : Memories) (p : Programmer) (fates : List Fate) → FitsPart part m → Idle part m p
-        → Follows part (session.opening_part part s) (course.opening part s m) p fates
+        → Follows part (session.opening_phase part s) (course.opening_course part s m) p fates
     opening_follows m p fates sizes idle =
         reported_succeeds (host.opening part.signature s.force) (opening_says s.quiet part) (Ok part.signature) (Stands part m) p fates
         (opening_succeeds s.force m p fates sizes idle)
 
-    erasing_goes : (tasks : List Task) (m : Memories) → Goes part (session.erasing_part part s tasks) m (course.erasing part s tasks m)
+    erasing_goes : (tasks : List Task) (m : Memories) → Goes part (session.erasing_phase part s tasks) m (course.erasing_course part s tasks m)
     erasing_goes tasks m p fates t = by_switches s.dry (is_erase_due s tasks)
       where
         erased : Course
-        erased = course.reported (erased_says s.quiet part) (Ok tt) (effect part item.Erase m)
+        erased = course.reported_course (erased_says s.quiet part) (Ok tt) (effect part item.Erase m)
 
-        by_switches : (dry due : Bool) → Follows part (if dry then says (left_out_erase s) (Done Fine) else if due then session.chip_erasing_part part s else Done Fine)
+        by_switches : (dry due : Bool) → Follows part (if dry then says (left_out_erase s) (Done Fine) else if due then session.chip_erasing_phase part s else Done Fine)
             (if dry then course.fine (left_out_erase s) m else if due then erased else course.fine [] m) p fates
         by_switches true due = says_succeed IsFine (left_out_erase s) Fine (Stands part m) p fates t
         by_switches false true = reported_succeeds host.erasing (erased_says s.quiet part) (Ok tt) (Stands part erased.memories) p fates (erasing_succeeds m p fates t)
         by_switches false false = done_succeeds IsFine Fine (Stands part m) p fates t
 
-    verifying_goes : (mem : Mem) (image : Image) (m : Memories) → Goes part (session.verifying_part part s mem image) m (course.verifying part s mem image m)
+    verifying_goes : (mem : Mem) (image : Image) (m : Memories) → Goes part (session.verifying_phase part s mem image) m (course.verifying_course part s mem image m)
     verifying_goes mem image m p fates t =
-        reported_succeeds (host.verifying part mem image) (verified_says s.quiet part mem image) (compared mem image (memory_in part mem m)) (Stands part m) p fates
-        (reads_succeed mem (compared mem image) m p fates t)
+        reported_succeeds (host.verifying part mem image) (verified_says s.quiet part mem image) (comparison mem image (memory_in part mem m)) (Stands part m) p fates
+        (reads_succeed mem (comparison mem image) m p fates t)
 
-    reading_back_goes : (mem : Mem) (image : Image) (m : Memories) → Goes part (session.read_back_part part s mem image) m (course.reading_back part s mem image m)
+    reading_back_goes : (mem : Mem) (image : Image) (m : Memories) → Goes part (session.reading_back_phase part s mem image) m (course.reading_back_course part s mem image m)
     reading_back_goes mem image m p fates t = by_switch s.no_verify
       where
-        by_switch : (left : Bool) → Follows part (if left then Done Fine else session.verifying_part part s mem image)
-            (if left then course.fine [] m else course.verifying part s mem image m) p fates
+        by_switch : (left : Bool) → Follows part (if left then Done Fine else session.verifying_phase part s mem image)
+            (if left then course.fine [] m else course.verifying_course part s mem image m) p fates
         by_switch true = done_succeeds IsFine Fine (Stands part m) p fates t
         by_switch false = verifying_goes mem image m p fates t
 
-    writing_goes : (mem : Mem) (image : Image) (m : Memories) → IsFitted part (Write mem image) → Goes part (session.write_part part s mem image) m (course.writing part s mem image m)
+    writing_goes : (mem : Mem) (image : Image) (m : Memories) → IsFitted part (Write mem image) → Goes part (session.write_task_phase part s mem image) m (course.writing_course part s mem image m)
     writing_goes mem image m fitted p fates t = by_switch s.dry
       where
         written : Course
-        written = course.reported (written_says s.quiet part mem image) (Ok tt) (effect part (item.Write mem image) m)
+        written = course.reported_course (written_says s.quiet part mem image) (Ok tt) (effect part (item.Write mem image) m)
 
         by_switch : (dry : Bool)
-            → Follows part (if dry then says (left_out_write s mem image) (Done Fine) else session.writing_part part s mem image >>= unless_fault (session.read_back_part part s mem image))
-            (if dry then course.fine (left_out_write s mem image) m else then_from written written.standing (course.reading_back part s mem image)) p fates
+            → Follows part (if dry then says (left_out_write s mem image) (Done Fine) else session.writing_phase part s mem image >>= unless_fault (session.reading_back_phase part s mem image))
+            (if dry then course.fine (left_out_write s mem image) m else then_from written written.standing (course.reading_back_course part s mem image)) p fates
         by_switch true = says_succeed IsFine (left_out_write s mem image) Fine (Stands part m) p fates t
         by_switch false =
-            follows_then written (course.reading_back part s mem image) (session.writing_part part s mem image) (session.read_back_part part s mem image) p fates
+            follows_then written (course.reading_back_course part s mem image) (session.writing_phase part s mem image) (session.reading_back_phase part s mem image) p fates
             (reported_succeeds (host.writing part mem image) (written_says s.quiet part mem image) (Ok tt) (Stands part written.memories) p fates
             (writing_succeeds mem image m p fates (let size = fitted.0 in omega (arith, size)) fitted.1 t))
             (reading_back_goes mem image written.memories)
 
-    task_goes : (task : Task) (m : Memories) → IsFitted part task → Goes part (session.task_part part s task) m (course.task_course part s task m)
+    task_goes : (task : Task) (m : Memories) → IsFitted part task → Goes part (session.task_phase part s task) m (course.task_course part s task m)
     task_goes (Write mem image) m fitted p fates t = writing_goes mem image m fitted p fates t
     task_goes (Verify mem image) m fitted p fates t = verifying_goes mem image m p fates t
     task_goes (Read mem format file) m fitted p fates t =
         reported_succeeds (host.reading part mem) (fault_or part (read_says s mem format file)) (Ok (memory_in part mem m)) (Stands part m) p fates
         (reads_succeed mem Ok m p fates t)
 
-    tasks_go : (tasks : List Task) (m : Memories) → All (IsFitted part) tasks → Goes part (session.tasks_part part s tasks) m (course.tasks_course part s tasks m)
+    tasks_go : (tasks : List Task) (m : Memories) → All (IsFitted part) tasks → Goes part (session.tasks_phase part s tasks) m (course.tasks_course part s tasks m)
     tasks_go [] m fitted p fates t = done_succeeds IsFine Fine (Stands part m) p fates t
     tasks_go (task ∷ tasks) m fitted p fates t =
         let first = course.task_course part s task m in
-        follows_then first (course.tasks_course part s tasks) (session.task_part part s task) (session.tasks_part part s tasks) p fates
+        follows_then first (course.tasks_course part s tasks) (session.task_phase part s task) (session.tasks_phase part s tasks) p fates
         (task_goes task m (All-head (IsFitted part) task tasks fitted) p fates t)
         (tasks_go tasks first.memories (All-tail (IsFitted part) task tasks fitted))
 
@@ -276,14 +276,14 @@ status_is Over = refl
 
 module _ (plan : Plan) (sound : IsPart plan.part) (fitted : All (IsFitted plan.part) plan.tasks) where
   working_follows : (m : Memories) (p : Programmer) (fates : List Fate) → FitsPart plan.part m → Idle plan.part m p
-      → Follows plan.part (session.working plan) (course.working plan m) p fates
+      → Follows plan.part (session.working plan) (course.working_course plan m) p fates
   working_follows m p fates sizes idle =
       let part = plan.part in
       let s = plan.switches in
-      let first = course.opening part s m in
-      let begun = then_from first first.standing (course.erasing part s plan.tasks) in
-      follows_then part sound s begun (course.tasks_course part s plan.tasks) (session.beginning plan) (session.tasks_part part s plan.tasks) p fates
-      (follows_then part sound s first (course.erasing part s plan.tasks) (session.opening_part part s) (session.erasing_part part s plan.tasks) p fates
+      let first = course.opening_course part s m in
+      let begun = then_from first first.standing (course.erasing_course part s plan.tasks) in
+      follows_then part sound s begun (course.tasks_course part s plan.tasks) (session.beginning plan) (session.tasks_phase part s plan.tasks) p fates
+      (follows_then part sound s first (course.erasing_course part s plan.tasks) (session.opening_phase part s) (session.erasing_phase part s plan.tasks) p fates
       (opening_follows part sound s m p fates sizes idle)
       (erasing_goes part sound s plan.tasks m))
       (tasks_go part sound s plan.tasks begun.memories fitted)
@@ -302,7 +302,7 @@ module _ (plan : Plan) (sound : IsPart plan.part) (fitted : All (IsFitted plan.p
       → Succeeds IsZero (session.session plan) (course.course plan m).status (course.course plan m).says (λ q. memories_of q.chip ≡ (course.course plan m).memories) p fates
   unfolding session.session
   session_succeeds m p fates sizes idle =
-      let c = course.working plan m in
+      let c = course.working_course plan m in
       let rest = Idle plan.part c.memories in
       let said = c.says ++ ending_says plan c.standing in
       let played : Succeeds IsFine (session.playing plan) (at_end c.standing) said rest p fates =

@@ -4,8 +4,8 @@ use Rattle.std.proofs.lemmas.List.Elements.{Contains-append_right}
 use Rattle.std.specs.Prelude.{All, Contains, ⊤, codes, decimal, nat_lt, if◌then◌else◌}
 use Rattle.std.specs.Str.{bytes_eq}
 use Rattle.avr_cli.specs.declared.update.Format.{Format}
-use Rattle.avr_image.specs.Image.{held}
-use Rattle.avr_message.specs.Lines.{Bytes, spaced, information, warning}
+use Rattle.avr_image.specs.Image.{byte_count}
+use Rattle.avr_message.specs.Lines.{Bytes, spaced_digits, information, warning}
 use Rattle.avr_message.specs.Said.{Saying, Line, Creates, Writes, Outs}
 use Rattle.avr_part.specs.Mem.{is_writable, name_of}
 use Rattle.avr_part.specs.Part.{IsPart, size_of}
@@ -15,14 +15,14 @@ use Rattle.avr_plan.specs.declared.task.Task.{Task}
 use Rattle.avr_plan.specs.declared.task.Task.TheVariants as task
 use Rattle.avr_session.specs.FileText.{file_text}
 use Rattle.avr_session.specs.Lines.{informs, warns, fault_line}
-use Rattle.avr_session.specs.Session.{says, standing, reported, unless_fault, fault_or, signature_says, warns_of_signature, opening_says, saved, bytes_say, erased_says, written_says, verified_says, closed_says, read_says, opening_part, is_erase_due, left_out_erase, erasing_part, verifying_part, writing_part, read_back_part, left_out_write, write_part, reading_part, task_part, tasks_part, beginning, working, ending, playing, status_of, session}
+use Rattle.avr_session.specs.Session.{says, standing, reported, unless_fault, fault_or, signature_says, warns_of_signature, opening_says, saving_says, bytes_say, erased_says, written_says, verified_says, closed_says, read_says, opening_phase, is_erase_due, left_out_erase, erasing_phase, verifying_phase, writing_phase, reading_back_phase, left_out_write, write_task_phase, reading_phase, task_phase, tasks_phase, beginning, working, ending, playing, status_of, session}
 use Rattle.avr_session.specs.declared.standing.Standing.{Standing}
 use Rattle.avr_session.specs.declared.standing.Standing.TheVariants.{Fine, Faulty, Over}
 use Rattle.stk_frame.specs.declared.command.Command.{Command}
 use Rattle.stk_frame.specs.HostCommands.{erase, leave}
 use Rattle.stk_host.specs.Dialog.{Dialog, Done, Say, Ask, ◌>>=◌, lifted}
 use Rattle.stk_host.specs.Operations as host
-use Rattle.stk_host.specs.Operations.{Difference, done, difference_from, differs, compared, host_fault, judged_by, operation, signature_judged, ended}
+use Rattle.stk_host.specs.Operations.{Difference, no_result, difference_from, differs, comparison, host_fault, judged_by, operation, signature_judged, without_bytes}
 use Rattle.stk_host.specs.ReadSteps.{read_steps}
 use Rattle.stk_host.specs.Steps.{Outcome, step, play}
 use Rattle.stk_host.specs.WriteSteps.{write_steps}
@@ -31,7 +31,7 @@ use Rattle.stk_host.specs.declared.fault.HostFault.TheVariants.{Differs, ReadOnl
 use Rattle.stk_host.specs.declared.fault.StepFault.{StepFault}
 use Rattle.stk_host.specs.declared.fault.StepFault.TheVariants as of_step
 use Rattle.stk_emu.specs.declared.fate.Fate.{Fate}
-use Rattle.stk_emu.specs.Along.{reading_of, along}
+use Rattle.stk_emu.specs.Along.{fate_reading, along}
 use Rattle.stk_emu.specs.Device.{Device, device}
 use Rattle.stk_emu.specs.Effect.{Memories, Image, Item, Erase, Write, effect, effects, memories_of, memory_in}
 use Rattle.stk_emu.specs.Given.{all_given}
@@ -80,14 +80,14 @@ module _ {P : Type 0} (m : Device P) where
   true_bind T k (Say e d) next p fates told more = (told.0, true_bind T k d next p fates told.1 more)
   true_bind T zero (Ask bytes go_on) next p fates told more = tt
   true_bind T (suc k) (Ask bytes go_on) next p fates told more =
-      true_bind T k (go_on (reading_of (first_fate fates) (m.answer bytes p))) next (after_fate (first_fate fates) (m.after bytes p) p (m.reset p)) (other_fates fates) told more
+      true_bind T k (go_on (fate_reading (first_fate fates) (m.answer bytes p))) next (after_fate (first_fate fates) (m.after bytes p) p (m.reset p)) (other_fates fates) told more
 
   true_lifted : {E R : Type 0} (T : P → E → Type 0) (k : ℕ) (d : Dialog ⊥ R) (p : P) (fates : List Fate) → TellsTrue {E = E} m T k (lifted d) p fates
   true_lifted T k (Done r) p fates = tt
   true_lifted T k (Say e d) p fates = absurd e
   true_lifted T zero (Ask bytes go_on) p fates = tt
   true_lifted T (suc k) (Ask bytes go_on) p fates =
-      true_lifted T k (go_on (reading_of (first_fate fates) (m.answer bytes p))) (after_fate (first_fate fates) (m.after bytes p) p (m.reset p)) (other_fates fates)
+      true_lifted T k (go_on (fate_reading (first_fate fates) (m.answer bytes p))) (after_fate (first_fate fates) (m.after bytes p) p (m.reset p)) (other_fates fates)
 
   true_says : {R : Type 0} (T : P → Saying → Type 0) (k : ℕ) (sayings : List Saying) (r : R) (p : P) (fates : List Fate) → AllHold (T p) sayings → TellsTrue m T k (says sayings (Done r)) p fates
   true_says T k [] r p fates all = tt
@@ -187,8 +187,8 @@ module _ (plan : Plan) (sound : IsPart plan.part) (m0 : Memories) (f0 : FitsPart
   leads_signature force p fates idle =
       leads_bind device (λ q. ⊤) (AfterBeginning plan.part m0) AfterSignature (λ outcome. Done (signature_judged plan.part.signature force outcome))
       (λ o q fs a. leads_done device (signature_judged plan.part.signature force o) q fs (λ z. ⊤) AfterSignature tt (found_signature force o q a))
-      host.beginning p fates
-      (leads_wider device host.beginning p fates (Idle plan.part m0) (λ q. ⊤) (AfterBeginning plan.part m0) (AfterBeginning plan.part m0) (λ q i. tt) (λ o q a. a)
+      host.handshake p fates
+      (leads_wider device host.handshake p fates (Idle plan.part m0) (λ q. ⊤) (AfterBeginning plan.part m0) (AfterBeginning plan.part m0) (λ q i. tt) (λ o q a. a)
       (leads_beginning plan.part sound m0 p fates f0 idle))
 
   no_signature : (quiet : ℕ) (fault : StepFault) (q : Programmer) → AllHold (T q) (opening_says quiet plan.part (Err (host_fault fault)))
@@ -201,10 +201,10 @@ module _ (plan : Plan) (sound : IsPart plan.part) (m0 : Memories) (f0 : FitsPart
   own_signature : (quiet : ℕ) (q : Programmer) → AllHold (T q) (opening_says quiet plan.part (Ok plan.part.signature))
   own_signature quiet q =
       hold_on (T q) (signature_says quiet plan.part.signature) (warns_of_signature quiet plan.part plan.part.signature)
-      (informs_hold quiet (codes "device signature = " ∷ spaced plan.part.signature ∷ []) q (SignatureRead refl))
+      (informs_hold quiet (codes "device signature = " ∷ spaced_digits plan.part.signature ∷ []) q (SignatureRead refl))
       (hold_not (T q) (bytes_eq plan.part.signature plan.part.signature) _ (bytes_same plan.part.signature))
 
-  tells_opening : Tells (Idle plan.part m0) (opening_part plan.part plan.switches)
+  tells_opening : Tells (Idle plan.part m0) (opening_phase plan.part plan.switches)
   tells_opening k p fates idle =
       true_reported device T (host.opening plan.part.signature plan.switches.force) (opening_says plan.switches.quiet plan.part) AfterSignature k p fates
       (leads_signature plan.switches.force p fates idle) each
@@ -215,14 +215,14 @@ module _ (plan : Plan) (sound : IsPart plan.part) (m0 : Memories) (f0 : FitsPart
 
   tells_chip_erasing : Tells (Settled plan.part m0) (reported host.erasing (erased_says plan.switches.quiet plan.part))
   tells_chip_erasing =
-      tells_call ((erase ∷ []) ∷ []) m0 done (erased_says plan.switches.quiet plan.part) (item_are_steps plan.part sound Erase tt) f0
+      tells_call ((erase ∷ []) ∷ []) m0 no_result (erased_says plan.switches.quiet plan.part) (item_are_steps plan.part sound Erase tt) f0
       (λ q s. informs_hold plan.switches.quiet (codes "chip erased" ∷ []) q (ChipErased refl s.memories)) failed
 
   not_erased : (asked : Bool) (quiet : ℕ) (q : Programmer) → plan.switches.dry ≡ true → AllHold (T q) (if asked then warns quiet (codes "chip not erased because of -n" ∷ []) else [])
   not_erased true quiet q dry = hold_unless (T q) (nat_lt 1 quiet) (Line (warning (codes "chip not erased because of -n" ∷ []))) (EraseLeftOut dry refl)
   not_erased false quiet q dry = tt
 
-  tells_erasing : Tells (Settled plan.part m0) (erasing_part plan.part plan.switches plan.tasks)
+  tells_erasing : Tells (Settled plan.part m0) (erasing_phase plan.part plan.switches plan.tasks)
   tells_erasing = by_switch plan.switches.dry (is_erase_due plan.switches plan.tasks) refl
     where
       by_switch : (dry due : Bool) → plan.switches.dry ≡ dry
@@ -240,20 +240,20 @@ module _ (plan : Plan) (sound : IsPart plan.part) (m0 : Memories) (f0 : FitsPart
       let same : memories_of q.chip ≡ m = s.memories ∙ quiet_stays plan.part (length (read_steps plan.part mem)) (read_steps plan.part mem) m (read_quiet plan.part mem) in
       read_gives plan.part sound m f mem ∙ ap (memory_in plan.part mem) (sym same)
 
-  compared_now : (mem : Mem) (image : Image) (q : Programmer) → Compares plan mem image → (r : Result ⊤ HostFault) → compared mem image (memory_in plan.part mem (memories_of q.chip)) ≡ r
+  compared_now : (mem : Mem) (image : Image) (q : Programmer) → Compares plan mem image → (r : Result ⊤ HostFault) → comparison mem image (memory_in plan.part mem (memories_of q.chip)) ≡ r
       → AllHold (T q) (verified_says plan.switches.quiet plan.part mem image r)
   compared_now mem image q compares (Ok a) e =
-      counts_hold mem (held image) (codes " bytes verified") q
+      counts_hold mem (byte_count image) (codes " bytes verified") q
       (BytesVerified mem image refl compares
       (no_difference 0 image (memory_in plan.part mem (memories_of q.chip)) (none_differs mem (difference_from 0 image (memory_in plan.part mem (memories_of q.chip))) a e)))
   compared_now mem image q compares (Err fault) e = (Differed mem image fault refl compares e, tt)
 
-  tells_verifying : (mem : Mem) (image : Image) (m : Memories) → FitsPart plan.part m → Compares plan mem image → Tells (Settled plan.part m) (verifying_part plan.part plan.switches mem image)
+  tells_verifying : (mem : Mem) (image : Image) (m : Memories) → FitsPart plan.part m → Compares plan mem image → Tells (Settled plan.part m) (verifying_phase plan.part plan.switches mem image)
   tells_verifying mem image m f compares =
-      tells_call (read_steps plan.part mem) m (compared mem image) (verified_says plan.switches.quiet plan.part mem image) (read_are_steps plan.part sound mem) f
+      tells_call (read_steps plan.part mem) m (comparison mem image) (verified_says plan.switches.quiet plan.part mem image) (read_are_steps plan.part sound mem) f
       (λ q s.
-      subst (λ bytes. AllHold (T q) (verified_says plan.switches.quiet plan.part mem image (compared mem image bytes))) (sym (read_now mem m q f s))
-      (compared_now mem image q compares (compared mem image (memory_in plan.part mem (memories_of q.chip))) refl))
+      subst (λ bytes. AllHold (T q) (verified_says plan.switches.quiet plan.part mem image (comparison mem image bytes))) (sym (read_now mem m q f s))
+      (compared_now mem image q compares (comparison mem image (memory_in plan.part mem (memories_of q.chip))) refl))
       failed
 
   saved_now : (b : Bool) (mem : Mem) (format : Format) (file : Bytes) (q : Programmer) → Contains plan.tasks (task.Read mem format file) → (text : Bytes) → text ≡ file_text format (kept_in plan mem (memories_of q.chip))
@@ -261,18 +261,18 @@ module _ (plan : Plan) (sound : IsPart plan.part) (m0 : Memories) (f0 : FitsPart
   saved_now true mem format file q is_task text e = (BytesSaved mem format file is_task (inr (inr (ap Outs e))), tt)
   saved_now false mem format file q is_task text e = (BytesSaved mem format file is_task (inl refl), (BytesSaved mem format file is_task (inr (inl (ap Writes e))), tt))
 
-  tells_reading : (mem : Mem) (format : Format) (file : Bytes) (m : Memories) → FitsPart plan.part m → Contains plan.tasks (task.Read mem format file) → Tells (Settled plan.part m) (reading_part plan.part plan.switches mem format file)
+  tells_reading : (mem : Mem) (format : Format) (file : Bytes) (m : Memories) → FitsPart plan.part m → Contains plan.tasks (task.Read mem format file) → Tells (Settled plan.part m) (reading_phase plan.part plan.switches mem format file)
   tells_reading mem format file m f is_task =
       tells_call (read_steps plan.part mem) m Ok (fault_or plan.part (read_says plan.switches mem format file)) (read_are_steps plan.part sound mem) f
       (λ q s.
       subst (λ bytes. AllHold (T q) (read_says plan.switches mem format file bytes)) (sym (read_now mem m q f s))
-      (hold_on (T q) (saved file (file_text format (kept_in plan mem (memories_of q.chip)))) (bytes_say plan.switches.quiet mem (length (kept_in plan mem (memories_of q.chip))) (codes " bytes read"))
+      (hold_on (T q) (saving_says file (file_text format (kept_in plan mem (memories_of q.chip)))) (bytes_say plan.switches.quiet mem (length (kept_in plan mem (memories_of q.chip))) (codes " bytes read"))
       (saved_now (bytes_eq file (codes "-")) mem format file q is_task (file_text format (kept_in plan mem (memories_of q.chip))) refl)
       (counts_hold mem (length (kept_in plan mem (memories_of q.chip))) (codes " bytes read") q (BytesRead mem format file is_task refl))))
       failed
 
   tells_writing : (mem : Mem) (image : Image) (first later : List Item) → items plan ≡ first ++ Write mem image ∷ later → length image ≤ size_of mem plan.part → is_writable mem ≡ true
-      → Tells (Settled plan.part (effects plan.part first m0)) (writing_part plan.part plan.switches mem image)
+      → Tells (Settled plan.part (effects plan.part first m0)) (writing_phase plan.part plan.switches mem image)
   tells_writing mem image first later order fits can = by_kind (is_writable mem) can
     where
       m : Memories
@@ -288,21 +288,21 @@ module _ (plan : Plan) (sound : IsPart plan.part) (m0 : Memories) (f0 : FitsPart
           ∙ (struck_all plan.part (write_steps plan.part mem image) m ∙ (item_does plan.part sound (Write mem image) m fits f ∙ sym (effects_on plan.part first (Write mem image ∷ []) m0)))
 
       by_kind : (b : Bool) → b ≡ true
-          → Tells (Settled plan.part m) (reported (if b then operation (write_steps plan.part mem image) done else Done (Err (ReadOnly mem))) (written_says plan.switches.quiet plan.part mem image))
+          → Tells (Settled plan.part m) (reported (if b then operation (write_steps plan.part mem image) no_result else Done (Err (ReadOnly mem))) (written_says plan.switches.quiet plan.part mem image))
       by_kind true e =
-          tells_call (write_steps plan.part mem image) m done (written_says plan.switches.quiet plan.part mem image) (item_are_steps plan.part sound (Write mem image) fits) f
-          (λ q s. counts_hold mem (held image) (codes " bytes written") q (BytesWritten mem image first later refl order (now q s))) failed
+          tells_call (write_steps plan.part mem image) m no_result (written_says plan.switches.quiet plan.part mem image) (item_are_steps plan.part sound (Write mem image) fits) f
+          (λ q s. counts_hold mem (byte_count image) (codes " bytes written") q (BytesWritten mem image first later refl order (now q s))) failed
       by_kind false e = absurd (cc)
 
-  tells_read_back : (mem : Mem) (image : Image) (m : Memories) → FitsPart plan.part m → Compares plan mem image → Tells (Settled plan.part m) (read_back_part plan.part plan.switches mem image)
+  tells_read_back : (mem : Mem) (image : Image) (m : Memories) → FitsPart plan.part m → Compares plan mem image → Tells (Settled plan.part m) (reading_back_phase plan.part plan.switches mem image)
   tells_read_back mem image m f compares = by_switch plan.switches.no_verify
     where
-      by_switch : (b : Bool) → Tells (Settled plan.part m) (if b then Done Fine else verifying_part plan.part plan.switches mem image)
+      by_switch : (b : Bool) → Tells (Settled plan.part m) (if b then Done Fine else verifying_phase plan.part plan.switches mem image)
       by_switch true = λ k p fates s. tt
       by_switch false = tells_verifying mem image m f compares
 
   tells_write : (mem : Mem) (image : Image) (first later : List Item) → items plan ≡ first ++ (task_items plan.switches (task.Write mem image) ++ later) → length image ≤ size_of mem plan.part
-      → is_writable mem ≡ true → Compares plan mem image → Tells (Settled plan.part (effects plan.part first m0)) (write_part plan.part plan.switches mem image)
+      → is_writable mem ≡ true → Compares plan mem image → Tells (Settled plan.part (effects plan.part first m0)) (write_task_phase plan.part plan.switches mem image)
   tells_write mem image first later order fits can compares = by_switch plan.switches.dry refl order
     where
       m : Memories
@@ -312,15 +312,15 @@ module _ (plan : Plan) (sound : IsPart plan.part) (m0 : Memories) (f0 : FitsPart
       f = effects_sizes plan.part sound first m0 f0
 
       by_switch : (dry : Bool) → plan.switches.dry ≡ dry → items plan ≡ first ++ ((if dry then [] else Write mem image ∷ []) ++ later)
-          → Tells (Settled plan.part m) (if dry then says (left_out_write plan.switches mem image) (Done Fine) else writing_part plan.part plan.switches mem image >>= unless_fault (read_back_part plan.part plan.switches mem image))
-      by_switch true e o = λ k p fates s. true_says device T k (left_out_write plan.switches mem image) Fine p fates (counts_hold mem (held image) (codes " bytes not written") p (WriteLeftOut mem image e refl))
+          → Tells (Settled plan.part m) (if dry then says (left_out_write plan.switches mem image) (Done Fine) else writing_phase plan.part plan.switches mem image >>= unless_fault (reading_back_phase plan.part plan.switches mem image))
+      by_switch true e o = λ k p fates s. true_says device T k (left_out_write plan.switches mem image) Fine p fates (counts_hold mem (byte_count image) (codes " bytes not written") p (WriteLeftOut mem image e refl))
       by_switch false e o =
-          tells_then (Settled plan.part m) m (Write mem image ∷ []) ⊤ (writing_part plan.part plan.switches mem image) (read_back_part plan.part plan.switches mem image)
+          tells_then (Settled plan.part m) m (Write mem image ∷ []) ⊤ (writing_phase plan.part plan.switches mem image) (reading_back_phase plan.part plan.switches mem image)
           (goes_writing plan.part sound plan.switches mem image m fits can f) (tells_writing mem image first later o fits can)
           (tells_read_back mem image (effect plan.part (Write mem image) m) (effect_sizes plan.part sound (Write mem image) m f) compares)
 
   tells_task : (t : Task) (first later : List Item) → items plan ≡ first ++ (task_items plan.switches t ++ later) → IsFitted plan.part t → Contains plan.tasks t
-      → Tells (Settled plan.part (effects plan.part first m0)) (task_part plan.part plan.switches t)
+      → Tells (Settled plan.part (effects plan.part first m0)) (task_phase plan.part plan.switches t)
   tells_task (task.Write mem image) first later order fitted is_task = tells_write mem image first later order (let size = fitted.0 in omega (arith, size)) fitted.1 (inr is_task)
   tells_task (task.Verify mem image) first later order fitted is_task =
       tells_verifying mem image (effects plan.part first m0) (effects_sizes plan.part sound first m0 f0) (inl is_task)
@@ -331,22 +331,22 @@ module _ (plan : Plan) (sound : IsPart plan.part) (m0 : Memories) (f0 : FitsPart
   here t before tasks e = subst (λ all. Contains all t) (sym e) (Contains-append_right before (t ∷ tasks) t (0, omega arith, refl))
 
   tells_tasks : (tasks before : List Task) (first : List Item) → plan.tasks ≡ before ++ tasks → items plan ≡ first ++ tasks_items plan.switches tasks → All (IsFitted plan.part) tasks
-      → Tells (Settled plan.part (effects plan.part first m0)) (tasks_part plan.part plan.switches tasks)
+      → Tells (Settled plan.part (effects plan.part first m0)) (tasks_phase plan.part plan.switches tasks)
   tells_tasks [] before first all order fitted = λ k p fates s. tt
   tells_tasks (t ∷ tasks) before first all order fitted =
       let its = task_items plan.switches t in
       let m = effects plan.part first m0 in
       let fits = first_of (IsFitted plan.part) t tasks fitted in
-      tells_then (Settled plan.part m) m its _ (task_part plan.part plan.switches t) (tasks_part plan.part plan.switches tasks)
+      tells_then (Settled plan.part m) m its _ (task_phase plan.part plan.switches t) (tasks_phase plan.part plan.switches tasks)
       (goes_task plan.part sound plan.switches t m fits (effects_sizes plan.part sound first m0 f0))
       (tells_task t first (tasks_items plan.switches tasks) order fits (here t before tasks all))
-      (subst (λ z. Tells (Settled plan.part z) (tasks_part plan.part plan.switches tasks)) (effects_on plan.part first its m0)
+      (subst (λ z. Tells (Settled plan.part z) (tasks_phase plan.part plan.switches tasks)) (effects_on plan.part first its m0)
       (tells_tasks tasks (before ++ t ∷ []) (first ++ its) (all ∙ sym (append_assoc before (t ∷ []) tasks)) (order ∙ sym (append_assoc first its (tasks_items plan.switches tasks)))
       (rest_of (IsFitted plan.part) t tasks fitted)))
 
   -- ---- the end
 
-  after_ended : (o : Outcome) (q : Programmer) → (ended o ≡ Ok tt) ⊎ ((fault : StepFault) × (ended o ≡ Err (host_fault fault)))
+  after_ended : (o : Outcome) (q : Programmer) → (without_bytes o ≡ Ok tt) ⊎ ((fault : StepFault) × (without_bytes o ≡ Err (host_fault fault)))
   after_ended (Ok bytes) q = inl refl
   after_ended (Err fault) q = inr (fault, refl)
 
@@ -356,8 +356,8 @@ module _ (plan : Plan) (sound : IsPart plan.part) (m0 : Memories) (f0 : FitsPart
   leads_closed : (p : Programmer) (fates : List Fate) → Leads device host.closing p fates (λ q. ⊤) AfterClosing
   unfolding host.closing
   leads_closed p fates =
-      leads_bind device (λ q. ⊤) (λ o q. ⊤) AfterClosing (λ outcome. Done (ended outcome))
-      (λ o q fs a. leads_done device (ended o) q fs (λ z. ⊤) AfterClosing tt (after_ended o q)) (step (leave ∷ [])) p fates (leads_any device (step (leave ∷ [])) p fates)
+      leads_bind device (λ q. ⊤) (λ o q. ⊤) AfterClosing (λ outcome. Done (without_bytes outcome))
+      (λ o q fs a. leads_done device (without_bytes o) q fs (λ z. ⊤) AfterClosing tt (after_ended o q)) (step (leave ∷ [])) p fates (leads_any device (step (leave ∷ [])) p fates)
 
   tells_ending : (standing : Standing) → Tells (λ q. ⊤) (ending plan.part plan.switches standing)
   tells_ending Fine k p fates any =
@@ -374,9 +374,9 @@ module _ (plan : Plan) (sound : IsPart plan.part) (m0 : Memories) (f0 : FitsPart
   module _ (fitted : All (IsFitted plan.part) plan.tasks) where
     tells_working : Tells (Idle plan.part m0) (working plan)
     tells_working =
-        tells_then (Idle plan.part m0) m0 (erasing_items plan.switches plan.tasks) _ (beginning plan) (tasks_part plan.part plan.switches plan.tasks)
+        tells_then (Idle plan.part m0) m0 (erasing_items plan.switches plan.tasks) _ (beginning plan) (tasks_phase plan.part plan.switches plan.tasks)
         (goes_beginning plan sound fitted m0 f0)
-        (tells_then (Idle plan.part m0) m0 [] _ (opening_part plan.part plan.switches) (erasing_part plan.part plan.switches plan.tasks)
+        (tells_then (Idle plan.part m0) m0 [] _ (opening_phase plan.part plan.switches) (erasing_phase plan.part plan.switches plan.tasks)
         (goes_opening plan.part sound plan.switches m0 f0) tells_opening tells_erasing)
         (tells_tasks plan.tasks [] (erasing_items plan.switches plan.tasks) refl refl fitted)
 

@@ -9,11 +9,11 @@ use Rattle.stk_host.specs.Tape.{Tape, Reading, answer}
 use Rattle.stk_host.proofs.Tapes.{answer_waits}
 use Rattle.stk_emu.proofs.Extending.{answer_extends}
 use Rattle.stk_emu.specs.declared.fate.Fate.{Fate}
-use Rattle.stk_emu.specs.Along.{reading_of, AsksBodies}
+use Rattle.stk_emu.specs.Along.{fate_reading, AsksBodies}
 use Rattle.stk_emu.specs.Device.{Device, device}
 use Rattle.stk_emu.specs.Lawful.{IsClear}
 use Rattle.stk_emu.specs.Programmer.{Programmer}
-use Rattle.stk_emu.specs.Wire.{AreLawful, first_fate, other_fates, Wire, passed, tape_of, fresh}
+use Rattle.stk_emu.specs.Wire.{AreLawful, first_fate, other_fates, Wire, wire_behind, tape_of, fresh_wire}
 use Rattle.stk_emu.specs.Wired.{brought}
 use Rattle.stk_emu.proofs.Bodies.{answers_bodies}
 use Rattle.stk_emu.proofs.Fused.{AnswersBodies, first_played, others_lawful, head_is, tail_is}
@@ -24,7 +24,7 @@ use Rattle.avr_emulated.specs.Told.{TellsTrue, SaidTrue}
 -- a front of events
 pub said_front : {E P : Type 0} (m : Device P) (T : P → E → Type 0) (x y : List (Event E)) (w : Wire P) → SaidTrue m T (x ++ y) w → SaidTrue m T x w
 said_front m T [] y w all = tt
-said_front m T (Frame bytes ∷ x) y w all = said_front m T x y (passed m bytes w) all
+said_front m T (Frame bytes ∷ x) y w all = said_front m T x y (wire_behind m bytes w) all
 said_front m T (Said e ∷ x) y w all = (all.0, said_front m T x y w all.1)
 
 module _ {P : Type 0} (m : Device P) (answers : AnswersBodies m) where
@@ -34,16 +34,16 @@ module _ {P : Type 0} (m : Device P) (answers : AnswersBodies m) where
   true_over T (Done r) n w sent more asks clear lawful e told = tt
   true_over T (Say s d) n w sent more asks clear lawful e told = (told.0, true_over T d n w sent more asks clear lawful e told.1)
   true_over T (Ask bytes go_on) n w [] more asks clear lawful e told =
-      subst (λ o. SaidTrue m T (by_answer (λ reading. played (go_on reading) (next n)) o).events (passed m (frame n bytes) w)) (sym (answer_waits n [] refl (omega arith))) tt
+      subst (λ o. SaidTrue m T (by_answer (λ reading. played (go_on reading) (next n)) o).events (wire_behind m (frame n bytes) w)) (sym (answer_waits n [] refl (omega arith))) tt
   true_over {E = E} T (Ask bytes go_on) n w (f ∷ sent) more asks clear lawful e told =
       let is : frame n bytes ≡ f = head_is (frame n bytes) f _ (sent ++ more) e in
       let first = first_played m answers bytes go_on n w sent asks.0 clear lawful in
-      let w' = passed m (frame n bytes) w in
-      let d' = go_on (reading_of (first_fate w.fates) (m.answer bytes w.programmer)) in
+      let w' = wire_behind m (frame n bytes) w in
+      let d' = go_on (fate_reading (first_fate w.fates) (m.answer bytes w.programmer)) in
       let leaves : w'.programmer ≡ _ = segment_leaves m n bytes w asks.0 in
       let over = ap (λ g. played (Ask bytes go_on) n (tape_of m (g ∷ sent) w)) (sym is) ∙ first in
       subst (λ p. SaidTrue m T p.events w) (sym over)
-      (true_over T d' (next n) w' sent more (asks.1 (reading_of (first_fate w.fates) (m.answer bytes w.programmer)))
+      (true_over T d' (next n) w' sent more (asks.1 (fate_reading (first_fate w.fates) (m.answer bytes w.programmer)))
       (segment_late m n bytes w asks.0 (answers bytes w.programmer asks.0) clear)
       (others_lawful w.fates lawful)
       (tail_is (frame n bytes) f _ (sent ++ more) (sym (ap (λ p. frames_in p.events) over) ∙ e))
@@ -75,13 +75,13 @@ played_more (Ask bytes go_on) n t u = more_asking bytes go_on n t u (answer n t)
 pub told_over : {E R : Type 0} (T : Programmer → E → Type 0) (d : Dialog E R) (n : ℕ) (p : Programmer) (fates : List Fate) (talk : Talk) (waits : Tape)
     → AsksBodies d → AreLawful fates → brought p fates (sent talk) ≡ heard talk ++ waits
     → IsPrefixOf (sent talk) (bytes_sent (played d n (heard talk)).events) → TellsTrue device T (length (frames (sent talk))) d p fates
-    → SaidTrue device T (played d n (heard talk)).events (fresh p fates)
+    → SaidTrue device T (played d n (heard talk)).events (fresh_wire p fates)
 told_over T d n p fates talk waits asks lawful brings front told =
     let f = frames_front (played d n (heard talk)).events (sent talk) front.0 (sends_whole d n (heard talk) asks) front.1 in
     let g = played_goes d n (heard talk) waits in
     let more = played_more d n (heard talk) waits in
-    let all : SaidTrue device T (played d n (brought p fates (sent talk))).events (fresh p fates) =
-    true_over device answers_bodies T d n (fresh p fates) (frames (sent talk)) (f.0 ++ g.0) asks (none_clear n) lawful
+    let all : SaidTrue device T (played d n (brought p fates (sent talk))).events (fresh_wire p fates) =
+    true_over device answers_bodies T d n (fresh_wire p fates) (frames (sent talk)) (f.0 ++ g.0) asks (none_clear n) lawful
     (ap (λ t. frames_in (played d n t).events) brings ∙ (g.1 ∙ (ap (λ fs. fs ++ g.0) f.1 ∙ append_assoc (frames (sent talk)) f.0 g.0))) told in
-    said_front device T (played d n (heard talk)).events more.0 (fresh p fates)
-    (subst (λ es. SaidTrue device T es (fresh p fates)) (ap (λ t. (played d n t).events) brings ∙ more.1) all)
+    said_front device T (played d n (heard talk)).events more.0 (fresh_wire p fates)
+    (subst (λ es. SaidTrue device T es (fresh_wire p fates)) (ap (λ t. (played d n t).events) brings ∙ more.1) all)

@@ -2,7 +2,7 @@
 use Rattle.std.proofs.Common.{◌≡◌, ℕ, List, [], ◌∷◌, ◌++◌, Some, None, length, take, sym, ap, ◌∙◌, arith, ◌⊎◌, inl, inr, true, false}
 use Rattle.std.proofs.lemmas.List.{append-nil, reverse-append, take-append-le}
 use Rattle.std.specs.Prelude.{◌≤◌, codes, decimal, reverse, slice_index}
-use Rattle.avr_image.specs.Image.{held}
+use Rattle.avr_image.specs.Image.{byte_count}
 use Rattle.avr_message.specs.Lines.{Bytes, information}
 use Rattle.avr_message.specs.Said.{Saying, Line, Creates, Writes, Outs, Opens}
 use Rattle.avr_part.specs.Mem.{name_of}
@@ -103,7 +103,7 @@ unfolding fault_line
 never_written (SignatureRead e) = let clash : 101 ≡ 100 = ap (byte 8) e in omega (arith, clash)
 never_written (ChipErased e now) = let clash : 101 ≡ 99 = ap (byte 8) e in omega (arith, clash)
 never_written (BytesWritten mem bytes first later e order now) = not_begun mem bytes first later order now
-never_written (BytesVerified mem bytes e compares shows) = let clash : 110 ≡ 100 = ap (λ l. slice_index l 1) (sym (written_ends Eeprom 1) ∙ (ap ends e ∙ verified_ends mem (held bytes))) in omega (arith, clash)
+never_written (BytesVerified mem bytes e compares shows) = let clash : 110 ≡ 100 = ap (λ l. slice_index l 1) (sym (written_ends Eeprom 1) ∙ (ap ends e ∙ verified_ends mem (byte_count bytes))) in omega (arith, clash)
 never_written (Differed mem bytes fault e compares differs) = let clash : 101 ≡ 114 = ap (byte 9) e in omega (arith, clash)
 never_written (BytesSaved mem format file is_task e) = not_saved _ file _ e
 never_written (BytesRead mem format file is_task e) = let clash : 110 ≡ 100 = ap (λ l. slice_index l 1) (sym (written_ends Eeprom 1) ∙ (ap ends e ∙ read_ends mem (length (kept_in plan mem zeros)))) in omega (arith, clash)
@@ -117,7 +117,7 @@ unfolding fault_line
 never_erased (SignatureRead e) = let clash : 99 ≡ 100 = ap (byte 8) e in omega (arith, clash)
 never_erased (ChipErased e now) = let lock : 0 ≡ 255 = ap (λ (m : Memories). m.lock) now in omega (arith, lock)
 never_erased (BytesWritten mem bytes first later e order now) = not_begun mem bytes first later order now
-never_erased (BytesVerified mem bytes e compares shows) = let clash : 115 ≡ 105 = ap (λ l. slice_index l 3) (ap ends e ∙ verified_ends mem (held bytes)) in omega (arith, clash)
+never_erased (BytesVerified mem bytes e compares shows) = let clash : 115 ≡ 105 = ap (λ l. slice_index l 3) (ap ends e ∙ verified_ends mem (byte_count bytes)) in omega (arith, clash)
 never_erased (Differed mem bytes fault e compares differs) = let clash : 99 ≡ 101 = ap (byte 8) e in omega (arith, clash)
 never_erased (BytesSaved mem format file is_task e) = not_saved _ file _ e
 never_erased (BytesRead mem format file is_task e) = let clash : 101 ≡ 97 = ap (λ l. slice_index l 2) (ap ends e ∙ read_ends mem (length (kept_in plan mem zeros))) in omega (arith, clash)

@@ -20,15 +20,15 @@ use Rattle.stk_host.specs.declared.fault.StepFault.{StepFault}
 use Rattle.stk_host.specs.declared.fault.StepFault.TheVariants.{NoAnswer}
 use Rattle.stk_host.specs.Tape.{Reading}
 use Rattle.stk_host.specs.Dialog.{Dialog, Done, Say, Ask, ◌>>=◌, lifted}
-use Rattle.stk_host.specs.Steps.{exchange, Reply, Data, Again, Stop, replied, with_data, attempt, Outcome, settled, tries, step, if_done, play}
+use Rattle.stk_host.specs.Steps.{exchange, Reply, Data, Again, Stop, reading_reply, with_data, attempt, Outcome, end_or_again, tries, step, if_done, play}
 use Rattle.stk_host.specs.WriteSteps.{write_steps}
 use Rattle.stk_host.specs.ReadSteps.{signature_steps, read_steps}
-use Rattle.stk_host.specs.Operations.{beginning, signature_judged, opening, ended, closing, judged_by, operation, done, erasing, writing, reading, compared, verifying}
+use Rattle.stk_host.specs.Operations.{handshake, signature_judged, opening, without_bytes, closing, judged_by, operation, no_result, erasing, writing, reading, comparison, verifying}
 use Rattle.stk_host.specs.Bound.{opening_steps, erasing_steps, closing_steps}
 use Rattle.stk_emu.specs.Effect.{Image}
 use Rattle.avr_session.specs.declared.standing.Standing.{Standing}
 use Rattle.avr_session.specs.declared.standing.Standing.TheVariants.{Fine, Faulty, Over}
-use Rattle.avr_session.specs.Session.{says, standing, reported, unless_fault, fault_or, opening_says, erased_says, written_says, verified_says, closed_says, read_says, opening_part, is_erase_due, left_out_erase, erasing_part, verifying_part, writing_part, read_back_part, left_out_write, write_part, task_part, tasks_part, working, ending, playing, status_of, session}
+use Rattle.avr_session.specs.Session.{says, standing, reported, unless_fault, fault_or, opening_says, erased_says, written_says, verified_says, closed_says, read_says, opening_phase, is_erase_due, left_out_erase, erasing_phase, verifying_phase, writing_phase, reading_back_phase, left_out_write, write_task_phase, task_phase, tasks_phase, working, ending, playing, status_of, session}
 use Rattle.avr_emulated.specs.Bound.{due_erase_steps, read_back_steps, task_steps, tasks_steps, run_steps}
 use Rattle.avr_emulated.specs.AnyLine.{Weight, weighed, bodies_in}
 
@@ -105,11 +105,11 @@ module _ (w : Weight) where
     omega arith,
     λ reading.
         let go_on = λ (bytes : List ℕ). attempt commands (before ++ bytes) in
-        within (of_step commands) ((w (body command) + of_step commands) - w (body command)) (with_data go_on (replied command reading)) (omega arith)
-        (by_reply (of_step commands) go_on (replied command reading) (λ bytes. attempt_weighs commands (before ++ bytes))),
+        within (of_step commands) ((w (body command) + of_step commands) - w (body command)) (with_data go_on (reading_reply command reading)) (omega arith)
+        (by_reply (of_step commands) go_on (reading_reply command reading) (λ bytes. attempt_weighs commands (before ++ bytes))),
   )
 
-  by_settled : (n : ℕ) (again : StepFault → Dialog ⊥ Outcome) (reply : Reply) → ((fault : StepFault) → WeighsAtMost w n (again fault)) → WeighsAtMost w n (settled again reply)
+  by_settled : (n : ℕ) (again : StepFault → Dialog ⊥ Outcome) (reply : Reply) → ((fault : StepFault) → WeighsAtMost w n (again fault)) → WeighsAtMost w n (end_or_again again reply)
   by_settled n again (Data bytes) f = tt
   by_settled n again (Again fault) f = f fault
   by_settled n again (Stop fault) f = tt
@@ -119,8 +119,8 @@ module _ (w : Weight) where
   tries_weigh zero commands fault = tt
   tries_weigh (suc more) commands fault =
       let e = suc-mul more (of_step commands) in
-      within (of_step commands + more * of_step commands) (suc more * of_step commands) (attempt commands [] >>= settled (tries more commands)) (omega (arith, e))
-      (bind (of_step commands) (more * of_step commands) (attempt commands []) (settled (tries more commands)) (attempt_weighs commands [])
+      within (of_step commands + more * of_step commands) (suc more * of_step commands) (attempt commands [] >>= end_or_again (tries more commands)) (omega (arith, e))
+      (bind (of_step commands) (more * of_step commands) (attempt commands []) (end_or_again (tries more commands)) (attempt_weighs commands [])
       (λ reply. by_settled (more * of_step commands) (tries more commands) reply (λ again. tries_weigh more commands again)))
 
   by_done : (n : ℕ) (go_on : List ℕ → Dialog ⊥ Outcome) (outcome : Outcome) → ((bytes : List ℕ) → WeighsAtMost w n (go_on bytes)) → WeighsAtMost w n (if_done go_on outcome)
@@ -146,20 +146,20 @@ module _ (w : Weight) where
   unfolding operation
   operation_weighs steps judge = alone (4 * total steps) (play steps []) (λ outcome. Done (judged_by judge outcome)) (play_weighs steps []) (λ outcome. tt)
 
-  beginning_weighs : WeighsAtMost w (4 * total opening_steps) beginning
-  unfolding beginning
+  beginning_weighs : WeighsAtMost w (4 * total opening_steps) handshake
+  unfolding handshake
   beginning_weighs =
       then_weighs (SignOn ∷ []) ((enter ∷ []) ∷ signature_steps) (λ name. step (enter ∷ []) >>= if_done (λ nothing. play signature_steps []))
       (λ name. then_weighs (enter ∷ []) signature_steps (λ nothing. play signature_steps []) (λ nothing. play_weighs signature_steps []))
 
   opening_weighs : (signature : List ℕ) (force : Bool) → WeighsAtMost w (4 * total opening_steps) (opening signature force)
   unfolding opening
-  opening_weighs signature force = alone (4 * total opening_steps) beginning (λ outcome. Done (signature_judged signature force outcome)) beginning_weighs (λ outcome. tt)
+  opening_weighs signature force = alone (4 * total opening_steps) handshake (λ outcome. Done (signature_judged signature force outcome)) beginning_weighs (λ outcome. tt)
 
   closing_weighs : WeighsAtMost w (4 * total closing_steps) closing
   unfolding closing
   closing_weighs =
-      alone (4 * total closing_steps) (step (leave ∷ [])) (λ outcome. Done (ended outcome))
+      alone (4 * total closing_steps) (step (leave ∷ [])) (λ outcome. Done (without_bytes outcome))
       (let e = weighed_append (map body (leave ∷ [])) [] in
       within (4 * of_step (leave ∷ [])) (4 * total closing_steps) (step (leave ∷ [])) (omega (arith, e)) (tries_weigh 4 (leave ∷ []) NoAnswer)) (λ outcome. tt)
 
@@ -167,8 +167,8 @@ module _ (w : Weight) where
   writing_weighs : (part : Part) (mem : Mem) (image : List (Option ℕ)) → WeighsAtMost w (4 * total (write_steps part mem image)) (writing part mem image)
   writing_weighs part mem image = by_kind (is_writable mem)
     where
-      by_kind : (b : Bool) → WeighsAtMost w (4 * total (write_steps part mem image)) (if b then operation (write_steps part mem image) done else Done (Err (ReadOnly mem)))
-      by_kind true = operation_weighs (write_steps part mem image) done
+      by_kind : (b : Bool) → WeighsAtMost w (4 * total (write_steps part mem image)) (if b then operation (write_steps part mem image) no_result else Done (Err (ReadOnly mem)))
+      by_kind true = operation_weighs (write_steps part mem image) no_result
       by_kind false = tt
 
   -- ---- the parts of a session
@@ -192,50 +192,50 @@ module _ (w : Weight) where
       after Over = tt
 
   module _ (part : Part) (s : Switches) where
-    opening_part_weighs : WeighsAtMost w (4 * total opening_steps) (opening_part part s)
+    opening_part_weighs : WeighsAtMost w (4 * total opening_steps) (opening_phase part s)
     opening_part_weighs =
         reported_weighs (4 * total opening_steps) (opening part.signature s.force) (opening_says s.quiet part) (opening_weighs part.signature s.force)
 
-    erasing_part_weighs : (tasks : List Task) → WeighsAtMost w (4 * total (due_erase_steps s tasks)) (erasing_part part s tasks)
+    erasing_part_weighs : (tasks : List Task) → WeighsAtMost w (4 * total (due_erase_steps s tasks)) (erasing_phase part s tasks)
     erasing_part_weighs tasks = by_switch s.dry (is_erase_due s tasks)
       where
         by_switch : (dry due : Bool) → WeighsAtMost w (4 * total (if dry then [] else if due then erasing_steps else []))
             (if dry then says (left_out_erase s) (Done Fine) else if due then reported erasing (erased_says s.quiet part) else Done Fine)
         by_switch true due = says_weigh 0 (left_out_erase s) Fine
-        by_switch false true = reported_weighs (4 * total erasing_steps) erasing (erased_says s.quiet part) (operation_weighs erasing_steps done)
+        by_switch false true = reported_weighs (4 * total erasing_steps) erasing (erased_says s.quiet part) (operation_weighs erasing_steps no_result)
         by_switch false false = tt
 
-    verifying_part_weighs : (mem : Mem) (image : Image) → WeighsAtMost w (4 * total (read_steps part mem)) (verifying_part part s mem image)
+    verifying_part_weighs : (mem : Mem) (image : Image) → WeighsAtMost w (4 * total (read_steps part mem)) (verifying_phase part s mem image)
     verifying_part_weighs mem image =
-        reported_weighs (4 * total (read_steps part mem)) (verifying part mem image) (verified_says s.quiet part mem image) (operation_weighs (read_steps part mem) (compared mem image))
+        reported_weighs (4 * total (read_steps part mem)) (verifying part mem image) (verified_says s.quiet part mem image) (operation_weighs (read_steps part mem) (comparison mem image))
 
-    read_back_weighs : (mem : Mem) (image : Image) → WeighsAtMost w (4 * total (read_back_steps part s mem)) (read_back_part part s mem image)
+    read_back_weighs : (mem : Mem) (image : Image) → WeighsAtMost w (4 * total (read_back_steps part s mem)) (reading_back_phase part s mem image)
     read_back_weighs mem image = by_switch s.no_verify
       where
-        by_switch : (b : Bool) → WeighsAtMost w (4 * total (if b then [] else read_steps part mem)) (if b then Done Fine else verifying_part part s mem image)
+        by_switch : (b : Bool) → WeighsAtMost w (4 * total (if b then [] else read_steps part mem)) (if b then Done Fine else verifying_phase part s mem image)
         by_switch true = tt
         by_switch false = verifying_part_weighs mem image
 
-    write_part_weighs : (mem : Mem) (image : Image) → WeighsAtMost w (4 * total (task_steps part s (Write mem image))) (write_part part s mem image)
+    write_part_weighs : (mem : Mem) (image : Image) → WeighsAtMost w (4 * total (task_steps part s (Write mem image))) (write_task_phase part s mem image)
     write_part_weighs mem image = by_switch s.dry
       where
         by_switch : (b : Bool) → WeighsAtMost w (4 * total (if b then [] else write_steps part mem image ++ read_back_steps part s mem))
-            (if b then says (left_out_write s mem image) (Done Fine) else writing_part part s mem image >>= unless_fault (read_back_part part s mem image))
+            (if b then says (left_out_write s mem image) (Done Fine) else writing_phase part s mem image >>= unless_fault (reading_back_phase part s mem image))
         by_switch true = says_weigh 0 (left_out_write s mem image) Fine
         by_switch false =
-            then_part (write_steps part mem image) (read_back_steps part s mem) (writing_part part s mem image) (read_back_part part s mem image)
+            then_part (write_steps part mem image) (read_back_steps part s mem) (writing_phase part s mem image) (reading_back_phase part s mem image)
             (reported_weighs (4 * total (write_steps part mem image)) (writing part mem image) (written_says s.quiet part mem image) (writing_weighs part mem image)) (read_back_weighs mem image)
 
-    task_part_weighs : (task : Task) → WeighsAtMost w (4 * total (task_steps part s task)) (task_part part s task)
+    task_part_weighs : (task : Task) → WeighsAtMost w (4 * total (task_steps part s task)) (task_phase part s task)
     task_part_weighs (Write mem image) = write_part_weighs mem image
     task_part_weighs (Verify mem image) = verifying_part_weighs mem image
     task_part_weighs (Read mem format file) =
         reported_weighs (4 * total (read_steps part mem)) (reading part mem) (fault_or part (read_says s mem format file)) (operation_weighs (read_steps part mem) Ok)
 
-    tasks_part_weigh : (tasks : List Task) → WeighsAtMost w (4 * total (tasks_steps part s tasks)) (tasks_part part s tasks)
+    tasks_part_weigh : (tasks : List Task) → WeighsAtMost w (4 * total (tasks_steps part s tasks)) (tasks_phase part s tasks)
     tasks_part_weigh [] = tt
     tasks_part_weigh (task ∷ tasks) =
-        then_part (task_steps part s task) (tasks_steps part s tasks) (task_part part s task) (tasks_part part s tasks) (task_part_weighs task) (tasks_part_weigh tasks)
+        then_part (task_steps part s task) (tasks_steps part s tasks) (task_phase part s task) (tasks_phase part s tasks) (task_part_weighs task) (tasks_part_weigh tasks)
 
     ending_weighs : (at : Standing) → WeighsAtMost w (4 * total closing_steps) (ending part s at)
     ending_weighs Fine = reported_weighs (4 * total closing_steps) closing (closed_says s.quiet part) closing_weighs
@@ -256,8 +256,8 @@ module _ (w : Weight) where
       let tasks = tasks_steps part s plan.tasks in
       subst (λ steps. WeighsAtMost w (4 * total steps) (playing plan)) (regrouped opening_steps erase tasks closing_steps)
       (one_on ((opening_steps ++ erase) ++ tasks) closing_steps (working plan) (ending part s)
-      (then_part (opening_steps ++ erase) tasks (opening_part part s >>= unless_fault (erasing_part part s plan.tasks)) (tasks_part part s plan.tasks)
-      (then_part opening_steps erase (opening_part part s) (erasing_part part s plan.tasks) (opening_part_weighs part s) (erasing_part_weighs part s plan.tasks))
+      (then_part (opening_steps ++ erase) tasks (opening_phase part s >>= unless_fault (erasing_phase part s plan.tasks)) (tasks_phase part s plan.tasks)
+      (then_part opening_steps erase (opening_phase part s) (erasing_phase part s plan.tasks) (opening_part_weighs part s) (erasing_part_weighs part s plan.tasks))
       (tasks_part_weigh part s plan.tasks))
       (ending_weighs part s))
 

@@ -3,7 +3,7 @@ use Rattle.std.proofs.Common.{◌≡◌, ◌*◌, ◌⊎◌, ℕ, [], ◌++◌, 
 use Rattle.std.proofs.lemmas.List.{append-nil}
 use Rattle.avr_message.specs.Said.{Saying, SaidPart, after_all}
 use Rattle.avr_part.specs.Part.{IsPart}
-use Rattle.avr_part.specs.Sound.{IsSound}
+use Rattle.avr_part.specs.Sound.{IsSoundChip}
 use Rattle.avr_plan.specs.Plan.{Plan, IsFitted}
 use Rattle.avr_desk.specs.Record.{DeskView}
 use Rattle.stk_frame.specs.Cut.{frames}
@@ -21,7 +21,7 @@ use Rattle.stk_emu.specs.Leads.{Leads, GoesAlong}
 use Rattle.stk_emu.specs.Programmer.{Programmer, fresh_programmer}
 use Rattle.stk_emu.specs.Settled.{Idle, FitsPart}
 use Rattle.stk_emu.specs.Wire as line
-use Rattle.stk_emu.specs.Wired.{State, Keeps, ComesOf, IsFresh, wired_view}
+use Rattle.stk_emu.specs.Wired.{WiredState, Keeps, ComesOf, IsFresh, wired_view}
 use Rattle.stk_emu.proofs.Beginning.{fresh_idle, fresh_fits}
 use Rattle.stk_emu.proofs.SaidAlong.{whole_said}
 use Rattle.stk_emu.proofs.Turning.{whole_along, broken_along, never_idle, shown_front}
@@ -54,7 +54,7 @@ all_passed old new during silent e = sym (some_is new during (e ∙ ap (λ t. So
 one_no : ◌≡◌ {A = ℕ} 1 0 → ⊥
 one_no e = cc
 
-module _ (plan : Plan) (w v : State) (fresh : IsFresh w) (stays : Stays ComesOf w v) (is_sound : IsSound w.wire.programmer.chip)
+module _ (plan : Plan) (w v : WiredState) (fresh : IsFresh w) (stays : Stays ComesOf w v) (is_sound : IsSoundChip w.wire.programmer.chip)
     (part_is : w.wire.programmer.chip.part ≡ plan.part) (fitted : All (IsFitted plan.part) plan.tasks) (old now : DeskView) (status : ℕ) where
   abbrev begun : Programmer
   begun = fresh_programmer w.wire.programmer.chip
@@ -187,8 +187,8 @@ module _ (plan : Plan) (w v : State) (fresh : IsFresh w) (stays : Stays ComesOf 
   in_turn (inr broke) = (breaks broke.0).in_turn
 
   -- the wire as it was when it began
-  as_begun : line.fresh begun w.wire.fates ≡ w.wire
-  as_begun = sym (fresh.begins.stands ∙ ap (λ talk. line.wire_after device (frames (sent talk)) (line.fresh begun w.wire.fates)) fresh.silent)
+  as_begun : line.fresh_wire begun w.wire.fates ≡ w.wire
+  as_begun = sym (fresh.begins.stands ∙ ap (λ talk. line.wire_after device (frames (sent talk)) (line.fresh_wire begun w.wire.fates)) fresh.silent)
 
   tells : Either → WereTrue plan w (played (session plan) 1 (heard v.talk)).events
   tells runs = subst (SaidTrue device IsSaidTrue (played (session plan) 1 (heard v.talk)).events) as_begun
@@ -202,7 +202,7 @@ module _ (plan : Plan) (w v : State) (fresh : IsFresh w) (stays : Stays ComesOf 
     done = is_done runs;
     images = λ zero wet verified. run_written plan before after fitted wet verified (is_done runs zero) sound sizes;
     strokes = makes runs;
-    untouched = λ none. ap (λ x. memories_of x.programmer.chip) (keeps.stands ∙ (ap (λ fs. line.wire_after device fs (line.fresh begun w.wire.fates)) none ∙ as_begun));
+    untouched = λ none. ap (λ x. memories_of x.programmer.chip) (keeps.stands ∙ (ap (λ fs. line.wire_after device fs (line.fresh_wire begun w.wire.fates)) none ∙ as_begun));
     four = λ weight. front_weighs weight (4 * weighed weight (bodies_in (run_steps plan))) (session plan) 1 (heard v.talk) (sent v.talk) asks (session_weighs weight plan) (is_front runs);
     believable = tells runs;
     few_bad = goes_well runs;
@@ -210,7 +210,7 @@ module _ (plan : Plan) (w v : State) (fresh : IsFresh w) (stays : Stays ComesOf 
   }
 
 -- what was told is a front of what the session tells over what was heard
-module _ (plan : Plan) (w v : State) (d e : DeskView) (status : ℕ) (silent : w.talk ≡ []) (over : OverAnyLine plan w v d e status) where
+module _ (plan : Plan) (w v : WiredState) (d e : DeskView) (status : ℕ) (silent : w.talk ≡ []) (over : OverAnyLine plan w v d e status) where
   pub played_truly : (whole : IsPlayed (session plan) (devices (wired_view w) d) (devices (wired_view v) e) status) → WereTrue plan w whole.1.events
   played_truly whole =
       let over_heard = ap (λ t. (played (session plan) 1 t).events) (ap heard (sym (all_passed w.talk v.talk whole.1.during silent whole.1.grows)) ∙ sym (append-nil (heard whole.1.during))) in

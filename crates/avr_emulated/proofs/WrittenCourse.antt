@@ -17,7 +17,7 @@ use Rattle.stk_emu.specs.Effect.{Image, Memories, Erase, Write, effect, effects,
 use Rattle.stk_emu.proofs.Comparing.{no_difference, held_same}
 use Rattle.stk_emu.proofs.PageStrokes.{effects_on}
 use Rattle.avr_emulated.specs.Agrees.{Shows, Unless, TaskAgrees, TasksAgree, Agrees}
-use Rattle.avr_emulated.specs.Course.{Course, fine, reported, then_from, ◌then◌, opening, erasing, verifying, reading_back, task_course, tasks_course, working, status_after, course}
+use Rattle.avr_emulated.specs.Course.{Course, fine, reported_course, then_from, ◌then◌, opening_course, erasing_course, verifying_course, reading_back_course, task_course, tasks_course, working_course, status_after, course}
 use Rattle.avr_emulated.specs.Items.{erasing_items, task_items, tasks_items, items}
 use Rattle.avr_emulated.proofs.Standings.{faulty_fine, over_fine}
 
@@ -63,7 +63,7 @@ turns_after first next B between left turns more =
 turns_fine : (says : List Saying) (m : Memories) → Turns (fine says m) ⊤ m
 turns_fine says m = record { if_fine = λ f. tt; is_fine = λ agree. refl; memories = λ f. refl }
 
-turns_reported : {A : Type 0} (outcome_says : Result A HostFault → List Saying) (a : A) (m : Memories) → Turns (reported outcome_says (Ok a) m) ⊤ m
+turns_reported : {A : Type 0} (outcome_says : Result A HostFault → List Saying) (a : A) (m : Memories) → Turns (reported_course outcome_says (Ok a) m) ⊤ m
 turns_reported outcome_says a m = record { if_fine = λ f. tt; is_fine = λ agree. refl; memories = λ f. refl }
 
 -- ---- a comparison
@@ -73,7 +73,7 @@ no_difference_if_fine mem None f = refl
 no_difference_if_fine mem (Some d) f = faulty_fine f
 
 module _ (part : Part) (s : Switches) where
-  turns_verifying : (mem : Mem) (image : Image) (m : Memories) → Turns (verifying part s mem image m) (Shows part mem image m) m
+  turns_verifying : (mem : Mem) (image : Image) (m : Memories) → Turns (verifying_course part s mem image m) (Shows part mem image m) m
   turns_verifying mem image m = record {
     if_fine = λ f. no_difference 0 image (memory_in part mem m) (no_difference_if_fine mem (difference_from 0 image (memory_in part mem m)) f);
     is_fine = λ shows. ap (λ d. standing (differs mem d)) (held_same 0 image (memory_in part mem m) shows);
@@ -83,25 +83,25 @@ module _ (part : Part) (s : Switches) where
   -- ---- a write, and the erase
 
   turns_reading_back : (left_out : Bool) (mem : Mem) (image : Image) (m : Memories)
-      → Turns (if left_out then fine [] m else verifying part s mem image m) (Unless left_out (Shows part mem image m)) m
+      → Turns (if left_out then fine [] m else verifying_course part s mem image m) (Unless left_out (Shows part mem image m)) m
   turns_reading_back true mem image m = turns_fine [] m
   turns_reading_back false mem image m = turns_verifying mem image m
 
   turns_writing : (dry : Bool) (mem : Mem) (image : Image) (m : Memories)
       → Turns
       (if dry then fine (left_out_write s mem image) m
-      else reported (written_says s.quiet part mem image) (Ok tt) (effect part (Write mem image) m) then reading_back part s mem image)
+      else reported_course (written_says s.quiet part mem image) (Ok tt) (effect part (Write mem image) m) then reading_back_course part s mem image)
       (Unless (dry || s.no_verify) (Shows part mem image (effects part (if dry then [] else Write mem image ∷ []) m)))
       (effects part (if dry then [] else Write mem image ∷ []) m)
   turns_writing true mem image m = turns_fine (left_out_write s mem image) m
   turns_writing false mem image m =
       let after = effect part (Write mem image) m in
-      turns_after (reported (written_says s.quiet part mem image) (Ok tt) after) (reading_back part s mem image) (Unless s.no_verify (Shows part mem image after)) after after
+      turns_after (reported_course (written_says s.quiet part mem image) (Ok tt) after) (reading_back_course part s mem image) (Unless s.no_verify (Shows part mem image after)) after after
       (turns_reported (written_says s.quiet part mem image) tt after) (turns_reading_back s.no_verify mem image after)
 
   turns_erasing : (dry due : Bool) (m : Memories)
       → Turns
-      (if dry then fine (left_out_erase s) m else if due then reported (erased_says s.quiet part) (Ok tt) (effect part Erase m) else fine [] m)
+      (if dry then fine (left_out_erase s) m else if due then reported_course (erased_says s.quiet part) (Ok tt) (effect part Erase m) else fine [] m)
       ⊤ (effects part (if dry then [] else if due then Erase ∷ [] else []) m)
   turns_erasing true due m = turns_fine (left_out_erase s) m
   turns_erasing false true m = turns_reported (erased_says s.quiet part) tt (effect part Erase m)
@@ -126,18 +126,18 @@ module _ (part : Part) (s : Switches) where
 
 -- ---- the whole
 
-turns_working : (plan : Plan) (m : Memories) → Turns (working plan m) (Agrees plan m) (effects plan.part (items plan) m)
+turns_working : (plan : Plan) (m : Memories) → Turns (working_course plan m) (Agrees plan m) (effects plan.part (items plan) m)
 turns_working plan m =
     let part = plan.part in
     let s = plan.switches in
     let tasks = plan.tasks in
     let erased = effects part (erasing_items s tasks) m in
-    let opened : Turns (opening part s m) ⊤ m = record { if_fine = λ f. tt; is_fine = λ agree. refl; memories = λ f. refl } in
-    let begun : Turns (opening part s m then erasing part s tasks) ⊤ erased =
-    turns_after (opening part s m) (erasing part s tasks) ⊤ m erased opened (turns_erasing part s s.dry (is_erase_due s tasks) m) in
-    subst (λ left. Turns (working plan m) (Agrees plan m) left)
+    let opened : Turns (opening_course part s m) ⊤ m = record { if_fine = λ f. tt; is_fine = λ agree. refl; memories = λ f. refl } in
+    let begun : Turns (opening_course part s m then erasing_course part s tasks) ⊤ erased =
+    turns_after (opening_course part s m) (erasing_course part s tasks) ⊤ m erased opened (turns_erasing part s s.dry (is_erase_due s tasks) m) in
+    subst (λ left. Turns (working_course plan m) (Agrees plan m) left)
     (sym (effects_on part (erasing_items s tasks) (tasks_items s tasks) m))
-    (turns_after (opening part s m then erasing part s tasks) (tasks_course part s tasks) (Agrees plan m) erased (effects part (tasks_items s tasks) erased)
+    (turns_after (opening_course part s m then erasing_course part s tasks) (tasks_course part s tasks) (Agrees plan m) erased (effects part (tasks_items s tasks) erased)
     begun (turns_tasks part s tasks erased))
 
 fine_of_status : (s : Standing) → status_after s ≡ 0 → s ≡ Fine
@@ -148,7 +148,7 @@ fine_of_status Over e = absurd (let no : ⊥ = omega (arith, e) in no)
 pub course_status : (plan : Plan) (m : Memories) → (course plan m).status ≡ 0 ↔ Agrees plan m
 course_status plan m =
     let turns = turns_working plan m in
-    (λ e. turns.if_fine (fine_of_status (working plan m).standing e), λ agree. ap status_after (turns.is_fine agree))
+    (λ e. turns.if_fine (fine_of_status (working_course plan m).standing e), λ agree. ap status_after (turns.is_fine agree))
 
 pub course_memories : (plan : Plan) (m : Memories) → Agrees plan m → (course plan m).memories ≡ effects plan.part (items plan) m
 course_memories plan m agree = let turns = turns_working plan m in turns.memories (turns.is_fine agree)

@@ -11,12 +11,12 @@ use Rattle.avr_part.specs.declared.mem.Mem.TheVariants.{Flash, Eeprom, Lfuse, Hf
 use Rattle.avr_plan.specs.Plan.{IsFitted}
 use Rattle.avr_plan.specs.declared.task.Task.{Task}
 use Rattle.avr_plan.specs.declared.task.Task.TheVariants as task
-use Rattle.stk_emu.specs.Effect.{Image, Memories, Write, laid, and_in, and_with, locked, written, effects, memory_in}
+use Rattle.stk_emu.specs.Effect.{Image, Memories, Write, with_image, and_in, and_with, are_locked, write_effect, effects, memory_in}
 use Rattle.stk_emu.proofs.Images.{length-laid, length-and_in}
 use Rattle.stk_emu.proofs.PageStrokes.{effects_on}
 use Rattle.avr_emulated.specs.Agrees.{Shows, Unless, TasksAgree}
 use Rattle.avr_emulated.specs.Items.{task_items, tasks_items}
-use Rattle.avr_emulated.specs.Written.{number_of, written_to, byte_in}
+use Rattle.avr_emulated.specs.Written.{memory_number, written_to, byte_in}
 
 none_some : {A : Type 0} (b : ℕ) → ◌≡◌ {A = Option ℕ} None (Some b) → A
 none_some b e = absurd (let no : ⊥ = cc in no)
@@ -61,7 +61,7 @@ kept_bits : (o : Option ℕ) (x : ℕ) → o ≡ None → and_with o x ≡ x
 kept_bits None x e = refl
 kept_bits (Some b) x e = some_none b e
 
-rest_laid : (image : Image) (xs : List ℕ) (i : ℕ) → byte_at image i ≡ None → get_or (laid image xs) i 0 ≡ get_or xs i 0
+rest_laid : (image : Image) (xs : List ℕ) (i : ℕ) → byte_at image i ≡ None → get_or (with_image image xs) i 0 ≡ get_or xs i 0
 rest_laid image [] i e = refl
 rest_laid [] (x ∷ xs) i e = refl
 rest_laid (b ∷ image) (x ∷ xs) zero e = kept_byte b x e
@@ -77,7 +77,7 @@ keeps_flash : (is_locked : Bool) (image : Image) (xs : List ℕ) → Keeps image
 keeps_flash true image xs = keeps_all image xs
 keeps_flash false image xs = record { size = length-and_in image xs; rest = λ i none. rest_anded image xs i none }
 
-keeps_eeprom_bytes : (is_locked : Bool) (image : Image) (xs : List ℕ) → Keeps image xs (if is_locked then xs else laid image xs)
+keeps_eeprom_bytes : (is_locked : Bool) (image : Image) (xs : List ℕ) → Keeps image xs (if is_locked then xs else with_image image xs)
 keeps_eeprom_bytes true image xs = keeps_all image xs
 keeps_eeprom_bytes false image xs = record { size = length-laid image xs; rest = λ i none. rest_laid image xs i none }
 
@@ -95,19 +95,19 @@ kept_fuse false image x none = kept_byte (byte_at image 0) x none
 
 -- ---- a write to a memory
 
-write_keeps : (part : Part) (mem : Mem) (image : Image) (m : Memories) → Keeps image (memory_in part mem m) (memory_in part mem (written mem image m))
-write_keeps part Flash image m = keeps_flash (locked m) image m.flash
-write_keeps part Eeprom image m = keeps_eeprom_bytes (locked m) image m.eeprom
-write_keeps part Lfuse image m = keeps_one image m.lfuse (written Lfuse image m).lfuse (λ none. kept_fuse (locked m) image m.lfuse none)
-write_keeps part Hfuse image m = keeps_one image m.hfuse (written Hfuse image m).hfuse (λ none. kept_fuse (locked m) image m.hfuse none)
-write_keeps part Efuse image m = keeps_one image m.efuse (written Efuse image m).efuse (λ none. kept_fuse (locked m) image m.efuse none)
-write_keeps part Lock image m = keeps_one image m.lock (written Lock image m).lock (λ none. kept_bits (byte_at image 0) m.lock none)
+write_keeps : (part : Part) (mem : Mem) (image : Image) (m : Memories) → Keeps image (memory_in part mem m) (memory_in part mem (write_effect mem image m))
+write_keeps part Flash image m = keeps_flash (are_locked m) image m.flash
+write_keeps part Eeprom image m = keeps_eeprom_bytes (are_locked m) image m.eeprom
+write_keeps part Lfuse image m = keeps_one image m.lfuse (write_effect Lfuse image m).lfuse (λ none. kept_fuse (are_locked m) image m.lfuse none)
+write_keeps part Hfuse image m = keeps_one image m.hfuse (write_effect Hfuse image m).hfuse (λ none. kept_fuse (are_locked m) image m.hfuse none)
+write_keeps part Efuse image m = keeps_one image m.efuse (write_effect Efuse image m).efuse (λ none. kept_fuse (are_locked m) image m.efuse none)
+write_keeps part Lock image m = keeps_one image m.lock (write_effect Lock image m).lock (λ none. kept_bits (byte_at image 0) m.lock none)
 write_keeps part Signature image m = keeps_all image part.signature
 write_keeps part Calibration image m = keeps_all image (255 ∷ [])
 
 -- another memory stays whole
-others_stay : (part : Part) (other mem : Mem) (image : Image) (m : Memories) → (number_of other == number_of mem) ≡ false
-    → memory_in part mem (written other image m) ≡ memory_in part mem m
+others_stay : (part : Part) (other mem : Mem) (image : Image) (m : Memories) → (memory_number other == memory_number mem) ≡ false
+    → memory_in part mem (write_effect other image m) ≡ memory_in part mem m
 others_stay part Flash Flash image m e = absurd (true≢false e)
 others_stay part Flash mem image m e = refl
 others_stay part Eeprom Eeprom image m e = absurd (true≢false e)
@@ -134,7 +134,7 @@ numbered n =
     else if n == 6 then Signature
     else Calibration
 
-numbered_is : (mem : Mem) → numbered (number_of mem) ≡ mem
+numbered_is : (mem : Mem) → numbered (memory_number mem) ≡ mem
 numbered_is Flash = refl
 numbered_is Eeprom = refl
 numbered_is Lfuse = refl
@@ -144,8 +144,8 @@ numbered_is Lock = refl
 numbered_is Signature = refl
 numbered_is Calibration = refl
 
-same_memory : (other mem : Mem) → (number_of other == number_of mem) ≡ true → other ≡ mem
-same_memory other mem e = sym (numbered_is other) ∙ (ap numbered (eqb-true (number_of other) (number_of mem) e) ∙ numbered_is mem)
+same_memory : (other mem : Mem) → (memory_number other == memory_number mem) ≡ true → other ≡ mem
+same_memory other mem e = sym (numbered_is other) ∙ (ap numbered (eqb-true (memory_number other) (memory_number mem) e) ∙ numbered_is mem)
 
 -- ---- what is left of one memory
 
@@ -163,7 +163,7 @@ module _ (part : Part) where
     rest = λ i none. refl;
   }
 
-  left_by_write : (mem : Mem) (image : Image) (m : Memories) → Shows part mem image (written mem image m) → Left part mem image m (written mem image m)
+  left_by_write : (mem : Mem) (image : Image) (m : Memories) → Shows part mem image (write_effect mem image m) → Left part mem image m (write_effect mem image m)
   left_by_write mem image m shows = let kept = write_keeps part mem image m in record { size = kept.size; shows = shows; rest = kept.rest }
 
   -- from where the memory was the same
@@ -200,7 +200,7 @@ module _ (part : Part) where
   others_fitted : (task : Task) (tasks : List Task) → All (IsFitted part) (task ∷ tasks) → All (IsFitted part) tasks
   others_fitted task tasks all = λ k d l. all (suc k) d (omega (arith, l))
 
-  size_over : (mem other : Mem) (image more : Image) (same : Bool) → (number_of other == number_of mem) ≡ same → length image ≡ size_of other part → length more ≡ size_of mem part
+  size_over : (mem other : Mem) (image more : Image) (same : Bool) → (memory_number other == memory_number mem) ≡ same → length image ≡ size_of other part → length more ≡ size_of mem part
       → length (if same then over image more else more) ≡ size_of mem part
   size_over mem other image more true e fits rest = length-over image more ∙ (fits ∙ ap (λ (x : Mem). size_of x part) (same_memory other mem e))
   size_over mem other image more false e fits rest = rest
@@ -208,40 +208,40 @@ module _ (part : Part) where
   length-written_to : (mem : Mem) (tasks : List Task) → All (IsFitted part) tasks → length (written_to part mem tasks) ≡ size_of mem part
   length-written_to mem [] all = length-replicate {A = Option ℕ} (size_of mem part) None
   length-written_to mem (task.Write other image ∷ tasks) all =
-      size_over mem other image (written_to part mem tasks) (number_of other == number_of mem) refl (first_fitted (task.Write other image) tasks all).0
+      size_over mem other image (written_to part mem tasks) (memory_number other == memory_number mem) refl (first_fitted (task.Write other image) tasks all).0
       (length-written_to mem tasks (others_fitted (task.Write other image) tasks all))
   length-written_to mem (task.Verify other image ∷ tasks) all = length-written_to mem tasks (others_fitted (task.Verify other image) tasks all)
   length-written_to mem (task.Read other format file ∷ tasks) all = length-written_to mem tasks (others_fitted (task.Read other format file) tasks all)
 
   agreed : (dry no_verify : Bool) (mem : Mem) (image : Image) (m : Memories) → dry ≡ false → no_verify ≡ false
-      → Unless (dry || no_verify) (Shows part mem image (effects part (if dry then [] else Write mem image ∷ []) m)) → Shows part mem image (written mem image m)
+      → Unless (dry || no_verify) (Shows part mem image (effects part (if dry then [] else Write mem image ∷ []) m)) → Shows part mem image (write_effect mem image m)
   agreed true no_verify mem image m e f agree = absurd (true≢false e)
   agreed false true mem image m e f agree = absurd (true≢false f)
   agreed false false mem image m e f agree = agree
 
   -- a write, and what follows it
-  write_left : (mem other : Mem) (image more : Image) (m new : Memories) (same : Bool) → (number_of other == number_of mem) ≡ same
+  write_left : (mem other : Mem) (image more : Image) (m new : Memories) (same : Bool) → (memory_number other == memory_number mem) ≡ same
       → length image ≡ size_of other part → length more ≡ size_of mem part
-      → Shows part other image (written other image m) → Left part mem more (written other image m) new → Left part mem (if same then over image more else more) m new
+      → Shows part other image (write_effect other image m) → Left part mem more (write_effect other image m) new → Left part mem (if same then over image more else more) m new
   write_left mem other image more m new true e fits size shows left =
       let is = same_memory other mem e in
       let long : length image ≡ size_of mem part = fits ∙ ap (λ (x : Mem). size_of x part) is in
-      let first : Left part mem image m (written other image m) = subst (λ x. Left part x image m (written other image m)) is (left_by_write other image m shows) in
-      left_over mem image more m (written other image m) new (omega (arith, long, size)) first left
-  write_left mem other image more m new false e fits size shows left = left_from mem more m (written other image m) new (others_stay part other mem image m e) left
+      let first : Left part mem image m (write_effect other image m) = subst (λ x. Left part x image m (write_effect other image m)) is (left_by_write other image m shows) in
+      left_over mem image more m (write_effect other image m) new (omega (arith, long, size)) first left
+  write_left mem other image more m new false e fits size shows left = left_from mem more m (write_effect other image m) new (others_stay part other mem image m e) left
 
   -- where writes are made and read back
   pub tasks_left : (s : Switches) → s.dry ≡ false → s.no_verify ≡ false → (mem : Mem) (tasks : List Task) (m : Memories) → All (IsFitted part) tasks → TasksAgree part s tasks m
       → Left part mem (written_to part mem tasks) m (effects part (tasks_items s tasks) m)
   tasks_left s wet verified mem [] m all agree = left_as_it_is mem (size_of mem part) m
   tasks_left s wet verified mem (task.Write other image ∷ tasks) m all agree =
-      let after = written other image m in
+      let after = write_effect other image m in
       let fitted = others_fitted (task.Write other image) tasks all in
       let is_after : effects part (task_items s (task.Write other image)) m ≡ after = ap (λ dry. effects part (if dry then [] else Write other image ∷ []) m) wet in
       let whole : effects part (tasks_items s (task.Write other image ∷ tasks)) m ≡ effects part (tasks_items s tasks) after =
       effects_on part (task_items s (task.Write other image)) (tasks_items s tasks) m ∙ ap (effects part (tasks_items s tasks)) is_after in
       subst (λ new. Left part mem (written_to part mem (task.Write other image ∷ tasks)) m new) (sym whole)
-      (write_left mem other image (written_to part mem tasks) m (effects part (tasks_items s tasks) after) (number_of other == number_of mem) refl
+      (write_left mem other image (written_to part mem tasks) m (effects part (tasks_items s tasks) after) (memory_number other == memory_number mem) refl
       (first_fitted (task.Write other image) tasks all).0 (length-written_to mem tasks fitted)
       (agreed s.dry s.no_verify other image m wet verified agree.0)
       (tasks_left s wet verified mem tasks after fitted (subst (λ m'. TasksAgree part s tasks m') is_after agree.1)))

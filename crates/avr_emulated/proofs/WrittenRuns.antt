@@ -12,7 +12,7 @@ use Rattle.avr_part.specs.declared.mem.Mem.TheVariants.{Flash, Eeprom, Lfuse, Hf
 use Rattle.avr_plan.specs.Plan.{Plan, IsFitted}
 use Rattle.avr_plan.specs.declared.task.Task.TheVariants as task
 use Rattle.avr_session.specs.Session.{is_erase_due, writes_flash}
-use Rattle.stk_emu.specs.Effect.{Image, Memories, Item, Erase, keeps_eeprom, effect, effects}
+use Rattle.stk_emu.specs.Effect.{Image, Memories, Item, Erase, erase_keeps_eeprom, effect, effects}
 use Rattle.stk_emu.specs.Settled.{FitsPart}
 use Rattle.stk_emu.proofs.PageStrokes.{effects_on}
 use Rattle.avr_emulated.specs.Agrees.{Shows, TasksAgree}
@@ -41,9 +41,9 @@ eeprom_blanked true xs addr l = refl
 eeprom_blanked false xs addr l = get_or-replicate (length xs) addr 255 0 l
 
 eeprom_erased : (part : Part) (dry due : Bool) (m : Memories) (addr : ℕ) → dry ≡ false → addr < length m.eeprom
-    → get_or (effects part (erase_if dry due) m).eeprom addr 0 ≡ (if due && not (keeps_eeprom part m) then 255 else get_or m.eeprom addr 0)
+    → get_or (effects part (erase_if dry due) m).eeprom addr 0 ≡ (if due && not (erase_keeps_eeprom part m) then 255 else get_or m.eeprom addr 0)
 eeprom_erased part true due m addr e l = absurd (true≢false e)
-eeprom_erased part false true m addr e l = eeprom_blanked (keeps_eeprom part m) m.eeprom addr l
+eeprom_erased part false true m addr e l = eeprom_blanked (erase_keeps_eeprom part m) m.eeprom addr l
 eeprom_erased part false false m addr e l = refl
 
 -- an erase keeps a fuse

@@ -10,7 +10,7 @@ use Rattle.stk_emu.specs.Device.{device}
 use Rattle.stk_emu.specs.Effect.{Memories, memories_of}
 use Rattle.stk_emu.specs.Few.{AreFew}
 use Rattle.stk_emu.specs.Programmer.{fresh_programmer}
-use Rattle.stk_emu.specs.Wired.{State, wired_view}
+use Rattle.stk_emu.specs.Wired.{WiredState, wired_view}
 use Rattle.stk_frame.specs.Commands.{body}
 use Rattle.stk_frame.specs.Cut.{body_of, frames}
 use Rattle.stk_frame.specs.declared.command.Command.{Command}
@@ -36,27 +36,27 @@ bodies_in [] = []
 bodies_in (commands ∷ steps) = map body commands ++ bodies_in steps
 
 -- the memories of the chip behind a wire; the frames that went out over it
-abbrev pub memories : State → Memories
+abbrev pub memories : WiredState → Memories
 memories w = memories_of w.wire.programmer.chip
 
-abbrev pub frames_over : State → List (List ℕ)
+abbrev pub frames_over : WiredState → List (List ℕ)
 frames_over w = frames (sent w.talk)
 
 -- It stopped as it was played: a device failed, by the count of its failures, or memory was refused to a plan that
 -- takes memory.
-abbrev pub Stopped : Plan → State → State → DeskView → DeskView → Type 0
+abbrev pub Stopped : Plan → WiredState → WiredState → DeskView → DeskView → Type 0
 Stopped plan before after old now =
     BrokeOff (session plan) start (devices (wired_view before) old) (devices (wired_view after) now)
     (untold (takes_memory plan))
 
 -- Whatever is told among these events was true of the chip as the frames sent before had left it.
-abbrev pub WereTrue : Plan → State → List (Event Saying) → Type 0
+abbrev pub WereTrue : Plan → WiredState → List (Event Saying) → Type 0
 WereTrue plan before events =
     SaidTrue device (λ q saying. IsTrue plan (memories before) (memories_of q.chip) saying) events before.wire
 
 -- What a session of this plan did from one state of a wire to another, whatever the fates of its frames. A course is
 -- what is said, the status and the memories of the same plan over a perfect line.
-pub record OverAnyLine (plan : Plan) (before after : State) (old now : DeskView) (status : ℕ) : Type 0 where
+pub record OverAnyLine (plan : Plan) (before after : WiredState) (old now : DeskView) (status : ℕ) : Type 0 where
   -- status 0 can be trusted: nothing but the line's own trouble was hidden
   pub success : status ≡ 0 → IsCourse plan (memories before) (memories after) old now status
   -- all that the plan writes was written, and all that it compares agreed

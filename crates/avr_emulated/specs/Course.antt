@@ -9,7 +9,7 @@ use Rattle.avr_plan.specs.Plan.{Plan}
 use Rattle.avr_plan.specs.declared.task.Task.{Task}
 use Rattle.avr_plan.specs.declared.task.Task.TheVariants as task
 use Rattle.stk_host.specs.declared.fault.HostFault.{HostFault}
-use Rattle.stk_host.specs.Operations.{compared}
+use Rattle.stk_host.specs.Operations.{comparison}
 use Rattle.stk_emu.specs.Effect.{Image, Memories, Erase, Write, effect, memory_in}
 use Rattle.avr_session.specs.declared.standing.Standing.{Standing}
 use Rattle.avr_session.specs.declared.standing.Standing.TheVariants.{Fine}
@@ -26,8 +26,12 @@ abbrev pub fine : List Saying → Memories → Course
 fine says m = record { says = says; standing = Fine; memories = m }
 
 -- an operation of this outcome, which leaves these memories
-abbrev pub reported : {A : Type 0} → (Result A HostFault → List Saying) → Result A HostFault → Memories → Course
-reported outcome_says outcome m = record { says = outcome_says outcome; standing = standing outcome; memories = m }
+abbrev pub reported_course : {A : Type 0} → (Result A HostFault → List Saying) → Result A HostFault → Memories → Course
+reported_course outcome_says outcome m = record {
+  says = outcome_says outcome;
+  standing = standing outcome;
+  memories = m;
+}
 
 -- the next part, which is left out after a fault
 abbrev pub then_from : Course → Standing → (Memories → Course) → Course
@@ -45,43 +49,43 @@ first then next = then_from first first.standing next
 -- ---- the parts of a session
 
 -- the signature is the part's
-abbrev pub opening : Part → Switches → Memories → Course
-opening part s m = reported (opening_says s.quiet part) (Ok part.signature) m
+abbrev pub opening_course : Part → Switches → Memories → Course
+opening_course part s m = reported_course (opening_says s.quiet part) (Ok part.signature) m
 
-abbrev pub erasing : Part → Switches → List Task → Memories → Course
-erasing part s tasks m =
+abbrev pub erasing_course : Part → Switches → List Task → Memories → Course
+erasing_course part s tasks m =
     if s.dry then fine (left_out_erase s) m
-    else if is_erase_due s tasks then reported (erased_says s.quiet part) (Ok tt) (effect part Erase m)
+    else if is_erase_due s tasks then reported_course (erased_says s.quiet part) (Ok tt) (effect part Erase m)
     else fine [] m
 
-abbrev pub verifying : Part → Switches → Mem → Image → Memories → Course
-verifying part s mem image m =
-    reported (verified_says s.quiet part mem image) (compared mem image (memory_in part mem m)) m
+abbrev pub verifying_course : Part → Switches → Mem → Image → Memories → Course
+verifying_course part s mem image m =
+    reported_course (verified_says s.quiet part mem image) (comparison mem image (memory_in part mem m)) m
 
-abbrev pub reading_back : Part → Switches → Mem → Image → Memories → Course
-reading_back part s mem image m = if s.no_verify then fine [] m else verifying part s mem image m
+abbrev pub reading_back_course : Part → Switches → Mem → Image → Memories → Course
+reading_back_course part s mem image m = if s.no_verify then fine [] m else verifying_course part s mem image m
 
-abbrev pub writing : Part → Switches → Mem → Image → Memories → Course
-writing part s mem image m =
+abbrev pub writing_course : Part → Switches → Mem → Image → Memories → Course
+writing_course part s mem image m =
     if s.dry then fine (left_out_write s mem image) m
-    else reported (written_says s.quiet part mem image) (Ok tt) (effect part (Write mem image) m)
-    then reading_back part s mem image
+    else reported_course (written_says s.quiet part mem image) (Ok tt) (effect part (Write mem image) m)
+    then reading_back_course part s mem image
 
 abbrev pub task_course : Part → Switches → Task → Memories → Course
-task_course part s (task.Write mem image) m = writing part s mem image m
-task_course part s (task.Verify mem image) m = verifying part s mem image m
+task_course part s (task.Write mem image) m = writing_course part s mem image m
+task_course part s (task.Verify mem image) m = verifying_course part s mem image m
 task_course part s (task.Read mem format file) m =
-    reported (fault_or part (read_says s mem format file)) (Ok (memory_in part mem m)) m
+    reported_course (fault_or part (read_says s mem format file)) (Ok (memory_in part mem m)) m
 
 abbrev pub tasks_course : Part → Switches → List Task → Memories → Course
 tasks_course part s [] m = fine [] m
 tasks_course part s (first ∷ tasks) m = task_course part s first m then tasks_course part s tasks
 
 -- all of a session but its end
-abbrev pub working : Plan → Memories → Course
-working plan m =
-    opening plan.part plan.switches m
-    then erasing plan.part plan.switches plan.tasks
+abbrev pub working_course : Plan → Memories → Course
+working_course plan m =
+    opening_course plan.part plan.switches m
+    then erasing_course plan.part plan.switches plan.tasks
     then tasks_course plan.part plan.switches plan.tasks
 
 -- what is said at its end: a second fault is not told, and there is none
@@ -101,7 +105,7 @@ pub record Run : Type 0 where
 
 abbrev pub course : Plan → Memories → Run
 course plan m = record {
-  says = (working plan m).says ++ ending_says plan (working plan m).standing;
-  status = status_after (working plan m).standing;
-  memories = (working plan m).memories;
+  says = (working_course plan m).says ++ ending_says plan (working_course plan m).standing;
+  status = status_after (working_course plan m).standing;
+  memories = (working_course plan m).memories;
 }

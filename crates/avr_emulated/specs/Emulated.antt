@@ -7,16 +7,16 @@ use Rattle.avr_desk.specs.Fault.{Follows}
 use Rattle.avr_desk.specs.Record.{DeskView}
 use Rattle.avr_message.specs.Lines.{Bytes}
 use Rattle.avr_part.specs.ChipFile.{chip_file}
-use Rattle.avr_part.specs.Sound.{IsSound}
-use Rattle.avr_part.specs.State.{State as Chip}
+use Rattle.avr_part.specs.Sound.{IsSoundChip}
+use Rattle.avr_part.specs.State.{ChipState as Chip}
 use Rattle.avr_plan.specs.Plan.{Plan, IsFitted}
 use Rattle.avr_plan.specs.Planning.{planned}
 use Rattle.avr_plan.specs.Playing.{Goes, Went}
 use Rattle.avr_plan.specs.Stage.{Made}
 use Rattle.stk_host.specs.Talk.{Stays, sent}
 use Rattle.stk_emu.specs.Programmer.{fresh_programmer}
-use Rattle.stk_emu.specs.Wire.{fresh}
-use Rattle.stk_emu.specs.Wired.{State, ComesOf}
+use Rattle.stk_emu.specs.Wire.{fresh_wire}
+use Rattle.stk_emu.specs.Wired.{WiredState, ComesOf}
 use Rattle.stk_emu.specs.declared.fate.Fate.{Fate}
 use Rattle.avr_emulated.specs.AnyLine.{OverAnyLine}
 
@@ -28,9 +28,9 @@ IsSaved (byte ∷ sent) old now file bytes ran status =
     ⊎ ((fault : ℕ) × Saves old now file bytes (Err fault) × (status ≡ 1))
 
 -- a wire to a chip as it begins: nothing is held, waits or has passed, and these are the fates of its frames
-abbrev pub new_wire : Chip → List Fate → State
+abbrev pub new_wire : Chip → List Fate → WiredState
 new_wire chip fates =
-    record { held = []; wire = fresh (fresh_programmer chip) fates; waits = []; talk = []; failures = 0 }
+    record { held = []; wire = fresh_wire (fresh_programmer chip) fates; waits = []; talk = []; failures = 0 }
 
 -- A plan was made, whose images have the sizes of their memories, and a chip of its part, with memories of its sizes,
 -- was loaded from the file. The session was run, to a status, over a new wire to that chip, on which no frame goes
@@ -39,7 +39,7 @@ new_wire chip fates =
 pub record RunsOverEmulator (settings : Settings) (file : Bytes) (old now : DeskView) (status : ℕ) : Type 0 where
   pub plan : Plan
   pub chip : Chip
-  pub after : State
+  pub after : WiredState
   pub ran : ℕ
   pub planned_desk : DeskView
   pub loaded_desk : DeskView
@@ -48,7 +48,7 @@ pub record RunsOverEmulator (settings : Settings) (file : Bytes) (old now : Desk
   pub fitted : All (IsFitted plan.part) plan.tasks
   pub loaded : Went (chip_stage plan.part file) planned_desk loaded_desk (Made chip)
   pub part : chip.part ≡ plan.part
-  pub sound : IsSound chip
+  pub sound : IsSoundChip chip
   pub comes : Stays ComesOf (new_wire chip []) after
   pub line : OverAnyLine plan (new_wire chip []) after loaded_desk played_desk ran
   pub saved : IsSaved (sent after.talk) played_desk now file (chip_file after.wire.programmer.chip) ran status

@@ -5,7 +5,7 @@ use Rattle.avr_part.specs.Part.{Part}
 use Rattle.avr_plan.specs.Plan.{Plan}
 use Rattle.avr_plan.specs.declared.task.Task.{Task}
 use Rattle.avr_plan.specs.declared.task.Task.TheVariants as task
-use Rattle.avr_session.specs.Session.{is_erase_due, opening_part, task_part, beginning, status_of}
+use Rattle.avr_session.specs.Session.{is_erase_due, opening_phase, task_phase, beginning, status_of}
 use Rattle.stk_emu.specs.Climbs.{steps_done}
 use Rattle.stk_emu.specs.Device.{device}
 use Rattle.stk_emu.specs.Effect.{Erase}
@@ -31,12 +31,12 @@ task_made part s (task.Read mem format file) = none_made
 abbrev pub tasks_made : Part → Switches → List Task → Count Programmer
 tasks_made part s [] = none_made
 tasks_made part s (first ∷ tasks) =
-    then_count device (task_part part s first) (task_made part s first) (λ standing. if status_of standing == 0
+    then_count device (task_phase part s first) (task_made part s first) (λ standing. if status_of standing == 0
     then tasks_made part s tasks else none_made)
 
 abbrev pub beginning_made : Plan → Count Programmer
 beginning_made plan =
-    then_count device (opening_part plan.part plan.switches) none_made
+    then_count device (opening_phase plan.part plan.switches) none_made
     (λ standing. if status_of standing == 0 then erasing_made plan.part plan.switches plan.tasks else none_made)
 
 -- the end of a session makes none

@@ -1,8 +1,8 @@
 -- That what a run tells is true of the chip where it tells it.
 use Rattle.std.specs.Prelude.{ℕ, zero, suc, true, ◌≡◌, ◌⊎◌, List, [], ◌∷◌, ◌++◌, length, Contains, Err, ⊤, codes, decimal}
 use Rattle.avr_cli.specs.declared.update.Format.{Format}
-use Rattle.avr_image.specs.Image.{held}
-use Rattle.avr_message.specs.Lines.{Bytes, spaced, information, warning}
+use Rattle.avr_image.specs.Image.{byte_count}
+use Rattle.avr_message.specs.Lines.{Bytes, spaced_digits, information, warning}
 use Rattle.avr_message.specs.Said.{Saying, Line, Creates, Writes, Outs}
 use Rattle.avr_part.specs.Mem.{name_of}
 use Rattle.avr_part.specs.declared.mem.Mem.{Mem}
@@ -12,13 +12,13 @@ use Rattle.avr_session.specs.FileText.{file_text}
 use Rattle.avr_session.specs.Lines.{fault_line}
 use Rattle.avr_session.specs.Session.{kept_of}
 use Rattle.stk_host.specs.Dialog.{Dialog, Done, Say, Ask, Event, Frame, Said}
-use Rattle.stk_host.specs.Operations.{compared, host_fault}
+use Rattle.stk_host.specs.Operations.{comparison, host_fault}
 use Rattle.stk_host.specs.declared.fault.HostFault.{HostFault}
 use Rattle.stk_host.specs.declared.fault.StepFault.{StepFault}
-use Rattle.stk_emu.specs.Along.{reading_of}
+use Rattle.stk_emu.specs.Along.{fate_reading}
 use Rattle.stk_emu.specs.Device.{Device, device}
 use Rattle.stk_emu.specs.Effect.{Image, Item, Erase, Write, Memories, effect, effects, memory_in}
-use Rattle.stk_emu.specs.Wire.{first_fate, other_fates, after_fate, Wire, passed}
+use Rattle.stk_emu.specs.Wire.{first_fate, other_fates, after_fate, Wire, wire_behind}
 use Rattle.stk_emu.specs.declared.fate.Fate.{Fate}
 use Rattle.avr_emulated.specs.Agrees.{Shows}
 use Rattle.avr_emulated.specs.Items.{items}
@@ -29,7 +29,7 @@ TellsTrue m IsTrue k (Done r) p fates = ⊤
 TellsTrue m IsTrue k (Say e dialog) p fates = IsTrue p e × TellsTrue m IsTrue k dialog p fates
 TellsTrue m IsTrue zero (Ask bytes go_on) p fates = ⊤
 TellsTrue m IsTrue (suc k) (Ask bytes go_on) p fates =
-    TellsTrue m IsTrue k (go_on (reading_of (first_fate fates) (m.answer bytes p)))
+    TellsTrue m IsTrue k (go_on (fate_reading (first_fate fates) (m.answer bytes p)))
     (after_fate (first_fate fates) (m.after bytes p) p (m.reset p)) (other_fates fates)
 
 -- the line of a memory: so many bytes were written, verified or read
@@ -50,18 +50,18 @@ kept_in plan mem now = kept_of mem plan.switches.all (memory_in plan.part mem no
 -- and a difference told is one that is there. Else: the chip's signature, what is left out as nothing is to be written,
 -- why a step has failed, and the end.
 pub data IsTrue (plan : Plan) (before now : Memories) (saying : Saying) : Type 0 where
-  SignatureRead : saying ≡ Line (information (codes "device signature = " ∷ spaced plan.part.signature ∷ []))
+  SignatureRead : saying ≡ Line (information (codes "device signature = " ∷ spaced_digits plan.part.signature ∷ []))
       → IsTrue plan before now saying
   ChipErased : saying ≡ Line (information (codes "chip erased" ∷ [])) → now ≡ effect plan.part Erase before
       → IsTrue plan before now saying
   BytesWritten : (mem : Mem) (image : Image) (first later : List Item)
-      → saying ≡ count_line mem (held image) (codes " bytes written")
+      → saying ≡ count_line mem (byte_count image) (codes " bytes written")
       → items plan ≡ first ++ Write mem image ∷ later → now ≡ effects plan.part (first ++ Write mem image ∷ []) before
       → IsTrue plan before now saying
-  BytesVerified : (mem : Mem) (image : Image) → saying ≡ count_line mem (held image) (codes " bytes verified")
+  BytesVerified : (mem : Mem) (image : Image) → saying ≡ count_line mem (byte_count image) (codes " bytes verified")
       → Compares plan mem image → Shows plan.part mem image now → IsTrue plan before now saying
   Differed : (mem : Mem) (image : Image) (fault : HostFault) → saying ≡ Line (fault_line plan.part fault)
-      → Compares plan mem image → compared mem image (memory_in plan.part mem now) ≡ Err fault
+      → Compares plan mem image → comparison mem image (memory_in plan.part mem now) ≡ Err fault
       → IsTrue plan before now saying
   BytesSaved : (mem : Mem) (format : Format) (file : Bytes) → Contains plan.tasks (task.Read mem format file)
       → (saying ≡ Creates file) ⊎ ((saying ≡ Writes (file_text format (kept_in plan mem now)))
@@ -71,7 +71,7 @@ pub data IsTrue (plan : Plan) (before now : Memories) (saying : Saying) : Type 0
   EraseLeftOut : plan.switches.dry ≡ true → saying ≡ Line (warning (codes "chip not erased because of -n" ∷ []))
       → IsTrue plan before now saying
   WriteLeftOut : (mem : Mem) (image : Image) → plan.switches.dry ≡ true
-      → saying ≡ count_line mem (held image) (codes " bytes not written") → IsTrue plan before now saying
+      → saying ≡ count_line mem (byte_count image) (codes " bytes not written") → IsTrue plan before now saying
   StepFailed : (fault : StepFault) → saying ≡ Line (fault_line plan.part (host_fault fault))
       → IsTrue plan before now saying
   SessionDone : saying ≡ Line (information (codes "done" ∷ [])) → IsTrue plan before now saying
@@ -79,5 +79,5 @@ pub data IsTrue (plan : Plan) (before now : Memories) (saying : Saying) : Type 0
 -- Whatever is said among events holds of the programmer as the frames sent before it left it, over a wire.
 abbrev pub SaidTrue : {E P : Type 0} → Device P → (P → E → Type 0) → List (Event E) → Wire P → Type 0
 SaidTrue m IsTrue [] w = ⊤
-SaidTrue m IsTrue (Frame bytes ∷ events) w = SaidTrue m IsTrue events (passed m bytes w)
+SaidTrue m IsTrue (Frame bytes ∷ events) w = SaidTrue m IsTrue events (wire_behind m bytes w)
 SaidTrue m IsTrue (Said e ∷ events) w = IsTrue w.programmer e × SaidTrue m IsTrue events w

@@ -9,24 +9,25 @@ use Rattle.avr_plan.specs.declared.task.Task.{Task}
 use Rattle.avr_plan.specs.declared.task.Task.TheVariants.{Write, Verify, Read}
 use Rattle.avr_session.specs.Session.{is_erase_due}
 use Rattle.stk_emu.specs.Effect as effect
-use Rattle.stk_emu.specs.Effect.{Image, Item, Memories, keeps_eeprom, memory_in}
+use Rattle.stk_emu.specs.Effect.{Image, Item, Memories, erase_keeps_eeprom, memory_in}
 use Rattle.avr_emulated.specs.Agrees.{Shows}
 
-abbrev pub number_of : Mem → ℕ
-number_of Flash = 0
-number_of Eeprom = 1
-number_of Lfuse = 2
-number_of Hfuse = 3
-number_of Efuse = 4
-number_of Lock = 5
-number_of Signature = 6
-number_of Calibration = 7
+abbrev pub memory_number : Mem → ℕ
+memory_number Flash = 0
+memory_number Eeprom = 1
+memory_number Lfuse = 2
+memory_number Hfuse = 3
+memory_number Efuse = 4
+memory_number Lock = 5
+memory_number Signature = 6
+memory_number Calibration = 7
 
 -- the images that tasks write to a memory, laid over each other: a later one's byte stands
 abbrev pub written_to : Part → Mem → List Task → Image
 written_to part mem [] = empty (size_of mem part)
 written_to part mem (Write other image ∷ tasks) =
-    if number_of other == number_of mem then over image (written_to part mem tasks) else written_to part mem tasks
+    if memory_number other == memory_number mem then over image (written_to part mem tasks)
+    else written_to part mem tasks
 written_to part mem (Verify other image ∷ tasks) = written_to part mem tasks
 written_to part mem (Read other format file ∷ tasks) = written_to part mem tasks
 
@@ -47,7 +48,7 @@ pub record IsWritten (plan : Plan) (before after : Memories) : Type 0 where
   pub rest_of_eeprom : (addr : ℕ) → addr < plan.part.eeprom_size
       → byte_at (written_to plan.part Eeprom plan.tasks) addr ≡ None
       → byte_in plan.part Eeprom addr after
-      ≡ (if is_erase_due plan.switches plan.tasks && not (keeps_eeprom plan.part before) then 255
+      ≡ (if is_erase_due plan.switches plan.tasks && not (erase_keeps_eeprom plan.part before) then 255
       else byte_in plan.part Eeprom addr before)
   pub lfuse : byte_at (written_to plan.part Lfuse plan.tasks) 0 ≡ None → after.lfuse ≡ before.lfuse
   pub hfuse : byte_at (written_to plan.part Hfuse plan.tasks) 0 ≡ None → after.hfuse ≡ before.hfuse

@@ -5,7 +5,7 @@ ghost use Rattle.std.specs.Prelude.{◌≡◌, ◌∷◌, ℕ, true, false, List
 ghost use Rattle.avr_part.specs.Part.{Part, IsPart};
 ghost use Rattle.avr_plan.specs.Plan.{Plan, IsFitted};
 ghost use Rattle.avr_session.specs.Session.{is_erase_due};
-ghost use Rattle.stk_emu.specs.Effect.{Memories, Item, Erase, keeps_eeprom, effects};
+ghost use Rattle.stk_emu.specs.Effect.{Memories, Item, Erase, erase_keeps_eeprom, effects};
 ghost use Rattle.stk_emu.specs.Settled.{FitsPart};
 ghost use Rattle.avr_emulated.specs.Again.{AreWrites, AreKeeping, AgreesAnyway, Heals};
 ghost use Rattle.avr_emulated.specs.Agrees.{Agrees};
@@ -17,7 +17,7 @@ ghost use Rattle.avr_emulated.specs.Outcome.{strokes, IsTouched, IsDone};
 /// keeping away.
 pub fn first_items_and_then_all_are_all()
     ensures { (part : Part) (items : List Item) (k : ℕ) (m : Memories) → AreWrites items
-        → (keeps_eeprom part m ≡ true → keeps_eeprom part (effects part (take k (Erase ∷ items)) m) ≡ true)
+        → (erase_keeps_eeprom part m ≡ true → erase_keeps_eeprom part (effects part (take k (Erase ∷ items)) m) ≡ true)
         → effects part (Erase ∷ items) (effects part (take k (Erase ∷ items)) m) ≡ effects part (Erase ∷ items) m }
 {}
 
@@ -32,7 +32,7 @@ pub fn first_writes_and_then_all_are_all()
 pub fn a_second_run_heals_the_first()
     ensures { (plan : Plan) (k : ℕ) (m : Memories) → IsPart plan.part → All (IsFitted plan.part) plan.tasks
         → FitsPart plan.part m
-        → (is_erase_due plan.switches plan.tasks ≡ true → keeps_eeprom plan.part m ≡ true
+        → (is_erase_due plan.switches plan.tasks ≡ true → erase_keeps_eeprom plan.part m ≡ true
         → AreKeeping plan.part (items plan))
         → effects plan.part (items plan) (effects plan.part (take k (strokes plan)) m)
         ≡ effects plan.part (items plan) m }
@@ -56,16 +56,16 @@ pub fn the_same_run_again_heals()
     ensures touched { (plan : Plan) (before after : Memories) → IsPart plan.part → All (IsFitted plan.part) plan.tasks
         → FitsPart plan.part before
         → plan.switches.dry ≡ false → is_erase_due plan.switches plan.tasks ≡ true → AgreesAnyway plan
-        → (keeps_eeprom plan.part before ≡ true → AreKeeping plan.part (items plan))
+        → (erase_keeps_eeprom plan.part before ≡ true → AreKeeping plan.part (items plan))
         → IsTouched plan before after → Heals plan before after }
     ensures strokes { (plan : Plan) (k : ℕ) (m : Memories) → IsPart plan.part → All (IsFitted plan.part) plan.tasks
         → FitsPart plan.part m
         → plan.switches.dry ≡ false → is_erase_due plan.switches plan.tasks ≡ true → AgreesAnyway plan
-        → (keeps_eeprom plan.part m ≡ true → AreKeeping plan.part (items plan))
+        → (erase_keeps_eeprom plan.part m ≡ true → AreKeeping plan.part (items plan))
         → Heals plan m (effects plan.part (take k (strokes plan)) m) }
     ensures done { (plan : Plan) (before left after : Memories) → IsPart plan.part → All (IsFitted plan.part) plan.tasks
         → FitsPart plan.part before
-        → (is_erase_due plan.switches plan.tasks ≡ true → keeps_eeprom plan.part before ≡ true
+        → (is_erase_due plan.switches plan.tasks ≡ true → erase_keeps_eeprom plan.part before ≡ true
         → AreKeeping plan.part (items plan))
         → IsTouched plan before left → IsDone plan left after → after ≡ effects plan.part (items plan) before }
 {}

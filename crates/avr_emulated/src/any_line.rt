@@ -16,7 +16,7 @@ ghost use Rattle.stk_emu.specs.Leads.{Leads};
 ghost use Rattle.stk_emu.specs.Programmer.{Programmer};
 ghost use Rattle.stk_emu.specs.Settled.{Idle, FitsPart};
 ghost use Rattle.stk_emu.specs.Tallies.{Tallies};
-ghost use Rattle.stk_emu.specs.Wired.{State, wired_view};
+ghost use Rattle.stk_emu.specs.Wired.{WiredState, wired_view};
 ghost use Rattle.stk_emu.specs.declared.fate.Fate.{Fate};
 ghost use Rattle.stk_host.specs.Bound.{SendsAtMost, commands_in};
 ghost use Rattle.avr_emulated.specs.AnyLine.{OverAnyLine, Stopped, WereTrue};
@@ -69,11 +69,11 @@ pub fn what_a_run_tells_is_true()
 /// Whatever was told over a wire was true of the chip when it was told: of a session that was played to its end all of
 /// it, and of one that stopped all that it did whole.
 pub fn what_was_told_was_true()
-    ensures played { (plan : Plan) (w v : State) (d e : DeskView) (status : ℕ)
+    ensures played { (plan : Plan) (w v : WiredState) (d e : DeskView) (status : ℕ)
         → w.talk ≡ [] → OverAnyLine plan w v d e status
         → (whole : IsPlayed (session plan) (devices (wired_view w) d) (devices (wired_view v) e) status)
         → WereTrue plan w whole.1.events }
-    ensures stopped { (plan : Plan) (w v : State) (d e : DeskView) (status : ℕ)
+    ensures stopped { (plan : Plan) (w v : WiredState) (d e : DeskView) (status : ℕ)
         → w.talk ≡ [] → OverAnyLine plan w v d e status
         → (stopped : Stopped plan w v d e) → WereTrue plan w stopped.breaks.front.whole }
 {}

@@ -6,7 +6,7 @@ use Rattle.std.proofs.lemmas.List.Sums.{prefix_len-le-length}
 use Rattle.std.proofs.lemmas.Bool.Decides.{nat_tests}
 use Rattle.std.specs.List.{enumerate_from, slice_split, position_or_len, onto_first}
 use Rattle.avr_image.specs.Image.{empty, from_zero, with_byte}
-use Rattle.avr_image.specs.Values.{is_separator, fitting, judged, value_of, all_ok, onto_ok, image_of, pieces, values}
+use Rattle.avr_image.specs.Values.{is_separator, fitting, fitting_value, value_of, all_ok, onto_ok, image_of_bytes, pieces, values}
 use Rattle.avr_image.specs.Placing.{with_value, with_piece}
 use Rattle.avr_image.specs.declared.fault.ImageFault.{ImageFault}
 use Rattle.avr_image.specs.declared.fault.ImageFault.TheVariants.{BadNumber}
@@ -55,36 +55,36 @@ fitting_below size addr (Some value) byte e = elim (cases_lt addr size) [
 
 with_next : (bytes : List ℕ) (size addr : ℕ) (parts : List (List ℕ)) (rest : Result (List ℕ) ImageFault) (r : Result ℕ ImageFault)
     → ((byte : ℕ) → r ≡ Ok byte → addr < size) → addr ≡ length bytes
-    → ((byte : ℕ) → addr < size → with_pieces (from_zero (bytes ++ byte ∷ []) size) (addr + 1) parts ≡ image_of size (before (bytes ++ byte ∷ []) rest))
-    → then_on (with_value (from_zero bytes size) addr r) (λ next. with_pieces next (addr + 1) parts) ≡ image_of size (before bytes (onto_ok r rest))
+    → ((byte : ℕ) → addr < size → with_pieces (from_zero (bytes ++ byte ∷ []) size) (addr + 1) parts ≡ image_of_bytes size (before (bytes ++ byte ∷ []) rest))
+    → then_on (with_value (from_zero bytes size) addr r) (λ next. with_pieces next (addr + 1) parts) ≡ image_of_bytes size (before bytes (onto_ok r rest))
 with_next bytes size addr parts rest (Err fault) below here more = refl
 with_next bytes size addr parts rest (Ok byte) below here more =
     let low : addr < size = below byte refl in
     ap (λ (n : ℕ). with_pieces (with_byte (from_zero bytes size) n byte) (addr + 1) parts) here
     ∙ ap (λ (image : List (Option ℕ)). with_pieces image (addr + 1) parts) (from_zero-next bytes byte size (omega (arith, low, here)))
-    ∙ more byte low ∙ ap (image_of size) (before-onto bytes byte rest)
+    ∙ more byte low ∙ ap (image_of_bytes size) (before-onto bytes byte rest)
 
 pub with_pieces_is : (bytes : List ℕ) (size addr : ℕ) (parts : List (List ℕ)) → addr ≡ length bytes → length bytes ≤ size
-    → with_pieces (from_zero bytes size) addr parts ≡ image_of size (before bytes (all_ok (map (judged size) (enumerate_from addr parts))))
-with_pieces_is bytes size addr [] here l = ap (λ (xs : List ℕ). image_of size (ok_of xs)) (sym (append-nil bytes))
+    → with_pieces (from_zero bytes size) addr parts ≡ image_of_bytes size (before bytes (all_ok (map (fitting_value size) (enumerate_from addr parts))))
+with_pieces_is bytes size addr [] here l = ap (λ (xs : List ℕ). image_of_bytes size (ok_of xs)) (sym (append-nil bytes))
 with_pieces_is bytes size addr (piece ∷ parts) here l =
     let size_is : length (from_zero bytes size) ≡ size = length-from_zero bytes size l in
-    ap (λ (n : ℕ). then_on (with_value (from_zero bytes size) addr (judged n (addr, piece))) (λ next. with_pieces next (addr + 1) parts)) size_is
-    ∙ with_next bytes size addr parts (all_ok (map (judged size) (enumerate_from (addr + 1) parts))) (judged size (addr, piece))
+    ap (λ (n : ℕ). then_on (with_value (from_zero bytes size) addr (fitting_value n (addr, piece))) (λ next. with_pieces next (addr + 1) parts)) size_is
+    ∙ with_next bytes size addr parts (all_ok (map (fitting_value size) (enumerate_from (addr + 1) parts))) (fitting_value size (addr, piece))
     (λ byte e. fitting_below size addr (value_of piece) byte e) here
     (λ byte low. with_pieces_is (bytes ++ byte ∷ []) size (addr + 1) parts
     (omega (arith, here, length-append bytes (byte ∷ []))) (omega (arith, here, low, length-append bytes (byte ∷ []))))
 
 values_of_some : (size : ℕ) (parts : List (List ℕ)) (one : Result (List (Option ℕ)) ImageFault) → 0 < length parts
-    → cond (eqb (length parts) 0) one (image_of size (all_ok (map (judged size) (enumerate_from 0 parts)))) ≡ with_pieces (empty size) 0 parts
+    → cond (eqb (length parts) 0) one (image_of_bytes size (all_ok (map (fitting_value size) (enumerate_from 0 parts)))) ≡ with_pieces (empty size) 0 parts
 values_of_some size [] one some = absurd (omega (arith, some))
 values_of_some size (piece ∷ parts) one some =
     let none : from_zero [] size ≡ empty size = ap (λ (n : ℕ). replicate {A = Option ℕ} n None) (omega arith) in
     let more : eqb (length (piece ∷ parts)) 0 ≡ false = ne_test (length (piece ∷ parts)) 0 (omega (arith, some)) in
-    let whole : image_of size (all_ok (map (judged size) (enumerate_from 0 (piece ∷ parts)))) ≡ with_pieces (empty size) 0 (piece ∷ parts) =
-    ap (image_of size) (sym (before-none _)) ∙ sym (with_pieces_is [] size 0 (piece ∷ parts) refl (omega arith))
+    let whole : image_of_bytes size (all_ok (map (fitting_value size) (enumerate_from 0 (piece ∷ parts)))) ≡ with_pieces (empty size) 0 (piece ∷ parts) =
+    ap (image_of_bytes size) (sym (before-none _)) ∙ sym (with_pieces_is [] size 0 (piece ∷ parts) refl (omega arith))
     ∙ ap (λ (image : List (Option ℕ)). with_pieces image 0 (piece ∷ parts)) none in
-    ap (λ (b : Bool). cond b one (image_of size (all_ok (map (judged size) (enumerate_from 0 (piece ∷ parts)))))) more ∙ whole
+    ap (λ (b : Bool). cond b one (image_of_bytes size (all_ok (map (fitting_value size) (enumerate_from 0 (piece ∷ parts)))))) more ∙ whole
 
 pub values_are : (text : List ℕ) (size : ℕ) → 0 < length (pieces text) → values text size ≡ with_pieces (empty size) 0 (pieces text)
 values_are text size some = values_of_some size (pieces text) _ some

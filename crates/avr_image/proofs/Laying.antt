@@ -4,9 +4,9 @@ use Rattle.std.proofs.lemmas.Bool.{cases_lt, true≢false}
 use Rattle.std.proofs.lemmas.List.{get_or-set_same, get_or-set_other, length-set, length-drop, length-take, length-append, length-replicate, get_or_append_left, get_or-append_right, get_or-take, get_or-drop, length-map, map-append, set_at, append-nil}
 use Rattle.std.proofs.lemmas.Bool.Decides.{nat_tests}
 use Rattle.std.specs.List.{enumerate_from}
-use Rattle.avr_image.specs.Image.{byte_at, either, over, empty, laid, laid_over, from_zero, fits}
+use Rattle.avr_image.specs.Image.{byte_at, either, over, empty, image_of_pairs, laid_over, from_zero, fits}
 use Rattle.avr_image.specs.Present.{is_present, is_within}
-use Rattle.avr_image.specs.Dense.{shown, pasted, IsKept}
+use Rattle.avr_image.specs.Dense.{dense_image, with_span, IsKept}
 use Rattle.avr_image.proofs.Masks.{within_yes, within_low, within_high}
 use Rattle.avr_image.proofs.Shown.{same_items, byte_at-shown, length_shown, small-pasted}
 
@@ -36,15 +36,15 @@ laid_over_over a b ((i, n) ∷ ys) l =
     ap (λ (image : List (Option ℕ)). laid_over image ys) (over-set a b i n l)
     ∙ laid_over_over a (set b i (Some n)) ys (omega (arith, l, length-set b i (Some n)))
 
-pub laid_over_laid : (image : List (Option ℕ)) (ys : List (ℕ × ℕ)) → laid_over image ys ≡ over image (laid (length image) ys)
+pub laid_over_laid : (image : List (Option ℕ)) (ys : List (ℕ × ℕ)) → laid_over image ys ≡ over image (image_of_pairs (length image) ys)
 laid_over_laid image ys =
     ap (λ (before : List (Option ℕ)). laid_over before ys) (sym (over-empty image))
     ∙ laid_over_over image (empty (length image)) ys (omega (arith, length-replicate {A = Option ℕ} (length image) None))
 
-pub laid_append : (size : ℕ) (xs ys : List (ℕ × ℕ)) → laid size (xs ++ ys) ≡ over (laid size xs) (laid size ys)
+pub laid_append : (size : ℕ) (xs ys : List (ℕ × ℕ)) → image_of_pairs size (xs ++ ys) ≡ over (image_of_pairs size xs) (image_of_pairs size ys)
 laid_append size xs ys =
-    let size_is : length (laid size xs) ≡ size = length-laid_over (empty size) xs ∙ length-replicate {A = Option ℕ} size None in
-    laid_over-append (empty size) xs ys ∙ laid_over_laid (laid size xs) ys ∙ ap (λ (n : ℕ). over (laid size xs) (laid n ys)) size_is
+    let size_is : length (image_of_pairs size xs) ≡ size = length-laid_over (empty size) xs ∙ length-replicate {A = Option ℕ} size None in
+    laid_over-append (empty size) xs ys ∙ laid_over_laid (image_of_pairs size xs) ys ∙ ap (λ (n : ℕ). over (image_of_pairs size xs) (image_of_pairs n ys)) size_is
 
 pub over_over : (a b c : List (Option ℕ)) → length b ≡ length c → over (over a b) c ≡ over a (over b c)
 over_over [] b c l = refl
@@ -84,7 +84,7 @@ span_in image addr (b ∷ span) (suc j) l room =
 
 -- ---- bytes with a span pasted
 
-pub length-pasted : (start : ℕ) (span bytes : List ℕ) → start + length span ≤ length bytes → length (pasted start span bytes) ≡ length bytes
+pub length-pasted : (start : ℕ) (span bytes : List ℕ) → start + length span ≤ length bytes → length (with_span start span bytes) ≡ length bytes
 length-pasted start span bytes room =
     let front = length-take start bytes in
     let back = length-drop (start + length span) bytes in
@@ -92,22 +92,22 @@ length-pasted start span bytes room =
     ∙ ap (λ (n : ℕ). length (take start bytes) + n) (length-append span (drop (start + length span) bytes))
     ∙ omega (arith, front, back, room)
 
-pasted_low : (start : ℕ) (span bytes : List ℕ) (i : ℕ) → start + length span ≤ length bytes → i < start → get_or (pasted start span bytes) i 0 ≡ get_or bytes i 0
+pasted_low : (start : ℕ) (span bytes : List ℕ) (i : ℕ) → start + length span ≤ length bytes → i < start → get_or (with_span start span bytes) i 0 ≡ get_or bytes i 0
 pasted_low start span bytes i room l =
     get_or_append_left (take start bytes) _ 0 i (omega (arith, length-take start bytes, room, l)) ∙ get_or-take start bytes i 0 l
 
 pasted_rest : (start : ℕ) (span bytes : List ℕ) (i : ℕ) → start + length span ≤ length bytes → start ≤ i
-    → get_or (pasted start span bytes) i 0 ≡ get_or (span ++ drop (start + length span) bytes) (i - start) 0
+    → get_or (with_span start span bytes) i 0 ≡ get_or (span ++ drop (start + length span) bytes) (i - start) 0
 pasted_rest start span bytes i room l =
     get_or-append_right (take start bytes) (span ++ drop (start + length span) bytes) start i 0 (omega (arith, length-take start bytes, room)) l
 
 pasted_in : (start : ℕ) (span bytes : List ℕ) (i : ℕ) → start + length span ≤ length bytes → start ≤ i → i < start + length span
-    → get_or (pasted start span bytes) i 0 ≡ get_or span (i - start) 0
+    → get_or (with_span start span bytes) i 0 ≡ get_or span (i - start) 0
 pasted_in start span bytes i room a b =
     pasted_rest start span bytes i room a ∙ get_or_append_left span (drop (start + length span) bytes) 0 (i - start) (omega (arith, a, b))
 
 pasted_high : (start : ℕ) (span bytes : List ℕ) (i : ℕ) → start + length span ≤ length bytes → start + length span ≤ i
-    → get_or (pasted start span bytes) i 0 ≡ get_or bytes i 0
+    → get_or (with_span start span bytes) i 0 ≡ get_or bytes i 0
 pasted_high start span bytes i room l =
     let back : start + length span + (i - start - length span) ≡ i = omega (arith, l) in
     pasted_rest start span bytes i room (omega (arith, l))
@@ -117,36 +117,36 @@ pasted_high start span bytes i room l =
 -- the bits of a span are those of its bytes
 pub shown-pasted : (words words' bytes span : List ℕ) (addr : ℕ) → addr + length span ≤ length bytes
     → ((k : ℕ) → is_present words' k ≡ (is_within addr (addr + length span) k || is_present words k))
-    → shown words' (pasted addr span bytes) ≡ laid_over (shown words bytes) (enumerate_from addr span)
+    → dense_image words' (with_span addr span bytes) ≡ laid_over (dense_image words bytes) (enumerate_from addr span)
 shown-pasted words words' bytes span addr room bits =
     let size = length_shown words bytes in
-    let left = length_shown words' (pasted addr span bytes) ∙ length-pasted addr span bytes room in
-    let right = length-laid_over (shown words bytes) (enumerate_from addr span) ∙ size in
+    let left = length_shown words' (with_span addr span bytes) ∙ length-pasted addr span bytes room in
+    let right = length-laid_over (dense_image words bytes) (enumerate_from addr span) ∙ size in
     same_items _ _ (left ∙ sym right) (λ i j.
     let inside : i < length bytes = omega (arith, j, right) in
-    let see = byte_at-shown words' (pasted addr span bytes) i (omega (arith, inside, length-pasted addr span bytes room)) in
+    let see = byte_at-shown words' (with_span addr span bytes) i (omega (arith, inside, length-pasted addr span bytes room)) in
     elim (cases_lt i addr) [
       | inl low ↦
           let bit : is_present words' i ≡ is_present words i = bits i ∙ rw (within_low addr (addr + length span) i low) refl in
           see ∙ ap₂ (λ (b : Bool) (n : ℕ). cond b (Some n) None) bit (pasted_low addr span bytes i room low)
-          ∙ sym (byte_at-shown words bytes i inside) ∙ sym (span_low (shown words bytes) addr span i low)
+          ∙ sym (byte_at-shown words bytes i inside) ∙ sym (span_low (dense_image words bytes) addr span i low)
       | inr from ↦ elim (cases_lt i (addr + length span)) [
         | inl within ↦
             let bit : is_present words' i ≡ true = bits i ∙ rw (within_yes addr (addr + length span) i from within) refl in
             let there : addr + (i - addr) ≡ i = omega (arith, from) in
             see ∙ ap₂ (λ (b : Bool) (n : ℕ). cond b (Some n) None) bit (pasted_in addr span bytes i room from within)
-            ∙ sym (span_in (shown words bytes) addr span (i - addr) (omega (arith, from, within)) (omega (arith, room, size)))
-            ∙ ap (λ (n : ℕ). byte_at (laid_over (shown words bytes) (enumerate_from addr span)) n) there
+            ∙ sym (span_in (dense_image words bytes) addr span (i - addr) (omega (arith, from, within)) (omega (arith, room, size)))
+            ∙ ap (λ (n : ℕ). byte_at (laid_over (dense_image words bytes) (enumerate_from addr span)) n) there
         | inr past ↦
             let bit : is_present words' i ≡ is_present words i = bits i ∙ rw (within_high addr (addr + length span) i past) refl in
             see ∙ ap₂ (λ (b : Bool) (n : ℕ). cond b (Some n) None) bit (pasted_high addr span bytes i room past)
-            ∙ sym (byte_at-shown words bytes i inside) ∙ sym (span_high (shown words bytes) addr span i past)
+            ∙ sym (byte_at-shown words bytes i inside) ∙ sym (span_high (dense_image words bytes) addr span i past)
       ]
     ])
 
 pub kept-pasted : (words words' bytes span : List ℕ) (addr : ℕ) → addr + length span ≤ length bytes
     → ((k : ℕ) → is_present words' k ≡ (is_within addr (addr + length span) k || is_present words k)) → length words' ≡ length words
-    → ((i : ℕ) → get_or span i 0 < 256) → IsKept words bytes → IsKept words' (pasted addr span bytes)
+    → ((i : ℕ) → get_or span i 0 < 256) → IsKept words bytes → IsKept words' (with_span addr span bytes)
 kept-pasted words words' bytes span addr room bits same small kept = record {
   enough = omega (arith, length-pasted addr span bytes room, same, kept.enough);
   below = omega (arith, length-pasted addr span bytes room, kept.below);

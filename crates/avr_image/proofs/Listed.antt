@@ -6,7 +6,7 @@ use Rattle.std.proofs.lemmas.Bool.{cases_eq}
 use Rattle.std.proofs.lemmas.Bool.Decides.{nat_tests}
 use Rattle.avr_image.specs.Lists.{number_text, list_line}
 use Rattle.avr_image.specs.Image.{from_zero}
-use Rattle.avr_image.specs.Values.{is_separator, fitting, judged, value_of, all_ok, pieces, values}
+use Rattle.avr_image.specs.Values.{is_separator, fitting, fitting_value, value_of, all_ok, pieces, values}
 use Rattle.avr_image.specs.declared.base.Base.{Base}
 use Rattle.avr_image.specs.declared.base.Base.TheVariants.{Dec, Hex, Oct, Bin}
 use Rattle.avr_image.specs.declared.fault.ImageFault.TheVariants.{BadNumber}
@@ -125,10 +125,10 @@ fitting-good size addr n low l =
     rw (small, inside) refl
 
 all-good : (base : Base) (size addr : ℕ) (bytes : List ℕ) → AreBytes bytes → addr + length bytes ≤ size
-    → all_ok (map (judged size) (enumerate_from addr (map (number_text base) bytes))) ≡ Ok bytes
+    → all_ok (map (fitting_value size) (enumerate_from addr (map (number_text base) bytes))) ≡ Ok bytes
 all-good base size addr [] all room = refl
 all-good base size addr (b ∷ bytes) all room =
-    let first : judged size (addr, number_text base b) ≡ Ok b =
+    let first : fitting_value size (addr, number_text base b) ≡ Ok b =
     ap (fitting size addr) (read_back base b all.0) ∙ fitting-good size addr b (omega (arith, room)) all.0 in
     let rest = all-good base size (addr + 1) bytes all.1 (omega (arith, room)) in
     rw (first, rest) refl

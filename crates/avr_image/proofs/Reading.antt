@@ -3,7 +3,7 @@ use Rattle.std.proofs.Common.{◌≡◌, ◌∙◌, sym, ap, refl, arith, ℕ, �
 use Rattle.std.proofs.lemmas.List.{length-append}
 use Rattle.std.specs.List.{enumerate_from}
 use Rattle.avr_image.specs.Image.{from_zero, laid_over, fits}
-use Rattle.avr_image.specs.Raw.{Stands}
+use Rattle.avr_image.specs.Raw.{HoldsText}
 use Rattle.avr_image.specs.declared.fault.ImageFault.{ImageFault}
 use Rattle.avr_image.proofs.Laying.{from_zero-laid, fits_within, length-laid_over}
 
@@ -12,10 +12,10 @@ ok_chosen true n end fault e = (refl, cc)
 ok_chosen false n end fault e = cc
 
 pub stands-fed : (image after : List (Option ℕ)) (fed end : ℕ) (failed : Bool) (text piece : List ℕ) (fault : ImageFault)
-    → Stands (record { image = image; fed = fed; failed = failed }) text
+    → HoldsText (record { image = image; fed = fed; failed = failed }) text
     → ◌≡◌ {A = Result ℕ ImageFault} (Ok end) (cond (fits fed piece (length image)) (Ok (fed + length piece)) (Err fault))
     → after ≡ laid_over image (enumerate_from fed piece)
-    → Stands (record { image = after; fed = end; failed = failed }) (text ++ piece)
+    → HoldsText (record { image = after; fed = end; failed = failed }) (text ++ piece)
 stands-fed image after fed end failed text piece fault stands judged laid =
     let good = ok_chosen (fits fed piece (length image)) (fed + length piece) end fault judged in
     let room = fits_within fed piece (length image) good.0 (omega (arith, stands.counted, stands.within)) in

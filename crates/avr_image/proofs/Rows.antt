@@ -2,7 +2,7 @@
 use Rattle.std.proofs.Common.{◌≡◌, [], ◌∷◌, ◌++◌, refl, arith}
 use Rattle.std.specs.Prelude.{codes, Some, None, Ok, Err}
 use Rattle.std.specs.Fmt.{digits}
-use Rattle.avr_image.specs.Image.{laid, over, held, first_from, run_end, filled}
+use Rattle.avr_image.specs.Image.{image_of_pairs, over, byte_count, first_from, run_end, filled_bytes}
 use Rattle.avr_image.specs.Raw.{raw}
 use Rattle.avr_image.specs.Walk.{IsLongestRun}
 use Rattle.avr_image.specs.Values.{values}
@@ -56,10 +56,10 @@ raw_past = refl
 pub raw_within : raw (1 ∷ []) 2 ≡ Ok (Some 1 ∷ None ∷ [])
 raw_within = refl
 
-pub laid_twice : laid 3 ((1, 7) ∷ (2, 8) ∷ (1, 9) ∷ []) ≡ None ∷ Some 9 ∷ Some 8 ∷ []
+pub laid_twice : image_of_pairs 3 ((1, 7) ∷ (2, 8) ∷ (1, 9) ∷ []) ≡ None ∷ Some 9 ∷ Some 8 ∷ []
 laid_twice = refl
 
-pub laid_over : over (laid 3 ((1, 7) ∷ (2, 8) ∷ [])) (laid 3 ((1, 9) ∷ [])) ≡ None ∷ Some 9 ∷ Some 8 ∷ []
+pub laid_over : over (image_of_pairs 3 ((1, 7) ∷ (2, 8) ∷ [])) (image_of_pairs 3 ((1, 9) ∷ [])) ≡ None ∷ Some 9 ∷ Some 8 ∷ []
 laid_over = refl
 
 pub first : first_from (None ∷ Some 9 ∷ None ∷ Some 8 ∷ []) 2 ≡ Some 3
@@ -77,10 +77,10 @@ run_cut = refl
 pub no_run : run_end (None ∷ Some 9 ∷ Some 8 ∷ None ∷ []) 0 4 ≡ 0
 no_run = refl
 
-pub gaps : filled (None ∷ Some 9 ∷ Some 8 ∷ []) 0 5 ≡ 255 ∷ 9 ∷ 8 ∷ 255 ∷ 255 ∷ []
+pub gaps : filled_bytes (None ∷ Some 9 ∷ Some 8 ∷ []) 0 5 ≡ 255 ∷ 9 ∷ 8 ∷ 255 ∷ 255 ∷ []
 gaps = refl
 
-pub counted : held (None ∷ Some 9 ∷ Some 8 ∷ []) ≡ 2
+pub counted : byte_count (None ∷ Some 9 ∷ Some 8 ∷ []) ≡ 2
 counted = refl
 
 -- ---- what is refused

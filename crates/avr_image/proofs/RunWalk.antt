@@ -5,10 +5,10 @@ use Rattle.std.proofs.lemmas.List.Recursion.{is_count_by}
 use Rattle.std.proofs.lemmas.Bool.{cases_eq, cases_lt, true≢false}
 use Rattle.std.proofs.lemmas.Bool.Decides.{nat_tests}
 use Rattle.std.proofs.lemmas.List.{append_assoc, drop-drop, get_or-drop, length-drop, length-append, set_at, take_all}
-use Rattle.avr_image.specs.Image.{empty, byte_at, with_byte, first_from, run_end, filled, or_blank, laid, laid_over, over, held}
+use Rattle.avr_image.specs.Image.{empty, byte_at, with_byte, first_from, run_end, filled_bytes, or_blank, image_of_pairs, laid_over, over, byte_count}
 use Rattle.avr_image.specs.Runs.{onto_runs, runs, lead, places_of}
 use Rattle.avr_image.proofs.Laying.{laid_over_laid, laid_over-append}
-use Rattle.avr_image.specs.Walk.{IsLongestRun, IsRun}
+use Rattle.avr_image.specs.Walk.{IsLongestRun, IsByteRun}
 use Rattle.avr_image.proofs.Shown.{byte_at-past}
 use Rattle.avr_image.proofs.Walking.{next_held, run_ends, is_filled}
 
@@ -109,14 +109,14 @@ walk-next addr place (Some b ∷ image) is =
 drop-next : (image xs : List (Option ℕ)) (place : ℕ) (x : Option ℕ) → drop place image ≡ x ∷ xs → drop (place + 1) image ≡ xs
 drop-next image xs place x is = sym (drop-drop 1 place image) ∙ ap (drop 1) is
 
-pub filled-lead : (image xs : List (Option ℕ)) (n place : ℕ) → drop place image ≡ xs → n ≤ length (lead xs) → filled image place n ≡ take n (lead xs)
+pub filled-lead : (image xs : List (Option ℕ)) (n place : ℕ) → drop place image ≡ xs → n ≤ length (lead xs) → filled_bytes image place n ≡ take n (lead xs)
 filled-lead image xs zero place is l = refl
 filled-lead image [] (suc n) place is l = absurd (omega (arith, l))
 filled-lead image (None ∷ xs) (suc n) place is l = absurd (omega (arith, l))
 filled-lead image (Some b ∷ xs) (suc n) place is l =
     let here : byte_at image place ≡ Some b =
     ap (byte_at image) (sym (add-zero place)) ∙ sym (get_or-drop place image 0 None) ∙ ap (λ (zs : List (Option ℕ)). byte_at zs 0) is in
-    ap (λ (byte : Option ℕ). or_blank byte ∷ filled image (place + 1) n) here
+    ap (λ (byte : Option ℕ). or_blank byte ∷ filled_bytes image (place + 1) n) here
     ∙ ap (λ (more : List ℕ). b ∷ more) (filled-lead image xs n (place + 1) (drop-next image xs place (Some b) is) (omega (arith, l)))
 
 pub prefix-lead : (k : ℕ) (image : List (Option ℕ)) → prefix_len is_some (take k image) ≡ min k (length (lead image))
@@ -158,7 +158,7 @@ laid-held front (Some b ∷ image) addr at =
     ∙ append_assoc front (Some b ∷ []) image
 
 -- an image is that of its bytes
-pub laid-image : (image : List (Option ℕ)) → laid (length image) (held_places 0 image) ≡ image
+pub laid-image : (image : List (Option ℕ)) → image_of_pairs (length image) (held_places 0 image) ≡ image
 laid-image image = laid-held [] image 0 refl
 
 -- ---- its runs hold them
@@ -178,8 +178,8 @@ runs-hold addr (None ∷ image) = runs-hold (addr + 1) image
 runs-hold addr (Some b ∷ image) =
     onto-holds addr b (runs (addr + 1) image) ∙ ap (λ (places : List (ℕ × ℕ)). (addr, b) ∷ places) (runs-hold (addr + 1) image)
 
-pub runs_image : (image : List (Option ℕ)) → laid (length image) (flat_map places_of (runs 0 image)) ≡ image
-runs_image image = ap (laid (length image)) (runs-hold 0 image) ∙ laid-image image
+pub runs_image : (image : List (Option ℕ)) → image_of_pairs (length image) (flat_map places_of (runs 0 image)) ≡ image
+runs_image image = ap (image_of_pairs (length image)) (runs-hold 0 image) ∙ laid-image image
 
 -- ---- a walk from run to run
 
@@ -196,17 +196,17 @@ runs-first addr (Some b ∷ image) some =
     let next : addr + 1 + length (lead image) ≡ addr + suc (length (lead image)) = omega arith in
     runs-lead addr b image ∙ ap (λ (n : ℕ). (addr, b ∷ lead image) ∷ runs n (after image)) next
 
-pub length-filled : (image : List (Option ℕ)) (start n : ℕ) → length (filled image start n) ≡ n
+pub length-filled : (image : List (Option ℕ)) (start n : ℕ) → length (filled_bytes image start n) ≡ n
 length-filled image start zero = refl
 length-filled image start (suc n) = ap suc (length-filled image (start + 1) n)
 
-drop-filled : (image : List (Option ℕ)) (i start n : ℕ) → drop i (filled image start n) ≡ filled image (start + i) (n - i)
-drop-filled image zero start n = ap₂ (λ (s k : ℕ). filled image s k) (sym (add-zero start)) (omega arith)
+drop-filled : (image : List (Option ℕ)) (i start n : ℕ) → drop i (filled_bytes image start n) ≡ filled_bytes image (start + i) (n - i)
+drop-filled image zero start n = ap₂ (λ (s k : ℕ). filled_bytes image s k) (sym (add-zero start)) (omega arith)
 drop-filled image (suc i) start zero = let none : zero - suc i ≡ zero = omega arith in rw none refl
 drop-filled image (suc i) start (suc n) =
-    drop-filled image i (start + 1) n ∙ ap₂ (λ (s k : ℕ). filled image s k) (omega arith) (omega arith)
+    drop-filled image i (start + 1) n ∙ ap₂ (λ (s k : ℕ). filled_bytes image s k) (omega arith) (omega arith)
 
-take-filled : (image : List (Option ℕ)) (k start n : ℕ) → k ≤ n → take k (filled image start n) ≡ filled image start k
+take-filled : (image : List (Option ℕ)) (k start n : ℕ) → k ≤ n → take k (filled_bytes image start n) ≡ filled_bytes image start k
 take-filled image zero start n l = refl
 take-filled image (suc k) start zero l = absurd (omega (arith, l))
 take-filled image (suc k) start (suc n) l =
@@ -214,15 +214,15 @@ take-filled image (suc k) start (suc n) l =
 
 -- a part of the bytes of all addresses
 pub range-filled : (image : List (Option ℕ)) (place end : ℕ) → place ≤ end → end ≤ length image
-    → slice_range (filled image 0 (length image)) place end ≡ filled image place (end - place)
+    → slice_range (filled_bytes image 0 (length image)) place end ≡ filled_bytes image place (end - place)
 range-filled image place end rises within =
     ap (take (end - place)) (drop-filled image place 0 (length image))
-    ∙ ap (λ (s : ℕ). take (end - place) (filled image s (length image - place))) (omega arith)
+    ∙ ap (λ (s : ℕ). take (end - place) (filled_bytes image s (length image - place))) (omega arith)
     ∙ take-filled image (end - place) place (length image - place) (omega (arith, within))
 
 -- the run that is found is the first of those left
 pub record Stepped (addr place end : ℕ) (image : List (Option ℕ)) : Type 0 where
-  pub is : runs addr (drop addr image) ≡ (place, slice_range (filled image 0 (length image)) place end) ∷ runs end (drop end image)
+  pub is : runs addr (drop addr image) ≡ (place, slice_range (filled_bytes image 0 (length image)) place end) ∷ runs end (drop end image)
   pub rises : place < end
   pub within : end ≤ length image
 
@@ -240,7 +240,7 @@ next_run addr place end image found is =
     let ends : place + run ≡ end = omega (arith, far, short, left) in
     let rises : place < end = omega (arith, ends, some) in
     let within : end ≤ length image = omega (arith, ends, short, left, some) in
-    let bytes_are : lead (drop place image) ≡ slice_range (filled image 0 (length image)) place end =
+    let bytes_are : lead (drop place image) ≡ slice_range (filled_bytes image 0 (length image)) place end =
     sym (range-filled image place end (omega (arith, rises)) within
     ∙ filled-lead image (drop place image) (end - place) place refl (omega (arith, ends))
     ∙ take_all (end - place) (lead (drop place image)) (omega (arith, ends))) in
@@ -250,7 +250,7 @@ next_run addr place end image found is =
       is =
           next.same ∙ ap (runs place) there ∙ runs-first place (drop place image) some
           ∙ ap (λ (bytes : List ℕ). (place, bytes) ∷ runs (place + run) (after (drop place image))) bytes_are
-          ∙ ap₂ (λ (n : ℕ) (image' : List (Option ℕ)). (place, slice_range (filled image 0 (length image)) place end) ∷ runs n image') ends behind;
+          ∙ ap₂ (λ (n : ℕ) (image' : List (Option ℕ)). (place, slice_range (filled_bytes image 0 (length image)) place end) ∷ runs n image') ends behind;
       rises = rises;
       within = within;
     }
@@ -284,7 +284,7 @@ pub runs-over : (image other : List (Option ℕ)) → length other ≡ length im
 runs-over image other same =
     ap (laid_over image) (runs-hold 0 other)
     ∙ laid_over_laid image (held_places 0 other)
-    ∙ ap (λ (n : ℕ). over image (laid n (held_places 0 other))) (sym same)
+    ∙ ap (λ (n : ℕ). over image (image_of_pairs n (held_places 0 other))) (sym same)
     ∙ ap (over image) (laid-image other)
 
 pub run-laid : (image : List (Option ℕ)) (addr : ℕ) (bytes : List ℕ) (more : List (ℕ × List ℕ))
@@ -293,7 +293,7 @@ run-laid image addr bytes more = laid_over-append image (enumerate_from addr byt
 
 -- ---- no byte at all
 
-pub none-held : (addr : ℕ) (image : List (Option ℕ)) → position_from is_some addr image ≡ None → held image ≡ 0
+pub none-held : (addr : ℕ) (image : List (Option ℕ)) → position_from is_some addr image ≡ None → byte_count image ≡ 0
 none-held addr [] none = refl
 none-held addr (None ∷ image) none = none-held (addr + 1) image none
 none-held addr (Some b ∷ image) none = absurd (cc none)
@@ -303,21 +303,21 @@ count-least n [] = omega arith
 count-least n (None ∷ image) = let more = count-least (n + 0) image in omega (arith, more)
 count-least n (Some b ∷ image) = let more = count-least (n + 1) image in omega (arith, more)
 
-pub some-held : (addr place : ℕ) (image : List (Option ℕ)) → position_from is_some addr image ≡ Some place → 0 < held image
+pub some-held : (addr place : ℕ) (image : List (Option ℕ)) → position_from is_some addr image ≡ Some place → 0 < byte_count image
 some-held addr place [] some = absurd (cc some)
 some-held addr place (None ∷ image) some = some-held (addr + 1) place image some
 some-held addr place (Some b ∷ image) some = count-least 1 image
 
-pub empty-held : (image : List (Option ℕ)) (found : Option ℕ) (none : Bool) → found ≡ first_from image 0 → is_some found ≡ not none → none ≡ (held image == 0)
+pub empty-held : (image : List (Option ℕ)) (found : Option ℕ) (none : Bool) → found ≡ first_from image 0 → is_some found ≡ not none → none ≡ (byte_count image == 0)
 empty-held image None true is told =
-    let none : held image ≡ 0 = none-held 0 image (sym is) in
-    let test : (held image == 0) ≡ true = grind (arith, nat_tests, none) in
+    let none : byte_count image ≡ 0 = none-held 0 image (sym is) in
+    let test : (byte_count image == 0) ≡ true = grind (arith, nat_tests, none) in
     sym test
 empty-held image None false is told = absurd (cc told)
 empty-held image (Some place) true is told = absurd (cc told)
 empty-held image (Some place) false is told =
-    let some : 0 < held image = some-held 0 place image (sym is) in
-    let test : (held image == 0) ≡ false = grind (arith, nat_tests, some) in
+    let some : 0 < byte_count image = some-held 0 place image (sym is) in
+    let test : (byte_count image == 0) ≡ false = grind (arith, nat_tests, some) in
     sym test
 
 -- ---- the runs are the longest
@@ -327,14 +327,14 @@ gives_byte None some = absurd (cc some)
 gives_byte (Some b) some = refl
 
 longest_run : (addr place end : ℕ) (image : List (Option ℕ)) → (addr ≡ 0) ⊎ (byte_at image addr ≡ None) → first_from image addr ≡ Some place
-    → end ≡ run_end image place (length image) → IsLongestRun image (place, slice_range (filled image 0 (length image)) place end)
+    → end ≡ run_end image place (length image) → IsLongestRun image (place, slice_range (filled_bytes image 0 (length image)) place end)
 longest_run addr place end image gap found is =
     let next = next_held image addr place found in
     let stepped = next_run addr place end image found is in
-    let run : IsRun image place (length image) end = rw is (run_ends image place (length image) (omega (arith, next.within))) in
+    let run : IsByteRun image place (length image) end = rw is (run_ends image place (length image) (omega (arith, next.within))) in
     let cut = range-filled image place end (omega (arith, stepped.rises)) stepped.within in
     let bytes = is_filled image place (end - place) in
-    let size : length (slice_range (filled image 0 (length image)) place end) ≡ end - place = ap length cut ∙ bytes.size in
+    let size : length (slice_range (filled_bytes image 0 (length image)) place end) ≡ end - place = ap length cut ∙ bytes.size in
     record {
       some = omega (arith, size, stepped.rises);
       bytes = λ i l.
@@ -352,18 +352,18 @@ longest_run addr place end image gap found is =
         | inr from ↦ next.gap k from (omega (arith, at))
       ];
       behind =
-          let there : place + length (slice_range (filled image 0 (length image)) place end) ≡ end = omega (arith, size, stepped.rises) in
+          let there : place + length (slice_range (filled_bytes image 0 (length image)) place end) ≡ end = omega (arith, size, stepped.rises) in
           rw there (elim (cases_lt end (length image)) [
             | inl inside ↦ run.stop inside
             | inr past ↦ byte_at-past image end past
           ]);
     }
 
-none-behind : (addr place end : ℕ) (image : List (Option ℕ)) → IsLongestRun image (place, slice_range (filled image 0 (length image)) place end)
+none-behind : (addr place end : ℕ) (image : List (Option ℕ)) → IsLongestRun image (place, slice_range (filled_bytes image 0 (length image)) place end)
     → place < end → end ≤ length image → byte_at image end ≡ None
 none-behind addr place end image longest rises within =
     let cut = range-filled image place end (omega (arith, rises)) within in
-    let there : place + length (slice_range (filled image 0 (length image)) place end) ≡ end = omega (arith, ap length cut, length-filled image place (end - place), rises) in
+    let there : place + length (slice_range (filled_bytes image 0 (length image)) place end) ≡ end = omega (arith, ap length cut, length-filled image place (end - place), rises) in
     rw there at longest.behind
 
 all-cons : {X : Type 0} (P : X → Type 0) (x : X) (xs : List X) → P x → All P xs → All P (x ∷ xs)
@@ -380,7 +380,7 @@ longest-from (suc n) addr image room gap (Some place) found =
     let end : ℕ = run_end image place (length image) in
     let stepped = next_run addr place end image found refl in
     let next = next_held image addr place found in
-    let run : List ℕ = slice_range (filled image 0 (length image)) place end in
+    let run : List ℕ = slice_range (filled_bytes image 0 (length image)) place end in
     let longest = longest_run addr place end image gap found refl in
     let none = none-behind addr place end image longest stepped.rises stepped.within in
     rw stepped.is
@@ -402,7 +402,7 @@ first_counted : (byte : Option ℕ) (image : List (Option ℕ)) → held_in (byt
 first_counted None image = refl
 first_counted (Some b) image = omega arith
 
-held_is_counted : (image : List (Option ℕ)) → held_in image ≡ held image
+held_is_counted : (image : List (Option ℕ)) → held_in image ≡ byte_count image
 held_is_counted = is_count_by held_in is_some refl first_counted
 
 abbrev pub held_by : List (ℕ × List ℕ) → ℕ
@@ -421,5 +421,5 @@ held_by-each addr [] = refl
 held_by-each addr (None ∷ image) = held_by-each (addr + 1) image
 held_by-each addr (Some b ∷ image) = held_by-onto addr b (runs (addr + 1) image) ∙ ap suc (held_by-each (addr + 1) image)
 
-pub held_by-runs : (addr : ℕ) (image : List (Option ℕ)) → held_by (runs addr image) ≡ held image
+pub held_by-runs : (addr : ℕ) (image : List (Option ℕ)) → held_by (runs addr image) ≡ byte_count image
 held_by-runs addr image = held_by-each addr image ∙ held_is_counted image

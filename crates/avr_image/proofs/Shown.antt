@@ -6,15 +6,15 @@ use Rattle.std.proofs.lemmas.List.{get_or-set_same, get_or-set_other, length-set
 use Rattle.std.proofs.lemmas.Nat.Bits.{bit_at_set_same, bit_at_set_other, bit_at-zero}
 use Rattle.std.proofs.lemmas.List.Sums.{prefix_len_is}
 use Rattle.std.specs.List.{position_from, prefix_len}
-use Rattle.avr_image.specs.Image.{byte_at, or_blank, filled, first_from, run_end, HoldsBytes}
-use Rattle.avr_image.specs.Present.{is_present, marked, FirstPlace}
-use Rattle.avr_image.specs.Dense.{shown_byte, shown_from, shown, pasted}
+use Rattle.avr_image.specs.Image.{byte_at, or_blank, filled_bytes, first_from, run_end, HoldsBytes}
+use Rattle.avr_image.specs.Present.{is_present, with_mark, FirstPlace}
+use Rattle.avr_image.specs.Dense.{shown_byte, shown_from, dense_image, with_span}
 
 pub length-shown_from : (k : ℕ) (words bytes : List ℕ) → length (shown_from k words bytes) ≡ length bytes
 length-shown_from k words [] = refl
 length-shown_from k words (b ∷ bs) = ap suc (length-shown_from (suc k) words bs)
 
-pub length_shown : (words bytes : List ℕ) → length (shown words bytes) ≡ length bytes
+pub length_shown : (words bytes : List ℕ) → length (dense_image words bytes) ≡ length bytes
 length_shown = length-shown_from 0
 
 pub get_or-shown_from : (k : ℕ) (words bytes : List ℕ) (i : ℕ) → i < length bytes
@@ -24,7 +24,7 @@ get_or-shown_from k words (b ∷ bs) zero l = ap (λ (n : ℕ). shown_byte words
 get_or-shown_from k words (b ∷ bs) (suc i) l =
     get_or-shown_from (suc k) words bs i (omega (arith, l)) ∙ ap (λ (n : ℕ). shown_byte words n (get_or bs i 0)) (omega arith)
 
-pub byte_at-shown : (words bytes : List ℕ) (i : ℕ) → i < length bytes → byte_at (shown words bytes) i ≡ shown_byte words i (get_or bytes i 0)
+pub byte_at-shown : (words bytes : List ℕ) (i : ℕ) → i < length bytes → byte_at (dense_image words bytes) i ≡ shown_byte words i (get_or bytes i 0)
 byte_at-shown words bytes i l = get_or-shown_from 0 words bytes i l ∙ ap (λ (n : ℕ). shown_byte words n (get_or bytes i 0)) (omega arith)
 
 pub byte_at-past : (image : List (Option ℕ)) (i : ℕ) → length image ≤ i → byte_at image i ≡ None
@@ -41,13 +41,13 @@ same_items (x ∷ xs) (y ∷ ys) len each =
     ap₂ (λ (z : Option ℕ) (zs : List (Option ℕ)). z ∷ zs) (each 0 (omega arith)) (same_items xs ys (omega (arith, len)) (λ i l. each (suc i) (omega (arith, l))))
 
 pub filled_is : (image : List (Option ℕ)) (start n : ℕ) (ys : List ℕ) → length ys ≡ n
-    → ((i : ℕ) → i < n → get_or ys i 0 ≡ or_blank (byte_at image (start + i))) → ys ≡ filled image start n
+    → ((i : ℕ) → i < n → get_or ys i 0 ≡ or_blank (byte_at image (start + i))) → ys ≡ filled_bytes image start n
 filled_is image start zero [] len each = refl
 filled_is image start zero (y ∷ ys) len each = absurd (omega (arith, len))
 filled_is image start (suc n) [] len each = absurd (omega (arith, len))
 filled_is image start (suc n) (y ∷ ys) len each =
     let first : y ≡ or_blank (byte_at image start) = each 0 (omega arith) ∙ ap (λ (k : ℕ). or_blank (byte_at image k)) (omega arith) in
-    let rest : ys ≡ filled image (start + 1) n = filled_is image (start + 1) n ys (omega (arith, len))
+    let rest : ys ≡ filled_bytes image (start + 1) n = filled_is image (start + 1) n ys (omega (arith, len))
     (λ i l. each (suc i) (omega (arith, l)) ∙ ap (λ (k : ℕ). or_blank (byte_at image k)) (omega arith)) in
     ap₂ (λ (z : ℕ) (zs : List ℕ). z ∷ zs) first rest
 
@@ -66,12 +66,12 @@ pub count-none : (n : ℕ) → count_by is_some (replicate {A = Option ℕ} n No
 count-none zero = refl
 count-none (suc n) = count-none n
 
-pub present-same : (words : List ℕ) (a : ℕ) → a / 64 < length words → is_present (marked words a) a ≡ true
+pub present-same : (words : List ℕ) (a : ℕ) → a / 64 < length words → is_present (with_mark words a) a ≡ true
 present-same words a within =
     let here = get_or-set_same words (a / 64) (bit_or (get_or words (a / 64) 0) (1 * 2 ^ (a % 64) % 2 ^ 64)) 0 within in
     rw here (rw (bit_at_set_same w64 (get_or words (a / 64) 0) (a % 64) (omega arith)) refl)
 
-pub present-other : (words : List ℕ) (a i : ℕ) → a / 64 < length words → i ≢ a → is_present (marked words a) i ≡ is_present words i
+pub present-other : (words : List ℕ) (a i : ℕ) → a / 64 < length words → i ≢ a → is_present (with_mark words a) i ≡ is_present words i
 present-other words a i within other =
     elim (cases_eq (i / 64) (a / 64)) [
       | inl same ↦
@@ -80,25 +80,25 @@ present-other words a i within other =
       | inr differ ↦ rw (get_or-set_other words (a / 64) (i / 64) (bit_or (get_or words (a / 64) 0) (1 * 2 ^ (a % 64) % 2 ^ 64)) 0 differ) refl
     ]
 
-pub length-marked : (words : List ℕ) (a : ℕ) → length (marked words a) ≡ length words
+pub length-marked : (words : List ℕ) (a : ℕ) → length (with_mark words a) ≡ length words
 length-marked words a = length-set words (a / 64) _
 
 pub shown-marked : (words bytes : List ℕ) (a b : ℕ) → a < length bytes → a / 64 < length words
-    → shown (marked words a) (set bytes a b) ≡ set (shown words bytes) a (Some b)
+    → dense_image (with_mark words a) (set bytes a b) ≡ set (dense_image words bytes) a (Some b)
 shown-marked words bytes a b l within =
-    let len-left = length_shown (marked words a) (set bytes a b) ∙ length-set bytes a b in
-    let len-right = length-set (shown words bytes) a (Some b) ∙ length_shown words bytes in
+    let len-left = length_shown (with_mark words a) (set bytes a b) ∙ length-set bytes a b in
+    let len-right = length-set (dense_image words bytes) a (Some b) ∙ length_shown words bytes in
     same_items _ _ (len-left ∙ sym len-right) (λ i j.
     let in-bytes : i < length bytes = omega (arith, j, len-right) in
-    let left = byte_at-shown (marked words a) (set bytes a b) i (omega (arith, in-bytes, length-set bytes a b)) in
+    let left = byte_at-shown (with_mark words a) (set bytes a b) i (omega (arith, in-bytes, length-set bytes a b)) in
     elim (cases_eq i a) [
       | inl same ↦ left ∙ rw same (rw (present-same words a within, get_or-set_same bytes a b 0 l)
-          (sym (get_or-set_same (shown words bytes) a (Some b) None (omega (arith, l, length_shown words bytes)))))
+          (sym (get_or-set_same (dense_image words bytes) a (Some b) None (omega (arith, l, length_shown words bytes)))))
       | inr differ ↦ left ∙ rw (present-other words a i within differ, get_or-set_other bytes a i b 0 differ)
-          (sym (byte_at-shown words bytes i in-bytes) ∙ sym (get_or-set_other (shown words bytes) a i (Some b) None differ))
+          (sym (byte_at-shown words bytes i in-bytes) ∙ sym (get_or-set_other (dense_image words bytes) a i (Some b) None differ))
     ])
 
-pub sized : (words bytes : List ℕ) {image : List (Option ℕ)} → shown words bytes ≡ image → length image ≡ length bytes
+pub sized : (words bytes : List ℕ) {image : List (Option ℕ)} → dense_image words bytes ≡ image → length image ≡ length bytes
 sized words bytes {image} seen = rw (← seen) (length_shown words bytes)
 
 pub same_default : (xs : List ℕ) (i d e : ℕ) → i < length xs → get_or xs i d ≡ get_or xs i e
@@ -106,34 +106,34 @@ same_default [] i d e l = absurd (omega (arith, l))
 same_default (x ∷ xs) zero d e l = refl
 same_default (x ∷ xs) (suc i) d e l = same_default xs i d e (omega (arith, l))
 
-pub got : (words bytes : List ℕ) {image : List (Option ℕ)} (i b : ℕ) → shown words bytes ≡ image → i < length bytes
+pub got : (words bytes : List ℕ) {image : List (Option ℕ)} (i b : ℕ) → dense_image words bytes ≡ image → i < length bytes
     → is_present words i ≡ true → b ≡ get_or bytes i b → Some b ≡ byte_at image i
 got words bytes {image} i b seen l present item =
     rw (← seen) (ap (λ (n : ℕ). Some n) (item ∙ same_default bytes i b 0 l)
     ∙ sym (ap (λ (t : Bool). cond t (Some (get_or bytes i 0)) None) present) ∙ sym (byte_at-shown words bytes i l))
 
-pub absent : (words bytes : List ℕ) {image : List (Option ℕ)} (i : ℕ) → shown words bytes ≡ image → i < length bytes
+pub absent : (words bytes : List ℕ) {image : List (Option ℕ)} (i : ℕ) → dense_image words bytes ≡ image → i < length bytes
     → is_present words i ≡ false → None ≡ byte_at image i
 absent words bytes {image} i seen l present =
     rw (← seen) (sym (ap (λ (t : Bool). cond t (Some (get_or bytes i 0)) None) present) ∙ sym (byte_at-shown words bytes i l))
 
-pub past : (words bytes : List ℕ) {image : List (Option ℕ)} (i : ℕ) → shown words bytes ≡ image → length bytes ≤ i → None ≡ byte_at image i
-past words bytes {image} i seen l = rw (← seen) (sym (byte_at-past (shown words bytes) i (omega (arith, l, length_shown words bytes))))
+pub past : (words bytes : List ℕ) {image : List (Option ℕ)} (i : ℕ) → dense_image words bytes ≡ image → length bytes ≤ i → None ≡ byte_at image i
+past words bytes {image} i seen l = rw (← seen) (sym (byte_at-past (dense_image words bytes) i (omega (arith, l, length_shown words bytes))))
 
 -- FF stays where no byte is, when a byte is laid down
 pub blank-marked : (words bytes : List ℕ) (a b : ℕ) → a < length bytes → a / 64 < length words
     → ((i : ℕ) → i < length bytes → is_present words i ≡ false → get_or bytes i 0 ≡ 255)
-    → (i : ℕ) → i < length (set bytes a b) → is_present (marked words a) i ≡ false → get_or (set bytes a b) i 0 ≡ 255
+    → (i : ℕ) → i < length (set bytes a b) → is_present (with_mark words a) i ≡ false → get_or (set bytes a b) i 0 ≡ 255
 blank-marked words bytes a b l within blank i j none = elim (cases_eq i a) [
   | inl same ↦
-      let here : is_present (marked words a) i ≡ true = rw same (present-same words a within) in
+      let here : is_present (with_mark words a) i ≡ true = rw same (present-same words a within) in
       absurd (true≢false (sym here ∙ none))
   | inr differ ↦
       rw (get_or-set_other bytes a i b 0 differ) (blank i (omega (arith, j, length-set bytes a b)) (sym (present-other words a i within differ) ∙ none))
 ]
 
 -- a byte as it is kept is what `fill` writes for its address
-pub kept_byte : (words bytes : List ℕ) {image : List (Option ℕ)} (a : ℕ) → shown words bytes ≡ image
+pub kept_byte : (words bytes : List ℕ) {image : List (Option ℕ)} (a : ℕ) → dense_image words bytes ≡ image
     → ((i : ℕ) → i < length bytes → is_present words i ≡ false → get_or bytes i 0 ≡ 255)
     → get_or bytes a 255 ≡ or_blank (byte_at image a)
 kept_byte words bytes {image} a seen blank = rw (← seen) (elim (cases_lt a (length bytes)) [
@@ -143,11 +143,11 @@ kept_byte words bytes {image} a seen blank = rw (← seen) (elim (cases_lt a (le
         | inl held_bit ↦ rw (there, held_bit) (same_default bytes a 255 0 inside)
         | inr no_bit ↦ rw (there, no_bit) (same_default bytes a 255 0 inside ∙ blank a inside no_bit)
       ]
-  | inr past ↦ rw (get_or-eq_default bytes 255 past, byte_at-past (shown words bytes) a (omega (arith, past, length_shown words bytes))) refl
+  | inr past ↦ rw (get_or-eq_default bytes 255 past, byte_at-past (dense_image words bytes) a (omega (arith, past, length_shown words bytes))) refl
 ])
 
 -- the presence of a byte is its bit
-pub presence : (words bytes : List ℕ) {image : List (Option ℕ)} (a : ℕ) → shown words bytes ≡ image → a < length bytes
+pub presence : (words bytes : List ℕ) {image : List (Option ℕ)} (a : ℕ) → dense_image words bytes ≡ image → a < length bytes
     → is_some (byte_at image a) ≡ is_present words a
 presence words bytes {image} a seen l = rw (← seen) (elim (cases_Bool (is_present words a)) [
   | inl held_bit ↦ rw (byte_at-shown words bytes a l, held_bit) refl
@@ -171,7 +171,7 @@ position-none p (x ∷ xs) i d before =
     rw first (position-none p xs (i + 1) d (λ k j. before (suc k) (omega (arith, j))))
 
 -- the least address from `addr` on that holds a byte
-pub first_is : (words bytes : List ℕ) {image : List (Option ℕ)} (addr place : ℕ) → shown words bytes ≡ image
+pub first_is : (words bytes : List ℕ) {image : List (Option ℕ)} (addr place : ℕ) → dense_image words bytes ≡ image
     → FirstPlace words true addr (length bytes) place → place < length bytes → first_from image addr ≡ Some place
 first_is words bytes {image} addr place seen found l =
     let size : length image ≡ length bytes = sized words bytes seen in
@@ -184,7 +184,7 @@ first_is words bytes {image} addr place seen found l =
     ∙ presence words bytes place seen l ∙ found.here l)
     ∙ ap (λ (k : ℕ). Some k) rest
 
-pub first_none : (words bytes : List ℕ) {image : List (Option ℕ)} (addr from : ℕ) → shown words bytes ≡ image
+pub first_none : (words bytes : List ℕ) {image : List (Option ℕ)} (addr from : ℕ) → dense_image words bytes ≡ image
     → from ≤ addr → FirstPlace words true from (length bytes) (length bytes) → first_from image addr ≡ None
 first_none words bytes {image} addr from seen le found =
     let size : length image ≡ length bytes = sized words bytes seen in
@@ -194,7 +194,7 @@ first_none words bytes {image} addr from seen le found =
     ∙ presence words bytes (addr + k) seen (omega (arith, j, left, size)) ∙ found.others (addr + k) (omega (arith, le)) (omega (arith, j, left, size)))
 
 -- the end of a run
-pub run_is : (words bytes : List ℕ) {image : List (Option ℕ)} (addr end place : ℕ) → shown words bytes ≡ image
+pub run_is : (words bytes : List ℕ) {image : List (Option ℕ)} (addr end place : ℕ) → dense_image words bytes ≡ image
     → FirstPlace words false addr (min (length bytes) end) place → addr < length bytes → place ≡ run_end image addr end
 run_is words bytes {image} addr end place seen found l =
     let size : length image ≡ length bytes = sized words bytes seen in
@@ -223,8 +223,8 @@ no_run_past image addr end l =
     omega (arith, none)
 
 -- all bytes as they are kept are what `fill` writes for all addresses
-pub kept_whole : (words bytes : List ℕ) {image : List (Option ℕ)} → shown words bytes ≡ image
-    → ((i : ℕ) → i < length bytes → is_present words i ≡ false → get_or bytes i 0 ≡ 255) → bytes ≡ filled image 0 (length image)
+pub kept_whole : (words bytes : List ℕ) {image : List (Option ℕ)} → dense_image words bytes ≡ image
+    → ((i : ℕ) → i < length bytes → is_present words i ≡ false → get_or bytes i 0 ≡ 255) → bytes ≡ filled_bytes image 0 (length image)
 kept_whole words bytes {image} seen blank =
     let size : length image ≡ length bytes = sized words bytes seen in
     filled_is image 0 (length image) bytes (sym size) (λ i l.
@@ -233,7 +233,7 @@ kept_whole words bytes {image} seen blank =
     ∙ ap (λ (k : ℕ). or_blank (byte_at image k)) (omega arith))
 
 -- what is kept as bytes is seen as bytes
-pub holds_bytes : (words bytes : List ℕ) {image : List (Option ℕ)} → shown words bytes ≡ image → ((i : ℕ) → get_or bytes i 0 < 256) → HoldsBytes image
+pub holds_bytes : (words bytes : List ℕ) {image : List (Option ℕ)} → dense_image words bytes ≡ image → ((i : ℕ) → get_or bytes i 0 < 256) → HoldsBytes image
 holds_bytes words bytes {image} seen small addr byte is = elim (cases_lt addr (length bytes)) [
   | inl inside ↦
       let there : byte_at image addr ≡ shown_byte words addr (get_or bytes addr 0) = rw (← seen) (byte_at-shown words bytes addr inside) in
@@ -273,7 +273,7 @@ small-take (suc n) (x ∷ xs) all zero = all zero
 small-take (suc n) (x ∷ xs) all (suc i) = small-take n xs (λ k. all (suc k)) i
 
 pub small-pasted : (start : ℕ) (span bytes : List ℕ) → ((i : ℕ) → get_or span i 0 < 256) → ((i : ℕ) → get_or bytes i 0 < 256)
-    → (i : ℕ) → get_or (pasted start span bytes) i 0 < 256
+    → (i : ℕ) → get_or (with_span start span bytes) i 0 < 256
 small-pasted start span bytes new old =
     small-append (take start bytes) (span ++ drop (start + length span) bytes) (small-take start bytes old)
     (small-append span (drop (start + length span) bytes) new (λ i. rw (get_or-drop (start + length span) bytes i 0) (old (start + length span + i))))

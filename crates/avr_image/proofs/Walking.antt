@@ -4,8 +4,8 @@ use Rattle.std.proofs.lemmas.Bool.{cases_Bool, cases_lt}
 use Rattle.std.proofs.lemmas.List.{length-drop, length-take, get_or-drop, get_or-take}
 use Rattle.std.proofs.lemmas.List.Sums.{prefix_len-le-length, prefix_len_passes, prefix_len_stops}
 use Rattle.std.specs.List.{position_from, prefix_len}
-use Rattle.avr_image.specs.Image.{byte_at, first_from, run_end, filled, or_blank}
-use Rattle.avr_image.specs.Walk.{IsNextHeld, IsRun, IsFilled}
+use Rattle.avr_image.specs.Image.{byte_at, first_from, run_end, filled_bytes, or_blank}
+use Rattle.avr_image.specs.Walk.{IsNextHeld, IsByteRun, IsFilled}
 use Rattle.avr_image.proofs.Shown.{byte_at-past}
 
 none_is : (byte : Option ℕ) → is_some byte ≡ false → byte ≡ None
@@ -77,7 +77,7 @@ none_held image addr e k a = elim (cases_lt k (length image)) [
   | inr past ↦ byte_at-past image k past
 ]
 
-pub run_ends : (image : List (Option ℕ)) (addr end : ℕ) → addr ≤ end → IsRun image addr end (run_end image addr end)
+pub run_ends : (image : List (Option ℕ)) (addr end : ℕ) → addr ≤ end → IsByteRun image addr end (run_end image addr end)
 run_ends image addr end room =
     let row = take (end - addr) (drop addr image) in
     let len = prefix_len is_some row in
@@ -99,12 +99,12 @@ run_ends image addr end room =
       ];
     }
 
-pub is_filled : (image : List (Option ℕ)) (start n : ℕ) → IsFilled image start n (filled image start n)
+pub is_filled : (image : List (Option ℕ)) (start n : ℕ) → IsFilled image start n (filled_bytes image start n)
 is_filled image start zero = record { size = refl; byte = λ i l. absurd (omega (arith, l)) }
 is_filled image start (suc n) =
     let rest = is_filled image (start + 1) n in
     record { size = ap suc rest.size; byte = one rest }
   where
-    one : IsFilled image (start + 1) n (filled image (start + 1) n) → (i : ℕ) → i < suc n → get_or (filled image start (suc n)) i 0 ≡ or_blank (byte_at image (start + i))
+    one : IsFilled image (start + 1) n (filled_bytes image (start + 1) n) → (i : ℕ) → i < suc n → get_or (filled_bytes image start (suc n)) i 0 ≡ or_blank (byte_at image (start + i))
     one rest zero l = ap (λ (k : ℕ). or_blank (byte_at image k)) (omega arith)
     one rest (suc i) l = rest.byte i (omega (arith, l)) ∙ ap (λ (k : ℕ). or_blank (byte_at image k)) (omega arith)

@@ -11,8 +11,8 @@ abbrev pub shown_from : ℕ → List ℕ → List ℕ → List (Option ℕ)
 shown_from addr words [] = []
 shown_from addr words (byte ∷ bytes) = shown_byte words addr byte ∷ shown_from (suc addr) words bytes
 
-abbrev pub shown : List ℕ → List ℕ → List (Option ℕ)
-shown words bytes = shown_from 0 words bytes
+abbrev pub dense_image : List ℕ → List ℕ → List (Option ℕ)
+dense_image words bytes = shown_from 0 words bytes
 
 -- a bit for each byte, fewer than 2 to the power 32 bytes, each below 256, and FF for each that is absent
 pub record IsKept (words bytes : List ℕ) : Type 0 where
@@ -22,5 +22,5 @@ pub record IsKept (words bytes : List ℕ) : Type 0 where
   pub blank : (i : ℕ) → i < length bytes → is_present words i ≡ false → slice_index bytes i ≡ 255
 
 -- bytes with a span in place of those from `start` on
-abbrev pub pasted : ℕ → List ℕ → List ℕ → List ℕ
-pasted start span bytes = take start bytes ++ (span ++ drop (start + length span) bytes)
+abbrev pub with_span : ℕ → List ℕ → List ℕ → List ℕ
+with_span start span bytes = take start bytes ++ (span ++ drop (start + length span) bytes)

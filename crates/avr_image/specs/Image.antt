@@ -30,8 +30,8 @@ abbrev pub laid_over : List (Option ℕ) → List (ℕ × ℕ) → List (Option 
 laid_over image = fold (λ image place. with_byte image place.0 place.1) image
 
 -- the image of bytes at addresses
-abbrev pub laid : ℕ → List (ℕ × ℕ) → List (Option ℕ)
-laid size = laid_over (empty size)
+abbrev pub image_of_pairs : ℕ → List (ℕ × ℕ) → List (Option ℕ)
+image_of_pairs size = laid_over (empty size)
 
 -- the image that holds these bytes from address 0 on
 abbrev pub from_zero : List ℕ → ℕ → List (Option ℕ)
@@ -43,8 +43,8 @@ fits addr [] size = true
 fits addr (byte ∷ bytes) size = nat_le (addr + length (byte ∷ bytes)) size
 
 -- how many addresses hold a byte
-abbrev pub held : List (Option ℕ) → ℕ
-held = count_by is_some
+abbrev pub byte_count : List (Option ℕ) → ℕ
+byte_count = count_by is_some
 
 -- the least address from `addr` on that holds a byte
 abbrev pub first_from : List (Option ℕ) → ℕ → Option ℕ
@@ -59,9 +59,9 @@ abbrev pub or_blank : Option ℕ → ℕ
 or_blank byte = unwrap_or byte 255
 
 -- the n bytes from `start` on, FF in gaps and past the image
-abbrev pub filled : List (Option ℕ) → ℕ → ℕ → List ℕ
-filled image start zero = []
-filled image start (suc n) = or_blank (byte_at image start) ∷ filled image (start + 1) n
+abbrev pub filled_bytes : List (Option ℕ) → ℕ → ℕ → List ℕ
+filled_bytes image start zero = []
+filled_bytes image start (suc n) = or_blank (byte_at image start) ∷ filled_bytes image (start + 1) n
 
 -- each address holds a byte below 256, or none
 abbrev pub HoldsBytes : List (Option ℕ) → Type 0

@@ -1,7 +1,7 @@
 -- A value laid down onto the image that those before it left.
 use Rattle.std.specs.Prelude.{ℕ, List, length, Option, Result, Ok, Err}
 use Rattle.avr_image.specs.Image.{with_byte}
-use Rattle.avr_image.specs.Values.{judged}
+use Rattle.avr_image.specs.Values.{fitting_value}
 use Rattle.avr_image.specs.declared.fault.ImageFault.{ImageFault}
 
 -- an image with the byte that a value came to
@@ -11,4 +11,4 @@ with_value image addr (Err fault) = Err fault
 
 -- an image with the value that a piece writes for an address
 abbrev pub with_piece : List (Option ℕ) → ℕ → List ℕ → Result (List (Option ℕ)) ImageFault
-with_piece image addr piece = with_value image addr (judged (length image) (addr, piece))
+with_piece image addr piece = with_value image addr (fitting_value (length image) (addr, piece))

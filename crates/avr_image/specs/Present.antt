@@ -7,8 +7,9 @@ abbrev pub is_present : List ℕ → ℕ → Bool
 is_present words addr = bit_at (slice_index words (addr / 64)) (addr % 64) == 1
 
 -- the words once an address is present
-abbrev pub marked : List ℕ → ℕ → List ℕ
-marked words addr = slice_set words (addr / 64) (bit_or (slice_index words (addr / 64)) (1 * 2 ^ (addr % 64) % 2 ^ 64))
+abbrev pub with_mark : List ℕ → ℕ → List ℕ
+with_mark words addr = slice_set words (addr / 64)
+    (bit_or (slice_index words (addr / 64)) (1 * 2 ^ (addr % 64) % 2 ^ 64))
 
 -- an address lies from `from` on and below `end`
 abbrev pub is_within : ℕ → ℕ → ℕ → Bool

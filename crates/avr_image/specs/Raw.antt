@@ -9,9 +9,9 @@ abbrev pub raw : List ℕ → ℕ → Result (List (Option ℕ)) ImageFault
 raw bytes size = if nat_le (length bytes) size then Ok (from_zero bytes size) else Err (OutOfRange size)
 
 -- whether an image came, and else the fault
-abbrev pub accepted : Result (List (Option ℕ)) ImageFault → Result (Unit {0}) ImageFault
-accepted (Ok image) = Ok tt
-accepted (Err fault) = Err fault
+abbrev pub without_image : Result (List (Option ℕ)) ImageFault → Result (Unit {0}) ImageFault
+without_image (Ok image) = Ok tt
+without_image (Err fault) = Err fault
 
 -- what a reader holds: the image so far, how many bytes came, and whether it met a fault
 pub record Holding : Type 0 where
@@ -20,7 +20,7 @@ pub record Holding : Type 0 where
   pub failed : Bool
 
 -- the reader holds this text and no more
-pub record Stands (reader : Holding) (text : List ℕ) : Type 0 where
+pub record HoldsText (reader : Holding) (text : List ℕ) : Type 0 where
   pub sound : reader.failed ≡ false
   pub counted : reader.fed ≡ length text
   pub within : length text ≤ length reader.image

@@ -20,24 +20,24 @@ abbrev pub is_digit_of : ℕ → ℕ → Bool
 is_digit_of base c = nat_lt (digit_value c) base
 
 -- the number that one or more digits of a base write
-abbrev pub number : ℕ → List ℕ → Option ℕ
-number base digits =
+abbrev pub number_in_base : ℕ → List ℕ → Option ℕ
+number_in_base base digits =
     if nat_lt 0 (length digits) && list_all (is_digit_of base) digits
     then Some (digits_value base digits) else None
 
 -- what a zero and a letter say of the digits behind them
-abbrev pub prefixed : ℕ → List ℕ → Option ℕ
-prefixed letter digits =
-    if letter == 120 || letter == 88 then number 16 digits
-    else if letter == 98 || letter == 66 then number 2 digits
-    else number 8 (letter ∷ digits)
+abbrev pub prefixed_number : ℕ → List ℕ → Option ℕ
+prefixed_number letter digits =
+    if letter == 120 || letter == 88 then number_in_base 16 digits
+    else if letter == 98 || letter == 66 then number_in_base 2 digits
+    else number_in_base 8 (letter ∷ digits)
 
 -- the number that a piece writes: `0x` and hexadecimal digits, `0b` and binary ones, `0` and octal ones, or decimal
 -- ones
 abbrev pub value_of : List ℕ → Option ℕ
 value_of (first ∷ second ∷ more) =
-    if first == 48 then prefixed second more else number 10 (first ∷ second ∷ more)
-value_of digits = number 10 digits
+    if first == 48 then prefixed_number second more else number_in_base 10 (first ∷ second ∷ more)
+value_of digits = number_in_base 10 digits
 
 -- the place of the value for an address: values are counted from 1, as far as a number of 32 bits counts
 abbrev pub place : ℕ → ℕ
@@ -51,8 +51,8 @@ fitting size addr (Some value) =
     else if not (nat_lt addr size) then Err (OutOfRange addr)
     else Ok value
 
-abbrev pub judged : ℕ → ℕ × List ℕ → Result ℕ ImageFault
-judged size piece = fitting size piece.0 (value_of piece.1)
+abbrev pub fitting_value : ℕ → ℕ × List ℕ → Result ℕ ImageFault
+fitting_value size piece = fitting size piece.0 (value_of piece.1)
 
 -- with a value before those that follow
 abbrev pub onto_ok : Result ℕ ImageFault → Result (List ℕ) ImageFault → Result (List ℕ) ImageFault
@@ -65,12 +65,12 @@ abbrev pub all_ok : List (Result ℕ ImageFault) → Result (List ℕ) ImageFaul
 all_ok [] = Ok []
 all_ok (r ∷ rs) = onto_ok r (all_ok rs)
 
-abbrev pub image_of : ℕ → Result (List ℕ) ImageFault → Result (List (Option ℕ)) ImageFault
-image_of size (Ok bytes) = Ok (from_zero bytes size)
-image_of size (Err fault) = Err fault
+abbrev pub image_of_bytes : ℕ → Result (List ℕ) ImageFault → Result (List (Option ℕ)) ImageFault
+image_of_bytes size (Ok bytes) = Ok (from_zero bytes size)
+image_of_bytes size (Err fault) = Err fault
 
 -- The values stand at the addresses from 0 on. No value at all is a bad first one.
 abbrev pub values : List ℕ → ℕ → Result (List (Option ℕ)) ImageFault
 values text size =
     if length (pieces text) == 0 then Err (BadNumber 1)
-    else image_of size (all_ok (map (judged size) (enumerate_from 0 (pieces text))))
+    else image_of_bytes size (all_ok (map (fitting_value size) (enumerate_from 0 (pieces text))))

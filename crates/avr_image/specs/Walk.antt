@@ -10,7 +10,7 @@ pub record IsNextHeld (image : List (Option ℕ)) (addr place : ℕ) : Type 0 wh
   pub gap : (k : ℕ) → addr ≤ k → k < place → byte_at image k ≡ None
 
 -- the longest run of bytes from `addr` on that ends at `end` or before
-pub record IsRun (image : List (Option ℕ)) (addr end place : ℕ) : Type 0 where
+pub record IsByteRun (image : List (Option ℕ)) (addr end place : ℕ) : Type 0 where
   pub after : addr ≤ place
   pub bound : place ≤ end
   pub held : (k : ℕ) → addr ≤ k → k < place → is_some (byte_at image k) ≡ true

@@ -1,10 +1,10 @@
 //! Images.
 
 ghost use Rattle.std.specs.Prelude.{◌≡◌, ◌==◌, ◌+◌, ◌*◌, ◌^◌, ◌<◌, ◌≤◌, ℕ, List, length, max, nat_lt, Ok, Err, OnOk, OnErr, MatchResult, IfOk, replicate, slice_index, slice_index_or, if◌then◌else◌};
-ghost use Rattle.avr_image.specs.Image.{empty, byte_at, with_byte, held, filled, first_from, run_end, fits, laid_over, over, IsImage};
+ghost use Rattle.avr_image.specs.Image.{empty, byte_at, with_byte, byte_count, filled_bytes, first_from, run_end, fits, laid_over, over, IsImage};
 ghost use Rattle.avr_image.specs.Runs.{runs};
 ghost use Rattle.std.specs.List.{enumerate_from};
-ghost use Rattle.avr_image.specs.Dense.{pasted};
+ghost use Rattle.avr_image.specs.Dense.{with_span};
 
 use crate::bits::{find, is_set, mark, mark_span};
 use crate::fault::ImageFault;
@@ -30,11 +30,11 @@ pub struct Image {
 
 impl Model for Image {
     ghost use Rattle.std.specs.Prelude.{ℕ, List, Option};
-    ghost use Rattle.avr_image.specs.Dense.{shown, IsKept};
+    ghost use Rattle.avr_image.specs.Dense.{dense_image, IsKept};
 
     ghost Value = { List (Option ℕ) };
 
-    ghost view = { λ i. shown i.words.items i.bytes.items };
+    ghost view = { λ i. dense_image i.words.items i.bytes.items };
 
     ghost invariant = { λ i. IsKept i.words.items i.bytes.items };
 }
@@ -68,7 +68,7 @@ fn copy_padded(bytes: &[u8], start: usize, out: &mut [u8])
 /// Copies a span over the bytes from `start` on.
 fn paste(bytes: &mut Vec<u8>, start: usize, span: &[u8])
     requires { start + length span.now ≤ length bytes.old.items }
-    ensures { bytes.new.items ≡ pasted start span.now bytes.old.items }
+    ensures { bytes.new.items ≡ with_span start span.now bytes.old.items }
 {
     let end = start + span.len();
     bytes[start..end].copy_from_slice(span);
@@ -116,7 +116,7 @@ impl Image {
     /// assert_eq!(rt; image.len(), 2);
     /// ```
     pub fn len(&self) -> u32
-        ensures { result ≡ held self.now }
+        ensures { result ≡ byte_count self.now }
     {
         let mut gaps = self.size();
         for (_, bytes) in self.runs() {
@@ -134,7 +134,7 @@ impl Image {
     /// assert!(rt; !image.is_empty());
     /// ```
     pub fn is_empty(&self) -> bool
-        ensures { result ≡ (held self.now == 0) }
+        ensures { result ≡ (byte_count self.now == 0) }
     {
         self.first_from(0).is_none()
     }
@@ -147,7 +147,7 @@ impl Image {
     /// assert_eq!(rt; image.as_slice(), [0xFF, 0x12, 0xFF, 0xFF].as_slice());
     /// ```
     pub fn as_slice(&self) -> &[u8]
-        ensures filled { result.now ≡ filled self.now 0 (length self.now) }
+        ensures filled { result.now ≡ filled_bytes self.now 0 (length self.now) }
 
         // The list alone doesn't say that an image holds bytes, and how many at most.
         ensures image { IsImage self.now }
@@ -324,7 +324,7 @@ impl Image {
     /// ```
     pub fn fill(&self, start: u32, out: &mut [u8])
         requires { start + length out.old ≤ 2 ^ 32 }
-        ensures { out.new ≡ filled self.now start (length out.old) }
+        ensures { out.new ≡ filled_bytes self.now start (length out.old) }
     {
         copy_padded(self.bytes.as_slice(), start as usize, out);
     }

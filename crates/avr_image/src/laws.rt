@@ -1,28 +1,28 @@
 //! Laws of the definitions that contracts cite, whatever the code does.
 
 ghost use Rattle.std.specs.Prelude.{◌≡◌, ◌<◌, ◌≤◌, ◌++◌, ℕ, List, [], All, length, flat_map, Ok, Err, Option, None, Some};
-ghost use Rattle.avr_image.specs.Image.{byte_at, either, filled, first_from, from_zero, laid, laid_over, over, run_end};
+ghost use Rattle.avr_image.specs.Image.{byte_at, either, filled_bytes, first_from, from_zero, image_of_pairs, laid_over, over, run_end};
 ghost use Rattle.avr_image.specs.Lists.{list_line};
 ghost use Rattle.avr_image.specs.Runs.{places_of, runs};
 ghost use Rattle.avr_image.specs.Values.{values};
 ghost use Rattle.avr_image.specs.declared.base.Base.{Base};
 ghost use Rattle.avr_image.specs.ByAddress.{last_at};
-ghost use Rattle.avr_image.specs.Walk.{IsFilled, IsLongestRun, IsNextHeld, IsRun};
+ghost use Rattle.avr_image.specs.Walk.{IsFilled, IsLongestRun, IsNextHeld, IsByteRun};
 
 use crate::fault::ImageFault;
 
 /// Bytes laid in two parts are the second part laid over the first.
 #[tactic(auto, using(crate::proofs::Laying::laid_append))]
 pub fn parts_are_laid_over()
-    ensures { (size : ℕ) (first second : List (ℕ × ℕ)) → laid size (first ++ second)
-        ≡ over (laid size first) (laid size second) }
+    ensures { (size : ℕ) (first second : List (ℕ × ℕ)) → image_of_pairs size (first ++ second)
+        ≡ over (image_of_pairs size first) (image_of_pairs size second) }
 {}
 
 /// Bytes laid onto an image are an image of them laid over it.
 #[tactic(auto, using(crate::proofs::Laying::laid_over_laid))]
 pub fn laying_is_laying_over()
     ensures { (image : List (Option ℕ)) (places : List (ℕ × ℕ))
-        → laid_over image places ≡ over image (laid (length image) places) }
+        → laid_over image places ≡ over image (image_of_pairs (length image) places) }
 {}
 
 /// Images of one size may be laid over each other in any grouping.
@@ -52,18 +52,20 @@ pub fn first_from_is_the_next_held()
 /// A run is the longest.
 #[tactic(auto, using(crate::proofs::Walking::run_ends))]
 pub fn run_end_is_the_longest_run()
-    ensures { (image : List (Option ℕ)) (addr end : ℕ) → addr ≤ end → IsRun image addr end (run_end image addr end) }
+    ensures { (image : List (Option ℕ)) (addr end : ℕ) → addr ≤ end
+        → IsByteRun image addr end (run_end image addr end) }
 {}
 
 /// A page has the byte of each address, and FF in gaps.
 pub fn filled_is_by_address()
-    ensures { (image : List (Option ℕ)) (start n : ℕ) → IsFilled image start n (filled image start n) }
+    ensures { (image : List (Option ℕ)) (start n : ℕ) → IsFilled image start n (filled_bytes image start n) }
 {}
 
 /// An image is that of its runs, and each of them is a longest one.
 pub fn an_image_is_its_runs()
     ensures longest { (image : List (Option ℕ)) → All (IsLongestRun image) (runs 0 image) }
-    ensures whole { (image : List (Option ℕ)) → laid (length image) (flat_map places_of (runs 0 image)) ≡ image }
+    ensures whole { (image : List (Option ℕ)) → image_of_pairs (length image) (flat_map places_of (runs 0 image))
+        ≡ image }
 {}
 
 /// A list that was written of some bytes, in any base and without its line end, gives them as values: they stand from

@@ -34,7 +34,7 @@ impl Model for RawReader {
 }
 
 impl RawReader {
-    ghost use Rattle.avr_image.specs.Raw.{raw, accepted, Stands};
+    ghost use Rattle.avr_image.specs.Raw.{raw, without_image, HoldsText};
 
     /// A reader for a memory of this many bytes, before any byte of the file. It takes all the memory that the reader
     /// will ever need; where that is refused, the fault is `Memory`.
@@ -44,7 +44,7 @@ impl RawReader {
     /// assert_eq!(rt; reader.finish()?.size(), 64);
     /// ```
     pub fn new(alloc: Global, size: u32) -> Result<RawReader, ImageFault>
-        ensures { MatchResult result (λ reader. Stands reader [] × (length reader.image ≡ size))
+        ensures { MatchResult result (λ reader. HoldsText reader [] × (length reader.image ≡ size))
             (λ fault. fault ≡ ImageFault.Memory) }
     {
         let image = Image::new(alloc, size)?;
@@ -64,9 +64,10 @@ impl RawReader {
     /// assert_eq!(rt; reader.feed(&[]), Err(ImageFault::Failed));
     /// ```
     pub fn feed(&mut self, piece: &[u8]) -> Result<(), ImageFault>
-        ensures answer { (text : List ℕ) → Stands self.old text → result
-            ≡ accepted (raw (text ++ piece.now) (length self.old.image)) }
-        ensures stands { OnOk result ((text : List ℕ) → Stands self.old text → Stands self.new (text ++ piece.now)) }
+        ensures answer { (text : List ℕ) → HoldsText self.old text → result
+            ≡ without_image (raw (text ++ piece.now) (length self.old.image)) }
+        ensures stands { OnOk result ((text : List ℕ) → HoldsText self.old text
+            → HoldsText self.new (text ++ piece.now)) }
         ensures size { length self.new.image ≡ length self.old.image }
 
         // After a fault the reader has failed, and stays so.
@@ -99,7 +100,7 @@ impl RawReader {
     /// assert_eq!(rt; image.get(2), None);
     /// ```
     pub fn finish(self) -> Result<Image, ImageFault>
-        ensures answer { (text : List ℕ) → Stands self text → result ≡ raw text (length self.image) }
+        ensures answer { (text : List ℕ) → HoldsText self text → result ≡ raw text (length self.image) }
         ensures failed { self.failed ≡ true → result ≡ Err ImageFault.Failed }
         ensures memory { result ≢ Err ImageFault.Memory }
     {

@@ -1,7 +1,7 @@
 //! Values given in the words of a command.
 
 ghost use Rattle.std.specs.Prelude.{◌≡◌, ◌+◌, ◌-◌, ◌<◌, ◌≤◌, ◌==◌, ◌||◌, ◌^◌, ℕ, List, length, min, option_map, Ok, Err, OnOk, MatchResult};
-ghost use Rattle.avr_image.specs.Values.{is_separator, number, value_of, judged, values};
+ghost use Rattle.avr_image.specs.Values.{is_separator, number_in_base, value_of, fitting_value, values};
 ghost use Rattle.std.specs.List.{position_or_len};
 ghost use Rattle.avr_image.specs.Placing.{with_piece};
 ghost use Rattle.avr_image.specs.Image.{empty};
@@ -35,7 +35,7 @@ fn piece_len(text: &[u8]) -> usize
 fn read_number(base: u32, digits: &[u8]) -> Option<u32>
     requires low { 2 ≤ base }
     requires high { base ≤ 16 }
-    ensures { result ≡ option_map (λ n. min n 256) (number base digits.now) }
+    ensures { result ≡ option_map (λ n. min n 256) (number_in_base base digits.now) }
 {
     if digits.is_empty() {
         return None;
@@ -64,7 +64,7 @@ fn read_value(piece: &[u8]) -> Option<u32>
 
 /// The byte that a piece is for an address.
 fn judge(size: u32, addr: u32, piece: &[u8]) -> Result<u8, ImageFault>
-    ensures { result ≡ judged size (addr, piece.now) }
+    ensures { result ≡ fitting_value size (addr, piece.now) }
 {
     let Some(value) = read_value(piece) else {
         return Err(ImageFault::BadNumber(addr.saturating_add(1)));

@@ -15,15 +15,15 @@ unfoldable pub digits : Bytes → Bytes
 digits bytes = map to_ascii_uppercase (encode_lower bytes)
 
 -- the same with a blank between two pairs
-abbrev pub spaced : Bytes → Bytes
-spaced [] = []
-spaced (b ∷ []) = digits (b ∷ [])
-spaced (b ∷ bytes) = digits (b ∷ []) ++ 32 ∷ spaced bytes
+abbrev pub spaced_digits : Bytes → Bytes
+spaced_digits [] = []
+spaced_digits (b ∷ []) = digits (b ∷ [])
+spaced_digits (b ∷ bytes) = digits (b ∷ []) ++ 32 ∷ spaced_digits bytes
 
 abbrev pub text_of : Piece → Bytes
 text_of (Text text) = text.now
 text_of (Byte byte) = digits (byte ∷ [])
-text_of (Signature bytes) = spaced bytes
+text_of (Signature bytes) = spaced_digits bytes
 text_of (Address address) = digits (big_bytes 4 address)
 text_of (Number number) = decimal number
 

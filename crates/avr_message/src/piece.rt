@@ -4,7 +4,7 @@ ghost use Rattle.byteorder.specs.Endian.{big_bytes};
 ghost use Rattle.avr_desk.specs.Fault.{Counts};
 ghost use Rattle.avr_desk.specs.Record.{Passes, after_err};
 ghost use Rattle.avr_desk.specs.Stream.{SendsPart};
-ghost use Rattle.avr_message.specs.Lines.{digits, spaced, text_of};
+ghost use Rattle.avr_message.specs.Lines.{digits, spaced_digits, text_of};
 
 use avr_desk::{Desk, DeskFault, Stream, write_all};
 use byteorder::{BigEndian, ByteOrder};
@@ -51,7 +51,7 @@ fn address_digits(address: u32) -> [u8; 8]
 
 /// A signature as digits, with a blank between two bytes.
 fn spaced(signature: [u8; 3]) -> [u8; 8]
-    ensures { result ≡ spaced signature }
+    ensures { result ≡ spaced_digits signature }
 {
     let [first, second, third] = signature;
     let [a, b] = digits(first);

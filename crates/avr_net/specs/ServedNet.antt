@@ -13,7 +13,7 @@ use Rattle.avr_net.specs.Lines.{unopened_line}
 use Rattle.avr_net.specs.OverNet.{connection}
 
 -- a connection was accepted, and the chip was served over it
-pub record ServesCaller (chip : chips.State) (file : Bytes) (old new : DeskView) (status : ℕ) : Type 0 where
+pub record ServesCaller (chip : chips.ChipState) (file : Bytes) (old new : DeskView) (status : ℕ) : Type 0 where
   pub link_failures : ℕ
   pub serves : ServesChip chip file 16777216 (sides (connection 0) old) (sides (connection link_failures) new) status
 
@@ -23,22 +23,23 @@ pub record LacksCaller (port : Bytes) (old new : DeskView) (status : ℕ) : Type
   pub status_is : status ≡ 1
 
 -- the one or the other
-abbrev pub ServesOn : chips.State → Bytes → Bytes → DeskView → DeskView → ℕ → Type 0
+abbrev pub ServesOn : chips.ChipState → Bytes → Bytes → DeskView → DeskView → ℕ → Type 0
 ServesOn chip port file old new status = ServesCaller chip file old new status ⊎ LacksCaller port old new status
 
 -- a text that is no port's number cannot be opened
-abbrev pub ServesAt : Option ℕ → chips.State → Bytes → Bytes → DeskView → DeskView → ℕ → Type 0
+abbrev pub ServesAt : Option ℕ → chips.ChipState → Bytes → Bytes → DeskView → DeskView → ℕ → Type 0
 ServesAt None chip port file old new status = LacksCaller port old new status
 ServesAt (Some number) chip port file old new status = ServesOn chip port file old new status
 
 -- The chip of the settings was loaded; then it was served, or the port could not be opened.
-pub record ServesLoaded (settings : Settings) (port file : Bytes) (old new : DeskView) (status : ℕ) : Type 0 where
-  pub chip : chips.State
-  pub loaded_desk : DeskView
-  pub loaded : Went (settings_chip settings file) old loaded_desk (Made chip)
-  pub serves : ServesAt (port_number port) chip port file loaded_desk new status
+pub record ServesLoadedOverNet (settings : Settings) (port file : Bytes) (old new : DeskView) (status : ℕ) : Type 0
+  where
+    pub chip : chips.ChipState
+    pub loaded_desk : DeskView
+    pub loaded : Went (settings_chip settings file) old loaded_desk (Made chip)
+    pub serves : ServesAt (port_number port) chip port file loaded_desk new status
 
 -- so it was, or there is no chip (that the port was left alone then, no clause says)
 abbrev pub ServesNet : Settings → Bytes → Bytes → DeskView → DeskView → ℕ → Type 0
 ServesNet settings port file old new status =
-    ServesLoaded settings port file old new status ⊎ Goes (settings_chip settings file) old new (Err status)
+    ServesLoadedOverNet settings port file old new status ⊎ Goes (settings_chip settings file) old new (Err status)

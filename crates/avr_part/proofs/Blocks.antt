@@ -9,9 +9,9 @@ use Rattle.std.proofs.lemmas.Bool.{eqb-true, eqb-false, cases_Bool, leb-true}
 use Rattle.std.specs.Prelude.{◌==◌, ◌&&◌, ◌-◌, nat_le}
 use Rattle.avr_part.specs.Part.{Part, IsPart}
 use Rattle.avr_part.specs.Memory.{pasted}
-use Rattle.avr_part.specs.State.{State, half_offset, word_address}
+use Rattle.avr_part.specs.State.{ChipState, half_offset, word_address}
 use Rattle.avr_part.specs.Block.{half_at, loaded_in_turn, read_in_turn, is_in_page, is_in_flash}
-use Rattle.avr_part.specs.Sound.{IsSound}
+use Rattle.avr_part.specs.Sound.{IsSoundChip}
 use Rattle.avr_part.specs.declared.instruction.Half.TheVariants as half
 
 chosen : {A : Type 0} (b : Bool) (x y : A) → b ≡ true → cond b x y ≡ x
@@ -49,7 +49,7 @@ paste_on p d ds xs inside =
     ∙ (append_assoc (take p xs) (d ∷ []) (ds ++ drop (suc p + length ds) xs)
     ∙ ap (λ k. take p xs ++ (d ∷ (ds ++ drop k xs))) (let e : suc p + length ds ≡ p + suc (length ds) = omega arith in e))
 
-pub loaded_at_once : (word i half : ℕ) (bytes : List ℕ) (s : State) → s.part.flash_page / 2 ≡ half → ((x : ℕ) → x % 256 % half ≡ x % half)
+pub loaded_at_once : (word i half : ℕ) (bytes : List ℕ) (s : ChipState) → s.part.flash_page / 2 ≡ half → ((x : ℕ) → x % 256 % half ≡ x % half)
     → word % half * 2 + i + length bytes ≤ half * 2 → half * 2 ≤ length s.flash_buffer
     → loaded_in_turn word i bytes s ≡ record s { flash_buffer = pasted (word % half * 2 + i) bytes s.flash_buffer }
 loaded_at_once word i half [] s is wraps inside long =
@@ -58,7 +58,7 @@ loaded_at_once word i half [] s is wraps inside long =
     (sym (ap (λ k. take p s.flash_buffer ++ drop k s.flash_buffer) (let e : p + 0 ≡ p = omega arith in e) ∙ take-append-drop p s.flash_buffer))
 loaded_at_once word i half (d ∷ ds) s is wraps inside long =
     let p = word % half * 2 + i in
-    let s₂ : State = record s { flash_buffer = set s.flash_buffer p d } in
+    let s₂ : ChipState = record s { flash_buffer = set s.flash_buffer p d } in
     let place : (word + i / 2) % 256 % (s.part.flash_page / 2) * 2 + half_offset (half_at i) ≡ p =
     ap₂ (λ h o. (word + i / 2) % 256 % h * 2 + o) is (offset_at i)
     ∙ (ap (λ x. x * 2 + i % 2) (wraps (word + i / 2)) ∙ place_on word i half (omega arith)) in
@@ -69,7 +69,7 @@ loaded_at_once word i half (d ∷ ds) s is wraps inside long =
     (ap (λ q. pasted q ds (set s.flash_buffer p d)) (let e : word % half * 2 + suc i ≡ suc p = omega arith in e)
     ∙ paste_on p d ds s.flash_buffer (omega arith)))
 
-pub read_at_once : (word i n half : ℕ) (s : State) → s.part.flash_size / 2 ≡ half
+pub read_at_once : (word i n half : ℕ) (s : ChipState) → s.part.flash_size / 2 ≡ half
     → (s.extended * 65536 + word) % half * 2 + i + n ≤ half * 2 → half * 2 ≤ length s.flash
     → read_in_turn word i n s ≡ take n (drop ((s.extended * 65536 + word) % half * 2 + i) s.flash)
 read_at_once word i zero half s is inside long = refl
@@ -90,7 +90,7 @@ wraps_in_page : (half : ℕ) → 256 % (half * 2) ≡ 0 → (x : ℕ) → x % 25
 wraps_in_page half whole x =
     mod-mod_of_dvd half x (dvd_trans half (dvd-mul_right half 2) (dvd_of_mod-eq-zero (half * 2) whole))
 
-pub block_loaded : (word place : ℕ) (bytes : List ℕ) (s : State) → IsSound s → is_in_page word (length bytes) s ≡ true
+pub block_loaded : (word place : ℕ) (bytes : List ℕ) (s : ChipState) → IsSoundChip s → is_in_page word (length bytes) s ≡ true
     → place ≡ word % (s.part.flash_page / 2) * 2
     → record s { flash_buffer = pasted place bytes s.flash_buffer } ≡ loaded_in_turn word 0 bytes s
 block_loaded word place bytes s sound inside at =
@@ -112,7 +112,7 @@ right : (a b : Bool) → (a && b) ≡ true → b ≡ true
 right true b e = e
 right false b e = absurd (cc)
 
-pub block_read : (word n start len : ℕ) (bytes : List ℕ) (s : State) → IsSound s → is_in_flash word n s ≡ true
+pub block_read : (word n start len : ℕ) (bytes : List ℕ) (s : ChipState) → IsSoundChip s → is_in_flash word n s ≡ true
     → start ≡ word_address s word → len ≡ n → bytes ≡ s.flash
     → take (start + len - start) (drop start bytes) ≡ read_in_turn word 0 n s
 block_read word n start len bytes s sound inside at count is =

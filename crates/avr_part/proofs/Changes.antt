@@ -1,33 +1,33 @@
 -- Lists whose bytes are changed one by one.
 use Rattle.std.proofs.Common.{◌≡◌, ◌∙◌, ap, ap₂, refl, arith, ℕ, suc, ◌+◌, ◌-◌, ◌<◌, ◌≤◌, List, [], ◌∷◌, length, get_or, bit_and, Option, None, unwrap_or, replicate}
 use Rattle.std.proofs.lemmas.Bool.Decides.{nat_tests}
-use Rattle.avr_part.specs.Memory.{changed, changed_from, anded, overlaid}
+use Rattle.avr_part.specs.Memory.{map_indexed, map_indexed_from, byte_and_page, overlaid}
 
-pub length-changed_from : (k : ℕ) (f : ℕ → ℕ → ℕ) (xs : List ℕ) → length (changed_from k f xs) ≡ length xs
+pub length-changed_from : (k : ℕ) (f : ℕ → ℕ → ℕ) (xs : List ℕ) → length (map_indexed_from k f xs) ≡ length xs
 length-changed_from k f [] = refl
 length-changed_from k f (x ∷ xs) = ap suc (length-changed_from (suc k) f xs)
 
 -- the list is the changed one, since each of its bytes is
 pub changed_from_is : (k : ℕ) (f : ℕ → ℕ → ℕ) (xs ys : List ℕ) → length ys ≡ length xs
-    → ((i : ℕ) → i < length xs → get_or ys i 0 ≡ f (k + i) (get_or xs i 0)) → ys ≡ changed_from k f xs
+    → ((i : ℕ) → i < length xs → get_or ys i 0 ≡ f (k + i) (get_or xs i 0)) → ys ≡ map_indexed_from k f xs
 changed_from_is k f [] [] len each = refl
 changed_from_is k f [] (y ∷ ys) len each = absurd (omega (arith, len))
 changed_from_is k f (x ∷ xs) [] len each = absurd (omega (arith, len))
 changed_from_is k f (x ∷ xs) (y ∷ ys) len each =
     let first : y ≡ f k x = each 0 (omega arith) ∙ ap (λ (n : ℕ). f n x) (omega arith) in
-    let rest : ys ≡ changed_from (suc k) f xs = changed_from_is (suc k) f xs ys (omega (arith, len))
+    let rest : ys ≡ map_indexed_from (suc k) f xs = changed_from_is (suc k) f xs ys (omega (arith, len))
     (λ i l. each (suc i) (omega arith) ∙ ap (λ (n : ℕ). f n (get_or xs i 0)) (omega arith)) in
     ap₂ (λ (z : ℕ) (zs : List ℕ). z ∷ zs) first rest
 
 pub changed_is : (f : ℕ → ℕ → ℕ) (xs ys : List ℕ) → length ys ≡ length xs
-    → ((i : ℕ) → i < length xs → get_or ys i 0 ≡ f i (get_or xs i 0)) → ys ≡ changed f xs
+    → ((i : ℕ) → i < length xs → get_or ys i 0 ≡ f i (get_or xs i 0)) → ys ≡ map_indexed f xs
 changed_is f xs ys len each =
     changed_from_is 0 f xs ys len (λ i l. each i l ∙ ap (λ (n : ℕ). f n (get_or xs i 0)) (omega arith))
 
 -- a byte of a memory into which a page was ANDed
 pub anded_is : (start : ℕ) (page : List ℕ) (i x y : ℕ) → (i < start → y ≡ x)
     → (start ≤ i → i < start + length page → y ≡ bit_and x (get_or page (i - start) 0))
-    → (start + length page ≤ i → y ≡ x) → y ≡ anded start page i x
+    → (start + length page ≤ i → y ≡ x) → y ≡ byte_and_page start page i x
 anded_is start page i x y before within after = grind (arith, nat_tests)
 
 -- a byte of a memory over which the loaded bytes of a page were laid

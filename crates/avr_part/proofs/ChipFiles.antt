@@ -4,8 +4,8 @@ use Rattle.std.proofs.lemmas.List.{get_or-drop, length-drop, take-append-drop, t
 use Rattle.std.proofs.lemmas.Bool.{eq-eqb}
 use Rattle.std.specs.Prelude.{◌==◌}
 use Rattle.avr_part.specs.Part.{Part}
-use Rattle.avr_part.specs.State.{State, with_empty_buffers}
-use Rattle.avr_part.specs.Sound.{IsSound}
+use Rattle.avr_part.specs.State.{ChipState, with_empty_buffers}
+use Rattle.avr_part.specs.Sound.{IsSoundChip}
 use Rattle.avr_part.specs.ChipFile.{chip_file, chip_file_size, chip_in, state_in}
 
 -- three lists in a row, taken apart
@@ -22,7 +22,7 @@ fuse_part flash eeprom fuses at k e =
     ap (λ (i : ℕ). get_or (flash ++ eeprom ++ fuses) i 0) (let at_is : at ≡ length (flash ++ eeprom) + k = rw length-append e in at_is)
     ∙ get_or-append-add (flash ++ eeprom) fuses k 0
 
-file_length : (s : State) → IsSound s → length (chip_file s) ≡ chip_file_size s.part
+file_length : (s : ChipState) → IsSoundChip s → length (chip_file s) ≡ chip_file_size s.part
 file_length s sound =
     let flash = sound.flash_size in
     let eeprom = sound.eeprom_size in
@@ -32,7 +32,7 @@ chosen : {A : Type 0} (test : Bool) (x y : A) → test ≡ true → cond test x 
 chosen test x y e = ap (λ (b : Bool). cond b x y) e
 
 -- the chip of its own file has the same memories, and empty buffers
-pub read_again : (s : State) → IsSound s → chip_in s.part (chip_file s) ≡ Ok (with_empty_buffers s)
+pub read_again : (s : ChipState) → IsSoundChip s → chip_in s.part (chip_file s) ≡ Ok (with_empty_buffers s)
 read_again s sound =
     let fuses = s.lfuse ∷ s.hfuse ∷ s.efuse ∷ s.lock ∷ [] in
     let flash_size = sound.flash_size in

@@ -3,11 +3,11 @@ use Rattle.std.proofs.Common.{◌≡◌, refl, arith, ℕ, List, [], ◌∷◌, 
 use Rattle.std.proofs.lemmas.Bool.{cases_Bool}
 use Rattle.std.proofs.lemmas.Slice.Eq.{bytes_eq-Decides}
 use Rattle.std.specs.Str.{bytes_eq}
-use Rattle.avr_part.specs.Mem.{name_of, named, memories}
+use Rattle.avr_part.specs.Mem.{name_of, memory_named, all_memories}
 use Rattle.avr_part.specs.declared.mem.Mem.{Mem}
 use Rattle.avr_part.specs.declared.mem.Mem.TheVariants.{Flash, Eeprom, Lfuse, Hfuse, Efuse, Lock, Signature, Calibration}
 
-pub found_by_name : (m : Mem) → named (name_of m) ≡ Some m
+pub found_by_name : (m : Mem) → memory_named (name_of m) ≡ Some m
 found_by_name Flash = refl
 found_by_name Eeprom = refl
 found_by_name Lfuse = refl
@@ -26,7 +26,7 @@ find_passes test (y ∷ ys) x e =
       | inr fails ↦ find_passes test ys x (rw fails at e)
     ]
 
-pub name_of_found : (text : List ℕ) (m : Mem) → named text ≡ Some m → text ≡ name_of m
+pub name_of_found : (text : List ℕ) (m : Mem) → memory_named text ≡ Some m → text ≡ name_of m
 name_of_found text m e =
-    let passes = find_passes (λ (memory : Mem). bytes_eq (name_of memory) text) memories m e in
+    let passes = find_passes (λ (memory : Mem). bytes_eq (name_of memory) text) all_memories m e in
     grind (arith, bytes_eq-Decides (name_of m) text)

@@ -3,27 +3,27 @@ use Rattle.std.proofs.Common.{◌≡◌, refl, ℕ, List, [], ◌∷◌, ◌++�
 use Rattle.std.specs.Str.{is_utf8, chars}
 use Rattle.toml.proofs.OnLiterals.{toml_on_literals}
 use Rattle.hex.proofs.OnLiterals.{hex_on_literals}
-use Rattle.avr_part.specs.Mem.{named}
+use Rattle.avr_part.specs.Mem.{memory_named}
 use Rattle.avr_part.specs.Part.{Part, is_id}
-use Rattle.avr_part.specs.BuiltIn.{m328p, t85, m2560, found}
+use Rattle.avr_part.specs.BuiltIn.{m328p, t85, m2560, part_of_id}
 use Rattle.avr_part.specs.PartFile.{parts_of}
-use Rattle.avr_part.specs.State.{State, fresh_state, spi_of, word_address}
+use Rattle.avr_part.specs.State.{ChipState, fresh_state, spi_of, word_address}
 use Rattle.avr_part.specs.ChipFile.{chip_in}
 use Rattle.avr_part.specs.declared.mem.Mem.TheVariants.{Efuse}
 use Rattle.avr_part.specs.declared.fault.Field.TheVariants as field
 use Rattle.avr_part.specs.declared.fault.PartFault.TheVariants.{NotToml, Missing, BadValue, BadSizes, NoSuchPart, BadChipFile}
 
 -- a name is a memory's in its own spelling alone
-by_its_name : named (codes "efuse") ≡ Some Efuse
+by_its_name : memory_named (codes "efuse") ≡ Some Efuse
 by_its_name = refl
 
-no_upper_case : named (codes "Flash") ≡ None
+no_upper_case : memory_named (codes "Flash") ≡ None
 no_upper_case = refl
 
-no_front : named (codes "fuse") ≡ None
+no_front : memory_named (codes "fuse") ≡ None
 no_front = refl
 
-no_empty_name : named [] ≡ None
+no_empty_name : memory_named [] ≡ None
 no_empty_name = refl
 
 -- an id has 1 to 31 letters, digits, `_` and `-`
@@ -58,7 +58,7 @@ abbrev four : ℕ → ℕ → ℕ → ℕ → List ℕ
 four a b c d = a ∷ b ∷ c ∷ d ∷ []
 
 -- the chip after these instructions
-abbrev after_all : List (List ℕ) → State → State
+abbrev after_all : List (List ℕ) → ChipState → ChipState
 after_all [] s = s
 after_all (x ∷ xs) s = after_all xs (spi_of x s).1
 
@@ -137,13 +137,13 @@ chip_file_of_tiny : chip_in tiny (0 ∷ 1 ∷ 2 ∷ []) ≡ Err (BadChipFile 3)
 unfolding tiny
 chip_file_of_tiny = refl
 
-found_first : found (codes "t85") (record t85 { flash_size = 4096 } ∷ []) ≡ Ok (record t85 { flash_size = 4096 })
+found_first : part_of_id (codes "t85") (record t85 { flash_size = 4096 } ∷ []) ≡ Ok (record t85 { flash_size = 4096 })
 found_first = refl
 
-found_built_in : found (codes "m2560") [] ≡ Ok m2560
+found_built_in : part_of_id (codes "m2560") [] ≡ Ok m2560
 found_built_in = refl
 
-found_none : found (codes "m9") [] ≡ Err NoSuchPart
+found_none : part_of_id (codes "m9") [] ≡ Err NoSuchPart
 found_none = refl
 
 -- part files

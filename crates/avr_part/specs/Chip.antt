@@ -1,9 +1,9 @@
 -- The fields of a chip, as its state.
-use Rattle.avr_part.specs.State.{State}
-use Rattle.avr_part.specs.Sound.{IsSound}
+use Rattle.avr_part.specs.State.{ChipState}
+use Rattle.avr_part.specs.Sound.{IsSoundChip}
 use Rattle.avr_part.specs.declared.chip.Chip.TheInside.{Inside}
 
-abbrev pub state_of : Inside → State
+abbrev pub state_of : Inside → ChipState
 state_of c = record {
   part = c.part;
   flash = c.flash;
@@ -18,4 +18,4 @@ state_of c = record {
 }
 
 abbrev pub IsSoundInside : Inside → Type 0
-IsSoundInside c = IsSound (state_of c)
+IsSoundInside c = IsSoundChip (state_of c)

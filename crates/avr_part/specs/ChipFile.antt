@@ -1,18 +1,18 @@
 -- The chip file: flash, EEPROM, low, high and extended fuse and lock, byte after byte.
 use Rattle.std.specs.Prelude.{◌+◌, ◌==◌, ℕ, List, [], ◌∷◌, ◌++◌, length, take, drop, slice_index, Result, Ok, Err, if◌then◌else◌}
 use Rattle.avr_part.specs.Part.{Part}
-use Rattle.avr_part.specs.State.{State, fresh_state}
+use Rattle.avr_part.specs.State.{ChipState, fresh_state}
 use Rattle.avr_part.specs.declared.fault.PartFault.{PartFault}
 use Rattle.avr_part.specs.declared.fault.PartFault.TheVariants.{BadChipFile}
 
-abbrev pub chip_file : State → List ℕ
+abbrev pub chip_file : ChipState → List ℕ
 chip_file s = s.flash ++ s.eeprom ++ s.lfuse ∷ s.hfuse ∷ s.efuse ∷ s.lock ∷ []
 
 abbrev pub chip_file_size : Part → ℕ
 chip_file_size p = p.flash_size + p.eeprom_size + 4
 
 -- the fresh chip with the file's memories
-abbrev pub state_in : Part → List ℕ → State
+abbrev pub state_in : Part → List ℕ → ChipState
 state_in p bytes =
     let fuses = p.flash_size + p.eeprom_size in
     record (fresh_state p) {
@@ -24,6 +24,6 @@ state_in p bytes =
       lock = slice_index bytes (fuses + 3);
     }
 
-abbrev pub chip_in : Part → List ℕ → Result State PartFault
+abbrev pub chip_in : Part → List ℕ → Result ChipState PartFault
 chip_in p bytes =
     if length bytes == chip_file_size p then Ok (state_in p bytes) else Err (BadChipFile (length bytes))

@@ -1,17 +1,17 @@
 -- What the laws of the chip speak of.
 use Rattle.std.specs.Prelude.{◌≡◌}
-use Rattle.avr_part.specs.State.{State}
+use Rattle.avr_part.specs.State.{ChipState}
 
 -- the flash buffer is loaded again as it was
-abbrev pub flash_loaded_as : State → State → State
+abbrev pub flash_loaded_as : ChipState → ChipState → ChipState
 flash_loaded_as before s = record s { flash_buffer = before.flash_buffer }
 
 -- the EEPROM buffer is loaded again as it was
-abbrev pub eeprom_loaded_as : State → State → State
+abbrev pub eeprom_loaded_as : ChipState → ChipState → ChipState
 eeprom_loaded_as before s = record s { eeprom_buffer = before.eeprom_buffer }
 
 -- flash, EEPROM and fuses are as they were
-pub record KeepsMemories (before s : State) : Type 0 where
+pub record KeepsMemories (before s : ChipState) : Type 0 where
   pub flash : s.flash ≡ before.flash
   pub eeprom : s.eeprom ≡ before.eeprom
   pub lfuse : s.lfuse ≡ before.lfuse

@@ -14,12 +14,12 @@ name_of Lock = codes "lock"
 name_of Signature = codes "signature"
 name_of Calibration = codes "calibration"
 
-abbrev pub memories : List Mem
-memories = Flash ∷ Eeprom ∷ Lfuse ∷ Hfuse ∷ Efuse ∷ Lock ∷ Signature ∷ Calibration ∷ []
+abbrev pub all_memories : List Mem
+all_memories = Flash ∷ Eeprom ∷ Lfuse ∷ Hfuse ∷ Efuse ∷ Lock ∷ Signature ∷ Calibration ∷ []
 
 -- the memory of this name
-abbrev pub named : List ℕ → Option Mem
-named name = find (λ memory. bytes_eq (name_of memory) name) memories
+abbrev pub memory_named : List ℕ → Option Mem
+memory_named name = find (λ memory. bytes_eq (name_of memory) name) all_memories
 
 abbrev pub is_writable : Mem → Bool
 is_writable Signature = false

@@ -7,21 +7,21 @@ AreBytes xs = All (λ b. b < 256) xs
 abbrev pub AreLoads : List (Option ℕ) → Type 0
 AreLoads loads = All (λ o. IfSome o (λ b. b < 256)) loads
 
-abbrev pub changed_from : ℕ → (ℕ → ℕ → ℕ) → List ℕ → List ℕ
-changed_from i f [] = []
-changed_from i f (x ∷ xs) = f i x ∷ changed_from (suc i) f xs
+abbrev pub map_indexed_from : ℕ → (ℕ → ℕ → ℕ) → List ℕ → List ℕ
+map_indexed_from i f [] = []
+map_indexed_from i f (x ∷ xs) = f i x ∷ map_indexed_from (suc i) f xs
 
 -- each byte x at an address i becomes f i x
-abbrev pub changed : (ℕ → ℕ → ℕ) → List ℕ → List ℕ
-changed f xs = changed_from 0 f xs
+abbrev pub map_indexed : (ℕ → ℕ → ℕ) → List ℕ → List ℕ
+map_indexed f xs = map_indexed_from 0 f xs
 
 -- the address lies in the n bytes from start on
-abbrev pub is_within : ℕ → ℕ → ℕ → Bool
-is_within start n i = nat_le start i && nat_lt i (start + n)
+abbrev pub is_in_span : ℕ → ℕ → ℕ → Bool
+is_in_span start n i = nat_le start i && nat_lt i (start + n)
 
 -- within the page each byte becomes itself AND the page's
-abbrev pub anded : ℕ → List ℕ → ℕ → ℕ → ℕ
-anded start page i x = if is_within start (length page) i then bit_and x (slice_index page (i - start)) else x
+abbrev pub byte_and_page : ℕ → List ℕ → ℕ → ℕ → ℕ
+byte_and_page start page i x = if is_in_span start (length page) i then bit_and x (slice_index page (i - start)) else x
 
 abbrev pub blank : List ℕ → List ℕ
 blank xs = replicate (length xs) 255
@@ -32,7 +32,7 @@ nothing_loaded loads = replicate (length loads) None
 -- within the page each byte becomes the one that was loaded for its place, if one was
 abbrev pub overlaid : ℕ → List (Option ℕ) → ℕ → ℕ → ℕ
 overlaid start loads i x =
-    if is_within start (length loads) i then unwrap_or (slice_index_or loads (i - start) None) x else x
+    if is_in_span start (length loads) i then unwrap_or (slice_index_or loads (i - start) None) x else x
 
 -- the first address of the page in which an address lies
 abbrev pub page_start : ℕ → ℕ → ℕ

@@ -2,10 +2,10 @@
 use Rattle.std.specs.Prelude.{◌≡◌, ◌<◌, length}
 use Rattle.avr_part.specs.Part.{IsPart}
 use Rattle.avr_part.specs.Memory.{AreBytes, AreLoads}
-use Rattle.avr_part.specs.State.{State}
+use Rattle.avr_part.specs.State.{ChipState}
 
 -- The memories and buffers have the part's sizes, and hold bytes.
-pub record IsSound (s : State) : Type 0 where
+pub record IsSoundChip (s : ChipState) : Type 0 where
   pub part : IsPart s.part
   pub flash_size : length s.flash ≡ s.part.flash_size
   pub eeprom_size : length s.eeprom ≡ s.part.eeprom_size

@@ -1,7 +1,7 @@
 -- The chip, as its memories and buffers, and what each instruction does to them.
 use Rattle.std.specs.Prelude.{ℕ, Bool, ◌+◌, ◌*◌, ◌/◌, ◌%◌, ◌==◌, List, [], ◌∷◌, Option, Some, None, replicate, slice_index, slice_set, bit_and, if◌then◌else◌}
 use Rattle.std.specs.Int.{bit_at}
-use Rattle.avr_part.specs.Memory.{changed, anded, overlaid, blank, nothing_loaded, page_start}
+use Rattle.avr_part.specs.Memory.{map_indexed, byte_and_page, overlaid, blank, nothing_loaded, page_start}
 use Rattle.avr_part.specs.Instruction.{instruction_of}
 use Rattle.avr_part.specs.Part.{Part}
 use Rattle.avr_part.specs.declared.mem.Mem.{Mem}
@@ -13,7 +13,7 @@ use Rattle.avr_part.specs.declared.instruction.Fuse.TheVariants as fuse
 use Rattle.avr_part.specs.declared.instruction.Instruction.{Instruction}
 use Rattle.avr_part.specs.declared.instruction.Instruction.TheVariants.{Enable, Erase, LoadFlash, WriteFlashPage, ReadFlash, ReadEeprom, WriteEeprom, LoadEeprom, WriteEepromPage, WriteFuse, WriteLock, ReadFuse, ReadLock, ReadSignature, ReadCalibration, Poll, Extend}
 
-pub record State : Type 0 where
+pub record ChipState : Type 0 where
   pub part : Part
   pub flash : List ℕ
   pub eeprom : List ℕ
@@ -26,7 +26,7 @@ pub record State : Type 0 where
   pub extended : ℕ
 
 -- a chip whose memories are all FF, and whose buffers are empty
-abbrev pub fresh_state : Part → State
+abbrev pub fresh_state : Part → ChipState
 fresh_state p = record {
   part = p;
   flash = replicate p.flash_size 255;
@@ -41,7 +41,7 @@ fresh_state p = record {
 }
 
 -- an empty flash buffer is FF, and nothing is loaded in an empty EEPROM buffer
-abbrev pub with_empty_buffers : State → State
+abbrev pub with_empty_buffers : ChipState → ChipState
 with_empty_buffers s = record s {
   flash_buffer = blank s.flash_buffer;
   eeprom_buffer = nothing_loaded s.eeprom_buffer;
@@ -49,10 +49,10 @@ with_empty_buffers s = record s {
 }
 
 -- the EESAVE bit is 0
-abbrev pub keeps_eeprom : State → Bool
+abbrev pub keeps_eeprom : ChipState → Bool
 keeps_eeprom s = bit_at s.hfuse s.part.eesave_bit == 0
 
-abbrev pub with_erased : State → State
+abbrev pub with_erased : ChipState → ChipState
 with_erased s = record s {
   flash = blank s.flash;
   lock = 255;
@@ -60,72 +60,73 @@ with_erased s = record s {
 }
 
 -- lock bit 0 is 0: nothing but a chip erase changes flash, EEPROM and fuses
-abbrev pub is_locked : State → Bool
+abbrev pub is_locked : ChipState → Bool
 is_locked s = bit_at s.lock 0 == 0
 
 abbrev pub half_offset : Half → ℕ
 half_offset half.Low = 0
 half_offset half.High = 1
 
-abbrev pub with_load : Half → ℕ → ℕ → State → State
+abbrev pub with_load : Half → ℕ → ℕ → ChipState → ChipState
 with_load h word byte s = record s {
   flash_buffer = slice_set s.flash_buffer (word % (s.part.flash_page / 2) * 2 + half_offset h) byte;
 }
 
 -- the address of the low byte of a word
-abbrev pub word_address : State → ℕ → ℕ
+abbrev pub word_address : ChipState → ℕ → ℕ
 word_address s word = (s.extended * 65536 + word) % (s.part.flash_size / 2) * 2
 
-abbrev pub eeprom_address : State → ℕ → ℕ
+abbrev pub eeprom_address : ChipState → ℕ → ℕ
 eeprom_address s address = address % s.part.eeprom_size
 
-abbrev pub with_flash_page : ℕ → State → State
+abbrev pub with_flash_page : ℕ → ChipState → ChipState
 with_flash_page word s = record s {
-  flash = if is_locked s then s.flash else changed (anded (page_start s.part.flash_page (word_address s word))
+  flash = if is_locked s then s.flash
+      else map_indexed (byte_and_page (page_start s.part.flash_page (word_address s word))
       s.flash_buffer) s.flash;
   flash_buffer = blank s.flash_buffer;
 }
 
-abbrev pub with_eeprom_byte : ℕ → ℕ → State → State
+abbrev pub with_eeprom_byte : ℕ → ℕ → ChipState → ChipState
 with_eeprom_byte address byte s =
     record s { eeprom = if is_locked s then s.eeprom else slice_set s.eeprom (eeprom_address s address) byte }
 
-abbrev pub with_eeprom_load : ℕ → ℕ → State → State
+abbrev pub with_eeprom_load : ℕ → ℕ → ChipState → ChipState
 with_eeprom_load place byte s = record s {
   eeprom_buffer = slice_set s.eeprom_buffer (place % s.part.eeprom_page) (Some byte);
 }
 
-abbrev pub with_eeprom_page : ℕ → State → State
+abbrev pub with_eeprom_page : ℕ → ChipState → ChipState
 with_eeprom_page address s = record s {
-  eeprom = if is_locked s then s.eeprom else changed (overlaid
+  eeprom = if is_locked s then s.eeprom else map_indexed (overlaid
       (page_start s.part.eeprom_page (eeprom_address s address)) s.eeprom_buffer) s.eeprom;
   eeprom_buffer = nothing_loaded s.eeprom_buffer;
 }
 
-abbrev pub with_fuse : Fuse → ℕ → State → State
+abbrev pub with_fuse : Fuse → ℕ → ChipState → ChipState
 with_fuse fuse.Low byte s = record s { lfuse = if is_locked s then s.lfuse else byte }
 with_fuse fuse.High byte s = record s { hfuse = if is_locked s then s.hfuse else byte }
 with_fuse fuse.Extended byte s = record s { efuse = if is_locked s then s.efuse else byte }
 
-abbrev pub with_lock : ℕ → State → State
+abbrev pub with_lock : ℕ → ChipState → ChipState
 with_lock byte s = record s { lock = bit_and s.lock byte }
 
-abbrev pub flash_byte : Half → ℕ → State → ℕ
+abbrev pub flash_byte : Half → ℕ → ChipState → ℕ
 flash_byte h word s = slice_index s.flash (word_address s word + half_offset h)
 
-abbrev pub eeprom_byte : ℕ → State → ℕ
+abbrev pub eeprom_byte : ℕ → ChipState → ℕ
 eeprom_byte address s = slice_index s.eeprom (eeprom_address s address)
 
-abbrev pub fuse_of : Fuse → State → ℕ
+abbrev pub fuse_of : Fuse → ChipState → ℕ
 fuse_of fuse.Low s = s.lfuse
 fuse_of fuse.High s = s.hfuse
 fuse_of fuse.Extended s = s.efuse
 
-abbrev pub signature_byte : ℕ → State → ℕ
+abbrev pub signature_byte : ℕ → ChipState → ℕ
 signature_byte place s = if place % 4 == 3 then 255 else slice_index s.part.signature (place % 4)
 
 -- the byte that an instruction reads; one that reads none gives its third byte back
-abbrev pub answer_of : Instruction → ℕ → State → ℕ
+abbrev pub answer_of : Instruction → ℕ → ChipState → ℕ
 answer_of (ReadFlash h word) third s = flash_byte h word s
 answer_of (ReadEeprom address) third s = eeprom_byte address s
 answer_of (ReadFuse f) third s = fuse_of f s
@@ -136,27 +137,27 @@ answer_of Poll third s = 0
 answer_of i third s = third
 
 -- what an instruction changes
-abbrev pub after : Instruction → State → State
-after Enable s = with_empty_buffers s
-after Erase s = with_erased s
-after (LoadFlash h word byte) s = with_load h word byte s
-after (WriteFlashPage word) s = with_flash_page word s
-after (WriteEeprom address byte) s = with_eeprom_byte address byte s
-after (LoadEeprom place byte) s = with_eeprom_load place byte s
-after (WriteEepromPage address) s = with_eeprom_page address s
-after (WriteFuse f byte) s = with_fuse f byte s
-after (WriteLock byte) s = with_lock byte s
-after (Extend byte) s = record s { extended = byte }
-after i s = s
+abbrev pub after_instruction : Instruction → ChipState → ChipState
+after_instruction Enable s = with_empty_buffers s
+after_instruction Erase s = with_erased s
+after_instruction (LoadFlash h word byte) s = with_load h word byte s
+after_instruction (WriteFlashPage word) s = with_flash_page word s
+after_instruction (WriteEeprom address byte) s = with_eeprom_byte address byte s
+after_instruction (LoadEeprom place byte) s = with_eeprom_load place byte s
+after_instruction (WriteEepromPage address) s = with_eeprom_page address s
+after_instruction (WriteFuse f byte) s = with_fuse f byte s
+after_instruction (WriteLock byte) s = with_lock byte s
+after_instruction (Extend byte) s = record s { extended = byte }
+after_instruction i s = s
 
 -- four bytes in, and four bytes out
-abbrev pub spi_of : List ℕ → State → List ℕ × State
+abbrev pub spi_of : List ℕ → ChipState → List ℕ × ChipState
 spi_of x s =
     let i = instruction_of x in
-    (0 ∷ slice_index x 0 ∷ slice_index x 1 ∷ answer_of i (slice_index x 2) s ∷ [], after i s)
+    (0 ∷ slice_index x 0 ∷ slice_index x 1 ∷ answer_of i (slice_index x 2) s ∷ [], after_instruction i s)
 
 -- the bytes of a memory
-abbrev pub memory_of : Mem → State → List ℕ
+abbrev pub memory_of : Mem → ChipState → List ℕ
 memory_of Flash s = s.flash
 memory_of Eeprom s = s.eeprom
 memory_of Lfuse s = s.lfuse ∷ []

@@ -36,9 +36,9 @@ pub struct Chip {
 }
 
 impl Model for Chip {
-    ghost use Rattle.avr_part.specs.State.{State};
+    ghost use Rattle.avr_part.specs.State.{ChipState};
 
-    ghost Value = { State };
+    ghost Value = { ChipState };
 
     ghost use Rattle.avr_part.specs.Chip.{state_of, IsSoundInside};
 
@@ -66,10 +66,10 @@ fn page_start(at: usize, page: usize, size: usize) -> usize
 }
 
 impl Chip {
-    ghost use Rattle.avr_part.specs.State.{fresh_state, with_empty_buffers, with_erased, with_load, with_flash_page, with_eeprom_byte, with_eeprom_load, with_eeprom_page, with_fuse, with_lock, word_address, eeprom_address, flash_byte, eeprom_byte, signature_byte, fuse_of, answer_of, after, spi_of, keeps_eeprom, is_locked, memory_of};
+    ghost use Rattle.avr_part.specs.State.{fresh_state, with_empty_buffers, with_erased, with_load, with_flash_page, with_eeprom_byte, with_eeprom_load, with_eeprom_page, with_fuse, with_lock, word_address, eeprom_address, flash_byte, eeprom_byte, signature_byte, fuse_of, answer_of, after_instruction, spi_of, keeps_eeprom, is_locked, memory_of};
     ghost use Rattle.avr_part.specs.Instruction.{instruction_of};
     ghost use Rattle.avr_part.specs.Block.{load_block, is_in_page, loaded_in_turn, flash_block, is_in_flash, read_in_turn};
-    ghost use Rattle.avr_part.specs.Sound.{IsSound};
+    ghost use Rattle.avr_part.specs.Sound.{IsSoundChip};
     ghost use Rattle.avr_part.specs.PartFile.{GivesOrMemory};
 
     /// A chip of this part whose memories are all FF.
@@ -115,7 +115,7 @@ impl Chip {
     /// ```
     pub fn part(&self) -> &Part
         ensures value { result.now ≡ self.now.part }
-        ensures sound { IsSound self.now }
+        ensures sound { IsSoundChip self.now }
     {
         &self.part
     }
@@ -333,7 +333,7 @@ impl Chip {
     /// What an instruction changes.
     #[inline(always)]
     fn obey(&mut self, instruction: Instruction)
-        ensures { self.new ≡ after instruction self.old }
+        ensures { self.new ≡ after_instruction instruction self.old }
     {
         match instruction {
             Instruction::Enable => self.enable(),

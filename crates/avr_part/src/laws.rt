@@ -2,62 +2,62 @@
 ghost use Rattle.std.specs.Prelude.{◌≡◌, ℕ, List, [], ◌∷◌, length, Some, Ok, true, ◌≢◌};
 ghost use Rattle.avr_part.specs.declared.instruction.Fuse.{Fuse};
 ghost use Rattle.avr_part.specs.declared.mem.Mem.{Mem};
-ghost use Rattle.avr_part.specs.Mem.{name_of, named};
+ghost use Rattle.avr_part.specs.Mem.{name_of, memory_named};
 ghost use Rattle.avr_part.specs.declared.instruction.Instruction.{Instruction};
-ghost use Rattle.avr_part.specs.State.{State, with_empty_buffers, with_erased, with_flash_page, with_eeprom_page, with_fuse, with_lock, is_locked, after, spi_of};
+ghost use Rattle.avr_part.specs.State.{ChipState, with_empty_buffers, with_erased, with_flash_page, with_eeprom_page, with_fuse, with_lock, is_locked, after_instruction, spi_of};
 ghost use Rattle.avr_part.specs.Part.{Part};
-ghost use Rattle.avr_part.specs.Sound.{IsSound};
+ghost use Rattle.avr_part.specs.Sound.{IsSoundChip};
 ghost use Rattle.avr_part.specs.ChipFile.{chip_file, chip_file_size, chip_in, state_in};
 ghost use Rattle.avr_part.specs.Laws.{flash_loaded_as, eeprom_loaded_as, KeepsMemories};
 
 /// A memory is found by its own name, and by no other text.
 #[tactic(auto, using(crate::proofs::Naming::found_by_name, crate::proofs::Naming::name_of_found))]
 pub fn a_memory_is_found_by_its_name()
-    ensures own { (m : Mem) → named (name_of m) ≡ Some m }
-    ensures only { (text : List ℕ) (m : Mem) → named text ≡ Some m → text ≡ name_of m }
+    ensures own { (m : Mem) → memory_named (name_of m) ≡ Some m }
+    ensures only { (text : List ℕ) (m : Mem) → memory_named text ≡ Some m → text ≡ name_of m }
 {}
 
 /// An erase that is repeated changes nothing more.
 #[tactic(auto, using(crate::proofs::Twice::erased_twice))]
 pub fn erased_twice_is_erased_once()
-    ensures { (s : State) → with_erased (with_erased s) ≡ with_erased s }
+    ensures { (s : ChipState) → with_erased (with_erased s) ≡ with_erased s }
 {}
 
 /// A flash page that is written again from the same buffer changes nothing more, also under the lock.
 #[tactic(auto, using(crate::proofs::Twice::flash_page_twice))]
 pub fn flash_page_twice_is_once()
-    ensures { (word : ℕ) (s : State)
+    ensures { (word : ℕ) (s : ChipState)
         → with_flash_page word (flash_loaded_as s (with_flash_page word s)) ≡ with_flash_page word s }
 {}
 
 /// An EEPROM page that is written again from the same buffer changes nothing more, also under the lock.
 #[tactic(auto, using(crate::proofs::Twice::eeprom_page_twice))]
 pub fn eeprom_page_twice_is_once()
-    ensures { (address : ℕ) (s : State)
+    ensures { (address : ℕ) (s : ChipState)
         → with_eeprom_page address (eeprom_loaded_as s (with_eeprom_page address s)) ≡ with_eeprom_page address s }
 {}
 
 /// A fuse that is written again with the same byte changes nothing more, also under the lock.
 #[tactic(auto, using(crate::proofs::Twice::fuse_twice))]
 pub fn fuse_twice_is_once()
-    ensures { (f : Fuse) (byte : ℕ) (s : State) → with_fuse f byte (with_fuse f byte s) ≡ with_fuse f byte s }
+    ensures { (f : Fuse) (byte : ℕ) (s : ChipState) → with_fuse f byte (with_fuse f byte s) ≡ with_fuse f byte s }
 {}
 
 /// A lock that is written again with the same byte changes nothing more.
 #[tactic(auto, using(crate::proofs::Twice::lock_twice))]
 pub fn lock_twice_is_once()
-    ensures { (byte : ℕ) (s : State) → with_lock byte (with_lock byte s) ≡ with_lock byte s }
+    ensures { (byte : ℕ) (s : ChipState) → with_lock byte (with_lock byte s) ≡ with_lock byte s }
 {}
 
 /// After the instruction that enables programming both buffers are empty and the extended address is 0.
 pub fn enabling_empties_the_buffers()
-    ensures { (c d : ℕ) (s : State) → (spi_of (0xAC ∷ 0x53 ∷ c ∷ d ∷ []) s).1 ≡ with_empty_buffers s }
+    ensures { (c d : ℕ) (s : ChipState) → (spi_of (0xAC ∷ 0x53 ∷ c ∷ d ∷ []) s).1 ≡ with_empty_buffers s }
 {}
 
 /// While lock bit 0 is programmed nothing but a chip erase changes flash, EEPROM or a fuse.
 pub fn a_locked_chip_keeps_its_memories()
-    ensures { (i : Instruction) (s : State)
-        → is_locked s ≡ true → i ≢ Instruction.Erase → KeepsMemories s (after i s) }
+    ensures { (i : Instruction) (s : ChipState)
+        → is_locked s ≡ true → i ≢ Instruction.Erase → KeepsMemories s (after_instruction i s) }
 {}
 
 /// A chip file that is read again gives the chip's memories, with empty buffers; and a file of the part's length that
@@ -66,6 +66,6 @@ pub fn a_locked_chip_keeps_its_memories()
 pub fn a_chip_file_is_read_again()
     ensures written { (p : Part) (bytes : List ℕ)
         → length bytes ≡ chip_file_size p → chip_file (state_in p bytes) ≡ bytes }
-    ensures read { (s : State)
-        → IsSound s → chip_in s.part (chip_file s) ≡ Ok (with_empty_buffers s) }
+    ensures read { (s : ChipState)
+        → IsSoundChip s → chip_in s.part (chip_file s) ≡ Ok (with_empty_buffers s) }
 {}

@@ -1,6 +1,6 @@
 //! The memories of a part.
 ghost use Rattle.std.specs.Prelude.{◌≡◌};
-ghost use Rattle.avr_part.specs.Mem.{name_of, is_writable, named};
+ghost use Rattle.avr_part.specs.Mem.{name_of, is_writable, memory_named};
 
 /// A memory of a part, as AVRDUDE's `-U` names it.
 ///
@@ -64,7 +64,7 @@ impl Mem {
     /// assert_eq!(rt; Mem::named("EEPROM"), None);
     /// ```
     pub fn named(name: &str) -> Option<Mem>
-        ensures { result ≡ named name.now }
+        ensures { result ≡ memory_named name.now }
     {
         Mem::ALL.iter().copied().find(|mem| mem.name() == name)
     }

@@ -1,6 +1,6 @@
 //! The bytes of a memory.
 ghost use Rattle.std.specs.Prelude.{◌≡◌, ◌+◌, ◌<◌, ◌≤◌, ℕ, List, IfOk, length, slice_index, slice_set, slice_get, replicate};
-ghost use Rattle.avr_part.specs.Memory.{AreBytes, changed, anded, overlaid, blank, pasted};
+ghost use Rattle.avr_part.specs.Memory.{AreBytes, map_indexed, byte_and_page, overlaid, blank, pasted};
 
 use crate::loads::Loads;
 use std::alloc::{AllocError, Global};
@@ -81,7 +81,7 @@ impl Memory {
     /// Each byte from `start` on becomes itself AND the page's byte.
     pub fn and_page(&mut self, start: usize, page: &[u8])
         requires { start + length page.now ≤ length self.old }
-        ensures bytes { self.new ≡ changed (anded start page.now) self.old }
+        ensures bytes { self.new ≡ map_indexed (byte_and_page start page.now) self.old }
         ensures len { length self.new ≡ length self.old }
         ensures small { AreBytes self.new }
     {
@@ -93,7 +93,7 @@ impl Memory {
     /// Each byte from `start` on becomes the one that was loaded for its place, if one was.
     pub fn overlay_page(&mut self, start: usize, loads: &Loads)
         requires { start + length loads.now ≤ length self.old }
-        ensures bytes { self.new ≡ changed (overlaid start loads.now) self.old }
+        ensures bytes { self.new ≡ map_indexed (overlaid start loads.now) self.old }
         ensures len { length self.new ≡ length self.old }
         ensures small { AreBytes self.new }
     {

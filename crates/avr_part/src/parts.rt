@@ -1,7 +1,7 @@
 //! The parts of a file, and how a part is found.
 ghost use Rattle.std.specs.Prelude.{◌≡◌, ◌++◌, [], IfOk};
 ghost use Rattle.std.specs.Iterator.{YieldsFirst, item_count};
-ghost use Rattle.avr_part.specs.BuiltIn.{built_in_parts, found};
+ghost use Rattle.avr_part.specs.BuiltIn.{built_in_parts, part_of_id};
 ghost use Rattle.avr_part.specs.Part.{IsPart};
 
 use crate::built_in::built_in_at;
@@ -23,11 +23,11 @@ pub struct Parts {
 impl Model for Parts {
     ghost use Rattle.std.specs.Prelude.{List};
     ghost use Rattle.avr_part.specs.Part.{Part};
-    ghost use Rattle.avr_part.specs.BuiltIn.{listed};
+    ghost use Rattle.avr_part.specs.BuiltIn.{parts_of_file};
 
     ghost Value = { List Part };
 
-    ghost view = { λ p. listed p.file };
+    ghost view = { λ p. parts_of_file p.file };
 }
 
 impl Parts {
@@ -84,7 +84,7 @@ impl Parts {
     /// assert_eq!(rt; Parts::none().find("m9").err(), Some(PartFault::NoSuchPart));
     /// ```
     pub fn find(&self, id: &str) -> Result<Part, PartFault>
-        ensures value { result ≡ found id.now self.now }
+        ensures value { result ≡ part_of_id id.now self.now }
         ensures is_part { IfOk result IsPart }
     {
         self.iter()

@@ -17,9 +17,9 @@ use Rattle.avr_part.specs.BuiltIn.{m328p}
 use Rattle.avr_part.specs.declared.mem.Mem.TheVariants.{Flash}
 use Rattle.avr_records.specs.declared.kind.Ending.{Ending}
 use Rattle.avr_plan.specs.Lines.{memory_line, not_opened_line}
-use Rattle.avr_plan.specs.Planning.{planned, file_image_stage, judged_image, warned}
+use Rattle.avr_plan.specs.Planning.{planned, file_image_stage, judged_image, warning_says}
 use Rattle.avr_plan.specs.Playing.{Goes}
-use Rattle.avr_plan.specs.Stage.{Stage, settled, said, file_stage, ◌>>=◌}
+use Rattle.avr_plan.specs.Stage.{Stage, verdict_stage, saying_stage, file_stage, ◌>>=◌}
 use Rattle.avr_plan.specs.declared.task.Task.{Task}
 use Rattle.avr_plan.specs.declared.task.Task.TheVariants.{Write}
 use Rattle.avr_plan.proofs.Breaks.{Begins, begins_then, begins_file, unopened, opened_is_told}
@@ -46,22 +46,22 @@ wanted = record {
 
 begins_image : Begins file (file_image_stage no_switches file Ihex 32768)
 begins_image =
-    begins_then file (file_stage file 4194304 (judged_image file Ihex 32768)) (λ given. said (warned no_switches file given.1) >>= λ ok. settled (Ok given.0))
+    begins_then file (file_stage file 4194304 (judged_image file Ihex 32768)) (λ given. saying_stage (warning_says no_switches file given.1) >>= λ ok. verdict_stage (Ok given.0))
     (begins_file file 4194304 (judged_image file Ihex 32768))
 
 abbrev task : Stage Task
-task = file_image_stage no_switches file Ihex 32768 >>= λ image. settled (Ok (Write Flash image))
+task = file_image_stage no_switches file Ihex 32768 >>= λ image. verdict_stage (Ok (Write Flash image))
 
 begins_task : Begins file task
-begins_task = begins_then file (file_image_stage no_switches file Ihex 32768) (λ image. settled (Ok (Write Flash image))) begins_image
+begins_task = begins_then file (file_image_stage no_switches file Ihex 32768) (λ image. verdict_stage (Ok (Write Flash image))) begins_image
 
 abbrev tasks : Stage (List Task)
-tasks = task >>= λ first. settled (Ok (first ∷ []))
+tasks = task >>= λ first. verdict_stage (Ok (first ∷ []))
 
 begins : Begins file (planned wanted)
 begins =
-    begins_then file tasks (λ all. settled (Ok (record { part = m328p; tasks = all; switches = no_switches })))
-    (begins_then file task (λ first. settled (Ok (first ∷ []))) begins_task)
+    begins_then file tasks (λ all. verdict_stage (Ok (record { part = m328p; tasks = all; switches = no_switches })))
+    (begins_then file task (λ first. verdict_stage (Ok (first ∷ []))) begins_task)
 
 -- a line and a text that differ at this place
 differs : (place : ℕ) (line told : Bytes) (old new : DeskView) → ((back : Bytes) → get_or (told ++ back) place 0 ≡ get_or line place 0 → ⊥) → TellsLine line told old new → ⊥

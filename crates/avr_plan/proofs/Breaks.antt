@@ -13,8 +13,8 @@ use Rattle.avr_message.specs.Said.{Saying, Opens, Line, Creates, Writes, Outs, T
 use Rattle.avr_message.proofs.Saying.{after_append}
 use Rattle.avr_message.proofs.Telling.{failed_before}
 use Rattle.avr_plan.specs.Lines.{memory_line, not_opened_line}
-use Rattle.avr_plan.specs.Playing.{Went, Break, InLine, NotOpened, NotRead, NoMemory, NoMemoryFor, last_done, IsBreak, TellsBreak, BrokeOff, Goes, part_read}
-use Rattle.avr_plan.specs.Stage.{Stage, Made, Refused, Played, ◌>>=◌, judged, next_opening, file_stage}
+use Rattle.avr_plan.specs.Playing.{Went, Break, InLine, NotOpened, NotRead, NoMemory, NoMemoryFor, last_done, IsBreak, TellsBreak, StageBrokeOff, Goes, part_read}
+use Rattle.avr_plan.specs.Stage.{Stage, Made, Refused, StageResult, ◌>>=◌, content_stage, next_opening, file_stage}
 use Rattle.avr_plan.proofs.Played.{says_more}
 
 -- ---- where the desk did not fail
@@ -36,7 +36,7 @@ whole_line line told old new sound (inl whole) = whole
 whole_line line told old new sound (inr part) = absurd (sound part.1)
 
 -- and of the breaks only the want of memory is left
-broke_lacks : {A : Type 0} (stage : Stage A) (before after : Record) (k l : ℕ) → (HasRisen k l → ⊥) → (b : BrokeOff stage (showing (Some before) k) (showing (Some after) l))
+broke_lacks : {A : Type 0} (stage : Stage A) (before after : Record) (k l : ℕ) → (HasRisen k l → ⊥) → (b : StageBrokeOff stage (showing (Some before) k) (showing (Some after) l))
     → (front : Bytes) × (after.messages ≡ front ++ memory_line)
 broke_lacks stage before after k l sound b = by_break b.break b.told b.tells b.kept
   where
@@ -128,7 +128,7 @@ begins_then name stage go_on begins openings =
     ((begins openings).0 ++ more.0, more.1 ∙ ap (λ (ss : List Saying). ss ++ more.0) (begins openings).1)
 
 pub begins_file : {A : Type 0} (name : Bytes) (limit : ℕ) (judge : Bytes → Result A Bytes) → Begins name (file_stage name limit judge)
-begins_file name limit judge openings = ((judged name limit judge (next_opening name openings) (drop 1 openings)).says, refl)
+begins_file name limit judge openings = ((content_stage name limit judge (next_opening name openings) (drop 1 openings)).says, refl)
 
 -- the one that is behind them all has this name too
 same_name : (name other : Bytes) (passed : List Opening) → next_opening name (passed ++ []) ≡ Absent other → name ≡ other
@@ -190,7 +190,7 @@ module _ {A : Type 0} (name told : Bytes) (stage : Stage A) (begins : Begins nam
 
   pub unopened : (status : ℕ) → Goes stage (showing (Some r) k) (showing (Some (after_err told r)) l) (Err status) → Told
   unopened status (one, inl went) =
-      let says : went.says ≡ Next went.passed = sym (ap (λ (p : Played A). p.says) (went.comes [])) ∙ (begins (went.passed ++ [])).1 in
+      let says : went.says ≡ Next went.passed = sym (ap (λ (p : StageResult A). p.says) (went.comes [])) ∙ (begins (went.passed ++ [])).1 in
       let none = same_openings (Line told ∷ []) went.says r went.kept in
       let clash : [] ≡ next_opening name (went.passed ++ []) ∷ opened_in (begins (went.passed ++ [])).0 = none ∙ ap opened_in says in
       absurd (cc)
@@ -217,7 +217,7 @@ module _ {A : Type 0} (name : Bytes) (limit : ℕ) (judge : Bytes → Result A B
   abbrev Leaves_it : List Saying → Type 0
   Leaves_it sayings = ◌≡◌ {A = Option Record} (Some (after_all done r)) (Some (after_all sayings r))
 
-  abbrev made : List Opening → Played A
+  abbrev made : List Opening → StageResult A
   made left = record { says = Opens (Found reading) ∷ []; answer = Made good; left = left }
 
   -- where the next opening gives it, it is made
@@ -274,7 +274,7 @@ module _ {A : Type 0} (name : Bytes) (limit : ℕ) (judge : Bytes → Result A B
       let shown : Found reading ∷ [] ≡ next_opening name openings ∷ opened_in (whole ++ last_done break line) =
       same_openings done (first ∷ (whole ++ last_done break line)) r kept ∙ ap (λ (s : Saying). opened_in (s ∷ (whole ++ last_done break line))) first_is in
       let opening : next_opening name openings ≡ Found reading = cc in
-      let all : first ∷ (whole ++ later) ≡ Opens (Found reading) ∷ [] = sym says ∙ ap (λ (p : Played A). p.says) (comes_to openings opening) in
+      let all : first ∷ (whole ++ later) ≡ Opens (Found reading) ∷ [] = sym says ∙ ap (λ (p : StageResult A). p.says) (comes_to openings opening) in
       let none : whole ++ later ≡ [] = cc in
       by_end first (next_opening name openings) whole later break line first_is none is tells kept
 
@@ -283,10 +283,10 @@ module _ {A : Type 0} (name : Bytes) (limit : ℕ) (judge : Bytes → Result A B
   opened_is_told status (one, inl went) =
       let openings = went.passed ++ [] in
       let begun = begins_file name limit judge openings in
-      let says : went.says ≡ Opens (next_opening name openings) ∷ begun.0 = sym (ap (λ (p : Played A). p.says) (went.comes [])) ∙ begun.1 in
+      let says : went.says ≡ Opens (next_opening name openings) ∷ begun.0 = sym (ap (λ (p : StageResult A). p.says) (went.comes [])) ∙ begun.1 in
       let shown : Found reading ∷ [] ≡ next_opening name openings ∷ opened_in begun.0 = same_openings done went.says r went.kept ∙ ap opened_in says in
       let opening : next_opening name openings ≡ Found reading = cc in
-      let answers : Made good ≡ Refused = sym (ap (λ (p : Played A). p.answer) (comes_to openings opening)) ∙ ap (λ (p : Played A). p.answer) (went.comes []) in
+      let answers : Made good ≡ Refused = sym (ap (λ (p : StageResult A). p.answer) (comes_to openings opening)) ∙ ap (λ (p : StageResult A). p.answer) (went.comes []) in
       absurd (cc)
   opened_is_told status (one, inr b) =
       let rest = b.rest [] in by_front (b.passed ++ []) b.whole rest.later b.break b.told rest.says_are rest.broken b.tells b.kept

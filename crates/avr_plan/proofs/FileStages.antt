@@ -14,22 +14,22 @@ use Rattle.avr_plan.proofs.Played.{goes_refused}
 use Rattle.avr_plan.specs.ImageReading.{FileBreaks, IsCounted}
 use Rattle.avr_plan.specs.Lines.{file_fault_line, not_opened_line}
 use Rattle.avr_plan.specs.Playing.{Goes, Went}
-use Rattle.avr_plan.specs.Stage.{Made, settled, judged, file_stage}
+use Rattle.avr_plan.specs.Stage.{Made, verdict_stage, content_stage, file_stage}
 
 -- the judgment of what the file gave
 pub goes_whole : {A : Type 0} (name : Bytes) (limit : ℕ) (judge : Bytes → Result A Bytes) (bytes : Bytes) (ended : Bool)
     (old mid new : DeskView) (result : Result A ℕ)
     → Passes (with_read name bytes ended) old mid → IsWhole limit (record { bytes = bytes; ended = ended }) → Follows old mid
-    → Goes (settled (judge bytes)) mid new result → Goes (file_stage name limit judge) old new result
+    → Goes (verdict_stage (judge bytes)) mid new result → Goes (file_stage name limit judge) old new result
 goes_whole name limit judge bytes ended old mid new result kept whole rises goes =
     let reading : Reading = record { name = name; bytes = bytes; ended = ended } in
-    goes_opened name (judged name limit judge) (Found reading) old mid new result refl kept rises
+    goes_opened name (content_stage name limit judge) (Found reading) old mid new result refl kept rises
     (goes_judged name limit judge reading mid new result whole goes)
 
 pub went_whole : {A : Type 0} (name : Bytes) (limit : ℕ) (judge : Bytes → Result A Bytes) (bytes : Bytes) (ended : Bool)
     (old mid : DeskView) (a : A)
     → Passes (with_read name bytes ended) old mid → IsWhole limit (record { bytes = bytes; ended = ended }) → Follows old mid
-    → Went (settled (judge bytes)) mid mid (Made a) → Went (file_stage name limit judge) old mid (Made a)
+    → Went (verdict_stage (judge bytes)) mid mid (Made a) → Went (file_stage name limit judge) old mid (Made a)
 went_whole name limit judge bytes ended old mid a kept whole rises went =
     goes_whole name limit judge bytes ended old mid mid (Ok a) kept whole rises went
 
@@ -40,11 +40,11 @@ pub goes_file_fault : {A : Type 0} (name : Bytes) (limit : ℕ) (judge : Bytes �
     → Tells mid new (file_fault_line name fault)
     → Goes (file_stage name limit judge) old new (Err status)
 goes_file_fault {A} name limit judge file_fault.Absent old mid new status breaks rose counted one told =
-    goes_opened name (judged name limit judge) (Absent name) old mid new (Err status) refl breaks rose
+    goes_opened name (content_stage name limit judge) (Absent name) old mid new (Err status) refl breaks rose
     (goes_refused {A = A} mid new (not_opened_line name) status one told)
 goes_file_fault name limit judge file_fault.NotOpened old mid new status breaks rose counted one told =
-    goes_broken name (judged name limit judge) file_fault.NotOpened old mid new status (λ e. cc) breaks rose counted one told
+    goes_broken name (content_stage name limit judge) file_fault.NotOpened old mid new status (λ e. cc) breaks rose counted one told
 goes_file_fault name limit judge file_fault.NotRead old mid new status breaks rose counted one told =
-    goes_broken name (judged name limit judge) file_fault.NotRead old mid new status (λ e. cc) breaks rose counted one told
+    goes_broken name (content_stage name limit judge) file_fault.NotRead old mid new status (λ e. cc) breaks rose counted one told
 goes_file_fault name limit judge file_fault.Memory old mid new status breaks rose counted one told =
-    goes_broken name (judged name limit judge) file_fault.Memory old mid new status (λ e. cc) breaks rose counted one told
+    goes_broken name (content_stage name limit judge) file_fault.Memory old mid new status (λ e. cc) breaks rose counted one told

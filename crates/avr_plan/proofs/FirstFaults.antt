@@ -6,7 +6,7 @@ use Rattle.avr_records.proofs.Laws.{append-nil, parts-some, in_place-append, up_
 use Rattle.avr_records.proofs.Feeding.{goes-on, closed-front, map-append}
 use Rattle.avr_records.specs.Closed.{all_but_last, fault_among, closed_fault}
 use Rattle.avr_records.specs.Lines.{lines, is_line_end}
-use Rattle.avr_records.specs.Reading.{Said, says, is_end, up_to_end, in_place, first_fault, fault_in, or_later, read}
+use Rattle.avr_records.specs.Reading.{Said, said_by_line, is_end, up_to_end, in_place, first_fault, fault_in, or_later, image_in_text}
 use Rattle.avr_records.specs.declared.kind.Kind.{Kind}
 use Rattle.avr_records.specs.declared.fault.LineFault.{LineFault}
 use Rattle.avr_records.specs.declared.fault.RecordFault.{RecordFault}
@@ -63,8 +63,8 @@ lengthened kind text more =
     }
 
 own_fault : (kind : Kind) (text more : List ℕ) (size : ℕ) (fault : RecordFault) (l : Lengthened kind text more)
-    → closed_fault kind text size ≡ Some fault → fault_among size (map (says kind) l.front) ≡ Some fault
-own_fault kind text more size fault l is = ap (λ (zs : List (List ℕ)). fault_among size (map (says kind) zs)) (sym l.closed) ∙ is
+    → closed_fault kind text size ≡ Some fault → fault_among size (map (said_by_line kind) l.front) ≡ Some fault
+own_fault kind text more size fault l is = ap (λ (zs : List (List ℕ)). fault_among size (map (said_by_line kind) zs)) (sym l.closed) ∙ is
 
 -- a line that has ended and is at fault is the first one still when more has come
 pub closed_fault-more : (kind : Kind) (text more : List ℕ) (size : ℕ) (fault : RecordFault) → closed_fault kind text size ≡ Some fault
@@ -72,19 +72,19 @@ pub closed_fault-more : (kind : Kind) (text more : List ℕ) (size : ℕ) (fault
 closed_fault-more kind text more size fault is =
     let l = lengthened kind text more in
     let closed = ap all_but_last l.lines_are ∙ closed-front l.front l.goes_on l.behind in
-    let said = ap (map (says kind)) closed ∙ map-append (says kind) l.front (all_but_last (l.goes_on ∷ l.behind)) in
+    let said = ap (map (said_by_line kind)) closed ∙ map-append (said_by_line kind) l.front (all_but_last (l.goes_on ∷ l.behind)) in
     ap (fault_among size) said
-    ∙ fault_among-more size (map (says kind) l.front) (map (says kind) (all_but_last (l.goes_on ∷ l.behind))) fault
+    ∙ fault_among-more size (map (said_by_line kind) l.front) (map (said_by_line kind) (all_but_last (l.goes_on ∷ l.behind))) fault
     (own_fault kind text more size fault l is)
 
 -- and it is the fault of the whole file
 pub closed_fault-whole : (kind : Kind) (text more : List ℕ) (size : ℕ) (fault : RecordFault) → closed_fault kind text size ≡ Some fault
-    → read kind (text ++ more) size ≡ Err fault
+    → image_in_text kind (text ++ more) size ≡ Err fault
 closed_fault-whole kind text more size fault is =
     let l = lengthened kind text more in
-    let said = ap (map (says kind)) l.lines_are ∙ map-append (says kind) l.front (l.goes_on ∷ l.behind) in
+    let said = ap (map (said_by_line kind)) l.lines_are ∙ map-append (said_by_line kind) l.front (l.goes_on ∷ l.behind) in
     rw (
       said,
-      fault_among-more size (map (says kind) l.front) (map (says kind) (l.goes_on ∷ l.behind)) fault
+      fault_among-more size (map (said_by_line kind) l.front) (map (said_by_line kind) (l.goes_on ∷ l.behind)) fault
           (own_fault kind text more size fault l is),
     ) refl

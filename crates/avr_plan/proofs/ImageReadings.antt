@@ -12,10 +12,10 @@ use Rattle.avr_desk.specs.declared.record.Open.{Open}
 use Rattle.avr_desk.specs.declared.record.Open.TheVariants.{Closed, ToRead, ToWrite}
 use Rattle.avr_desk.specs.declared.files.FileFault.TheVariants.{Absent, NotOpened, NotRead, Memory}
 use Rattle.avr_message.specs.Lines.{Bytes}
-use Rattle.avr_records.specs.Detect.{detected}
+use Rattle.avr_records.specs.Detect.{kind_of_file}
 use Rattle.avr_records.specs.declared.kind.Found.{Found}
 use Rattle.avr_plan.specs.ImageFile.{Given, whole_file, long_file, file_within, kind_of}
-use Rattle.avr_plan.specs.ImageReading.{Going, Outcome, ReadsRest, RestIsRead, ReadsOpenImage, OpenIsRead, ReadsImage, ImageIsRead, IsGiven}
+use Rattle.avr_plan.specs.ImageReading.{Going, ImageOrFault, ReadsRest, RestIsRead, ReadsOpenImage, OpenIsRead, ReadsImage, ImageIsRead, IsGiven}
 use Rattle.avr_plan.specs.Intake.{Takes}
 use Rattle.avr_plan.specs.declared.bad_file.BadFile.{BadFile}
 use Rattle.avr_plan.specs.declared.image_file.ReadFault.TheVariants.{File, Image}
@@ -73,7 +73,7 @@ within : (limit : ℕ) (found : Found) (bytes : Bytes) (size : ℕ) → length b
     → whole_file found bytes size ≡ file_within limit found bytes size
 within limit found bytes size len = let fits : nat_le (length bytes) limit ≡ true = grind (arith, nat_tests) in rw fits refl
 
-rest-is : (limit : ℕ) (found : Found) (size : ℕ) (before : Bytes) (old new : DeskView) (given : Given) (result : Outcome)
+rest-is : (limit : ℕ) (found : Found) (size : ℕ) (before : Bytes) (old new : DeskView) (given : Given) (result : ImageOrFault)
     → IsGiven given result
     → ReadsRest limit found size before old new given → RestIsRead limit found size before old new result
 rest-is limit found size before old new given (Ok good) is reads = subst (ReadsRest limit found size before old new) (sym is) reads
@@ -82,7 +82,7 @@ rest-is limit found size before old new given (Err (File fault)) is reads = absu
 
 -- the end was seen
 pub rest_ends : (limit : ℕ) (found : Found) (size : ℕ) (before : Bytes) (old now new : DeskView) (first last : Intake) (room left n : ℕ)
-    (buf : Bytes) (result : Outcome)
+    (buf : Bytes) (result : ImageOrFault)
     → Going old now first last room left → Passes (after_read buf (Ok n)) now new → n ≡ 0 → 0 < length buf
     → ((found : Found) (size : ℕ) (text : Bytes) → Takes found size last text → IsGiven (whole_file found text size) result)
     → Takes found size first before → length before + room ≡ limit → RestIsRead limit found size before old new result
@@ -132,7 +132,7 @@ rest_long limit found size before old now new first last room left n buf bad goi
 
 -- ---- a whole file
 
-detected-front : (front more : Bytes) → length front ≡ 1024 → detected (front ++ more) ≡ detected front
+detected-front : (front more : Bytes) → length front ≡ 1024 → kind_of_file (front ++ more) ≡ kind_of_file front
 detected-front front more len =
     rw (take-append-le 4 front more (omega (arith, len)), take-append-le 1024 front more (omega (arith, len))) refl
 
@@ -159,7 +159,7 @@ open_rest limit format size front old now new given first len rest = record {
   gives = rest.gives ∙ ap (λ k. file_within limit k (front ++ rest.bytes) size) (sym (kind-front format front rest.bytes len));
 }
 
-pub open_is_rest : (limit : ℕ) (format : Format) (size : ℕ) (front : Bytes) (old now new : DeskView) (result : Outcome)
+pub open_is_rest : (limit : ℕ) (format : Format) (size : ℕ) (front : Bytes) (old now new : DeskView) (result : ImageOrFault)
     → Passes (after_reading front false) old now
     → length front ≡ 1024 → RestIsRead limit (kind_of format front) size front now new result → OpenIsRead limit format size old new result
 open_is_rest limit format size front old now new (Ok good) first len rest = open_rest limit format size front old now new (Ok good) first len rest
@@ -172,7 +172,7 @@ open_is_rest limit format size front old now new (Err (File NotRead)) first len 
 open_is_rest limit format size front old now new (Err (File Memory)) first len rest = cc rest.0
 
 -- the front is the whole
-pub open_is_front : (limit : ℕ) (format : Format) (size : ℕ) (front : Bytes) (old new : DeskView) (result : Outcome)
+pub open_is_front : (limit : ℕ) (format : Format) (size : ℕ) (front : Bytes) (old new : DeskView) (result : ImageOrFault)
     → Passes (after_reading front true) old new
     → length front ≤ limit → IsGiven (whole_file (kind_of format front) front size) result → OpenIsRead limit format size old new result
 open_is_front limit format size front old new (Ok good) read len is = record {
@@ -208,7 +208,7 @@ opened_image limit format size name old now new given opened reads = record {
   gives = reads.gives;
 }
 
-pub image_is_open : (limit : ℕ) (format : Format) (size : ℕ) (name : Bytes) (old now new : DeskView) (result : Outcome)
+pub image_is_open : (limit : ℕ) (format : Format) (size : ℕ) (name : Bytes) (old now new : DeskView) (result : ImageOrFault)
     → Passes (after_open name (Ok tt)) old now
     → OpenIsRead limit format size now new result → ImageIsRead limit format size name old new result
 image_is_open limit format size name old now new (Ok good) opened reads = opened_image limit format size name old now new (Ok good) opened reads

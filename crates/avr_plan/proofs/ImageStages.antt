@@ -11,9 +11,9 @@ use Rattle.avr_plan.proofs.FileStages.{goes_whole, went_whole, goes_file_fault}
 use Rattle.avr_plan.proofs.Played.{goes_on, goes_no_further, goes_unsettled, went_went, went_nowhere, went_settled}
 use Rattle.avr_plan.specs.ImageReading.{ReadsImage, ImageIsRead, IsCountedRead}
 use Rattle.avr_plan.specs.Lines.{bad_file_line, read_fault_line}
-use Rattle.avr_plan.specs.Planning.{file_image_stage, judged_image, image_or_line, warned}
+use Rattle.avr_plan.specs.Planning.{file_image_stage, judged_image, image_or_line, warning_says}
 use Rattle.avr_plan.specs.Playing.{Goes, Went}
-use Rattle.avr_plan.specs.Stage.{Stage, Made, ◌>>=◌, settled, said, file_stage}
+use Rattle.avr_plan.specs.Stage.{Stage, Made, ◌>>=◌, verdict_stage, saying_stage, file_stage}
 use Rattle.avr_plan.specs.declared.bad_file.BadFile.{BadFile}
 use Rattle.avr_plan.specs.declared.image_file.ReadFault.{ReadFault}
 use Rattle.avr_plan.specs.declared.image_file.ReadFault.TheVariants as fault_of
@@ -23,7 +23,7 @@ Image = List (Option ℕ)
 
 -- what follows the file
 abbrev behind_file : Switches → Bytes → Image × Ending → Stage Image
-behind_file switches file given = said (warned switches file given.1) >>= λ ok. settled (Ok given.0)
+behind_file switches file given = saying_stage (warning_says switches file given.1) >>= λ ok. verdict_stage (Ok given.0)
 
 went_file : (file : Bytes) (format : Format) (size : ℕ) (old mid : DeskView) (image : Image) (ending : Ending)
     → ReadsImage 4194304 format size file old mid (Ok (image, ending)) → Follows old mid
@@ -36,24 +36,24 @@ went_file file format size old mid image ending reads rises =
 
 -- a file that is an image, and its warning
 pub went_image : (switches : Switches) (file : Bytes) (format : Format) (size : ℕ) (old mid new : DeskView) (image : Image) (ending : Ending)
-    → ReadsImage 4194304 format size file old mid (Ok (image, ending)) → Follows old mid → Went (said (warned switches file ending)) mid new (Made tt)
+    → ReadsImage 4194304 format size file old mid (Ok (image, ending)) → Follows old mid → Went (saying_stage (warning_says switches file ending)) mid new (Made tt)
     → Went (file_image_stage switches file format size) old new (Made image)
 went_image switches file format size old mid new image ending reads rises warns =
     went_went (file_stage file 4194304 (judged_image file format size)) (behind_file switches file) old mid new (image, ending) (Made image)
     (went_file file format size old mid image ending reads rises)
-    (went_went (said (warned switches file ending)) (λ ok. settled (Ok image)) mid new new tt (Made image) warns (went_nowhere new image))
+    (went_went (saying_stage (warning_says switches file ending)) (λ ok. verdict_stage (Ok image)) mid new new tt (Made image) warns (went_nowhere new image))
 
 -- its warning broke off
 pub goes_unwarned : (switches : Switches) (file : Bytes) (format : Format) (size : ℕ) (old mid new : DeskView)
     (image : Image) (ending : Ending) (status : ℕ)
     → ReadsImage 4194304 format size file old mid (Ok (image, ending)) → Follows old mid
-    → Goes (said (warned switches file ending)) mid new (Err status)
+    → Goes (saying_stage (warning_says switches file ending)) mid new (Err status)
     → Goes (file_image_stage switches file format size) old new (Err status)
 goes_unwarned switches file format size old mid new image ending status reads rises warns =
     goes_on (file_stage file 4194304 (judged_image file format size)) (behind_file switches file) old mid new (image, ending)
     (Err status)
     (went_file file format size old mid image ending reads rises)
-    (goes_no_further (said (warned switches file ending)) (λ ok. settled (Ok image)) mid new status warns)
+    (goes_no_further (saying_stage (warning_says switches file ending)) (λ ok. verdict_stage (Ok image)) mid new status warns)
 
 -- a file that is none
 goes_bad : (switches : Switches) (file : Bytes) (format : Format) (size : ℕ) (old mid new : DeskView)

@@ -7,8 +7,8 @@ use Rattle.avr_image.specs.declared.fault.ImageFault.{ImageFault}
 use Rattle.avr_image.specs.declared.fault.ImageFault.TheVariants.{OutOfRange}
 use Rattle.avr_message.specs.Lines.{Bytes}
 use Rattle.avr_records.proofs.Feeding.{reads-sound}
-use Rattle.avr_records.specs.Closed.{closed_fault, unless_fault}
-use Rattle.avr_records.specs.Reader.{State, memory_size}
+use Rattle.avr_records.specs.Closed.{closed_fault, ok_unless}
+use Rattle.avr_records.specs.Reader.{ReaderState, memory_size}
 use Rattle.avr_records.specs.declared.kind.Found.{Found}
 use Rattle.avr_records.specs.declared.kind.Kind.{Kind}
 use Rattle.avr_records.specs.declared.kind.Kind.TheVariants as records
@@ -19,7 +19,7 @@ use Rattle.avr_plan.specs.Intake.{Decides, TakesRecords, TakesRaw, found_as, in_
 use Rattle.avr_plan.specs.declared.bad_file.BadFile.{BadFile}
 use Rattle.avr_plan.specs.declared.bad_file.BadFile.TheVariants.{Record, Raw, TooLong}
 
-is-fault : (o : Option RecordFault) (fault : RecordFault) → Err fault ≡ unless_fault o → o ≡ Some fault
+is-fault : (o : Option RecordFault) (fault : RecordFault) → Err fault ≡ ok_unless o → o ≡ Some fault
 is-fault None fault is = cc
 is-fault (Some other) fault is = cc
 
@@ -35,8 +35,8 @@ decides-record records.Srec size fault text is = record {
 }
 
 -- a line is at fault
-pub record-decides : (found : Found) (size : ℕ) (reader : State) (fault : RecordFault) (text piece : Bytes) → TakesRecords found size reader text
-    → Err fault ≡ unless_fault (closed_fault reader.kind (text ++ piece) (memory_size reader)) → Decides found size (Record fault) (text ++ piece)
+pub record-decides : (found : Found) (size : ℕ) (reader : ReaderState) (fault : RecordFault) (text piece : Bytes) → TakesRecords found size reader text
+    → Err fault ≡ ok_unless (closed_fault reader.kind (text ++ piece) (memory_size reader)) → Decides found size (Record fault) (text ++ piece)
 record-decides found size reader fault text piece takes is =
     let own : closed_fault reader.kind (text ++ piece) size ≡ Some fault =
     ap (closed_fault reader.kind (text ++ piece)) (sym takes.of_size) ∙ is-fault (closed_fault reader.kind (text ++ piece) (memory_size reader))
@@ -44,7 +44,7 @@ record-decides found size reader fault text piece takes is =
     subst (λ f. Decides f size (Record fault) (text ++ piece)) (sym takes.of_kind) (decides-record reader.kind size fault (text ++ piece) own)
 
 -- the bytes go past the memory, as any more do
-raw-long : (bytes more : Bytes) (size : ℕ) (fault : ImageFault) → Err fault ≡ raw_file.accepted (raw_file.raw bytes size)
+raw-long : (bytes more : Bytes) (size : ℕ) (fault : ImageFault) → Err fault ≡ raw_file.without_image (raw_file.raw bytes size)
     → raw_file.raw (bytes ++ more) size ≡ Err fault
 raw-long bytes more size fault is =
     elim (cases_Bool (nat_le (length bytes) size)) [
@@ -57,9 +57,9 @@ raw-long bytes more size fault is =
     ]
 
 pub raw-decides : (found : Found) (size : ℕ) (reader : raw_file.Holding) (fault : ImageFault) (text piece : Bytes) → TakesRaw found size reader text
-    → Err fault ≡ raw_file.accepted (raw_file.raw (text ++ piece) (length reader.image)) → Decides found size (Raw fault) (text ++ piece)
+    → Err fault ≡ raw_file.without_image (raw_file.raw (text ++ piece) (length reader.image)) → Decides found size (Raw fault) (text ++ piece)
 raw-decides found size reader fault text piece takes is =
-    let own : Err fault ≡ raw_file.accepted (raw_file.raw (text ++ piece) size) = rw takes.of_size at is in
+    let own : Err fault ≡ raw_file.without_image (raw_file.raw (text ++ piece) size) = rw takes.of_size at is in
     subst (λ f. Decides f size (Raw fault) (text ++ piece)) (sym takes.of_kind) (record {
       whole = λ more. ap of_raw (raw-long (text ++ piece) more size fault own);
       long = λ more. refl;
@@ -85,7 +85,7 @@ sound-long records.Ihex size text none = ap or_too_long (sym none)
 sound-long records.Srec size text none = ap or_too_long (sym none)
 
 -- no line is at fault
-pub records-long : (found : Found) (size : ℕ) (reader : State) (text : Bytes) → TakesRecords found size reader text
+pub records-long : (found : Found) (size : ℕ) (reader : ReaderState) (text : Bytes) → TakesRecords found size reader text
     → TooLong ≡ long_file found text size
 records-long found size reader text takes =
     let none : closed_fault reader.kind text size ≡ None =

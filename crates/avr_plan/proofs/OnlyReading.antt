@@ -13,15 +13,15 @@ use Rattle.avr_desk.specs.declared.record.Opening.TheVariants.{Absent, Found}
 use Rattle.avr_image.specs.Values.{values}
 use Rattle.avr_message.specs.Lines.{Bytes}
 use Rattle.avr_message.specs.Said.{Saying, Opens, Line, Creates, Writes, Outs}
-use Rattle.avr_part.specs.BuiltIn.{found}
+use Rattle.avr_part.specs.BuiltIn.{part_of_id}
 use Rattle.avr_part.specs.Mem.{is_writable}
 use Rattle.avr_part.specs.Part.{Part, size_of}
 use Rattle.avr_part.specs.declared.mem.Mem.{Mem}
 use Rattle.avr_plan.specs.Lines.{no_end_line, read_only_line}
 use Rattle.avr_plan.specs.OnlyReading.{OnlyReads}
 use Rattle.avr_plan.specs.Plan.{Plan}
-use Rattle.avr_plan.specs.Planning.{judged_parts, parts_stage, part_or_line, part_stage, is_warned, warned, judged_image, file_image_stage, values_or_line, image_stage, update_image, write_stage, op_stage, task_stage, tasks_stage, planned}
-use Rattle.avr_plan.specs.Stage.{Stage, Answer, Made, Refused, Unread, going_on, ◌>>=◌, said, settled, unread, opened, is_whole, judged, file_stage}
+use Rattle.avr_plan.specs.Planning.{judged_parts, parts_stage, part_or_line, part_stage, is_warned, warning_says, judged_image, file_image_stage, values_or_line, image_stage, update_image, write_stage, op_stage, task_stage, tasks_stage, planned}
+use Rattle.avr_plan.specs.Stage.{Stage, Answer, Made, Refused, Unread, going_on, ◌>>=◌, saying_stage, verdict_stage, unread_stage, open_stage, is_whole, content_stage, file_stage}
 use Rattle.avr_plan.specs.declared.task.Task.{Task}
 use Rattle.avr_plan.specs.declared.task.Task.TheVariants.{Write, Verify, Read}
 
@@ -45,20 +45,20 @@ going says left go_on Unread f g = f
 onward : {A B : Type 0} (stage : Stage A) (go_on : A → Stage B) → Reads stage → ((a : A) → Reads (go_on a)) → Reads (stage >>= go_on)
 onward stage go_on f g openings = going (stage openings).says (stage openings).left go_on (stage openings).answer (f openings) g
 
-is_settled : {A : Type 0} (result : Result A Bytes) → Reads (settled result)
+is_settled : {A : Type 0} (result : Result A Bytes) → Reads (verdict_stage result)
 is_settled (Ok a) openings = tt
 is_settled (Err line) openings = tt
 
-is_judged : {A : Type 0} (name : Bytes) (limit : ℕ) (judge : Bytes → Result A Bytes) (opening : Opening) → Reads (judged name limit judge opening)
+is_judged : {A : Type 0} (name : Bytes) (limit : ℕ) (judge : Bytes → Result A Bytes) (opening : Opening) → Reads (content_stage name limit judge opening)
 is_judged {A = A} name limit judge (Absent other) openings = tt
 is_judged {A = A} name limit judge (Found reading) openings = by_end (is_whole limit reading)
   where
-    by_end : (b : Bool) → OnlyReads ((if b then settled (judge reading.bytes) else unread {A = A}) openings).says
+    by_end : (b : Bool) → OnlyReads ((if b then verdict_stage (judge reading.bytes) else unread_stage {A = A}) openings).says
     by_end true = is_settled (judge reading.bytes) openings
     by_end false = tt
 
 file : {A : Type 0} (name : Bytes) (limit : ℕ) (judge : Bytes → Result A Bytes) → Reads (file_stage name limit judge)
-file name limit judge = onward (opened name) (judged name limit judge) (λ openings. tt) (is_judged name limit judge)
+file name limit judge = onward (open_stage name) (content_stage name limit judge) (λ openings. tt) (is_judged name limit judge)
 
 warns : (b : Bool) (name : Bytes) → OnlyReads (if b then Line (no_end_line name) ∷ [] else [])
 warns true name = tt
@@ -71,8 +71,8 @@ parts (Some name) = file name 65536 (judged_parts name)
 module _ (s : Switches) where
   file_image : (name : Bytes) (kind : Format) (size : ℕ) → Reads (file_image_stage s name kind size)
   file_image name kind size =
-      onward (file_stage name 4194304 (judged_image name kind size)) (λ given. said (warned s name given.1) >>= λ ok. settled (Ok given.0)) (file name 4194304 (judged_image name kind size))
-      (λ given. onward (said (warned s name given.1)) (λ ok. settled (Ok given.0)) (λ openings. warns (is_warned s given.1) name) (λ ok. is_settled (Ok given.0)))
+      onward (file_stage name 4194304 (judged_image name kind size)) (λ given. saying_stage (warning_says s name given.1) >>= λ ok. verdict_stage (Ok given.0)) (file name 4194304 (judged_image name kind size))
+      (λ given. onward (saying_stage (warning_says s name given.1)) (λ ok. verdict_stage (Ok given.0)) (λ openings. warns (is_warned s given.1) name) (λ ok. is_settled (Ok given.0)))
 
   image : (memory : Mem) (size : ℕ) (name : Bytes) (kind : Format) → Reads (image_stage s memory size name kind)
   image memory size name format.Auto = file_image name format.Auto size
@@ -92,13 +92,13 @@ module _ (s : Switches) where
     write : (u : Update) → Reads (write_stage s part u)
     write u = by_memory (is_writable u.memory)
       where
-        by_memory : (b : Bool) → Reads {A = Task} (if b then (update_image s part u >>= λ bytes. settled (Ok (Write u.memory bytes))) else settled (Err (read_only_line u.memory)))
-        by_memory true = onward (update_image s part u) (λ bytes. settled (Ok (Write u.memory bytes))) (update u) (λ bytes. is_settled (Ok (Write u.memory bytes)))
+        by_memory : (b : Bool) → Reads {A = Task} (if b then (update_image s part u >>= λ bytes. verdict_stage (Ok (Write u.memory bytes))) else verdict_stage (Err (read_only_line u.memory)))
+        by_memory true = onward (update_image s part u) (λ bytes. verdict_stage (Ok (Write u.memory bytes))) (update u) (λ bytes. is_settled (Ok (Write u.memory bytes)))
         by_memory false = is_settled {A = Task} (Err (read_only_line u.memory))
 
     operation : (u : Update) (o : Op) → Reads (op_stage s part u o)
     operation u op.Write = write u
-    operation u op.Verify = onward (update_image s part u) (λ bytes. settled (Ok (Verify u.memory bytes))) (update u) (λ bytes. is_settled (Ok (Verify u.memory bytes)))
+    operation u op.Verify = onward (update_image s part u) (λ bytes. verdict_stage (Ok (Verify u.memory bytes))) (update u) (λ bytes. is_settled (Ok (Verify u.memory bytes)))
     operation u op.Read = is_settled (Ok (Read u.memory u.format u.file))
 
     tasks : (before : List Task) (updates : List Update) → Reads (tasks_stage s part before updates)
@@ -108,7 +108,7 @@ module _ (s : Switches) where
 
 -- what the parts come to
 abbrev made : Settings → Part → List Task → Stage Plan
-made s part tasks = settled (Ok (record { part = part; tasks = tasks; switches = s.switches }))
+made s part tasks = verdict_stage (Ok (record { part = part; tasks = tasks; switches = s.switches }))
 
 is_made : (s : Settings) (part : Part) (tasks : List Task) → Reads (made s part tasks)
 is_made s part tasks openings = tt
@@ -116,5 +116,5 @@ is_made s part tasks openings = tt
 pub only_reads : (s : Settings) (openings : List Opening) → OnlyReads (planned s openings).says
 only_reads s =
     onward (parts_stage s.parts) (λ all. part_stage s.part all >>= λ part. tasks_stage s.switches part [] s.updates >>= made s part) (parts s.parts)
-    (λ all. onward (part_stage s.part all) (λ part. tasks_stage s.switches part [] s.updates >>= made s part) (is_settled (part_or_line s.part (found s.part all)))
+    (λ all. onward (part_stage s.part all) (λ part. tasks_stage s.switches part [] s.updates >>= made s part) (is_settled (part_or_line s.part (part_of_id s.part all)))
     (λ part. onward (tasks_stage s.switches part [] s.updates) (made s part) (tasks s.switches part [] s.updates) (is_made s part)))

@@ -17,20 +17,20 @@ use Rattle.avr_plan.proofs.Played.{goes_on, goes_no_further}
 use Rattle.avr_plan.specs.ImageReading.{FileBreaks, IsCounted}
 use Rattle.avr_plan.specs.Lines.{file_fault_line, memory_line, not_opened_line, not_read_line}
 use Rattle.avr_plan.specs.Playing.{Break, NotOpened, NotRead, NoMemoryFor, last_done, IsBreak, TellsBreak, Goes, part_read}
-use Rattle.avr_plan.specs.Stage.{Stage, Made, Played, ◌>>=◌, settled, opened, named, judged, next_opening}
+use Rattle.avr_plan.specs.Stage.{Stage, Made, StageResult, ◌>>=◌, verdict_stage, open_stage, under_name, content_stage, next_opening}
 
 -- ---- the opening passed
 
-abbrev after_opening : List Opening → Opening → Played Opening
+abbrev after_opening : List Opening → Opening → StageResult Opening
 after_opening more opening = record { says = Opens opening ∷ []; answer = Made opening; left = more }
 
 -- the file of this name gave this, and so the stage goes on
 pub goes_opened : {A : Type 0} (name : Bytes) (next : Opening → Stage A) (opening : Opening) (old mid new : DeskView)
     (result : Result A ℕ)
-    → named name opening ≡ opening → Passes (after_all (Opens opening ∷ [])) old mid → Follows old mid
-    → Goes (next opening) mid new result → Goes (opened name >>= next) old new result
+    → under_name name opening ≡ opening → Passes (after_all (Opens opening ∷ [])) old mid → Follows old mid
+    → Goes (next opening) mid new result → Goes (open_stage name >>= next) old new result
 goes_opened name next opening old mid new result is kept rises goes =
-    goes_on (opened name) next old mid new opening result
+    goes_on (open_stage name) next old mid new opening result
     (record { passed = opening ∷ []; says = Opens opening ∷ []; comes = λ more. ap (after_opening more) is; kept = kept; follows = rises }) goes
 
 whole-is : (limit : ℕ) (bytes : Bytes) (ended : Bool) → IsWhole limit (record { bytes = bytes; ended = ended })
@@ -42,7 +42,7 @@ whole-is limit bytes false whole = let past = whole.0 in grind (arith, nat_tests
 pub goes_judged : {A : Type 0} (name : Bytes) (limit : ℕ) (judge : Bytes → Result A Bytes) (reading : Reading) (old new : DeskView)
     (result : Result A ℕ)
     → IsWhole limit (record { bytes = reading.bytes; ended = reading.ended })
-    → Goes (settled (judge reading.bytes)) old new result → Goes (judged name limit judge (Found reading)) old new result
+    → Goes (verdict_stage (judge reading.bytes)) old new result → Goes (content_stage name limit judge (Found reading)) old new result
 goes_judged name limit judge reading old new result whole goes =
     let is = whole-is limit reading.bytes reading.ended whole in rw is goes
 
@@ -50,16 +50,16 @@ goes_judged name limit judge reading old new result whole goes =
 
 broke_opening : {A : Type 0} (name : Bytes) (next : Opening → Stage A) (break : Break) (told : Bytes) (old new : DeskView) (status : ℕ)
     → status ≡ 1 → ((more : List Opening) → IsBreak break more (Opens (next_opening name more) ∷ [])) → TellsBreak break told old new
-    → Passes (after_all (last_done break told)) old new → Follows old new → Goes (opened name >>= next) old new (Err status)
+    → Passes (after_all (last_done break told)) old new → Follows old new → Goes (open_stage name >>= next) old new (Err status)
 broke_opening name next break told old new status one is tells kept follows =
-    goes_no_further (opened name) next old new status (
+    goes_no_further (open_stage name) next old new status (
       one,
       inr (record {
         passed = [];
         whole = [];
         break = break;
         told = told;
-        rest = λ more. record { later = (opened name more).says; says_are = refl; broken = is more };
+        rest = λ more. record { later = (open_stage name more).says; says_are = refl; broken = is more };
         tells = tells;
         kept = kept;
         follows = follows;
@@ -69,7 +69,7 @@ broke_opening name next break told old new status one is tells kept follows =
 -- the file could not be opened
 goes_unopened : {A : Type 0} (name : Bytes) (next : Opening → Stage A) (old mid new : DeskView) (status : ℕ)
     → mid.kept ≡ old.kept → Follows old mid → HasFailed old mid → status ≡ 1 → Tells mid new (not_opened_line name)
-    → Goes (opened name >>= next) old new (Err status)
+    → Goes (open_stage name >>= next) old new (Err status)
 goes_unopened name next old mid new status same rose failed one told =
     broke_opening name next (NotOpened name) told.told old new status one (λ more. ([], refl))
     (failure_told old mid new (not_opened_line name) rose failed told)
@@ -78,7 +78,7 @@ goes_unopened name next old mid new status same rose failed one told =
 -- or not be read on
 goes_unread : {A : Type 0} (name bytes : Bytes) (next : Opening → Stage A) (old mid new : DeskView) (status : ℕ)
     → Passes (with_read name bytes false) old mid → Follows old mid → HasFailed old mid → status ≡ 1
-    → Tells mid new (not_read_line name) → Goes (opened name >>= next) old new (Err status)
+    → Tells mid new (not_read_line name) → Goes (open_stage name >>= next) old new (Err status)
 goes_unread name bytes next old mid new status kept rose failed one told =
     broke_opening name next (NotRead name bytes) told.told old new status one (λ more. ([], refl))
     (failure_told old mid new (not_read_line name) rose failed told)
@@ -88,7 +88,7 @@ goes_unread name bytes next old mid new status kept rose failed one told =
 goes_unheld : {A : Type 0} (name bytes : Bytes) (ended : Bool) (next : Opening → Stage A) (old mid new : DeskView)
     (status : ℕ)
     → Passes (with_read name bytes ended) old mid → Follows old mid → status ≡ 1 → Tells mid new memory_line
-    → Goes (opened name >>= next) old new (Err status)
+    → Goes (open_stage name >>= next) old new (Err status)
 goes_unheld name bytes ended next old mid new status kept rose one told =
     let reading : Reading = record { name = name; bytes = bytes; ended = ended } in
     broke_opening name next (NoMemoryFor reading) told.told old new status one (λ more. ([], refl))
@@ -100,7 +100,7 @@ pub goes_broken : {A : Type 0} (name : Bytes) (next : Opening → Stage A) (faul
     (status : ℕ)
     → (fault ≡ file_fault.Absent → ⊥) → FileBreaks name old mid fault → Follows old mid → IsCounted old mid fault
     → status ≡ 1 → Tells mid new (file_fault_line name fault)
-    → Goes (opened name >>= next) old new (Err status)
+    → Goes (open_stage name >>= next) old new (Err status)
 goes_broken name next file_fault.Absent old mid new status there breaks rose counted one told = absurd (there refl)
 goes_broken name next file_fault.NotOpened old mid new status there breaks rose counted one told =
     goes_unopened name next old mid new status breaks rose counted one told

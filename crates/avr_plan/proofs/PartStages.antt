@@ -15,7 +15,7 @@ use Rattle.avr_plan.proofs.Played.{went_settled, goes_unsettled, goes_without_me
 use Rattle.avr_plan.specs.Lines.{part_file_line, too_long_line}
 use Rattle.avr_plan.specs.Planning.{judged_parts, parts_or_line}
 use Rattle.avr_plan.specs.Playing.{Goes, Went}
-use Rattle.avr_plan.specs.Stage.{Made, settled, file_stage}
+use Rattle.avr_plan.specs.Stage.{Made, verdict_stage, file_stage}
 
 -- the judgment of a file within the limit
 judged-within : (file bytes : Bytes) → IsWhole 65536 (record { bytes = bytes; ended = true })
@@ -61,4 +61,4 @@ goes_bad_parts file bytes true old mid new status fault kept whole is rises (inr
     let refused = subst (λ f. Tells mid new (part_file_line file f)) same told in
     goes_whole file 65536 (judged_parts file) bytes true old mid new (Err status)
     kept whole rises
-    (goes_without_memory (settled (judged_parts file bytes)) mid new status one refused)
+    (goes_without_memory (verdict_stage (judged_parts file bytes)) mid new status one refused)

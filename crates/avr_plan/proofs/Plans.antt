@@ -9,14 +9,14 @@ use Rattle.avr_plan.proofs.Played.{goes_on, goes_no_further, went_went, went_int
 use Rattle.avr_plan.specs.Plan.{Plan}
 use Rattle.avr_plan.specs.Planning.{parts_stage, part_stage, tasks_stage, planned}
 use Rattle.avr_plan.specs.Playing.{Goes, Went}
-use Rattle.avr_plan.specs.Stage.{Stage, Made, ◌>>=◌, settled}
+use Rattle.avr_plan.specs.Stage.{Stage, Made, ◌>>=◌, verdict_stage}
 use Rattle.avr_plan.specs.declared.task.Task.{Task}
 
 abbrev plan_of : Settings → Part → List Task → Plan
 plan_of s part tasks = record { part = part; tasks = tasks; switches = s.switches }
 
 abbrev behind_part : Settings → Part → Stage Plan
-behind_part s part = tasks_stage s.switches part [] s.updates >>= λ tasks. settled (Ok (plan_of s part tasks))
+behind_part s part = tasks_stage s.switches part [] s.updates >>= λ tasks. verdict_stage (Ok (plan_of s part tasks))
 
 abbrev behind_parts : Settings → List Part → Stage Plan
 behind_parts s parts = part_stage s.part parts >>= behind_part s
@@ -44,7 +44,7 @@ goes_without_tasks s id updates old first mid new status parts part same all wen
     let tasks = subst (λ (us : List Update). Goes (tasks_stage s.switches part [] us) mid new (Err status)) all goes in
     goes_on (parts_stage s.parts) (behind_parts s) old first new parts (Err status) went
     (goes_on (part_stage s.part parts) (behind_part s) first mid new part (Err status) own
-    (goes_no_further (tasks_stage s.switches part [] s.updates) (λ ts. settled (Ok (plan_of s part ts))) mid new status tasks))
+    (goes_no_further (tasks_stage s.switches part [] s.updates) (λ ts. verdict_stage (Ok (plan_of s part ts))) mid new status tasks))
 
 pub went_whole_plan : (s : Settings) (id : Bytes) (updates : List Update) (old first mid new : DeskView) (parts : List Part) (part : Part)
     (tasks : List Task) (plan : Plan)

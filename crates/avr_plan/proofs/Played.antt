@@ -12,8 +12,8 @@ use Rattle.avr_message.specs.Said.{Saying, Line, Opens, TellsLine, Tells, after_
 use Rattle.avr_message.proofs.Saying.{kept_none, kept_append}
 use Rattle.avr_message.proofs.Telling.{follows_on, failed_later, tells_since, failure_in}
 use Rattle.avr_plan.specs.Lines.{memory_line, not_opened_line, not_read_line}
-use Rattle.avr_plan.specs.Playing.{Went, Break, InLine, NotOpened, NotRead, NoMemory, NoMemoryFor, last_done, IsNext, IsBreak, TellsBreak, Rest, BrokeOff, Goes}
-use Rattle.avr_plan.specs.Stage.{Stage, Answer, Made, Refused, Unread, Played, behind, going_on, ◌>>=◌, settled, said, next_opening}
+use Rattle.avr_plan.specs.Playing.{Went, Break, InLine, NotOpened, NotRead, NoMemory, NoMemoryFor, last_done, IsNextSaying, IsBreak, TellsBreak, Rest, StageBrokeOff, Goes}
+use Rattle.avr_plan.specs.Stage.{Stage, Answer, Made, Refused, Unread, StageResult, behind_sayings, going_on, ◌>>=◌, verdict_stage, saying_stage, next_opening}
 
 -- ---- counts
 
@@ -26,7 +26,7 @@ break_since (NoMemoryFor reading) told first old new rises tells = tells_since m
 
 -- ---- a stage behind another one
 
-next_more : (next : Saying) (later extra : List Saying) → IsNext next later → IsNext next (later ++ extra)
+next_more : (next : Saying) (later extra : List Saying) → IsNextSaying next later → IsNextSaying next (later ++ extra)
 next_more next later extra is = (is.0 ++ extra, ap (λ (ss : List Saying). ss ++ extra) is.1)
 
 break_more : (break : Break) (more : List Opening) (later extra : List Saying) → IsBreak break more later → IsBreak break more (later ++ extra)
@@ -43,7 +43,7 @@ says_more says left go_on (Made a) = ((go_on a left).says, refl)
 says_more says left go_on Refused = ([], sym (append-nil says))
 says_more says left go_on Unread = ([], sym (append-nil says))
 
-rest_more : {A B : Type 0} (p : Played A) (go_on : A → Stage B) (whole : List Saying) (break : Break) (more : List Opening)
+rest_more : {A B : Type 0} (p : StageResult A) (go_on : A → Stage B) (whole : List Saying) (break : Break) (more : List Opening)
     → Rest p whole break more
     → Rest (going_on p.says p.left go_on p.answer) whole break more
 rest_more p go_on whole break more rest =
@@ -54,8 +54,8 @@ rest_more p go_on whole break more rest =
       broken = break_more break more rest.later extra.0 rest.broken;
     }
 
-rest_behind : {A : Type 0} (says whole : List Saying) (p : Played A) (break : Break) (more : List Opening) → Rest p whole break more
-    → Rest (behind says p) (says ++ whole) break more
+rest_behind : {A : Type 0} (says whole : List Saying) (p : StageResult A) (break : Break) (more : List Opening) → Rest p whole break more
+    → Rest (behind_sayings says p) (says ++ whole) break more
 rest_behind says whole p break more rest = record {
   later = rest.later;
   says_are = ap (λ (ss : List Saying). says ++ ss) rest.says_are ∙ sym (append_assoc says whole rest.later);
@@ -65,7 +65,7 @@ rest_behind says whole p break more rest = record {
 -- a stage that made something, and openings behind its own
 made_then : {A B : Type 0} (stage : Stage A) (go_on : A → Stage B) (old new : DeskView) (a : A) (w : Went stage old new (Made a))
     (later : List Opening)
-    → (stage >>= go_on) (w.passed ++ later) ≡ behind w.says (go_on a later)
+    → (stage >>= go_on) (w.passed ++ later) ≡ behind_sayings w.says (go_on a later)
 made_then stage go_on old new a w later = ap (λ p. going_on p.says p.left go_on p.answer) (w.comes later)
 
 pub went_went : {A B : Type 0} (stage : Stage A) (go_on : A → Stage B) (old mid new : DeskView) (a : A) (answer : Answer B)
@@ -77,14 +77,14 @@ went_went stage go_on old mid new a answer first then = record {
   comes = λ more.
       ap (stage >>= go_on) (append_assoc first.passed then.passed more)
       ∙ made_then stage go_on old mid a first (then.passed ++ more)
-      ∙ ap (behind first.says) (then.comes more);
+      ∙ ap (behind_sayings first.says) (then.comes more);
   kept = kept_append first.says then.says old.kept mid.kept new.kept first.kept then.kept;
   follows = follows_on old mid new first.follows then.follows;
 }
 
 went_broke : {A B : Type 0} (stage : Stage A) (go_on : A → Stage B) (old mid new : DeskView) (a : A)
     → Went stage old mid (Made a)
-    → BrokeOff (go_on a) mid new → BrokeOff (stage >>= go_on) old new
+    → StageBrokeOff (go_on a) mid new → StageBrokeOff (stage >>= go_on) old new
 went_broke stage go_on old mid new a first then = record {
   passed = first.passed ++ then.passed;
   whole = first.says ++ then.whole;
@@ -110,8 +110,8 @@ refused_then stage go_on old new first = record {
   follows = first.follows;
 }
 
-broke_then : {A B : Type 0} (stage : Stage A) (go_on : A → Stage B) (old new : DeskView) → BrokeOff stage old new
-    → BrokeOff (stage >>= go_on) old new
+broke_then : {A B : Type 0} (stage : Stage A) (go_on : A → Stage B) (old new : DeskView) → StageBrokeOff stage old new
+    → StageBrokeOff (stage >>= go_on) old new
 broke_then stage go_on old new first = record {
   passed = first.passed;
   whole = first.whole;
@@ -143,19 +143,19 @@ goes_no_further stage go_on old new status (one, inr broke) = (one, inr (broke_t
 -- ---- stages that read nothing
 
 -- nothing is said or read
-pub went_nowhere : {A : Type 0} (d : DeskView) (a : A) → Went (settled (Ok a)) d d (Made a)
+pub went_nowhere : {A : Type 0} (d : DeskView) (a : A) → Went (verdict_stage (Ok a)) d d (Made a)
 went_nowhere d a = record { passed = []; says = []; comes = λ more. refl; kept = kept_none d.kept; follows = omega arith }
 
 -- a line was printed whole
 told_whole : {A : Type 0} (old new : DeskView) (line : List ℕ) → Passes (after_all (Line line ∷ [])) old new → Follows old new
-    → Went {A = A} (settled (Err line)) old new Refused
+    → Went {A = A} (verdict_stage (Err line)) old new Refused
 told_whole old new line kept follows =
     record { passed = []; says = Line line ∷ []; comes = λ more. refl; kept = kept; follows = follows }
 
 -- or it broke off there
 broke_here : {A : Type 0} (stage : Stage A) (old new : DeskView) (break : Break) (told : List ℕ)
     → ((more : List Opening) → IsBreak break more (stage more).says) → TellsBreak break told old new
-    → Passes (after_all (last_done break told)) old new → Follows old new → BrokeOff stage old new
+    → Passes (after_all (last_done break told)) old new → Follows old new → StageBrokeOff stage old new
 broke_here stage old new break told is tells kept follows = record {
   passed = [];
   whole = [];
@@ -169,14 +169,14 @@ broke_here stage old new break told is tells kept follows = record {
 
 -- a refusal that was told, or a front of its line
 refused_by : {A : Type 0} (old new : DeskView) (line told : List ℕ) → TellsLine line told old new
-    → Passes (after_all (Line told ∷ [])) old new → Follows old new → Goes {A = A} (settled (Err line)) old new (Err 1)
+    → Passes (after_all (Line told ∷ [])) old new → Follows old new → Goes {A = A} (verdict_stage (Err line)) old new (Err 1)
 refused_by {A} old new line told (inl whole) kept follows =
     (refl, inl (told_whole {A = A} old new line (subst (λ bytes. Passes (after_all (Line bytes ∷ [])) old new) whole kept) follows))
 refused_by {A} old new line told (inr part) kept follows =
-    (refl, inr (broke_here (settled {A = A} (Err line)) old new (InLine line) told (λ more. ([], refl)) part kept follows))
+    (refl, inr (broke_here (verdict_stage {A = A} (Err line)) old new (InLine line) told (λ more. ([], refl)) part kept follows))
 
 pub goes_refused : {A : Type 0} (old new : DeskView) (line : List ℕ) (status : ℕ) → status ≡ 1 → Tells old new line
-    → Goes {A = A} (settled (Err line)) old new (Err status)
+    → Goes {A = A} (verdict_stage (Err line)) old new (Err status)
 goes_refused {A} old new line status one told =
     (one, (refused_by {A = A} old new line told.told told.tells told.kept told.follows).1)
 
@@ -189,20 +189,20 @@ goes_without_memory stage old new status one told =
 
 -- ---- judgments, and what is said
 
-pub went_settled : {A : Type 0} (r : Result A (List ℕ)) (a : A) (d : DeskView) → r ≡ Ok a → Went (settled r) d d (Made a)
-went_settled r a d is = subst (λ x. Went (settled x) d d (Made a)) (sym is) (went_nowhere d a)
+pub went_settled : {A : Type 0} (r : Result A (List ℕ)) (a : A) (d : DeskView) → r ≡ Ok a → Went (verdict_stage r) d d (Made a)
+went_settled r a d is = subst (λ x. Went (verdict_stage x) d d (Made a)) (sym is) (went_nowhere d a)
 
 pub goes_unsettled : {A : Type 0} (r : Result A (List ℕ)) (line : List ℕ) (old new : DeskView) (status : ℕ) → r ≡ Err line
     → status ≡ 1 → Tells old new line
-    → Goes (settled r) old new (Err status)
+    → Goes (verdict_stage r) old new (Err status)
 goes_unsettled r line old new status is one told =
-    subst (λ x. Goes (settled x) old new (Err status)) (sym is) (goes_refused old new line status one told)
+    subst (λ x. Goes (verdict_stage x) old new (Err status)) (sym is) (goes_refused old new line status one told)
 
-pub went_silent : (d : DeskView) → Went (said []) d d (Made tt)
+pub went_silent : (d : DeskView) → Went (saying_stage []) d d (Made tt)
 went_silent d = record { passed = []; says = []; comes = λ more. refl; kept = kept_none d.kept; follows = omega arith }
 
 pub went_saying : (old new : DeskView) (line : List ℕ) → Passes (after_all (Line line ∷ [])) old new
-    → Follows old new → Went (said (Line line ∷ [])) old new (Made tt)
+    → Follows old new → Went (saying_stage (Line line ∷ [])) old new (Made tt)
 went_saying old new line kept follows =
     record { passed = []; says = Line line ∷ []; comes = λ more. refl; kept = kept; follows = follows }
 
@@ -212,17 +212,17 @@ failed_counts old new NotFound is counts = cc
 failed_counts old new Failed is counts = counts.1
 
 pub goes_saying_part : (old new : DeskView) (line : List ℕ) (fault : DeskFault) → SendsPart Messages old new line → fault ≡ Failed
-    → Counts {T = Unit {0}} old new (Err fault) → Goes (said (Line line ∷ [])) old new (Err 1)
+    → Counts {T = Unit {0}} old new (Err fault) → Goes (saying_stage (Line line ∷ [])) old new (Err 1)
 goes_saying_part old new line fault part is counts = (
   refl,
-  inr (broke_here (said (Line line ∷ [])) old new (InLine line) (take part.0 line) (λ more. ([], refl))
+  inr (broke_here (saying_stage (Line line ∷ [])) old new (InLine line) (take part.0 line) (λ more. ([], refl))
       ((drop part.0 line, take-append-drop part.0 line), failed_counts old new fault is counts) part.2 counts.0),
 )
 
 -- what was made, made into something else
 pub went_into : {A B : Type 0} (stage : Stage A) (f : A → B) (old new : DeskView) (a : A) → Went stage old new (Made a)
-    → Went (stage >>= λ x. settled (Ok (f x))) old new (Made (f a))
-went_into stage f old new a went = went_went stage (λ x. settled (Ok (f x))) old new new a (Made (f a)) went (went_nowhere new (f a))
+    → Went (stage >>= λ x. verdict_stage (Ok (f x))) old new (Made (f a))
+went_into stage f old new a went = went_went stage (λ x. verdict_stage (Ok (f x))) old new new a (Made (f a)) went (went_nowhere new (f a))
 
 -- however a stage goes, the count of failures never falls
 pub goes_follows : {A : Type 0} (stage : Stage A) (old new : DeskView) (result : Result A ℕ) → Goes stage old new result → Follows old new

@@ -7,14 +7,14 @@ use Rattle.std.proofs.lemmas.List.{length-replicate}
 use Rattle.avr_cli.specs.declared.update.Format.{Format}
 use Rattle.avr_image.proofs.Immediate.{values_are, no_values, with_pieces, then_on}
 use Rattle.avr_image.proofs.Laying.{length-laid_over, length-from_zero}
-use Rattle.avr_image.specs.Image.{empty, from_zero, laid, with_byte}
+use Rattle.avr_image.specs.Image.{empty, from_zero, image_of_pairs, with_byte}
 use Rattle.avr_image.specs.Placing.{with_value}
 use Rattle.avr_image.specs.Raw as raw_file
-use Rattle.avr_image.specs.Values.{values, judged, pieces}
+use Rattle.avr_image.specs.Values.{values, fitting_value, pieces}
 use Rattle.avr_image.specs.declared.fault.ImageFault.{ImageFault}
 use Rattle.avr_message.specs.Lines.{Bytes}
 use Rattle.avr_records.specs.Lines.{lines}
-use Rattle.avr_records.specs.Reading.{Said, answer, first_fault, in_place, up_to_end, placed, read, says, together, ending}
+use Rattle.avr_records.specs.Reading.{Said, image_or_fault, first_fault, in_place, up_to_end, placed_bytes, image_in_text, said_by_line, together, file_ending}
 use Rattle.avr_records.specs.declared.kind.Ending.{Ending}
 use Rattle.avr_records.specs.declared.kind.Ending.TheVariants.{Ended}
 use Rattle.avr_records.specs.declared.kind.Found.{Found}
@@ -26,18 +26,18 @@ use Rattle.avr_plan.specs.ImageFile.{whole_file, image_within, kind_of, of_recor
 abbrev Image : Type 0
 Image = List (Option ℕ)
 
-good-is : (fault : Option RecordFault) (good p : Image × Ending) → answer fault good ≡ Ok p → good ≡ p
+good-is : (fault : Option RecordFault) (good p : Image × Ending) → image_or_fault fault good ≡ Ok p → good ≡ p
 good-is (Some fault) good p is = cc
 good-is None good p is = cc
 
-laid-size : (places : List (ℕ × ℕ)) (size : ℕ) → length (laid size places) ≡ size
+laid-size : (places : List (ℕ × ℕ)) (size : ℕ) → length (image_of_pairs size places) ≡ size
 laid-size places size = length-laid_over (empty size) places ∙ length-replicate {A = Option ℕ} size None
 
 together-size : (said : List Said) (size : ℕ) (p : Image × Ending) → together size said ≡ Ok p → length p.0 ≡ size
 together-size said size p is =
-    let good : Image × Ending = (laid size (flat_map placed (in_place [] (up_to_end said))), ending said) in
+    let good : Image × Ending = (image_of_pairs size (flat_map placed_bytes (in_place [] (up_to_end said))), file_ending said) in
     let same = good-is (first_fault size (in_place [] (up_to_end said))) good p is in
-    ap (λ (x : Image × Ending). length x.0) (sym same) ∙ laid-size (flat_map placed (in_place [] (up_to_end said))) size
+    ap (λ (x : Image × Ending). length x.0) (sym same) ∙ laid-size (flat_map placed_bytes (in_place [] (up_to_end said))) size
 
 of-records-is : (r : Result (Image × Ending) RecordFault) (p : Image × Ending) → of_records r ≡ Ok p → r ≡ Ok p
 of-records-is (Ok good) p is = cc
@@ -54,10 +54,10 @@ raw-size bytes size p is =
     ]
 
 whole-size : (found : Found) (bytes : Bytes) (size : ℕ) (p : Image × Ending) → whole_file found bytes size ≡ Ok p → length p.0 ≡ size
-whole-size file.Ihex bytes size p is = together-size (map (says records.Ihex) (lines bytes)) size p
-    (of-records-is (read records.Ihex bytes size) p is)
-whole-size file.Srec bytes size p is = together-size (map (says records.Srec) (lines bytes)) size p
-    (of-records-is (read records.Srec bytes size) p is)
+whole-size file.Ihex bytes size p is = together-size (map (said_by_line records.Ihex) (lines bytes)) size p
+    (of-records-is (image_in_text records.Ihex bytes size) p is)
+whole-size file.Srec bytes size p is = together-size (map (said_by_line records.Srec) (lines bytes)) size p
+    (of-records-is (image_in_text records.Srec bytes size) p is)
 whole-size file.Elf bytes size p is = cc
 whole-size file.Raw bytes size p is = raw-size bytes size p is
 
@@ -81,7 +81,7 @@ value-size image addr (Err fault) next out onward is = cc
 pieces-size : (image : Image) (addr : ℕ) (parts : List Bytes) (out : Image) → with_pieces image addr parts ≡ Ok out → length out ≡ length image
 pieces-size image addr [] out is = let same : image ≡ out = cc in ap length (sym same)
 pieces-size image addr (part ∷ parts) out is =
-    value-size image addr (judged (length image) (addr, part)) (λ next. with_pieces next (addr + 1) parts) out
+    value-size image addr (fitting_value (length image) (addr, part)) (λ next. with_pieces next (addr + 1) parts) out
     (λ after onward. pieces-size after (addr + 1) parts out onward) is
 
 -- an image of values

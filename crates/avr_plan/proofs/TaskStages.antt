@@ -14,7 +14,7 @@ use Rattle.avr_plan.proofs.Played.{goes_refused, goes_on, goes_no_further}
 use Rattle.avr_plan.specs.Lines.{read_only_line}
 use Rattle.avr_plan.specs.Planning.{file_image_stage, image_stage, update_image, write_stage, task_stage, tasks_stage}
 use Rattle.avr_plan.specs.Playing.{Goes, Went}
-use Rattle.avr_plan.specs.Stage.{Stage, Made, ◌>>=◌, settled}
+use Rattle.avr_plan.specs.Stage.{Stage, Made, ◌>>=◌, verdict_stage}
 use Rattle.avr_plan.specs.declared.task.Task.{Task}
 use Rattle.avr_plan.specs.declared.task.Task.TheVariants.{Write}
 
@@ -50,19 +50,19 @@ goes_of_values switches memory size size' file file' format old new result sizes
     subst (λ (f : Bytes). Goes (image_stage switches memory size' f format) old new result) files two
 
 abbrev writes : Switches → Part → Update → Stage Task
-writes switches part u = update_image switches part u >>= λ image. settled (Ok (Write u.memory image))
+writes switches part u = update_image switches part u >>= λ image. verdict_stage (Ok (Write u.memory image))
 
 pub goes_writable : (switches : Switches) (part : Part) (u : Update) (old new : DeskView) (result : Result Task ℕ)
     → true ≡ is_writable u.memory
     → Goes (writes switches part u) old new result → Goes (write_stage switches part u) old new result
 goes_writable switches part u old new result is goes =
-    subst (λ b. Goes (if b then writes switches part u else settled (Err (read_only_line u.memory))) old new result) is goes
+    subst (λ b. Goes (if b then writes switches part u else verdict_stage (Err (read_only_line u.memory))) old new result) is goes
 
 pub goes_read_only : (switches : Switches) (part : Part) (u : Update) (old new : DeskView) (status : ℕ)
     → false ≡ is_writable u.memory
     → status ≡ 1 → Tells old new (read_only_line u.memory) → Goes (write_stage switches part u) old new (Err status)
 goes_read_only switches part u old new status is one told =
-    subst (λ b. Goes (if b then writes switches part u else settled (Err (read_only_line u.memory))) old new (Err status)) is
+    subst (λ b. Goes (if b then writes switches part u else verdict_stage (Err (read_only_line u.memory))) old new (Err status)) is
     (goes_refused old new (read_only_line u.memory) status one told)
 
 -- ---- one task after the other

@@ -14,7 +14,7 @@ use Rattle.avr_plan.proofs.Played.{went_settled, goes_unsettled, goes_without_me
 use Rattle.avr_plan.specs.Lines.{values_line}
 use Rattle.avr_plan.specs.Planning.{image_stage, values_or_line}
 use Rattle.avr_plan.specs.Playing.{Goes, Went}
-use Rattle.avr_plan.specs.Stage.{Made, settled}
+use Rattle.avr_plan.specs.Stage.{Made, verdict_stage}
 
 abbrev Image : Type 0
 Image = List (Option ℕ)
@@ -38,5 +38,5 @@ goes_bad_values switches memory size text old new status fault (inl is) one told
     (ap (values_or_line memory) (sym is)) one told
 goes_bad_values switches memory size text old new status fault (inr refused) one told =
     let same : fault ≡ Memory = cc in
-    goes_without_memory (settled (values_or_line memory (values text size))) old new status one
+    goes_without_memory (verdict_stage (values_or_line memory (values text size))) old new status one
     (subst (λ f. Tells old new (values_line memory f)) same told)

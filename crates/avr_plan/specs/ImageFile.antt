@@ -6,8 +6,8 @@ use Rattle.avr_image.specs.Raw as raw_file
 use Rattle.avr_image.specs.declared.fault.ImageFault.{ImageFault}
 use Rattle.avr_message.specs.Lines.{Bytes}
 use Rattle.avr_records.specs.Closed.{closed_fault}
-use Rattle.avr_records.specs.Detect.{detected}
-use Rattle.avr_records.specs.Reading.{read}
+use Rattle.avr_records.specs.Detect.{kind_of_file}
+use Rattle.avr_records.specs.Reading.{image_in_text}
 use Rattle.avr_records.specs.declared.kind.Ending.{Ending}
 use Rattle.avr_records.specs.declared.kind.Ending.TheVariants.{Ended}
 use Rattle.avr_records.specs.declared.kind.Found.{Found}
@@ -32,8 +32,8 @@ of_raw (Err fault) = Err (Raw fault)
 
 -- what a file of this kind is to a memory of this size
 abbrev pub whole_file : Found → Bytes → ℕ → Given
-whole_file file.Ihex bytes size = of_records (read records.Ihex bytes size)
-whole_file file.Srec bytes size = of_records (read records.Srec bytes size)
+whole_file file.Ihex bytes size = of_records (image_in_text records.Ihex bytes size)
+whole_file file.Srec bytes size = of_records (image_in_text records.Srec bytes size)
 whole_file file.Elf bytes size = Err Elf
 whole_file file.Raw bytes size = of_raw (raw_file.raw bytes size)
 
@@ -59,7 +59,7 @@ abbrev pub kind_of : Format → Bytes → Found
 kind_of letter.Ihex bytes = file.Ihex
 kind_of letter.Srec bytes = file.Srec
 kind_of letter.Raw bytes = file.Raw
-kind_of format bytes = detected bytes
+kind_of format bytes = kind_of_file bytes
 
 -- what a file of this format is
 abbrev pub image_within : ℕ → Format → Bytes → ℕ → Given

@@ -17,11 +17,11 @@ use Rattle.avr_plan.specs.declared.image_file.ReadFault.{ReadFault}
 use Rattle.avr_plan.specs.declared.image_file.ReadFault.TheVariants.{File, Image}
 
 -- an image, or why none came
-abbrev pub Outcome : Type 0
-Outcome = Result (List (Option ℕ) × Ending) ReadFault
+abbrev pub ImageOrFault : Type 0
+ImageOrFault = Result (List (Option ℕ) × Ending) ReadFault
 
 -- what came is what the bytes are
-abbrev pub IsGiven : Given → Outcome → Type 0
+abbrev pub IsGiven : Given → ImageOrFault → Type 0
 IsGiven given (Ok good) = Ok good ≡ given
 IsGiven given (Err (Image bad)) = Err bad ≡ given
 IsGiven given (Err (File fault)) = ⊥
@@ -42,12 +42,12 @@ pub record ReadsFront (old new : DeskView) (front : Front) : Type 0 where
   pub enough : MatchBool front.ended (length front.bytes.items ≤ 1024) (length front.bytes.items ≡ 1024)
 
 -- the open file gave some bytes, and no end
-abbrev pub BreaksOff : DeskView → DeskView → Type 0
-BreaksOff old new = (bytes : Bytes) × Passes (after_reading bytes false) old new
+abbrev pub IsReadInPart : DeskView → DeskView → Type 0
+IsReadInPart old new = (bytes : Bytes) × Passes (after_reading bytes false) old new
 
 abbrev pub FrontIsRead : DeskView → DeskView → Result Front FileFault → Type 0
 FrontIsRead old new (Ok front) = ReadsFront old new front
-FrontIsRead old new (Err fault) = (fault ≡ NotRead) × BreaksOff old new
+FrontIsRead old new (Err fault) = (fault ≡ NotRead) × IsReadInPart old new
 
 -- Behind these bytes of the open file the others were read, to its end or past the limit, and the whole is this.
 pub record ReadsRest (limit : ℕ) (found : Found) (size : ℕ) (before : Bytes) (old new : DeskView)
@@ -58,10 +58,10 @@ pub record ReadsRest (limit : ℕ) (found : Found) (size : ℕ) (before : Bytes)
   pub whole : IsWhole limit (record { bytes = before ++ bytes; ended = ended })
   pub gives : given ≡ file_within limit found (before ++ bytes) size
 
-abbrev pub RestIsRead : ℕ → Found → ℕ → Bytes → DeskView → DeskView → Outcome → Type 0
+abbrev pub RestIsRead : ℕ → Found → ℕ → Bytes → DeskView → DeskView → ImageOrFault → Type 0
 RestIsRead limit found size before old new (Ok good) = ReadsRest limit found size before old new (Ok good)
 RestIsRead limit found size before old new (Err (Image bad)) = ReadsRest limit found size before old new (Err bad)
-RestIsRead limit found size before old new (Err (File fault)) = (fault ≡ NotRead) × BreaksOff old new
+RestIsRead limit found size before old new (Err (File fault)) = (fault ≡ NotRead) × IsReadInPart old new
 
 -- The open file was read to its end or past the limit, and is this.
 pub record ReadsOpenImage (limit : ℕ) (format : Format) (size : ℕ) (old new : DeskView)
@@ -76,10 +76,10 @@ pub record ReadsOpenImage (limit : ℕ) (format : Format) (size : ℕ) (old new 
 abbrev pub OpenBreaks : DeskView → DeskView → FileFault → Type 0
 OpenBreaks old new Absent = ⊥
 OpenBreaks old new NotOpened = ⊥
-OpenBreaks old new NotRead = BreaksOff old new
+OpenBreaks old new NotRead = IsReadInPart old new
 OpenBreaks old new Memory = (bytes : Bytes) × (ended : Bool) × Passes (after_reading bytes ended) old new
 
-abbrev pub OpenIsRead : ℕ → Format → ℕ → DeskView → DeskView → Outcome → Type 0
+abbrev pub OpenIsRead : ℕ → Format → ℕ → DeskView → DeskView → ImageOrFault → Type 0
 OpenIsRead limit format size old new (Ok good) = ReadsOpenImage limit format size old new (Ok good)
 OpenIsRead limit format size old new (Err (Image bad)) = ReadsOpenImage limit format size old new (Err bad)
 OpenIsRead limit format size old new (Err (File fault)) = OpenBreaks old new fault
@@ -101,7 +101,7 @@ FileBreaks name old new NotOpened = new.kept ≡ old.kept
 FileBreaks name old new NotRead = (bytes : Bytes) × Passes (with_read name bytes false) old new
 FileBreaks name old new Memory = (bytes : Bytes) × (ended : Bool) × Passes (with_read name bytes ended) old new
 
-abbrev pub ImageIsRead : ℕ → Format → ℕ → Bytes → DeskView → DeskView → Outcome → Type 0
+abbrev pub ImageIsRead : ℕ → Format → ℕ → Bytes → DeskView → DeskView → ImageOrFault → Type 0
 ImageIsRead limit format size name old new (Ok good) = ReadsImage limit format size name old new (Ok good)
 ImageIsRead limit format size name old new (Err (Image bad)) = ReadsImage limit format size name old new (Err bad)
 ImageIsRead limit format size name old new (Err (File fault)) = FileBreaks name old new fault

@@ -2,7 +2,7 @@
 use Rattle.std.specs.Prelude.{◌≡◌, ℕ, length, ◌++◌, Err}
 use Rattle.avr_image.specs.Raw as raw_file
 use Rattle.avr_message.specs.Lines.{Bytes}
-use Rattle.avr_records.specs.Reader.{State, Stands, memory_size}
+use Rattle.avr_records.specs.Reader.{ReaderState, StandsFor, memory_size}
 use Rattle.avr_records.specs.declared.kind.Found.{Found}
 use Rattle.avr_records.specs.declared.kind.Found.TheVariants as file
 use Rattle.avr_records.specs.declared.kind.Kind.{Kind}
@@ -27,15 +27,15 @@ pub record Decides (found : Found) (size : ℕ) (fault : BadFile) (text : Bytes)
   pub whole : (more : Bytes) → whole_file found (text ++ more) size ≡ Err fault
   pub long : (more : Bytes) → long_file found (text ++ more) size ≡ in_long_file fault
 
-pub record TakesRecords (found : Found) (size : ℕ) (reader : State) (text : Bytes) : Type 0 where
+pub record TakesRecords (found : Found) (size : ℕ) (reader : ReaderState) (text : Bytes) : Type 0 where
   pub of_kind : found ≡ found_as reader.kind
   pub of_size : memory_size reader ≡ size
-  pub stands : Stands reader text
+  pub stands : StandsFor reader text
 
 pub record TakesRaw (found : Found) (size : ℕ) (reader : raw_file.Holding) (text : Bytes) : Type 0 where
   pub of_kind : found ≡ file.Raw
   pub of_size : length reader.image ≡ size
-  pub stands : raw_file.Stands reader text
+  pub stands : raw_file.HoldsText reader text
 
 -- it may have been fed this text, of a file of this kind, for a memory of this size
 abbrev pub Takes : Found → ℕ → Intake → Bytes → Type 0
@@ -44,6 +44,6 @@ Takes found size (intake.Raw reader) text = TakesRaw found size reader text
 Takes found size (intake.Faulty fault) text = Decides found size fault text
 
 -- how many bytes a reader of records counts
-abbrev pub counted : Intake → ℕ
-counted (intake.Records reader) = reader.fed
-counted taken = 0
+abbrev pub fed_count : Intake → ℕ
+fed_count (intake.Records reader) = reader.fed
+fed_count taken = 0

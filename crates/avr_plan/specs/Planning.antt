@@ -11,7 +11,7 @@ use Rattle.avr_image.specs.Values.{values}
 use Rattle.avr_image.specs.declared.fault.ImageFault.{ImageFault}
 use Rattle.avr_message.specs.Lines.{Bytes}
 use Rattle.avr_message.specs.Said.{Saying, Line}
-use Rattle.avr_part.specs.BuiltIn.{found}
+use Rattle.avr_part.specs.BuiltIn.{part_of_id}
 use Rattle.avr_part.specs.Mem.{is_writable}
 use Rattle.avr_part.specs.Part.{Part, size_of}
 use Rattle.avr_part.specs.PartFile.{parts_of}
@@ -22,7 +22,7 @@ use Rattle.avr_records.specs.declared.kind.Ending.TheVariants.{Ended, NoEnd}
 use Rattle.avr_plan.specs.ImageFile.{Given, image_within}
 use Rattle.avr_plan.specs.Lines.{bad_file_line, no_end_line, no_part_line, part_file_line, read_only_line, too_long_line, values_line}
 use Rattle.avr_plan.specs.Plan.{Plan}
-use Rattle.avr_plan.specs.Stage.{Stage, ◌>>=◌, settled, said, file_stage}
+use Rattle.avr_plan.specs.Stage.{Stage, ◌>>=◌, verdict_stage, saying_stage, file_stage}
 use Rattle.avr_plan.specs.declared.task.Task.{Task}
 use Rattle.avr_plan.specs.declared.task.Task.TheVariants.{Write, Verify, Read}
 
@@ -38,7 +38,7 @@ judged_parts file bytes =
 
 -- the parts of the part file, if one is given
 abbrev pub parts_stage : Option Bytes → Stage (List Part)
-parts_stage None = settled (Ok [])
+parts_stage None = verdict_stage (Ok [])
 parts_stage (Some file) = file_stage file 65536 (judged_parts file)
 
 abbrev pub part_or_line : Bytes → Result Part PartFault → Result Part Bytes
@@ -47,7 +47,7 @@ part_or_line id (Err fault) = Err (no_part_line id)
 
 -- the part of this id, in the file before the built-in ones
 abbrev pub part_stage : Bytes → List Part → Stage Part
-part_stage id parts = settled (part_or_line id (found id parts))
+part_stage id parts = verdict_stage (part_or_line id (part_of_id id parts))
 
 -- ---- the image of an update
 
@@ -56,8 +56,8 @@ abbrev pub is_warned : Switches → Ending → Bool
 is_warned switches Ended = false
 is_warned switches NoEnd = nat_lt switches.quiet 2
 
-abbrev pub warned : Switches → Bytes → Ending → List Saying
-warned switches file ending = if is_warned switches ending then Line (no_end_line file) ∷ [] else []
+abbrev pub warning_says : Switches → Bytes → Ending → List Saying
+warning_says switches file ending = if is_warned switches ending then Line (no_end_line file) ∷ [] else []
 
 abbrev pub image_or_line : Bytes → Given → Result (List (Option ℕ) × Ending) Bytes
 image_or_line file (Ok good) = Ok good
@@ -70,8 +70,8 @@ judged_image file format size bytes = image_or_line file (image_within 4194304 f
 abbrev pub file_image_stage : Switches → Bytes → Format → ℕ → Stage (List (Option ℕ))
 file_image_stage switches file format size = do
   given ← file_stage file 4194304 (judged_image file format size)
-  ok ← said (warned switches file given.1)
-  settled (Ok given.0)
+  ok ← saying_stage (warning_says switches file given.1)
+  verdict_stage (Ok given.0)
 
 abbrev pub values_or_line : Mem → Result (List (Option ℕ)) ImageFault → Result (List (Option ℕ)) Bytes
 values_or_line memory (Ok image) = Ok image
@@ -79,7 +79,7 @@ values_or_line memory (Err fault) = Err (values_line memory fault)
 
 -- values stand in the words of the command, any other image in a file
 abbrev pub image_stage : Switches → Mem → ℕ → Bytes → Format → Stage (List (Option ℕ))
-image_stage switches memory size file Immediate = settled (values_or_line memory (values file size))
+image_stage switches memory size file Immediate = verdict_stage (values_or_line memory (values file size))
 image_stage switches memory size file format = file_image_stage switches file format size
 
 -- ---- the tasks
@@ -89,20 +89,21 @@ update_image switches part u = image_stage switches u.memory (size_of u.memory p
 
 abbrev pub write_stage : Switches → Part → Update → Stage Task
 write_stage switches part u =
-    if is_writable u.memory then (update_image switches part u >>= λ image. settled (Ok (Write u.memory image)))
-    else settled (Err (read_only_line u.memory))
+    if is_writable u.memory then (update_image switches part u >>= λ image. verdict_stage (Ok (Write u.memory image)))
+    else verdict_stage (Err (read_only_line u.memory))
 
 abbrev pub op_stage : Switches → Part → Update → Op → Stage Task
 op_stage switches part u op.Write = write_stage switches part u
-op_stage switches part u op.Verify = update_image switches part u >>= λ image. settled (Ok (Verify u.memory image))
-op_stage switches part u op.Read = settled (Ok (Read u.memory u.format u.file))
+op_stage switches part u op.Verify = update_image switches part u
+    >>= λ image. verdict_stage (Ok (Verify u.memory image))
+op_stage switches part u op.Read = verdict_stage (Ok (Read u.memory u.format u.file))
 
 abbrev pub task_stage : Switches → Part → Update → Stage Task
 task_stage switches part u = op_stage switches part u u.op
 
 -- the tasks so far, and those of the updates behind them
 abbrev pub tasks_stage : Switches → Part → List Task → List Update → Stage (List Task)
-tasks_stage switches part tasks [] = settled (Ok tasks)
+tasks_stage switches part tasks [] = verdict_stage (Ok tasks)
 tasks_stage switches part tasks (u ∷ updates) =
     task_stage switches part u >>= λ task. tasks_stage switches part (tasks ++ task ∷ []) updates
 
@@ -111,4 +112,4 @@ planned s = do
   parts ← parts_stage s.parts
   part ← part_stage s.part parts
   tasks ← tasks_stage s.switches part [] s.updates
-  settled (Ok (record { part = part; tasks = tasks; switches = s.switches }))
+  verdict_stage (Ok (record { part = part; tasks = tasks; switches = s.switches }))

@@ -8,7 +8,7 @@ use Rattle.avr_desk.specs.declared.record.Reading.{Reading}
 use Rattle.avr_message.specs.Lines.{Bytes}
 use Rattle.avr_message.specs.Said.{Saying, Opens, Line, IsPrefixOf, TellsLine, TellsFailure, after_all}
 use Rattle.avr_plan.specs.Lines.{memory_line, not_opened_line, not_read_line}
-use Rattle.avr_plan.specs.Stage.{Stage, Answer, Made, Refused, Played, next_opening}
+use Rattle.avr_plan.specs.Stage.{Stage, Answer, Made, Refused, StageResult, next_opening}
 
 -- These openings passed, and what the desk was given to do is what the stage says of them, whatever later ones would
 -- give.
@@ -38,16 +38,16 @@ last_done (NoMemoryFor reading) told = Opens (Found reading) ∷ Line told ∷ [
 last_done break told = Line told ∷ []
 
 -- this is the next that is said
-abbrev pub IsNext : Saying → List Saying → Type 0
-IsNext saying later = (behind : List Saying) × (later ≡ saying ∷ behind)
+abbrev pub IsNextSaying : Saying → List Saying → Type 0
+IsNextSaying saying later = (behind : List Saying) × (later ≡ saying ∷ behind)
 
 -- it fits what would have been said, and which openings would have passed
 abbrev pub IsBreak : Break → List Opening → List Saying → Type 0
-IsBreak (InLine line) more later = IsNext (Line line) later
-IsBreak (NotOpened name) more later = IsNext (Opens (next_opening name more)) later
-IsBreak (NotRead name bytes) more later = IsNext (Opens (next_opening name more)) later
+IsBreak (InLine line) more later = IsNextSaying (Line line) later
+IsBreak (NotOpened name) more later = IsNextSaying (Opens (next_opening name more)) later
+IsBreak (NotRead name bytes) more later = IsNextSaying (Opens (next_opening name more)) later
 IsBreak NoMemory more later = Unit {0}
-IsBreak (NoMemoryFor reading) more later = IsNext (Opens (next_opening reading.name more)) later
+IsBreak (NoMemoryFor reading) more later = IsNextSaying (Opens (next_opening reading.name more)) later
 
 -- The desk failed at the file, and from then on the line of that was told; or the line that memory was refused was
 -- told. Of a line that could not be printed a front was, and the desk has failed; nothing else is told.
@@ -59,7 +59,7 @@ TellsBreak NoMemory told old new = TellsLine memory_line told old new
 TellsBreak (NoMemoryFor reading) told old new = TellsLine memory_line told old new
 
 -- the rest of what a stage says of some openings
-pub record Rest {A : Type 0} (played : Played A) (whole : List Saying) (break : Break)
+pub record Rest {A : Type 0} (played : StageResult A) (whole : List Saying) (break : Break)
     (more : List Opening) : Type 0 where
   pub later : List Saying
   pub says_are : played.says ≡ whole ++ later
@@ -67,7 +67,7 @@ pub record Rest {A : Type 0} (played : Played A) (whole : List Saying) (break : 
 
 -- These openings passed, a front of what the stage says of them was done, whatever later ones would give, and then it
 -- broke off, and why was told.
-pub record BrokeOff {A : Type 0} (stage : Stage A) (old new : DeskView) : Type 0 where
+pub record StageBrokeOff {A : Type 0} (stage : Stage A) (old new : DeskView) : Type 0 where
   pub passed : List Opening
   pub whole : List Saying
   pub break : Break
@@ -80,4 +80,4 @@ pub record BrokeOff {A : Type 0} (stage : Stage A) (old new : DeskView) : Type 0
 -- What was made was made by the stage; the status 1 is a refusal that was told, or a break.
 abbrev pub Goes : {A : Type 0} → Stage A → DeskView → DeskView → Result A ℕ → Type 0
 Goes stage old new (Ok a) = Went stage old new (Made a)
-Goes stage old new (Err status) = (status ≡ 1) × (Went stage old new Refused ⊎ BrokeOff stage old new)
+Goes stage old new (Err status) = (status ≡ 1) × (Went stage old new Refused ⊎ StageBrokeOff stage old new)

@@ -14,20 +14,20 @@ pub data Answer (A : Type 0) : Type 0 where
   Unread : Answer A
 
 -- what was said, the answer, and what the later openings give
-pub record Played (A : Type 0) : Type 0 where
+pub record StageResult (A : Type 0) : Type 0 where
   pub says : List Saying
   pub answer : Answer A
   pub left : List Opening
 
 abbrev pub Stage : Type 0 → Type 0
-Stage A = List Opening → Played A
+Stage A = List Opening → StageResult A
 
 -- behind these sayings
-abbrev pub behind : {A : Type 0} → List Saying → Played A → Played A
-behind says p = record { says = says ++ p.says; answer = p.answer; left = p.left }
+abbrev pub behind_sayings : {A : Type 0} → List Saying → StageResult A → StageResult A
+behind_sayings says p = record { says = says ++ p.says; answer = p.answer; left = p.left }
 
-abbrev pub going_on : {A B : Type 0} → List Saying → List Opening → (A → Stage B) → Answer A → Played B
-going_on says left go_on (Made a) = behind says (go_on a left)
+abbrev pub going_on : {A B : Type 0} → List Saying → List Opening → (A → Stage B) → Answer A → StageResult B
+going_on says left go_on (Made a) = behind_sayings says (go_on a left)
 going_on says left go_on Refused = record { says = says; answer = Refused; left = left }
 going_on says left go_on Unread = record { says = says; answer = Unread; left = left }
 
@@ -39,29 +39,29 @@ abbrev pub ◌>>=◌ : {A B : Type 0} → Stage A → (A → Stage B) → Stage 
     going_on p.says p.left go_on p.answer
 
 -- something is said
-abbrev pub said : List Saying → Stage ⊤
-said says openings = record { says = says; answer = Made tt; left = openings }
+abbrev pub saying_stage : List Saying → Stage ⊤
+saying_stage says openings = record { says = says; answer = Made tt; left = openings }
 
 -- a judgment: what it gives, or the line of its refusal
-abbrev pub settled : {A : Type 0} → Result A Bytes → Stage A
-settled (Ok a) openings = record { says = []; answer = Made a; left = openings }
-settled (Err line) openings = record { says = Line line ∷ []; answer = Refused; left = openings }
+abbrev pub verdict_stage : {A : Type 0} → Result A Bytes → Stage A
+verdict_stage (Ok a) openings = record { says = []; answer = Made a; left = openings }
+verdict_stage (Err line) openings = record { says = Line line ∷ []; answer = Refused; left = openings }
 
-abbrev pub unread : {A : Type 0} → Stage A
-unread openings = record { says = []; answer = Unread; left = openings }
+abbrev pub unread_stage : {A : Type 0} → Stage A
+unread_stage openings = record { says = []; answer = Unread; left = openings }
 
 -- the opening of the file of this name that gives what this one gives
-abbrev pub named : Bytes → Opening → Opening
-named name (Absent other) = Absent name
-named name (Found reading) = Found (record reading { name = name })
+abbrev pub under_name : Bytes → Opening → Opening
+under_name name (Absent other) = Absent name
+under_name name (Found reading) = Found (record reading { name = name })
 
 -- the file of this name gives what the next opening gives; behind the last one it is not there
 abbrev pub next_opening : Bytes → List Opening → Opening
 next_opening name [] = Absent name
-next_opening name (opening ∷ openings) = named name opening
+next_opening name (opening ∷ openings) = under_name name opening
 
-abbrev pub opened : Bytes → Stage Opening
-opened name openings = record {
+abbrev pub open_stage : Bytes → Stage Opening
+open_stage name openings = record {
   says = Opens (next_opening name openings) ∷ [];
   answer = Made (next_opening name openings);
   left = drop 1 openings;
@@ -71,11 +71,11 @@ opened name openings = record {
 abbrev pub is_whole : ℕ → Reading → Bool
 is_whole limit reading = reading.ended || nat_lt limit (length reading.bytes)
 
-abbrev pub judged : {A : Type 0} → Bytes → ℕ → (Bytes → Result A Bytes) → Opening → Stage A
-judged name limit judge (Absent other) = settled (Err (not_opened_line name))
-judged name limit judge (Found reading) =
-    if is_whole limit reading then settled (judge reading.bytes) else unread
+abbrev pub content_stage : {A : Type 0} → Bytes → ℕ → (Bytes → Result A Bytes) → Opening → Stage A
+content_stage name limit judge (Absent other) = verdict_stage (Err (not_opened_line name))
+content_stage name limit judge (Found reading) =
+    if is_whole limit reading then verdict_stage (judge reading.bytes) else unread_stage
 
 -- the judgment of a file, once it was read to its end or past its limit
 abbrev pub file_stage : {A : Type 0} → Bytes → ℕ → (Bytes → Result A Bytes) → Stage A
-file_stage name limit judge = opened name >>= judged name limit judge
+file_stage name limit judge = open_stage name >>= content_stage name limit judge

@@ -7,7 +7,7 @@ ghost use Rattle.avr_records.specs.declared.kind.Found.{Found as AnyFound};
 ghost use Rattle.avr_plan.specs.Faults.{read_fault_number};
 ghost use Rattle.avr_plan.specs.ImageFile.{kind_of, whole_file};
 ghost use Rattle.avr_plan.specs.ImageReading.{IsGiven, FrontIsRead, RestIsRead, OpenIsRead, ImageIsRead, IsCounted, IsCountedRead};
-ghost use Rattle.avr_plan.specs.Intake.{Takes, counted};
+ghost use Rattle.avr_plan.specs.Intake.{Takes, fed_count};
 
 use crate::bad_file::BadFile;
 use crate::intake::Intake;
@@ -112,7 +112,7 @@ fn read_rest<D: Desk>(
     mut intake: Intake,
     mut left: usize,
 ) -> Result<(Image, Ending), ReadFault>
-    requires { counted intake + left < 2 ^ 31 }
+    requires { fed_count intake + left < 2 ^ 31 }
     ensures read { (limit : ℕ) (found : AnyFound) (size : ℕ) (before : Bytes) → Takes found size intake before
         → length before + left ≡ limit
         → RestIsRead limit found size before (D.view desk.old) (D.view desk.new) result }

@@ -3,7 +3,7 @@ ghost use Rattle.std.specs.Prelude.{◌≡◌, ◌+◌, ◌<◌, ◌≤◌, ◌^
 ghost use Rattle.avr_message.specs.Lines.{Bytes};
 ghost use Rattle.avr_records.specs.declared.kind.Found.{Found as AnyFound};
 ghost use Rattle.avr_plan.specs.ImageFile.{whole_file, long_file};
-ghost use Rattle.avr_plan.specs.Intake.{Takes, counted, found_as, in_long_file};
+ghost use Rattle.avr_plan.specs.Intake.{Takes, fed_count, found_as, in_long_file};
 
 use crate::bad_file::BadFile;
 use avr_desk::FileFault;
@@ -21,7 +21,7 @@ pub(crate) enum Intake {
 
 /// A reader of a record file.
 fn record_intake(alloc: Global, kind: Kind, size: u32) -> Result<Intake, FileFault>
-    ensures { MatchResult result (λ intake. Takes (found_as kind) size intake [] × (counted intake ≡ 0))
+    ensures { MatchResult result (λ intake. Takes (found_as kind) size intake [] × (fed_count intake ≡ 0))
         (λ fault. fault ≡ FileFault.Memory) }
 {
     match RecordReader::new(alloc, kind, size) {
@@ -32,7 +32,7 @@ fn record_intake(alloc: Global, kind: Kind, size: u32) -> Result<Intake, FileFau
 
 /// A reader of raw bytes.
 fn raw_intake(alloc: Global, size: u32) -> Result<Intake, FileFault>
-    ensures { MatchResult result (λ intake. Takes Found.Raw size intake [] × (counted intake ≡ 0))
+    ensures { MatchResult result (λ intake. Takes Found.Raw size intake [] × (fed_count intake ≡ 0))
         (λ fault. fault ≡ FileFault.Memory) }
 {
     match RawReader::new(alloc, size) {
@@ -54,7 +54,7 @@ fn in_long_file(fault: BadFile) -> BadFile
 impl Intake {
     /// For a file of this kind and a memory of this size, before any byte.
     pub(crate) fn new(alloc: Global, found: Found, size: u32) -> Result<Intake, FileFault>
-        ensures { MatchResult result (λ intake. Takes found size intake [] × (counted intake ≡ 0))
+        ensures { MatchResult result (λ intake. Takes found size intake [] × (fed_count intake ≡ 0))
             (λ fault. fault ≡ FileFault.Memory) }
     {
         match found {
@@ -67,10 +67,10 @@ impl Intake {
 
     /// With the next bytes of the file. The first fault is kept.
     pub(crate) fn fed(self, piece: &[u8]) -> Intake
-        requires { counted self + length piece.now < 2 ^ 32 }
+        requires { fed_count self + length piece.now < 2 ^ 32 }
         ensures takes { (found : AnyFound) (size : ℕ) (text : Bytes) → Takes found size self text
             → Takes found size result (text ++ piece.now) }
-        ensures count { counted result ≤ counted self + length piece.now }
+        ensures count { fed_count result ≤ fed_count self + length piece.now }
     {
         match self {
             Intake::Records(mut reader) => match reader.feed(piece) {

@@ -2,9 +2,9 @@
 ghost use Rattle.std.specs.Prelude.{◌≡◌, length, IfOk};
 ghost use Rattle.avr_cli.specs.declared.chosen.Switches.{Switches as AnySwitches};
 ghost use Rattle.avr_part.specs.Part.{size_of};
-ghost use Rattle.avr_plan.specs.Planning.{is_warned, warned, file_image_stage, image_stage, update_image as update_image_stage};
+ghost use Rattle.avr_plan.specs.Planning.{is_warned, warning_says, file_image_stage, image_stage, update_image as update_image_stage};
 ghost use Rattle.avr_plan.specs.Playing.{Goes};
-ghost use Rattle.avr_plan.specs.Stage.{said};
+ghost use Rattle.avr_plan.specs.Stage.{saying_stage};
 
 use crate::image_file::{ReadFault, read_image};
 use crate::refusal::{refuse_image, refuse_values};
@@ -33,7 +33,7 @@ fn warn_of_ending<D: Desk>(
     file: &str,
     ending: Ending,
 ) -> Result<(), u8>
-    ensures { Goes (said (warned switches file.now ending))
+    ensures { Goes (saying_stage (warning_says switches file.now ending))
         (D.view desk.old) (D.view desk.new) result }
 {
     let warns = is_warned(switches, ending);

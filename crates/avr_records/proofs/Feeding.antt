@@ -6,14 +6,14 @@ use Rattle.std.proofs.lemmas.List.{length-append, length-replicate}
 use Rattle.avr_image.specs.Image.{empty}
 use Rattle.avr_records.proofs.Holding.{Leaves, leaves-next, step-good, step-bad, done-more, done-of, held-of, leaves-done}
 use Rattle.avr_records.proofs.Laws.{append-nil, append-assoc, parts-some, pasted-last, slice_split-append, up_to_end-open}
-use Rattle.avr_records.specs.Closed.{all_but_last, fault_among, closed_fault, unless_fault}
+use Rattle.avr_records.specs.Closed.{all_but_last, fault_among, closed_fault, ok_unless}
 use Rattle.avr_records.specs.Lines.{lines, is_line_end}
-use Rattle.avr_records.specs.Progress.{Progress, fresh, Held, Done, size_of}
-use Rattle.avr_records.specs.Reader.{kept, Reads}
-use Rattle.avr_records.specs.Reading.{Said, says, up_to_end, together, read}
+use Rattle.avr_records.specs.Progress.{Progress, fresh_progress, Held, HoldsToEnd, image_size}
+use Rattle.avr_records.specs.Reader.{kept_of_line, ReadsLines}
+use Rattle.avr_records.specs.Reading.{Said, said_by_line, up_to_end, together, image_in_text}
 use Rattle.avr_records.specs.Meaning.{Nothing}
 use Rattle.avr_records.specs.Record.{longest}
-use Rattle.avr_records.specs.Steps.{grown, kept_says, line_step, step, counted, ending_of, HasBase, Begins}
+use Rattle.avr_records.specs.Steps.{grown, kept_says, line_step, next_progress, with_line_count, ending_of, HasBase, Begins}
 use Rattle.avr_records.specs.declared.kind.Kind.{Kind}
 use Rattle.avr_records.specs.declared.kind.Kind.TheVariants.{Ihex, Srec}
 use Rattle.avr_records.specs.declared.kind.Base.TheVariants.{Linear}
@@ -54,25 +54,25 @@ too_long-more : (line more : List ℕ) → nat_lt longest (length line) ≡ true
 too_long-more line more is = let len = length-append line more in grind (arith, nat_tests, is, len)
 
 -- what is kept of a line goes on as the line does
-pub grown-kept : (line more : List ℕ) → grown (kept line) more ≡ kept (line ++ more)
+pub grown-kept : (line more : List ℕ) → grown (kept_of_line line) more ≡ kept_of_line (line ++ more)
 grown-kept line more =
     elim (cases_Bool (nat_lt longest (length line))) [
       | inl t ↦ rw (t, too_long-more line more t) refl
       | inr f ↦ rw f refl
     ]
 
-kept-none : (line : List ℕ) → nat_lt longest (length line) ≡ true → kept line ≡ None
+kept-none : (line : List ℕ) → nat_lt longest (length line) ≡ true → kept_of_line line ≡ None
 kept-none line is = rw is refl
 
-kept-some : (line : List ℕ) → nat_lt longest (length line) ≡ false → kept line ≡ Some line
+kept-some : (line : List ℕ) → nat_lt longest (length line) ≡ false → kept_of_line line ≡ Some line
 kept-some line is = rw is refl
 
-says-too_long : (kind : Kind) (line : List ℕ) → nat_lt longest (length line) ≡ true → says kind line ≡ Err TooLong
+says-too_long : (kind : Kind) (line : List ℕ) → nat_lt longest (length line) ≡ true → said_by_line kind line ≡ Err TooLong
 says-too_long Ihex line is = rw is refl
 says-too_long Srec line is = rw is refl
 
 -- what is kept says what the line says
-pub kept_says-kept : (kind : Kind) (line : List ℕ) → kept_says kind (kept line) ≡ says kind line
+pub kept_says-kept : (kind : Kind) (line : List ℕ) → kept_says kind (kept_of_line line) ≡ said_by_line kind line
 kept_says-kept kind line =
     elim (cases_Bool (nat_lt longest (length line))) [
       | inl t ↦ ap (kept_says kind) (kept-none line t) ∙ sym (says-too_long kind line t)
@@ -82,17 +82,17 @@ kept_says-kept kind line =
 -- ---- a reader
 
 abbrev Follows : Kind → Progress → Option (List ℕ) → List (List ℕ) → List ℕ → Bool → Type 0
-Follows kind p part front last ended = MatchBool ended (Done p (map (says kind) front)) (Held p (map (says kind) front) × (part ≡ kept last))
+Follows kind p part front last ended = MatchBool ended (HoldsToEnd p (map (said_by_line kind) front)) (Held p (map (said_by_line kind) front) × (part ≡ kept_of_line last))
 
-follows-done : {kind : Kind} {p : Progress} {part : Option (List ℕ)} {text : List ℕ} → p.ended ≡ true → (r : Reads kind p part text) → Done p (map (says kind) r.front)
+follows-done : {kind : Kind} {p : Progress} {part : Option (List ℕ)} {text : List ℕ} → p.ended ≡ true → (r : ReadsLines kind p part text) → HoldsToEnd p (map (said_by_line kind) r.front)
 follows-done {kind} {p} {part} ended r = subst (Follows kind p part r.front r.last) ended r.follows
 
-follows-held : {kind : Kind} {p : Progress} {part : Option (List ℕ)} {text : List ℕ} → p.ended ≡ false → (r : Reads kind p part text) → Held p (map (says kind) r.front) × (part ≡ kept r.last)
+follows-held : {kind : Kind} {p : Progress} {part : Option (List ℕ)} {text : List ℕ} → p.ended ≡ false → (r : ReadsLines kind p part text) → Held p (map (said_by_line kind) r.front) × (part ≡ kept_of_line r.last)
 follows-held {kind} {p} {part} open' r = subst (Follows kind p part r.front r.last) open' r.follows
 
 -- more of the last line
 pub keeps : (kind : Kind) (p : Progress) (part : Option (List ℕ)) (text more : List ℕ) → lines more ≡ more ∷ [] → p.ended ≡ false
-    → Reads kind p part text → Reads kind p (grown part more) (text ++ more)
+    → ReadsLines kind p part text → ReadsLines kind p (grown part more) (text ++ more)
 keeps kind p part text more one open' r =
     let held = follows-held open' r in
     record {
@@ -104,12 +104,12 @@ keeps kind p part text more one open' r =
 
 -- nothing counts behind an end record
 pub keeps-done : (kind : Kind) (p : Progress) (part new : Option (List ℕ)) (text more : List ℕ) → p.ended ≡ true
-    → Reads kind p part text → Reads kind p new (text ++ more)
+    → ReadsLines kind p part text → ReadsLines kind p new (text ++ more)
 keeps-done kind p part new text more ended r =
     let some = parts-some is_line_end more in
     let cut = but_last (r.last ++ some.0) some.1 in
     let closed : List (List ℕ) = all_but_last ((r.last ++ some.0) ∷ some.1) in
-    let done = done-more p (map (says kind) r.front) (map (says kind) closed) (follows-done ended r) in
+    let done = done-more p (map (said_by_line kind) r.front) (map (said_by_line kind) closed) (follows-done ended r) in
     record {
       front = r.front ++ closed;
       last = cut.0;
@@ -117,7 +117,7 @@ keeps-done kind p part new text more ended r =
           goes-on text more r.front r.last some.0 some.1 r.cut some.2
           ∙ ap (λ (zs : List (List ℕ)). r.front ++ zs) cut.1
           ∙ sym (append-assoc r.front closed (cut.0 ∷ []));
-      follows = subst (Follows kind p new (r.front ++ closed) cut.0) (sym ended) (rw (map-append (says kind) r.front closed) done);
+      follows = subst (Follows kind p new (r.front ++ closed) cut.0) (sym ended) (rw (map-append (said_by_line kind) r.front closed) done);
     }
 
 -- the lines once the last one has ended
@@ -128,11 +128,11 @@ ends text rest more front last one cut = goes-on text (rest ++ 10 ∷ more) fron
 ended-front : (front : List (List ℕ)) (line : List ℕ) → front ++ line ∷ [] ∷ [] ≡ (front ++ line ∷ []) ++ [] ∷ []
 ended-front front line = sym (append-assoc front (line ∷ []) ([] ∷ []))
 
-said-front : (kind : Kind) (front : List (List ℕ)) (line : List ℕ) → map (says kind) (front ++ line ∷ []) ≡ map (says kind) front ++ says kind line ∷ []
-said-front kind front line = map-append (says kind) front (line ∷ [])
+said-front : (kind : Kind) (front : List (List ℕ)) (line : List ℕ) → map (said_by_line kind) (front ++ line ∷ []) ≡ map (said_by_line kind) front ++ said_by_line kind line ∷ []
+said-front kind front line = map-append (said_by_line kind) front (line ∷ [])
 
-follows-leaves : (kind : Kind) (p : Progress) (part : Option (List ℕ)) (front : List (List ℕ)) (last : List ℕ) → (p.ended ≡ false → part ≡ kept last)
-    → Leaves (map (says kind) front) p → Follows kind p part front last p.ended
+follows-leaves : (kind : Kind) (p : Progress) (part : Option (List ℕ)) (front : List (List ℕ)) (last : List ℕ) → (p.ended ≡ false → part ≡ kept_of_line last)
+    → Leaves (map (said_by_line kind) front) p → Follows kind p part front last p.ended
 follows-leaves kind p part front last keeps' leaves =
     elim (cases_Bool p.ended) [
       | inl t ↦ subst (Follows kind p part front last) (sym t) (done-of p _ t leaves)
@@ -140,36 +140,36 @@ follows-leaves kind p part front last keeps' leaves =
     ]
 
 -- what is kept of the last line, once its end came
-last-says : (kind : Kind) (p : Progress) (part : Option (List ℕ)) (last rest : List ℕ) → part ≡ kept last → kept_says kind (grown part rest) ≡ says kind (last ++ rest)
+last-says : (kind : Kind) (p : Progress) (part : Option (List ℕ)) (last rest : List ℕ) → part ≡ kept_of_line last → kept_says kind (grown part rest) ≡ said_by_line kind (last ++ rest)
 last-says kind p part last rest held = rw (held, grown-kept last rest) (kept_says-kept kind (last ++ rest))
 
-open-step : (kind : Kind) (p : Progress) (part : Option (List ℕ)) (last rest : List ℕ) (out : Result Progress RecordFault) → p.ended ≡ false → part ≡ kept last
-    → line_step kind p part rest ≡ out → step p (says kind (last ++ rest)) ≡ out
+open-step : (kind : Kind) (p : Progress) (part : Option (List ℕ)) (last rest : List ℕ) (out : Result Progress RecordFault) → p.ended ≡ false → part ≡ kept_of_line last
+    → line_step kind p part rest ≡ out → next_progress p (said_by_line kind (last ++ rest)) ≡ out
 open-step kind p part last rest out open' held is =
-    ap (step p) (sym (last-says kind p part last rest held))
-    ∙ sym (cond-false p.ended (Ok p) (step p (kept_says kind (grown part rest))) open')
+    ap (next_progress p) (sym (last-says kind p part last rest held))
+    ∙ sym (cond-false p.ended (Ok p) (next_progress p (kept_says kind (grown part rest))) open')
     ∙ is
 
 done-step : (kind : Kind) (p : Progress) (part : Option (List ℕ)) (rest : List ℕ) (out : Result Progress RecordFault) → p.ended ≡ true
     → line_step kind p part rest ≡ out → Ok p ≡ out
-done-step kind p part rest out ended is = sym (cond-true p.ended (Ok p) (step p (kept_says kind (grown part rest))) ended) ∙ is
+done-step kind p part rest out ended is = sym (cond-true p.ended (Ok p) (next_progress p (kept_says kind (grown part rest))) ended) ∙ is
 
 ends-done : (kind : Kind) (p : Progress) (part new : Option (List ℕ)) (text rest : List ℕ) → lines rest ≡ rest ∷ [] → p.ended ≡ true
-    → Reads kind p part text → Reads kind p new (text ++ (rest ++ 10 ∷ []))
+    → ReadsLines kind p part text → ReadsLines kind p new (text ++ (rest ++ 10 ∷ []))
 ends-done kind p part new text rest one ended r =
     let done = follows-done ended r in record {
       front = r.front ++ (r.last ++ rest) ∷ [];
       last = [];
       cut = ends text rest [] r.front r.last one r.cut ∙ ended-front r.front (r.last ++ rest);
       follows = subst (Follows kind p new (r.front ++ (r.last ++ rest) ∷ []) []) (sym ended)
-          (rw (said-front kind r.front (r.last ++ rest)) (done-more p (map (says kind) r.front) (says kind (r.last ++ rest) ∷ []) done));
+          (rw (said-front kind r.front (r.last ++ rest)) (done-more p (map (said_by_line kind) r.front) (said_by_line kind (r.last ++ rest) ∷ []) done));
     }
 
 ends-open : (kind : Kind) (p new : Progress) (part next : Option (List ℕ)) (text rest : List ℕ) → lines rest ≡ rest ∷ [] → p.ended ≡ false
-    → line_step kind p part rest ≡ Ok new → next ≡ Some [] → Reads kind p part text → Reads kind new next (text ++ (rest ++ 10 ∷ []))
+    → line_step kind p part rest ≡ Ok new → next ≡ Some [] → ReadsLines kind p part text → ReadsLines kind new next (text ++ (rest ++ 10 ∷ []))
 ends-open kind p new part next text rest one open' is clear r =
     let held = follows-held open' r in
-    let leaves = step-good p new (map (says kind) r.front) (says kind (r.last ++ rest)) open' held.0 (open-step kind p part r.last rest (Ok new) open' held.1 is) in
+    let leaves = step-good p new (map (said_by_line kind) r.front) (said_by_line kind (r.last ++ rest)) open' held.0 (open-step kind p part r.last rest (Ok new) open' held.1 is) in
     record {
       front = r.front ++ (r.last ++ rest) ∷ [];
       last = [];
@@ -179,18 +179,18 @@ ends-open kind p new part next text rest one open' is clear r =
 
 -- a line has ended, and isn't at fault
 pub ends-good : (kind : Kind) (p new : Progress) (part next : Option (List ℕ)) (text rest : List ℕ) → lines rest ≡ rest ∷ []
-    → line_step kind p part rest ≡ Ok new → (p.ended ≡ false → next ≡ Some []) → Reads kind p part text → Reads kind new next (text ++ (rest ++ 10 ∷ []))
+    → line_step kind p part rest ≡ Ok new → (p.ended ≡ false → next ≡ Some []) → ReadsLines kind p part text → ReadsLines kind new next (text ++ (rest ++ 10 ∷ []))
 ends-good kind p new part next text rest one is clear r =
     elim (cases_Bool p.ended) [
       | inl t ↦
           let same : p ≡ new = cc (done-step kind p part rest (Ok new) t is) in
-          subst (λ (q : Progress). Reads kind q next (text ++ (rest ++ 10 ∷ []))) same (ends-done kind p part next text rest one t r)
+          subst (λ (q : Progress). ReadsLines kind q next (text ++ (rest ++ 10 ∷ []))) same (ends-done kind p part next text rest one t r)
       | inr f ↦ ends-open kind p new part next text rest one f is (clear f) r
     ]
 
 -- a line has ended, and is at fault, whatever follows
 pub ends-bad : (kind : Kind) (p : Progress) (part : Option (List ℕ)) (text rest more : List ℕ) (fault : RecordFault) → lines rest ≡ rest ∷ []
-    → line_step kind p part rest ≡ Err fault → Reads kind p part text → closed_fault kind (text ++ (rest ++ 10 ∷ more)) (size_of p) ≡ Some fault
+    → line_step kind p part rest ≡ Err fault → ReadsLines kind p part text → closed_fault kind (text ++ (rest ++ 10 ∷ more)) (image_size p) ≡ Some fault
 ends-bad kind p part text rest more fault one is r =
     elim (cases_Bool p.ended) [
       | inl t ↦ cc (done-step kind p part rest (Err fault) t is)
@@ -199,9 +199,9 @@ ends-bad kind p part text rest more fault one is r =
           let next = parts-some is_line_end more in
           let cut = ends text rest more r.front r.last one r.cut ∙ ap (λ (zs : List (List ℕ)). r.front ++ (r.last ++ rest) ∷ zs) next.2 in
           let closed = ap all_but_last cut ∙ closed-front r.front (r.last ++ rest) (next.0 ∷ next.1) in
-          let said = ap (map (says kind)) closed ∙ map-append (says kind) r.front ((r.last ++ rest) ∷ all_but_last (next.0 ∷ next.1)) in
-          ap (fault_among (size_of p)) said
-          ∙ step-bad p (map (says kind) r.front) (says kind (r.last ++ rest)) fault (map (says kind) (all_but_last (next.0 ∷ next.1))) held.0
+          let said = ap (map (said_by_line kind)) closed ∙ map-append (said_by_line kind) r.front ((r.last ++ rest) ∷ all_but_last (next.0 ∷ next.1)) in
+          ap (fault_among (image_size p)) said
+          ∙ step-bad p (map (said_by_line kind) r.front) (said_by_line kind (r.last ++ rest)) fault (map (said_by_line kind) (all_but_last (next.0 ∷ next.1))) held.0
           (open-step kind p part r.last rest (Err fault) f held.1 is)
     ]
 
@@ -210,31 +210,31 @@ held-all : (p : Progress) (said : List Said) → Held p said → up_to_end said 
 held-all p said held = ap up_to_end (sym (append-nil said)) ∙ up_to_end-open said [] held.no_end ∙ append-nil said
 
 -- no line that has ended is at fault
-pub reads-sound : (kind : Kind) (p : Progress) (part : Option (List ℕ)) (text : List ℕ) → Reads kind p part text → closed_fault kind text (size_of p) ≡ None
+pub reads-sound : (kind : Kind) (p : Progress) (part : Option (List ℕ)) (text : List ℕ) → ReadsLines kind p part text → closed_fault kind text (image_size p) ≡ None
 reads-sound kind p part text r =
     let closed : all_but_last (lines text) ≡ r.front = ap all_but_last r.cut ∙ closed-front r.front r.last [] ∙ append-nil r.front in
     rw closed (elim (cases_Bool p.ended) [
       | inl t ↦ (follows-done t r).no_fault
       | inr f ↦
           let held = (follows-held f r).0 in
-          rw (held-all p (map (says kind) r.front) held) held.no_fault
+          rw (held-all p (map (said_by_line kind) r.front) held) held.no_fault
     ])
 
-pub no_answer : (kind : Kind) (p : Progress) (size : ℕ) (part : Option (List ℕ)) (text : List ℕ) → size_of p ≡ size → Reads kind p part text
-    → Ok tt ≡ unless_fault (closed_fault kind text size)
+pub no_answer : (kind : Kind) (p : Progress) (size : ℕ) (part : Option (List ℕ)) (text : List ℕ) → image_size p ≡ size → ReadsLines kind p part text
+    → Ok tt ≡ ok_unless (closed_fault kind text size)
 no_answer kind p size part text same r =
-    ap unless_fault (sym (reads-sound kind p part text r) ∙ ap (closed_fault kind text) same)
+    ap ok_unless (sym (reads-sound kind p part text r) ∙ ap (closed_fault kind text) same)
 
 -- ---- the whole text
 
-together-done : (p : Progress) (said : List Said) → Done p said → together (size_of p) said ≡ Ok (p.image, Ended)
+together-done : (p : Progress) (said : List Said) → HoldsToEnd p said → together (image_size p) said ≡ Ok (p.image, Ended)
 together-done p said done = rw (done.no_fault, done.end, ← done.image) refl
 
-together-held : (p : Progress) (said : List Said) → Held p said → together (size_of p) said ≡ Ok (p.image, NoEnd)
+together-held : (p : Progress) (said : List Said) → Held p said → together (image_size p) said ≡ Ok (p.image, NoEnd)
 together-held p said held = rw (held-all p said held, held.no_fault, held.no_end, ← held.image) refl
 
 -- the file that such lines are
-together-leaves : (p : Progress) (said : List Said) → Leaves said p → together (size_of p) said ≡ Ok (p.image, ending_of p)
+together-leaves : (p : Progress) (said : List Said) → Leaves said p → together (image_size p) said ≡ Ok (p.image, ending_of p)
 together-leaves p said leaves =
     elim (cases_Bool p.ended) [
       | inl t ↦
@@ -246,71 +246,71 @@ together-leaves p said leaves =
     ]
 
 whole-said : (kind : Kind) (text : List ℕ) (front : List (List ℕ)) (last : List ℕ) → lines text ≡ front ++ last ∷ []
-    → map (says kind) (lines text) ≡ map (says kind) front ++ says kind last ∷ []
-whole-said kind text front last cut = ap (map (says kind)) cut ∙ said-front kind front last
+    → map (said_by_line kind) (lines text) ≡ map (said_by_line kind) front ++ said_by_line kind last ∷ []
+whole-said kind text front last cut = ap (map (said_by_line kind)) cut ∙ said-front kind front last
 
 -- an end record came before the last line
-whole-done : (kind : Kind) (p : Progress) (part : Option (List ℕ)) (text : List ℕ) → p.ended ≡ true → Reads kind p part text
-    → read kind text (size_of p) ≡ Ok (p.image, ending_of p)
+whole-done : (kind : Kind) (p : Progress) (part : Option (List ℕ)) (text : List ℕ) → p.ended ≡ true → ReadsLines kind p part text
+    → image_in_text kind text (image_size p) ≡ Ok (p.image, ending_of p)
 whole-done kind p part text ended r =
-    let done = done-more p (map (says kind) r.front) (says kind r.last ∷ []) (follows-done ended r) in
-    ap (together (size_of p)) (whole-said kind text r.front r.last r.cut)
+    let done = done-more p (map (said_by_line kind) r.front) (said_by_line kind r.last ∷ []) (follows-done ended r) in
+    ap (together (image_size p)) (whole-said kind text r.front r.last r.cut)
     ∙ together-leaves p _ (leaves-done p _ ended done)
 
 -- the last line is good
-pub whole-good : (kind : Kind) (p new : Progress) (part : Option (List ℕ)) (text : List ℕ) → size_of new ≡ size_of p
-    → line_step kind p part [] ≡ Ok new → Reads kind p part text → read kind text (size_of p) ≡ Ok (new.image, ending_of new)
+pub whole-good : (kind : Kind) (p new : Progress) (part : Option (List ℕ)) (text : List ℕ) → image_size new ≡ image_size p
+    → line_step kind p part [] ≡ Ok new → ReadsLines kind p part text → image_in_text kind text (image_size p) ≡ Ok (new.image, ending_of new)
 whole-good kind p new part text same is r =
     elim (cases_Bool p.ended) [
       | inl t ↦
           let equal : p ≡ new = cc (done-step kind p part [] (Ok new) t is) in
-          subst (λ (q : Progress). read kind text (size_of p) ≡ Ok (q.image, ending_of q)) equal (whole-done kind p part text t r)
+          subst (λ (q : Progress). image_in_text kind text (image_size p) ≡ Ok (q.image, ending_of q)) equal (whole-done kind p part text t r)
       | inr f ↦
           let held = follows-held f r in
           let step' = rw (append-nil r.last) at (open-step kind p part r.last [] (Ok new) f held.1 is) in
-          let leaves = step-good p new (map (says kind) r.front) (says kind r.last) f held.0 step' in
-          ap (together (size_of p)) (whole-said kind text r.front r.last r.cut)
-          ∙ ap (λ (n : ℕ). together n (map (says kind) r.front ++ says kind r.last ∷ [])) (sym same)
+          let leaves = step-good p new (map (said_by_line kind) r.front) (said_by_line kind r.last) f held.0 step' in
+          ap (together (image_size p)) (whole-said kind text r.front r.last r.cut)
+          ∙ ap (λ (n : ℕ). together n (map (said_by_line kind) r.front ++ said_by_line kind r.last ∷ [])) (sym same)
           ∙ together-leaves new _ leaves
     ]
 
 -- the last line is at fault
 pub whole-bad : (kind : Kind) (p : Progress) (part : Option (List ℕ)) (text : List ℕ) (fault : RecordFault)
-    → line_step kind p part [] ≡ Err fault → Reads kind p part text → read kind text (size_of p) ≡ Err fault
+    → line_step kind p part [] ≡ Err fault → ReadsLines kind p part text → image_in_text kind text (image_size p) ≡ Err fault
 whole-bad kind p part text fault is r =
     elim (cases_Bool p.ended) [
       | inl t ↦ cc (done-step kind p part [] (Err fault) t is)
       | inr f ↦
           let held = follows-held f r in
           let step' = rw (append-nil r.last) at (open-step kind p part r.last [] (Err fault) f held.1 is) in
-          ap (together (size_of p)) (whole-said kind text r.front r.last r.cut)
-          ∙ rw (step-bad p (map (says kind) r.front) (says kind r.last) fault [] held.0 step') refl
+          ap (together (image_size p)) (whole-said kind text r.front r.last r.cut)
+          ∙ rw (step-bad p (map (said_by_line kind) r.front) (said_by_line kind r.last) fault [] held.0 step') refl
     ]
 
-kept-nothing : (line : List ℕ) → kept line ≡ Some [] → line ≡ []
+kept-nothing : (line : List ℕ) → kept_of_line line ≡ Some [] → line ≡ []
 kept-nothing line is =
     elim (cases_Bool (nat_lt longest (length line))) [
       | inl t ↦ cc (rw t at is)
       | inr f ↦ cc (rw f at is)
     ]
 
-says-nothing : (kind : Kind) → says kind [] ≡ Ok Nothing
+says-nothing : (kind : Kind) → said_by_line kind [] ≡ Ok Nothing
 says-nothing Ihex = refl
 says-nothing Srec = refl
 
 -- no byte came of the last line
 pub whole-empty : (kind : Kind) (p : Progress) (part : Option (List ℕ)) (text : List ℕ) → part ≡ Some []
-    → Reads kind p part text → read kind text (size_of p) ≡ Ok (p.image, ending_of p)
+    → ReadsLines kind p part text → image_in_text kind text (image_size p) ≡ Ok (p.image, ending_of p)
 whole-empty kind p part text empty r =
     elim (cases_Bool p.ended) [
       | inl t ↦ whole-done kind p part text t r
       | inr f ↦
           let held = follows-held f r in
-          let last : says kind r.last ≡ Ok Nothing = rw (kept-nothing r.last (sym held.1 ∙ empty)) (says-nothing kind) in
-          let leaves = leaves-next p (map (says kind) r.front) (Ok Nothing) f held.0 refl in
-          ap (together (size_of p)) (whole-said kind text r.front r.last r.cut)
-          ∙ ap (λ (line : Said). together (size_of p) (map (says kind) r.front ++ line ∷ [])) last
-          ∙ together-leaves (counted p) _ leaves
+          let last : said_by_line kind r.last ≡ Ok Nothing = rw (kept-nothing r.last (sym held.1 ∙ empty)) (says-nothing kind) in
+          let leaves = leaves-next p (map (said_by_line kind) r.front) (Ok Nothing) f held.0 refl in
+          ap (together (image_size p)) (whole-said kind text r.front r.last r.cut)
+          ∙ ap (λ (line : Said). together (image_size p) (map (said_by_line kind) r.front ++ line ∷ [])) last
+          ∙ together-leaves (with_line_count p) _ leaves
     ]
 
 -- ---- the pieces
@@ -323,7 +323,7 @@ rearranged used line rest =
 pub record Carries (kind : Kind) (p : Progress) (part : Option (List ℕ)) (now : Progress) (kept : Option (List ℕ)) (piece left : List ℕ) : Type 0 where
   pub used : List ℕ
   pub cut : piece ≡ used ++ left
-  pub reads : (text : List ℕ) → Reads kind p part text → Reads kind now kept (text ++ used)
+  pub reads : (text : List ℕ) → ReadsLines kind p part text → ReadsLines kind now kept (text ++ used)
 
 pub carries-none : (kind : Kind) (p : Progress) (part : Option (List ℕ)) (piece : List ℕ) → Carries kind p part p part piece piece
 carries-none kind p part piece = record {
@@ -340,12 +340,12 @@ carries-next kind p part now kept new next piece left line more carries one end 
   cut = carries.cut ∙ ap (λ (zs : List ℕ). carries.used ++ zs) end ∙ rearranged carries.used line more;
   reads = λ text r.
       let same = append-assoc text carries.used (line ++ 10 ∷ []) in
-      subst (λ (t : List ℕ). Reads kind new next t) same (ends-good kind now new kept next (text ++ carries.used) line one is clear (carries.reads text r));
+      subst (λ (t : List ℕ). ReadsLines kind new next t) same (ends-good kind now new kept next (text ++ carries.used) line one is clear (carries.reads text r));
 }
 
 pub carries-fault : (kind : Kind) (p : Progress) (part : Option (List ℕ)) (now : Progress) (kept : Option (List ℕ)) (piece left line more : List ℕ) (fault : RecordFault)
-    → Carries kind p part now kept piece left → lines line ≡ line ∷ [] → left ≡ line ++ 10 ∷ more → line_step kind now kept line ≡ Err fault → size_of now ≡ size_of p
-    → (text : List ℕ) → Reads kind p part text → closed_fault kind (text ++ piece) (size_of p) ≡ Some fault
+    → Carries kind p part now kept piece left → lines line ≡ line ∷ [] → left ≡ line ++ 10 ∷ more → line_step kind now kept line ≡ Err fault → image_size now ≡ image_size p
+    → (text : List ℕ) → ReadsLines kind p part text → closed_fault kind (text ++ piece) (image_size p) ≡ Some fault
 carries-fault kind p part now kept piece left line more fault carries one end is same text r =
     let parts : text ++ piece ≡ (text ++ carries.used) ++ (line ++ 10 ∷ more) =
     ap (λ (zs : List ℕ). text ++ zs) (carries.cut ∙ ap (λ (zs : List ℕ). carries.used ++ zs) end) ∙ sym (append-assoc text carries.used _) in
@@ -353,7 +353,7 @@ carries-fault kind p part now kept piece left line more fault carries one end is
 
 pub carries-last : (kind : Kind) (p : Progress) (part : Option (List ℕ)) (now : Progress) (kept : Option (List ℕ)) (new : Progress) (next : Option (List ℕ)) (piece left : List ℕ)
     → Carries kind p part now kept piece left → (now.ended ≡ false → lines left ≡ left ∷ []) → new ≡ now → (now.ended ≡ false → next ≡ grown kept left)
-    → (text : List ℕ) → Reads kind p part text → Reads kind new next (text ++ piece)
+    → (text : List ℕ) → ReadsLines kind p part text → ReadsLines kind new next (text ++ piece)
 carries-last kind p part now kept new next piece left carries one is goes text r =
     let parts : text ++ piece ≡ (text ++ carries.used) ++ left =
     ap (λ (zs : List ℕ). text ++ zs) carries.cut ∙ sym (append-assoc text carries.used left) in
@@ -368,7 +368,7 @@ no-base : (kind : Kind) → HasBase kind (Linear 0)
 no-base Ihex = tt
 no-base Srec = refl
 
-held-fresh : (size : ℕ) → Held (fresh size) []
+held-fresh : (size : ℕ) → Held (fresh_progress size) []
 held-fresh size = record {
   no_end = refl;
   no_fault = refl;
@@ -378,7 +378,7 @@ held-fresh size = record {
   lines = refl;
 }
 
-begins-fresh : (kind : Kind) (size : ℕ) → Begins kind size (fresh size) (Some [])
+begins-fresh : (kind : Kind) (size : ℕ) → Begins kind size (fresh_progress size) (Some [])
 begins-fresh kind size = record {
   sized = length-replicate size None;
   range = record { base = no-base kind; counts = omega arith };
@@ -387,5 +387,5 @@ begins-fresh kind size = record {
   reads = record { front = []; last = []; cut = refl; follows = (held-fresh size, refl) };
 }
 
-pub begins : (kind : Kind) (size : ℕ) (p : Progress) (part : Option (List ℕ)) → p ≡ fresh size → part ≡ Some [] → Begins kind size p part
+pub begins : (kind : Kind) (size : ℕ) (p : Progress) (part : Option (List ℕ)) → p ≡ fresh_progress size → part ≡ Some [] → Begins kind size p part
 begins kind size p part is empty' = rw (is, empty') (begins-fresh kind size)

@@ -6,7 +6,7 @@ use Rattle.std.proofs.lemmas.List.{length-append}
 use Rattle.std.proofs.lemmas.List.Sums.{prefix_len-le-length}
 use Rattle.std.specs.List.{list_all, prefix_len}
 use Rattle.avr_records.proofs.Feeding.{line-first}
-use Rattle.avr_records.specs.Detect.{shown}
+use Rattle.avr_records.specs.Detect.{kind_of_line}
 use Rattle.avr_records.specs.Lines.{lines, is_blank}
 use Rattle.avr_records.specs.declared.kind.Found.{Found}
 use Rattle.avr_records.specs.declared.kind.Found.TheVariants.{Raw}
@@ -33,7 +33,7 @@ all_of_front p (suc n) (x ∷ xs) len =
 
 -- what the first line of a text shows that isn't blank
 abbrev pub first_of : List ℕ → Found
-first_of text = shown (find (λ line. not (list_all is_blank line)) (lines text))
+first_of text = kind_of_line (find (λ line. not (list_all is_blank line)) (lines text))
 
 pub end-first : (text line more : List ℕ) → text ≡ line ++ 10 ∷ more → length more < length text
 end-first text line more cut = let len = length-append line (10 ∷ more) in omega (arith, ap length cut, len)
@@ -41,11 +41,11 @@ end-first text line more cut = let len = length-append line (10 ∷ more) in ome
 pub blank-first : (text line more : List ℕ) → lines line ≡ line ∷ [] → text ≡ line ++ 10 ∷ more → list_all is_blank line ≡ true → first_of text ≡ first_of more
 blank-first text line more one cut blank = rw (cut, line-first line more one, blank) refl
 
-pub shown-first : (text line more : List ℕ) → lines line ≡ line ∷ [] → text ≡ line ++ 10 ∷ more → list_all is_blank line ≡ false → first_of text ≡ shown (Some line)
+pub shown-first : (text line more : List ℕ) → lines line ≡ line ∷ [] → text ≡ line ++ 10 ∷ more → list_all is_blank line ≡ false → first_of text ≡ kind_of_line (Some line)
 shown-first text line more one cut blank = rw (cut, line-first line more one, blank) refl
 
 pub blank-last : (text : List ℕ) → lines text ≡ text ∷ [] → list_all is_blank text ≡ true → first_of text ≡ Raw
 blank-last text one blank = rw (one, blank) refl
 
-pub shown-last : (text : List ℕ) → lines text ≡ text ∷ [] → list_all is_blank text ≡ false → first_of text ≡ shown (Some text)
+pub shown-last : (text : List ℕ) → lines text ≡ text ∷ [] → list_all is_blank text ≡ false → first_of text ≡ kind_of_line (Some text)
 shown-last text one blank = rw (one, blank) refl

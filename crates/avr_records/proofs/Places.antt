@@ -10,7 +10,7 @@ use Rattle.avr_image.specs.Image.{fits, laid_over, with_byte}
 use Rattle.avr_image.specs.declared.fault.ImageFault.{ImageFault}
 use Rattle.avr_image.specs.declared.fault.ImageFault.TheVariants.{OutOfRange}
 use Rattle.avr_records.specs.Reading.{address, places, beyond}
-use Rattle.avr_records.specs.Judging.{Fits}
+use Rattle.avr_records.specs.Judging.{FitsKind}
 use Rattle.avr_records.specs.Laying.{Lays, Near}
 use Rattle.avr_records.specs.Steps.{HasBase}
 use Rattle.avr_records.specs.declared.kind.Base.{Base}
@@ -163,7 +163,7 @@ lays-linear base upper offset bytes is = ap (λ (b : Base). places b offset byte
 -- ---- addresses in range
 
 -- the offset of Intel HEX is small, and S-records have no base
-pub near : (kind : Kind) (base : Base) (offset : ℕ) (bytes : _) → Fits kind (Data offset bytes) → HasBase kind base → Near base offset
+pub near : (kind : Kind) (base : Base) (offset : ℕ) (bytes : _) → FitsKind kind (Data offset bytes) → HasBase kind base → Near base offset
 near Ihex (Linear upper) offset bytes fits' has = inl fits'.0
 near Ihex (Segment paragraph) offset bytes fits' has = tt
 near Srec (Linear upper) offset bytes fits' has = inr (cc has)

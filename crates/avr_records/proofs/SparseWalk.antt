@@ -2,7 +2,7 @@
 use Rattle.std.proofs.Common.{◌≡◌, ◌∙◌, sym, ap, refl, arith, ℕ, suc, ◌+◌, ◌-◌, ◌/◌, ◌%◌, ◌<◌, ◌≤◌, false, List, [], ◌∷◌, ◌++◌, length, take, drop, min, Option, Some, None, is_some, add-zero}
 use Rattle.std.specs.List.{position_from, prefix_len, flat_map, slice_range}
 use Rattle.std.proofs.lemmas.List.{append_assoc, drop-drop, length-drop}
-use Rattle.avr_image.specs.Image.{first_from, run_end, filled}
+use Rattle.avr_image.specs.Image.{first_from, run_end, filled_bytes}
 use Rattle.avr_records.specs.Text.{rows, srec_rows, srec_record, low_bytes, ihex_rows, ihex_row_size, ihex_record, two}
 use Rattle.avr_image.specs.Runs.{runs, lead}
 use Rattle.avr_image.proofs.RunWalk.{after, runs-lead, lead-drop, after-drop, walk-none, walk-next, filled-lead, prefix-lead, lead-short, length-filled, range-filled}
@@ -55,10 +55,10 @@ pub record IsPart (place end : ℕ) (bytes : List ℕ) (image : List (Option ℕ
   pub rises : place ≤ end
   pub within : end ≤ length image
   pub size : length bytes ≡ length image
-  pub part : slice_range bytes place end ≡ filled image place (end - place)
+  pub part : slice_range bytes place end ≡ filled_bytes image place (end - place)
 
 pub row-part : (addr place most end : ℕ) (bytes : List ℕ) (image : List (Option ℕ)) → first_from image addr ≡ Some place
-    → end ≡ place + min most (length (lead (drop place image))) → bytes ≡ filled image 0 (length image) → IsPart place end bytes image
+    → end ≡ place + min most (length (lead (drop place image))) → bytes ≡ filled_bytes image 0 (length image) → IsPart place end bytes image
 row-part addr place most end bytes image found is whole =
     let next = next_held image addr place found in
     let short = lead-short (drop place image) in
@@ -75,7 +75,7 @@ row-part addr place most end bytes image found is whole =
 -- the next row: the bytes from the next address that holds one
 pub rows-walk : (size : ℕ → ℕ) (addr place n : ℕ) (image : List (Option ℕ)) → first_from image addr ≡ Some place → 0 < size place
     → n ≡ min (size place) (length (lead (drop place image)))
-    → rows_of size (runs addr (drop addr image)) ≡ (place, filled image place n) ∷ rows_of size (runs (place + n) (drop (place + n) image))
+    → rows_of size (runs addr (drop addr image)) ≡ (place, filled_bytes image place n) ∷ rows_of size (runs (place + n) (drop (place + n) image))
 rows-walk size addr place n image found wide is =
     let next = walk-next addr place (drop addr image) found in
     let there : drop (place - addr) (drop addr image) ≡ drop place image =
@@ -85,7 +85,7 @@ rows-walk size addr place n image found wide is =
     ap (rows_of size) (next.same ∙ ap (runs place) there)
     ∙ rows-step size place n (drop place image) some wide is
     ∙ ap (λ (bytes : List ℕ). (place, bytes) ∷ rows_of size (runs (place + n) (drop n (drop place image)))) (sym (filled-lead image (drop place image) n place refl few))
-    ∙ ap (λ (xs : List (Option ℕ)). (place, filled image place n) ∷ rows_of size (runs (place + n) xs)) (drop-drop n place image)
+    ∙ ap (λ (xs : List (Option ℕ)). (place, filled_bytes image place n) ∷ rows_of size (runs (place + n) xs)) (drop-drop n place image)
 
 -- ---- the text of Intel HEX still to come
 
@@ -94,9 +94,9 @@ ihex_image-end upper addr image none = ap (λ (cut : List (ℕ × List ℕ)). ih
 
 pub ihex_image-row : (upper addr place n : ℕ) (image : List (Option ℕ)) → first_from image addr ≡ Some place → place / 65536 ≡ upper
     → n ≡ min (ihex_row_size place) (length (lead (drop place image)))
-    → ihex_image_rest false upper addr image ≡ ihex_record 0 (place % 65536) (filled image place n) ++ ihex_image_rest false upper (place + n) image
+    → ihex_image_rest false upper addr image ≡ ihex_record 0 (place % 65536) (filled_bytes image place n) ++ ihex_image_rest false upper (place + n) image
 ihex_image-row upper addr place n image found in_force is =
-    let row : List ℕ = ihex_record 0 (place % 65536) (filled image place n) in
+    let row : List ℕ = ihex_record 0 (place % 65536) (filled_bytes image place n) in
     let more : List (ℕ × List ℕ) = rows_of ihex_row_size (runs (place + n) (drop (place + n) image)) in
     ap (ihex_rows upper) (rows-walk ihex_row_size addr place n image found (wide_row place) is)
     ∙ ap (λ (front : List ℕ). front ++ row ++ ihex_rows (place / 65536) more) (same_upper upper place in_force)
@@ -107,7 +107,7 @@ pub ihex_image-upper : (upper addr place : ℕ) (image : List (Option ℕ)) → 
 ihex_image-upper upper addr place image found other =
     let n : ℕ = min (ihex_row_size place) (length (lead (drop place image))) in
     let high : List ℕ = ihex_record 4 0 (two (place / 65536)) in
-    let row : List ℕ = ihex_record 0 (place % 65536) (filled image place n) in
+    let row : List ℕ = ihex_record 0 (place % 65536) (filled_bytes image place n) in
     let more : List ℕ = ihex_rows (place / 65536) (rows_of ihex_row_size (runs (place + n) (drop (place + n) image))) in
     let cut = rows-walk ihex_row_size addr place n image found (wide_row place) refl in
     ap (ihex_rows upper) cut
@@ -123,11 +123,11 @@ srec_image-end size addr image none = ap (λ (cut : List (ℕ × List ℕ)). sre
 
 pub srec_image-row : (size addr place n : ℕ) (image : List (Option ℕ)) → first_from image addr ≡ Some place
     → n ≡ min 32 (length (lead (drop place image)))
-    → srec_image_rest false size addr image ≡ srec_record (size - 1) (low_bytes size place ++ filled image place n) ++ srec_image_rest false size (place + n) image
+    → srec_image_rest false size addr image ≡ srec_record (size - 1) (low_bytes size place ++ filled_bytes image place n) ++ srec_image_rest false size (place + n) image
 srec_image-row size addr place n image found is =
     let more : List (ℕ × List ℕ) = rows_of (λ _. 32) (runs (place + n) (drop (place + n) image)) in
     ap (srec_rows size) (rows-walk (λ _. 32) addr place n image found (omega arith) is)
-    ∙ append_assoc (srec_record (size - 1) (low_bytes size place ++ filled image place n)) (flat_map (λ row. srec_record (size - 1) (low_bytes size row.0 ++ row.1)) more) (srec_record (11 - size) (low_bytes size 0))
+    ∙ append_assoc (srec_record (size - 1) (low_bytes size place ++ filled_bytes image place n)) (flat_map (λ row. srec_record (size - 1) (low_bytes size row.0 ++ row.1)) more) (srec_record (11 - size) (low_bytes size 0))
 
 -- ---- the last address that holds a byte
 

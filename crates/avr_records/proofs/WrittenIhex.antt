@@ -11,9 +11,9 @@ use Rattle.hex.proofs.HexLemmas.{length-encode_with}
 use Rattle.avr_records.specs.Lines.{lines}
 use Rattle.avr_records.specs.Meaning.{Data, Rebase, End, Nothing}
 use Rattle.avr_records.specs.Record.{◌and_then◌}
-use Rattle.avr_records.specs.Ihex.{fields, checked, typed}
-use Rattle.avr_records.specs.Reading.{Said, says, meant, together}
-use Rattle.avr_records.specs.Text.{two, summed, ihex_record, ihex_row_size, upper_record, ihex_rows, ihex_text, rows}
+use Rattle.avr_records.specs.Ihex.{ihex_from_fields, checked_ihex, typed_ihex}
+use Rattle.avr_records.specs.Reading.{Said, said_by_line, record_meaning, together}
+use Rattle.avr_records.specs.Text.{two, with_sum_checksum, ihex_record, ihex_row_size, upper_record, ihex_rows, ihex_text, rows}
 use Rattle.avr_records.specs.RoundTrip.{ReadsBack}
 use Rattle.avr_records.specs.declared.kind.Kind.TheVariants.{Ihex}
 use Rattle.avr_records.specs.declared.kind.Base.TheVariants.{Linear}
@@ -29,9 +29,9 @@ unsummed type offset bytes = length bytes ∷ two offset ++ type ∷ bytes
 
 -- the line of a record, without its end
 abbrev line_of : ℕ → ℕ → List ℕ → List ℕ
-line_of type offset bytes = 58 ∷ encode_upper (summed (unsummed type offset bytes))
+line_of type offset bytes = 58 ∷ encode_upper (with_sum_checksum (unsummed type offset bytes))
 
-IsBytes-summed : (type offset : ℕ) (bytes : List ℕ) → type < 256 → length bytes ≤ 32 → IsBytes bytes → IsBytes (summed (unsummed type offset bytes))
+IsBytes-summed : (type offset : ℕ) (bytes : List ℕ) → type < 256 → length bytes ≤ 32 → IsBytes bytes → IsBytes (with_sum_checksum (unsummed type offset bytes))
 IsBytes-summed type offset bytes known short all =
     let high = IsBytes-cons (offset % 256) (type ∷ bytes) (omega arith) (IsBytes-cons type bytes known all) in
     let front = IsBytes-cons (length bytes) (two offset ++ type ∷ bytes) (omega arith) (IsBytes-cons (offset / 256 % 256) ((offset % 256) ∷ type ∷ bytes) (omega arith) high) in
@@ -39,40 +39,40 @@ IsBytes-summed type offset bytes known short all =
 
 plain-line : (type offset : ℕ) (bytes : List ℕ) → type < 256 → length bytes ≤ 32 → IsBytes bytes → list_all is_plain (line_of type offset bytes) ≡ true
 plain-line type offset bytes known short all =
-    let fields = summed (unsummed type offset bytes) in
+    let fields = with_sum_checksum (unsummed type offset bytes) in
     plain-digits (encode_upper fields) (encode-digits fields (IsBytes-summed type offset bytes known short all))
 
 checked-good : (size offset type low_sum : ℕ) (more bytes : List ℕ) → length more ≡ size + 1 → low_sum ≡ 0 → take size more ≡ bytes
-    → checked size offset type low_sum more ≡ typed type offset bytes
+    → checked_ihex size offset type low_sum more ≡ typed_ihex type offset bytes
 checked-good size offset type low_sum more bytes len sum_is front =
     let sized : (length more == size + 1) ≡ true = grind (arith, nat_tests, len) in
     let balanced : (low_sum == 0) ≡ true = grind (arith, nat_tests, sum_is) in
-    ap (λ (right : Bool). if not right then Err Length else if not (low_sum == 0) then Err Sum else typed type offset (take size more)) sized
-    ∙ ap (λ (right : Bool). if not right then Err Sum else typed type offset (take size more)) balanced
-    ∙ ap (typed type offset) front
+    ap (λ (right : Bool). if not right then Err Length else if not (low_sum == 0) then Err Sum else typed_ihex type offset (take size more)) sized
+    ∙ ap (λ (right : Bool). if not right then Err Sum else typed_ihex type offset (take size more)) balanced
+    ∙ ap (typed_ihex type offset) front
 
-fields-summed : (type offset : ℕ) (bytes : List ℕ) → offset < 65536 → fields (summed (unsummed type offset bytes)) ≡ typed type offset bytes
+fields-summed : (type offset : ℕ) (bytes : List ℕ) → offset < 65536 → ihex_from_fields (with_sum_checksum (unsummed type offset bytes)) ≡ typed_ihex type offset bytes
 fields-summed type offset bytes below =
     let front : List ℕ = unsummed type offset bytes in
     let check : ℕ = (256 - sum front % 256) % 256 in
     let before : sum (front ++ check ∷ []) ≡ sum front + check = sum-push front 0 check in
     let place : offset / 256 % 256 * 256 + offset % 256 ≡ offset = omega arith in
     checked-good (length bytes) (offset / 256 % 256 * 256 + offset % 256) type (sum (front ++ check ∷ []) % 256) (bytes ++ check ∷ []) bytes (length-append bytes (check ∷ [])) (omega (arith, before)) (take_at bytes (check ∷ []) (length bytes) refl)
-    ∙ ap (λ (o : ℕ). typed type o bytes) place
+    ∙ ap (λ (o : ℕ). typed_ihex type o bytes) place
 
 says-line : (type offset : ℕ) (bytes : List ℕ) → type < 256 → offset < 65536 → length bytes ≤ 32 → IsBytes bytes
-    → says Ihex (line_of type offset bytes) ≡ meant Ihex (typed type offset bytes)
+    → said_by_line Ihex (line_of type offset bytes) ≡ record_meaning Ihex (typed_ihex type offset bytes)
 says-line type offset bytes known below short all =
     let front : List ℕ = unsummed type offset bytes in
     let check : ℕ = (256 - sum front % 256) % 256 in
     let width : length (line_of type offset bytes) ≤ 600 =
-    omega (arith, length-encode_with upper_digits (summed front), length-append bytes (check ∷ [])) in
-    says-plain Ihex 58 (encode_upper (summed front)) (plain-line type offset bytes known short all) width
-    ∙ ap (λ (bytes : Result (List ℕ) LineFault). meant Ihex (bytes and_then fields)) (bytes_of-encode (summed front) (IsBytes-summed type offset bytes known short all))
-    ∙ ap (meant Ihex) (fields-summed type offset bytes below)
+    omega (arith, length-encode_with upper_digits (with_sum_checksum front), length-append bytes (check ∷ [])) in
+    says-plain Ihex 58 (encode_upper (with_sum_checksum front)) (plain-line type offset bytes known short all) width
+    ∙ ap (λ (bytes : Result (List ℕ) LineFault). record_meaning Ihex (bytes and_then ihex_from_fields)) (bytes_of-encode (with_sum_checksum front) (IsBytes-summed type offset bytes known short all))
+    ∙ ap (record_meaning Ihex) (fields-summed type offset bytes below)
 
 -- a record that sets the upper half of the address
-typed-upper : (upper : ℕ) → upper < 65536 → meant Ihex (typed 4 0 (two upper)) ≡ Ok (Rebase (Linear upper))
+typed-upper : (upper : ℕ) → upper < 65536 → record_meaning Ihex (typed_ihex 4 0 (two upper)) ≡ Ok (Rebase (Linear upper))
 typed-upper upper below = ap (λ (n : ℕ). Ok (Rebase (Linear n))) (omega arith)
 
 -- what the record says that stands before a row, if there is one
@@ -85,7 +85,7 @@ rows_said upper [] = []
 rows_said upper (row ∷ rows) = upper_said upper (row.0 / 65536) ++ Ok (Data (row.0 % 65536) row.1) ∷ rows_said (row.0 / 65536) rows
 
 upper-lines : (old new : ℕ) (rest : List ℕ) → new < 65536
-    → map (says Ihex) (lines (upper_record old new ++ rest)) ≡ upper_said old new ++ map (says Ihex) (lines rest)
+    → map (said_by_line Ihex) (lines (upper_record old new ++ rest)) ≡ upper_said old new ++ map (said_by_line Ihex) (lines rest)
 upper-lines old new rest below =
     elim (cases_eq new old) [
       | inl same ↦ let test : (new == old) ≡ true = grind (arith, nat_tests) in rw test refl
@@ -93,19 +93,19 @@ upper-lines old new rest below =
           let test : (new == old) ≡ false = grind (arith, nat_tests) in
           let bytes = IsBytes-cons (new / 256 % 256) ((new % 256) ∷ []) (omega arith) (IsBytes-cons (new % 256) [] (omega arith) IsBytes-nil) in
           let plain = plain-line 4 0 (two new) (omega arith) (omega arith) bytes in
-          let said : says Ihex (line_of 4 0 (two new)) ≡ Ok (Rebase (Linear new)) =
+          let said : said_by_line Ihex (line_of 4 0 (two new)) ≡ Ok (Rebase (Linear new)) =
           says-line 4 0 (two new) (omega arith) (omega arith) (omega arith) bytes ∙ typed-upper new below in
           rw test
-          (ap (map (says Ihex)) (lines-written (line_of 4 0 (two new)) rest plain)
-          ∙ ap (λ (s : Said). s ∷ map (says Ihex) (lines rest)) said)
+          (ap (map (said_by_line Ihex)) (lines-written (line_of 4 0 (two new)) rest plain)
+          ∙ ap (λ (s : Said). s ∷ map (said_by_line Ihex) (lines rest)) said)
     ]
 
 -- the lines of the rows, and of the end record
 pub lines-said : (upper end : ℕ) (rows : List (ℕ × List ℕ)) → end ≤ 2 ^ 32 → Every (IsRow ihex_row_size end) rows
-    → map (says Ihex) (lines (ihex_rows upper rows)) ≡ rows_said upper rows ++ Ok End ∷ Ok Nothing ∷ []
+    → map (said_by_line Ihex) (lines (ihex_rows upper rows)) ≡ rows_said upper rows ++ Ok End ∷ Ok Nothing ∷ []
 lines-said upper end [] fits all =
     let plain = plain-line 1 0 [] (omega arith) (omega arith) IsBytes-nil in
-    ap (map (says Ihex)) (lines-plain (line_of 1 0 []) [] plain)
+    ap (map (said_by_line Ihex)) (lines-plain (line_of 1 0 []) [] plain)
     ∙ ap (λ (said : Said). said ∷ Ok Nothing ∷ []) (says-line 1 0 [] (omega arith) (omega arith) (omega arith) IsBytes-nil)
 lines-said upper end (row ∷ rows) fits all =
     let is = all.0 in
@@ -113,13 +113,13 @@ lines-said upper end (row ∷ rows) fits all =
     let short : length row.1 ≤ 32 = omega (arith, is.few) in
     let below : high < 65536 = omega (arith, fits, is.some, is.below) in
     let plain = plain-line 0 (row.0 % 65536) row.1 (omega arith) short is.bytes in
-    let said : says Ihex (line_of 0 (row.0 % 65536) row.1) ≡ Ok (Data (row.0 % 65536) row.1) =
+    let said : said_by_line Ihex (line_of 0 (row.0 % 65536) row.1) ≡ Ok (Data (row.0 % 65536) row.1) =
     says-line 0 (row.0 % 65536) row.1 (omega arith) (omega arith) short is.bytes in
     let record_of_row : List ℕ = ihex_record 0 (row.0 % 65536) row.1 in
-    ap (λ (text : List ℕ). map (says Ihex) (lines text)) (append_assoc (upper_record upper high) record_of_row (ihex_rows high rows))
+    ap (λ (text : List ℕ). map (said_by_line Ihex) (lines text)) (append_assoc (upper_record upper high) record_of_row (ihex_rows high rows))
     ∙ upper-lines upper high (record_of_row ++ ihex_rows high rows) below
-    ∙ ap (λ (ls : List (List ℕ)). upper_said upper high ++ map (says Ihex) ls) (lines-written (line_of 0 (row.0 % 65536) row.1) (ihex_rows high rows) plain)
-    ∙ ap (λ (s : Said). upper_said upper high ++ s ∷ map (says Ihex) (lines (ihex_rows high rows))) said
+    ∙ ap (λ (ls : List (List ℕ)). upper_said upper high ++ map (said_by_line Ihex) ls) (lines-written (line_of 0 (row.0 % 65536) row.1) (ihex_rows high rows) plain)
+    ∙ ap (λ (s : Said). upper_said upper high ++ s ∷ map (said_by_line Ihex) (lines (ihex_rows high rows))) said
     ∙ ap (λ (more : List Said). upper_said upper high ++ Ok (Data (row.0 % 65536) row.1) ∷ more) (lines-said high end rows fits all.1)
     ∙ sym (append_assoc (upper_said upper high) (Ok (Data (row.0 % 65536) row.1) ∷ rows_said high rows) (Ok End ∷ Ok Nothing ∷ []))
 

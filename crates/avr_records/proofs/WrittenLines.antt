@@ -9,11 +9,11 @@ use Rattle.std.proofs.lemmas.List.Splits.{slice_split-cons_no}
 use Rattle.std.proofs.lemmas.List.Sums.{list_all-from_AllPass, AllPass-from_list_all, suffix_len_is, fold-append}
 use Rattle.hex.specs.Hex.{IsBytes, is_hex_digit, decode_of, encode_upper}
 use Rattle.hex.proofs.HexLemmas.{decode_of-encode_upper, decode_of-ok}
-use Rattle.avr_records.specs.Lines.{lines, is_line_end, is_blank, trimmed}
+use Rattle.avr_records.specs.Lines.{lines, is_line_end, is_blank, trimmed_line}
 use Rattle.avr_records.specs.Text.{IsLine}
-use Rattle.avr_records.specs.Record.{bytes_of, decoded, longest, unless_long}
+use Rattle.avr_records.specs.Record.{bytes_of_digits, decoded_bytes, longest, unless_long}
 use Rattle.avr_records.specs.Line.{bare_record}
-use Rattle.avr_records.specs.Reading.{says, bare_says, meant}
+use Rattle.avr_records.specs.Reading.{said_by_line, bare_says, record_meaning}
 use Rattle.avr_records.specs.declared.kind.Kind.{Kind}
 use Rattle.avr_records.specs.declared.kind.Kind.TheVariants.{Ihex, Srec}
 use Rattle.avr_records.specs.declared.fault.LineFault.TheVariants.{Digit, TooLong}
@@ -52,34 +52,34 @@ encode-digits bytes all =
     list_all-from_AllPass is_hex_digit (encode_upper bytes) (decode_of-ok (encode_upper bytes) bytes (decode_of-encode_upper bytes all)).1
 
 -- the digits of bytes read as those bytes
-pub bytes_of-encode : (bytes : List ℕ) → IsBytes bytes → bytes_of (encode_upper bytes) ≡ Ok bytes
+pub bytes_of-encode : (bytes : List ℕ) → IsBytes bytes → bytes_of_digits (encode_upper bytes) ≡ Ok bytes
 bytes_of-encode bytes all =
-    ap (λ (digits : Bool). if not digits then Err Digit else decoded (decode_of (encode_upper bytes))) (encode-digits bytes all)
-    ∙ ap decoded (decode_of-encode_upper bytes all)
+    ap (λ (digits : Bool). if not digits then Err Digit else decoded_bytes (decode_of (encode_upper bytes))) (encode-digits bytes all)
+    ∙ ap decoded_bytes (decode_of-encode_upper bytes all)
 
 not-blank : (c : ℕ) → is_plain c ≡ true → is_blank c ≡ false
 not-blank c plain = grind (arith, (and_parts (not (is_line_end c)) (not (is_blank c)) plain).1)
 
 -- nothing is trimmed from a line without blanks
-trimmed-plain : (line : List ℕ) → list_all is_plain line ≡ true → trimmed line ≡ line
+trimmed-plain : (line : List ℕ) → list_all is_plain line ≡ true → trimmed_line line ≡ line
 trimmed-plain line plain =
     let all = AllPass-from_list_all is_plain line plain in
     let none : suffix_len is_blank line ≡ length line - length line =
     suffix_len_is is_blank line (length line) 0 (omega arith) (λ k from below. absurd (omega arith)) (λ some. not-blank (get_or line (length line - 1) 0) (all (length line - 1) 0 (omega arith))) in
     take_all (length line - suffix_len is_blank line) line (omega (arith, none))
 
-says-bare : (kind : Kind) (line : List ℕ) → says kind line ≡ unless_long (bare_says kind) line
+says-bare : (kind : Kind) (line : List ℕ) → said_by_line kind line ≡ unless_long (bare_says kind) line
 says-bare Ihex line = refl
 says-bare Srec line = refl
 
 -- a line that isn't too long says what its record means
 pub says-plain : (kind : Kind) (c : ℕ) (cs : List ℕ) → list_all is_plain (c ∷ cs) ≡ true
-    → length (c ∷ cs) ≤ 600 → says kind (c ∷ cs) ≡ meant kind (bare_record kind (c ∷ cs))
+    → length (c ∷ cs) ≤ 600 → said_by_line kind (c ∷ cs) ≡ record_meaning kind (bare_record kind (c ∷ cs))
 says-plain kind c cs plain short =
-    let bare : says kind (c ∷ cs) ≡ unless_long (bare_says kind) (c ∷ cs) = says-bare kind (c ∷ cs) in
+    let bare : said_by_line kind (c ∷ cs) ≡ unless_long (bare_says kind) (c ∷ cs) = says-bare kind (c ∷ cs) in
     let test : nat_lt longest (length (c ∷ cs)) ≡ false = grind (arith, nat_tests) in
     bare
-    ∙ ap (λ (long : Bool). if long then Err TooLong else bare_says kind (trimmed (c ∷ cs))) test
+    ∙ ap (λ (long : Bool). if long then Err TooLong else bare_says kind (trimmed_line (c ∷ cs))) test
     ∙ ap (bare_says kind) (trimmed-plain (c ∷ cs) plain)
 
 -- a written line is the first of the lines

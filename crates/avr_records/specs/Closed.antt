@@ -1,7 +1,7 @@
 -- The lines of a text that a line end has closed, and their first fault.
 use Rattle.std.specs.Prelude.{ℕ, List, [], ◌∷◌, map, Option, Some, None, Result, Ok, Err}
 use Rattle.avr_records.specs.Lines.{lines}
-use Rattle.avr_records.specs.Reading.{Said, up_to_end, in_place, first_fault, says}
+use Rattle.avr_records.specs.Reading.{Said, up_to_end, in_place, first_fault, said_by_line}
 use Rattle.avr_records.specs.declared.kind.Kind.{Kind}
 use Rattle.avr_records.specs.declared.fault.RecordFault.{RecordFault}
 
@@ -17,9 +17,9 @@ fault_among size said = first_fault size (in_place [] (up_to_end said))
 
 -- the first fault of the closed lines of a file of this kind, for a memory of this size
 abbrev pub closed_fault : Kind → List ℕ → ℕ → Option RecordFault
-closed_fault kind text size = fault_among size (map (says kind) (all_but_last (lines text)))
+closed_fault kind text size = fault_among size (map (said_by_line kind) (all_but_last (lines text)))
 
 -- an answer without a value: the fault, if there is one
-abbrev pub unless_fault : Option RecordFault → Result Unit RecordFault
-unless_fault None = Ok tt
-unless_fault (Some fault) = Err fault
+abbrev pub ok_unless : Option RecordFault → Result Unit RecordFault
+ok_unless None = Ok tt
+ok_unless (Some fault) = Err fault

@@ -17,17 +17,17 @@ fault_number Failed = 9
 fault_number Memory = 10
 
 -- the number of the line at fault, if a line is
-abbrev pub fault_line : RecordFault → Option ℕ
-fault_line (BadMark line) = Some line
-fault_line (BadDigit line) = Some line
-fault_line (BadLength line) = Some line
-fault_line (BadSum line) = Some line
-fault_line (BadType line) = Some line
-fault_line (OutOfRange line addr) = Some line
-fault_line (LineTooLong line) = Some line
-fault_line (BadCount line) = Some line
-fault_line Failed = None
-fault_line Memory = None
+abbrev pub fault_line_number : RecordFault → Option ℕ
+fault_line_number (BadMark line) = Some line
+fault_line_number (BadDigit line) = Some line
+fault_line_number (BadLength line) = Some line
+fault_line_number (BadSum line) = Some line
+fault_line_number (BadType line) = Some line
+fault_line_number (OutOfRange line addr) = Some line
+fault_line_number (LineTooLong line) = Some line
+fault_line_number (BadCount line) = Some line
+fault_line_number Failed = None
+fault_line_number Memory = None
 
 -- the address outside the memory, if one is at fault
 abbrev pub fault_address : RecordFault → Option ℕ

@@ -1,6 +1,6 @@
 -- What the code finds in a line.
 use Rattle.std.specs.Prelude.{ℕ, ◌+◌, ◌%◌, ◌<◌, ◌≤◌, List, length, fold}
-use Rattle.avr_records.specs.Record.{Record}
+use Rattle.avr_records.specs.Record.{RecordFields}
 use Rattle.avr_records.specs.Meaning.{Meaning}
 use Rattle.avr_records.specs.Meaning as said
 use Rattle.avr_records.specs.declared.kind.Kind.{Kind}
@@ -10,13 +10,13 @@ use Rattle.avr_records.specs.declared.line.Line.{Line}
 use Rattle.avr_records.specs.declared.line.Line.TheVariants as line
 
 -- the fields of a record
-abbrev pub record_of : LineRecord → Record
+abbrev pub record_of : LineRecord → RecordFields
 record_of r = record { type = r.record_type; address = r.address; bytes = r.bytes.now }
 
 -- What bounds the fields: a line has at most 255 data bytes, and the offsets of Intel HEX have 16 bits.
-abbrev pub IsNarrow : Kind → LineRecord → Type 0
-IsNarrow Ihex r = (r.address < 65536) × (length r.bytes.now ≤ 255)
-IsNarrow Srec r = length r.bytes.now ≤ 255
+abbrev pub FitsFields : Kind → LineRecord → Type 0
+FitsFields Ihex r = (r.address < 65536) × (length r.bytes.now ≤ 255)
+FitsFields Srec r = length r.bytes.now ≤ 255
 
 abbrev pub meaning_of : Line → Meaning
 meaning_of line.Nothing = said.Nothing
@@ -26,11 +26,11 @@ meaning_of (line.Counted n) = said.Counted n
 meaning_of line.End = said.End
 
 -- What bounds the addresses of a file of this kind: Intel HEX has small offsets, S-records have no base.
-abbrev pub Fits : Kind → Line → Type 0
-Fits Ihex (line.Data offset bytes) = (offset < 65536) × (length bytes.now ≤ 255)
-Fits Srec (line.Data offset bytes) = length bytes.now ≤ 255
-Fits Srec (line.Rebase base) = ⊥
-Fits kind line = Unit {0}
+abbrev pub FitsKind : Kind → Line → Type 0
+FitsKind Ihex (line.Data offset bytes) = (offset < 65536) × (length bytes.now ≤ 255)
+FitsKind Srec (line.Data offset bytes) = length bytes.now ≤ 255
+FitsKind Srec (line.Rebase base) = ⊥
+FitsKind kind line = Unit {0}
 
 -- the sum modulo 256, byte by byte
 abbrev pub low_sum : List ℕ → ℕ

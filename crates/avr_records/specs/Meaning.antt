@@ -1,6 +1,6 @@
 -- What a record means for the file that it stands in.
 use Rattle.std.specs.Prelude.{ℕ, ◌+◌, ◌*◌, ◌==◌, nat_le, List, [], ◌∷◌, if◌then◌else◌}
-use Rattle.avr_records.specs.Record.{Record}
+use Rattle.avr_records.specs.Record.{RecordFields}
 use Rattle.avr_records.specs.declared.kind.Kind.{Kind}
 use Rattle.avr_records.specs.declared.kind.Kind.TheVariants.{Ihex, Srec}
 use Rattle.avr_records.specs.declared.kind.Base.{Base}
@@ -20,7 +20,7 @@ abbrev pub rebase : (ℕ → Base) → List ℕ → Meaning
 rebase base (high ∷ low ∷ []) = Rebase (base (high * 256 + low))
 rebase base bytes = Nothing
 
-abbrev pub ihex_means : Record → Meaning
+abbrev pub ihex_means : RecordFields → Meaning
 ihex_means r =
     if r.type == 0 then Data r.address r.bytes
     else if r.type == 1 then End
@@ -28,13 +28,13 @@ ihex_means r =
     else if r.type == 4 then rebase Linear r.bytes
     else Nothing
 
-abbrev pub srec_means : Record → Meaning
+abbrev pub srec_means : RecordFields → Meaning
 srec_means r =
     if r.type == 0 then Nothing
     else if nat_le r.type 3 then Data r.address r.bytes
     else if nat_le r.type 6 then Counted r.address
     else End
 
-abbrev pub means : Kind → Record → Meaning
+abbrev pub means : Kind → RecordFields → Meaning
 means Ihex = ihex_means
 means Srec = srec_means

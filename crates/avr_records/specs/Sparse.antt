@@ -2,7 +2,7 @@
 use Rattle.std.specs.Prelude.{◌≡◌, ℕ, ◌+◌, ◌^◌, ◌≤◌, List, [], ◌∷◌, length, flat_map, Option, Some, None, Ok}
 use Rattle.avr_image.specs.Image.{HoldsBytes}
 use Rattle.avr_image.specs.Runs.{runs}
-use Rattle.avr_records.specs.Reading.{read}
+use Rattle.avr_records.specs.Reading.{image_in_text}
 use Rattle.avr_records.specs.Text.{rows, ihex_rows, ihex_row_size, srec_rows, address_size}
 use Rattle.avr_records.specs.declared.kind.Kind.{Kind}
 use Rattle.avr_records.specs.declared.kind.Ending.TheVariants.{Ended}
@@ -30,4 +30,4 @@ srec_image_text image = srec_rows (address_size (last_held 0 0 image)) (rows_of 
 abbrev pub ImageReadsBack : Kind → (List (Option ℕ) → List ℕ) → Type 0
 ImageReadsBack kind text =
     (image : List (Option ℕ)) → length image ≤ 2 ^ 32 → HoldsBytes image
-    → read kind (text image) (length image) ≡ Ok (image, Ended)
+    → image_in_text kind (text image) (length image) ≡ Ok (image, Ended)

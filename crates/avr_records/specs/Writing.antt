@@ -1,6 +1,6 @@
 -- The text that a writer has still to make.
 use Rattle.std.specs.Prelude.{◌≡◌, ℕ, Bool, true, false, ◌+◌, ◌^◌, ◌≤◌, List, [], length, drop, Option}
-use Rattle.avr_image.specs.Image.{filled}
+use Rattle.avr_image.specs.Image.{filled_bytes}
 use Rattle.avr_image.specs.Runs.{runs}
 use Rattle.avr_records.specs.Sparse.{rows_of}
 use Rattle.avr_records.specs.Text.{rows, ihex_rows, ihex_row_size, srec_rows}
@@ -37,4 +37,4 @@ srec_image_rest false size addr image = srec_rows size (rows_of (λ _. 32) (runs
 pub record IsSrecImageState (size : ℕ) (bytes : List ℕ) (image : List (Option ℕ)) : Type 0 where
   pub least : 2 ≤ size
   pub most : size ≤ 4
-  pub whole : bytes ≡ filled image 0 (length image)
+  pub whole : bytes ≡ filled_bytes image 0 (length image)

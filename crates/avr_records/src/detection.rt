@@ -4,7 +4,7 @@ ghost use Rattle.std.specs.Prelude.{◌≡◌, Some, length, take, find, not, tr
 ghost use Rattle.std.specs.List.{list_all};
 ghost use Rattle.std.specs.Str.{bytes_eq};
 ghost use Rattle.avr_records.specs.Lines.{is_blank, lines};
-ghost use Rattle.avr_records.specs.Detect.{detected, shown, begins_ihex, begins_srec, has_digits as spec_has_digits, elf_mark};
+ghost use Rattle.avr_records.specs.Detect.{kind_of_file, kind_of_line, begins_ihex, begins_srec, has_digits as spec_has_digits, elf_mark};
 
 use crate::digits::are_digits;
 use crate::kind::Found;
@@ -30,7 +30,7 @@ fn has_digits(n: usize, text: &[u8]) -> bool
 
 /// What a line shows that isn't blank.
 fn shown_by(line: &[u8]) -> Found
-    ensures { result ≡ shown (Some line.now) }
+    ensures { result ≡ kind_of_line (Some line.now) }
 {
     match line {
         [b':', more @ ..] if has_digits(10, more) => Found::Ihex,
@@ -49,7 +49,7 @@ fn is_blank_line(line: &[u8]) -> bool
 /// What a line shows, unless it is blank.
 fn shown_unless_blank(line: &[u8]) -> Option<Found>
     ensures { MatchOption result (list_all is_blank line.now ≡ true)
-        (λ found. (list_all is_blank line.now ≡ false) × (found ≡ shown (Some line.now))) }
+        (λ found. (list_all is_blank line.now ≡ false) × (found ≡ kind_of_line (Some line.now))) }
 {
     if is_blank_line(line) {
         None
@@ -60,7 +60,7 @@ fn shown_unless_blank(line: &[u8]) -> Option<Found>
 
 /// What the first line shows that isn't blank.
 fn first_shown(front: &[u8]) -> Found
-    ensures { result ≡ shown (find (λ line. not (list_all is_blank line)) (lines front.now)) }
+    ensures { result ≡ kind_of_line (find (λ line. not (list_all is_blank line)) (lines front.now)) }
 {
     let mut rest = front;
     while let Some((line, more)) = split_line(rest) {
@@ -92,7 +92,7 @@ fn looked_at(front: &[u8]) -> &[u8]
 /// assert_eq!(rt; detect(&[0x0C, 0x94, 0x34, 0x00]), Found::Raw);
 /// ```
 pub fn detect(front: &[u8]) -> Found
-    ensures { result ≡ detected front.now }
+    ensures { result ≡ kind_of_file front.now }
 {
     if is_elf(front) {
         return Found::Elf;

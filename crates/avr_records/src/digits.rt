@@ -3,7 +3,7 @@
 ghost use Rattle.std.specs.Prelude.{◌≡◌, ◌≤◌, ◌*◌, ◌%◌, length, Ok, Err, MatchResult};
 ghost use Rattle.std.specs.List.{list_all};
 ghost use Rattle.hex.specs.Hex.{is_hex_digit};
-ghost use Rattle.avr_records.specs.Record.{bytes_of};
+ghost use Rattle.avr_records.specs.Record.{bytes_of_digits};
 
 use crate::fault::LineFault;
 
@@ -27,7 +27,7 @@ pub(crate) fn are_digits(text: &[u8]) -> bool
 /// What odd digits are wrong with: one of them that is none comes first.
 fn odd_fault(digits: &[u8]) -> LineFault
     requires { length digits.now % 2 ≡ 1 }
-    ensures { bytes_of digits.now ≡ Err result }
+    ensures { bytes_of_digits digits.now ≡ Err result }
 {
     if are_digits(digits) {
         LineFault::Length
@@ -39,7 +39,8 @@ fn odd_fault(digits: &[u8]) -> LineFault
 /// Writes the bytes of an even number of digits.
 fn decode_pairs(digits: &[u8], out: &mut [u8]) -> Result<(), LineFault>
     requires { length digits.now ≡ 2 * length out.old }
-    ensures { MatchResult result (λ _. bytes_of digits.now ≡ Ok out.new) (λ fault. bytes_of digits.now ≡ Err fault) }
+    ensures { MatchResult result (λ _. bytes_of_digits digits.now ≡ Ok out.new)
+        (λ fault. bytes_of_digits digits.now ≡ Err fault) }
 {
     match hex::decode_to_slice(digits, out) {
         Ok(()) => Ok(()),
@@ -53,8 +54,8 @@ pub(crate) fn decode_digits<'b>(
     room: &'b mut [u8; ROOM],
 ) -> Result<&'b [u8], LineFault>
     requires { length digits.now ≤ 2 * ROOM }
-    ensures { MatchResult result (λ found. bytes_of digits.now ≡ Ok found.now)
-        (λ fault. bytes_of digits.now ≡ Err fault) }
+    ensures { MatchResult result (λ found. bytes_of_digits digits.now ≡ Ok found.now)
+        (λ fault. bytes_of_digits digits.now ≡ Err fault) }
 {
     if digits.len() % 2 == 1 {
         return Err(odd_fault(digits));

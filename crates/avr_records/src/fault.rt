@@ -1,7 +1,7 @@
 //! What may be wrong with a record file.
 
 ghost use Rattle.std.specs.Prelude.{◌≡◌};
-ghost use Rattle.avr_records.specs.Fault.{fault_address, fault_number, fault_line};
+ghost use Rattle.avr_records.specs.Fault.{fault_address, fault_number, fault_line_number};
 ghost use Rattle.avr_records.specs.Reading.{in_line};
 ghost use Rattle.avr_records.specs.Steps.{IsLineFault};
 
@@ -78,7 +78,7 @@ impl RecordFault {
     /// assert_eq!(rt; RecordFault::Failed.line(), None);
     /// ```
     pub fn line(&self) -> Option<u32>
-        ensures { result ≡ fault_line self.now }
+        ensures { result ≡ fault_line_number self.now }
     {
         match self {
             RecordFault::BadMark(line)

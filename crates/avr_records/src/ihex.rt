@@ -1,8 +1,8 @@
 //! The fields of a record of Intel HEX.
 
 ghost use Rattle.std.specs.Prelude.{◌≡◌, ◌<◌, ◌≤◌, length, Ok, Err, IfOk, MatchResult};
-ghost use Rattle.avr_records.specs.Ihex.{fields, typed, checked};
-ghost use Rattle.avr_records.specs.Judging.{record_of, IsNarrow};
+ghost use Rattle.avr_records.specs.Ihex.{ihex_from_fields, typed_ihex, checked_ihex};
+ghost use Rattle.avr_records.specs.Judging.{record_of, FitsFields};
 
 use crate::checksum::low_sum_of;
 use crate::fault::LineFault;
@@ -13,9 +13,9 @@ use crate::record::{LineRecord, with_size};
 fn ihex_typed(record_type: u8, offset: u32, bytes: &[u8]) -> Result<LineRecord<'_>, LineFault>
     requires near { offset < 65536 }
     requires short { length bytes.now ≤ 255 }
-    ensures is { MatchResult result (λ found. typed record_type offset bytes.now ≡ Ok (record_of found))
-        (λ fault. typed record_type offset bytes.now ≡ Err fault) }
-    ensures narrow { IfOk result (IsNarrow Kind.Ihex) }
+    ensures is { MatchResult result (λ found. typed_ihex record_type offset bytes.now ≡ Ok (record_of found))
+        (λ fault. typed_ihex record_type offset bytes.now ≡ Err fault) }
+    ensures narrow { IfOk result (FitsFields Kind.Ihex) }
 {
     let good = LineRecord {
         record_type,
@@ -42,9 +42,10 @@ fn ihex_checked(
     more: &[u8],
 ) -> Result<LineRecord<'_>, LineFault>
     requires { offset < 65536 }
-    ensures is { MatchResult result (λ found. checked size offset record_type low_sum more.now ≡ Ok (record_of found))
-        (λ fault. checked size offset record_type low_sum more.now ≡ Err fault) }
-    ensures narrow { IfOk result (IsNarrow Kind.Ihex) }
+    ensures is { MatchResult result
+        (λ found. checked_ihex size offset record_type low_sum more.now ≡ Ok (record_of found))
+        (λ fault. checked_ihex size offset record_type low_sum more.now ≡ Err fault) }
+    ensures narrow { IfOk result (FitsFields Kind.Ihex) }
 {
     let size = size as usize;
     if more.len() != size + 1 {
@@ -58,9 +59,9 @@ fn ihex_checked(
 
 /// The record that the bytes of a line of Intel HEX are.
 pub(crate) fn ihex_fields(bytes: &[u8]) -> Result<LineRecord<'_>, LineFault>
-    ensures is { MatchResult result (λ found. fields bytes.now ≡ Ok (record_of found))
-        (λ fault. fields bytes.now ≡ Err fault) }
-    ensures narrow { IfOk result (IsNarrow Kind.Ihex) }
+    ensures is { MatchResult result (λ found. ihex_from_fields bytes.now ≡ Ok (record_of found))
+        (λ fault. ihex_from_fields bytes.now ≡ Err fault) }
+    ensures narrow { IfOk result (FitsFields Kind.Ihex) }
 {
     match bytes {
         [size, high, low, record_type, more @ ..] => {

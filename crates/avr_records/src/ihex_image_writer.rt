@@ -4,7 +4,7 @@
 
 ghost use Rattle.std.specs.Prelude.{◌≡◌, ◌+◌, ◌<◌, ◌≤◌, ◌↔◌, ◌++◌, length, drop, min, IsTrue, Ok};
 ghost use Rattle.avr_image.specs.Runs.{lead};
-ghost use Rattle.avr_records.specs.Reading.{read};
+ghost use Rattle.avr_records.specs.Reading.{image_in_text};
 ghost use Rattle.avr_records.specs.Sparse.{ihex_image_text};
 ghost use Rattle.avr_records.specs.Text.{IsLine};
 
@@ -51,14 +51,14 @@ pub struct IhexImageWriter<'a> {
 
 impl<'a> Model for IhexImageWriter<'a> {
     ghost use Rattle.std.specs.Prelude.{ℕ, List, ◌≡◌, length};
-    ghost use Rattle.avr_image.specs.Image.{filled};
+    ghost use Rattle.avr_image.specs.Image.{filled_bytes};
     ghost use Rattle.avr_records.specs.Writing.{ihex_image_rest};
 
     ghost Value = { List ℕ };
 
     ghost view = { λ w. ihex_image_rest w.ended w.upper w.addr w.image.now };
 
-    ghost invariant = { λ w. w.bytes.now ≡ filled w.image.now 0 (length w.image.now) };
+    ghost invariant = { λ w. w.bytes.now ≡ filled_bytes w.image.now 0 (length w.image.now) };
 }
 
 impl<'a> IhexImageWriter<'a> {
@@ -74,7 +74,7 @@ impl<'a> IhexImageWriter<'a> {
     /// ```
     pub fn new(image: &'a Image) -> IhexImageWriter<'a>
         ensures text { result ≡ ihex_image_text image.now }
-        ensures reads_back { read Kind.Ihex result (length image.now) ≡ Ok (image.now, Ending.Ended) }
+        ensures reads_back { image_in_text Kind.Ihex result (length image.now) ≡ Ok (image.now, Ending.Ended) }
     {
         IhexImageWriter {
             image,

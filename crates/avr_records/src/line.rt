@@ -5,10 +5,10 @@ ghost use Rattle.std.specs.List.{suffix_len};
 ghost use Rattle.avr_records.specs.Record.{longest};
 ghost use Rattle.avr_records.specs.Ihex.{ihex_line};
 ghost use Rattle.avr_records.specs.Srec.{srec_line};
-ghost use Rattle.avr_records.specs.Lines.{trimmed, is_blank};
+ghost use Rattle.avr_records.specs.Lines.{trimmed_line, is_blank};
 ghost use Rattle.avr_records.specs.Line.{bare_record as spec_bare_record, line_record};
-ghost use Rattle.avr_records.specs.Reading.{says, bare_says};
-ghost use Rattle.avr_records.specs.Judging.{record_of, meaning_of, Fits, IsNarrow};
+ghost use Rattle.avr_records.specs.Reading.{said_by_line, bare_says};
+ghost use Rattle.avr_records.specs.Judging.{record_of, meaning_of, FitsKind, FitsFields};
 
 use crate::digits::{ROOM, decode_digits};
 use crate::fault::LineFault;
@@ -55,7 +55,7 @@ fn trimmed_len(line: &[u8]) -> usize
 
 /// A line without the blanks at its end.
 fn trim(line: &[u8]) -> &[u8]
-    ensures value { result.now ≡ trimmed line.now }
+    ensures value { result.now ≡ trimmed_line line.now }
     ensures bound { length result.now ≤ length line.now }
 {
     &line[..trimmed_len(line)]
@@ -73,7 +73,7 @@ fn ihex_record<'b>(line: &[u8], room: &'b mut [u8; ROOM]) -> Result<LineRecord<'
     requires { length line.now ≤ LONGEST }
     ensures is { MatchResult result (λ found. ihex_line line.now ≡ Ok (record_of found))
         (λ fault. ihex_line line.now ≡ Err fault) }
-    ensures narrow { IfOk result (IsNarrow Kind.Ihex) }
+    ensures narrow { IfOk result (FitsFields Kind.Ihex) }
 {
     match line {
         [b':', digits @ ..] => match decode_digits(digits, room) {
@@ -89,7 +89,7 @@ fn srec_record<'b>(line: &[u8], room: &'b mut [u8; ROOM]) -> Result<LineRecord<'
     requires { length line.now ≤ LONGEST }
     ensures is { MatchResult result (λ found. srec_line line.now ≡ Ok (record_of found))
         (λ fault. srec_line line.now ≡ Err fault) }
-    ensures narrow { IfOk result (IsNarrow Kind.Srec) }
+    ensures narrow { IfOk result (FitsFields Kind.Srec) }
 {
     match line {
         [b'S', digit, digits @ ..] if digit.is_ascii_digit() => match decode_digits(digits, room) {
@@ -109,7 +109,7 @@ fn bare_record<'b>(
     requires { length line.now ≤ LONGEST }
     ensures is { MatchResult result (λ found. spec_bare_record kind line.now ≡ Ok (record_of found))
         (λ fault. spec_bare_record kind line.now ≡ Err fault) }
-    ensures narrow { IfOk result (IsNarrow kind) }
+    ensures narrow { IfOk result (FitsFields kind) }
 {
     match kind {
         Kind::Ihex => ihex_record(line, room),
@@ -125,7 +125,7 @@ pub(crate) fn record_in<'b>(
 ) -> Result<LineRecord<'b>, LineFault>
     ensures is { MatchResult result (λ found. line_record kind line.now ≡ Ok (record_of found))
         (λ fault. line_record kind line.now ≡ Err fault) }
-    ensures narrow { IfOk result (IsNarrow kind) }
+    ensures narrow { IfOk result (FitsFields kind) }
 {
     if is_too_long(line) {
         return Err(LineFault::TooLong);
@@ -142,7 +142,7 @@ fn bare_line_says<'b>(
     requires { length line.now ≤ LONGEST }
     ensures says { MatchResult result (λ found. bare_says kind line.now ≡ Ok (meaning_of found))
         (λ fault. bare_says kind line.now ≡ Err fault) }
-    ensures fits { IfOk result (Fits kind) }
+    ensures fits { IfOk result (FitsKind kind) }
 {
     if line.is_empty() {
         return Ok(Line::Nothing);
@@ -159,9 +159,9 @@ pub(crate) fn line_says<'b>(
     line: &[u8],
     room: &'b mut [u8; ROOM],
 ) -> Result<Line<'b>, LineFault>
-    ensures says { MatchResult result (λ found. says kind line.now ≡ Ok (meaning_of found))
-        (λ fault. says kind line.now ≡ Err fault) }
-    ensures fits { IfOk result (Fits kind) }
+    ensures says { MatchResult result (λ found. said_by_line kind line.now ≡ Ok (meaning_of found))
+        (λ fault. said_by_line kind line.now ≡ Err fault) }
+    ensures fits { IfOk result (FitsKind kind) }
 {
     if is_too_long(line) {
         return Err(LineFault::TooLong);

@@ -3,10 +3,10 @@
 ghost use Rattle.std.specs.Prelude.{◌≡◌, ◌+◌, ◌<◌, ◌≤◌, ◌^◌, ◌++◌, ℕ, List, false, Some, Ok, Err, [], ◌∷◌, length, MatchOption, MatchResult, OnOk, IfErr};
 ghost use Rattle.avr_records.specs.Closed.{closed_fault};
 ghost use Rattle.avr_records.specs.Lines.{lines};
-ghost use Rattle.avr_records.specs.Progress.{size_of};
-ghost use Rattle.avr_records.specs.Reader.{Reads};
-ghost use Rattle.avr_records.specs.Reading.{read};
-ghost use Rattle.avr_records.specs.Steps.{seen, step, kept_says, grown, line_step, least_length, ending_of, Begins, InRange, IsLineFault};
+ghost use Rattle.avr_records.specs.Progress.{image_size};
+ghost use Rattle.avr_records.specs.Reader.{ReadsLines};
+ghost use Rattle.avr_records.specs.Reading.{image_in_text};
+ghost use Rattle.avr_records.specs.Steps.{progress_of, next_progress, kept_says, grown, line_step, least_length, ending_of, Begins, InRange, IsLineFault};
 
 use crate::digits::ROOM;
 use crate::fault::{LineFault, RecordFault};
@@ -31,7 +31,7 @@ impl LineReader {
     /// Before any line, for a memory of this size.
     pub(crate) fn new(alloc: Global, kind: Kind, size: u32) -> Result<LineReader, ImageFault>
         ensures { MatchResult result (λ reader. (reader.kind ≡ kind)
-            × Begins kind size (seen reader.progress) reader.part) (λ fault. fault ≡ ImageFault.Memory) }
+            × Begins kind size (progress_of reader.progress) reader.part) (λ fault. fault ≡ ImageFault.Memory) }
     {
         match Progress::new(alloc, size) {
             Ok(progress) => Ok(LineReader {
@@ -47,15 +47,16 @@ impl LineReader {
     /// Takes in the line that is kept, and begins the next. Few lines lie over two pieces: it stays a call.
     #[inline(never)]
     fn take_part(&mut self) -> Result<(), RecordFault>
-        requires range { InRange self.old.kind (seen self.old.progress) }
+        requires range { InRange self.old.kind (progress_of self.old.progress) }
         requires few { self.old.progress.lines + 1 < 2 ^ 32 }
-        ensures step { MatchResult result (λ _. step (seen self.old.progress) (kept_says self.old.kind self.old.part)
-            ≡ Ok (seen self.new.progress)) (λ fault. step (seen self.old.progress)
+        ensures step { MatchResult result
+            (λ _. next_progress (progress_of self.old.progress) (kept_says self.old.kind self.old.part)
+            ≡ Ok (progress_of self.new.progress)) (λ fault. next_progress (progress_of self.old.progress)
             (kept_says self.old.kind self.old.part) ≡ Err fault) }
         ensures part { OnOk result (self.new.part ≡ Some []) }
         ensures kind { self.new.kind ≡ self.old.kind }
         ensures size { length self.new.progress.image ≡ length self.old.progress.image }
-        ensures range { OnOk result (InRange self.old.kind (seen self.new.progress)) }
+        ensures range { OnOk result (InRange self.old.kind (progress_of self.new.progress)) }
         ensures lines { OnOk result (self.new.progress.lines ≡ self.old.progress.lines + 1) }
         ensures line { IfErr result IsLineFault }
     {
@@ -70,15 +71,16 @@ impl LineReader {
     /// Takes the last bytes of a line, once its end came. A line of which nothing is kept is judged where it lies.
     #[inline(always)]
     fn end_line(&mut self, rest: &[u8]) -> Result<(), RecordFault>
-        requires range { InRange self.old.kind (seen self.old.progress) }
+        requires range { InRange self.old.kind (progress_of self.old.progress) }
         requires few { self.old.progress.lines + 1 < 2 ^ 32 }
-        ensures step { MatchResult result (λ _. line_step self.old.kind (seen self.old.progress) self.old.part rest.now
-            ≡ Ok (seen self.new.progress)) (λ fault. line_step self.old.kind
-            (seen self.old.progress) self.old.part rest.now ≡ Err fault) }
+        ensures step { MatchResult result
+            (λ _. line_step self.old.kind (progress_of self.old.progress) self.old.part rest.now
+            ≡ Ok (progress_of self.new.progress)) (λ fault. line_step self.old.kind
+            (progress_of self.old.progress) self.old.part rest.now ≡ Err fault) }
         ensures part { OnOk result (self.old.progress.ended ≡ false → self.new.part ≡ Some []) }
         ensures kind { self.new.kind ≡ self.old.kind }
         ensures size { length self.new.progress.image ≡ length self.old.progress.image }
-        ensures range { OnOk result (InRange self.old.kind (seen self.new.progress)) }
+        ensures range { OnOk result (InRange self.old.kind (progress_of self.new.progress)) }
         ensures lines { OnOk result (self.new.progress.lines ≤ self.old.progress.lines + 1) }
         ensures count { OnOk result (self.new.progress.lines + least_length self.new.part
             ≤ self.old.progress.lines + least_length self.old.part + 1) }
@@ -97,7 +99,7 @@ impl LineReader {
     /// Keeps bytes of a line that has not ended, if they count.
     fn keep(&mut self, piece: &[u8])
         ensures kept { self.old.progress.ended ≡ false → self.new.part ≡ grown self.old.part piece.now }
-        ensures progress { seen self.new.progress ≡ seen self.old.progress }
+        ensures progress { progress_of self.new.progress ≡ progress_of self.old.progress }
         ensures kind { self.new.kind ≡ self.old.kind }
         ensures count { least_length self.new.part ≤ least_length self.old.part + length piece.now }
     {
@@ -106,8 +108,8 @@ impl LineReader {
         }
     }
 
-    /// The next line that has ended in what is left of a piece, and what follows it. Behind an end record, where nothing
-    /// counts, none is looked for.
+    /// The next line that has ended in what is left of a piece, and what follows it. Behind an end record, where
+    /// nothing counts, none is looked for.
     fn next_line<'a>(&self, rest: &'a [u8]) -> Option<(&'a [u8], &'a [u8])>
         ensures { MatchOption result (self.now.progress.ended ≡ false → lines rest.now ≡ rest.now ∷ [])
             (λ parts. (lines parts.0.now ≡ parts.0.now ∷ []) × (rest.now ≡ parts.0.now ++ 10 ∷ parts.1.now)) }
@@ -121,16 +123,17 @@ impl LineReader {
 
     /// Takes the next piece of the text, with the lines that end in it.
     pub(crate) fn feed(&mut self, piece: &[u8]) -> Result<(), RecordFault>
-        requires range { InRange self.old.kind (seen self.old.progress) }
+        requires range { InRange self.old.kind (progress_of self.old.progress) }
         requires few { self.old.progress.lines + length piece.now < 2 ^ 32 }
-        ensures reads { OnOk result ((text : List ℕ) → Reads self.old.kind (seen self.old.progress) self.old.part text
-            → Reads self.old.kind (seen self.new.progress) self.new.part (text ++ piece.now)) }
-        ensures fault { IfErr result (λ fault. (text : List ℕ) → Reads self.old.kind
-            (seen self.old.progress) self.old.part text → closed_fault self.old.kind (text ++ piece.now)
-            (size_of (seen self.old.progress)) ≡ Some fault) }
+        ensures reads { OnOk result ((text : List ℕ)
+            → ReadsLines self.old.kind (progress_of self.old.progress) self.old.part text
+            → ReadsLines self.old.kind (progress_of self.new.progress) self.new.part (text ++ piece.now)) }
+        ensures fault { IfErr result (λ fault. (text : List ℕ) → ReadsLines self.old.kind
+            (progress_of self.old.progress) self.old.part text → closed_fault self.old.kind (text ++ piece.now)
+            (image_size (progress_of self.old.progress)) ≡ Some fault) }
         ensures kind { self.new.kind ≡ self.old.kind }
         ensures size { length self.new.progress.image ≡ length self.old.progress.image }
-        ensures range { OnOk result (InRange self.old.kind (seen self.new.progress)) }
+        ensures range { OnOk result (InRange self.old.kind (progress_of self.new.progress)) }
         ensures count { OnOk result (self.new.progress.lines + least_length self.new.part
             ≤ self.old.progress.lines + least_length self.old.part + length piece.now) }
         ensures line { IfErr result IsLineFault }
@@ -146,14 +149,14 @@ impl LineReader {
 
     /// Takes the last line.
     fn end_text(&mut self) -> Result<(), RecordFault>
-        requires range { InRange self.old.kind (seen self.old.progress) }
+        requires range { InRange self.old.kind (progress_of self.old.progress) }
         requires few { self.old.progress.lines + least_length self.old.part < 2 ^ 32 }
         ensures whole { MatchResult result (λ _. (text : List ℕ)
-            → Reads self.old.kind (seen self.old.progress) self.old.part text
-            → read self.old.kind text (size_of (seen self.old.progress))
-            ≡ Ok (self.new.progress.image, ending_of (seen self.new.progress)))
-            (λ fault. (text : List ℕ) → Reads self.old.kind (seen self.old.progress) self.old.part text
-            → read self.old.kind text (size_of (seen self.old.progress)) ≡ Err fault) }
+            → ReadsLines self.old.kind (progress_of self.old.progress) self.old.part text
+            → image_in_text self.old.kind text (image_size (progress_of self.old.progress))
+            ≡ Ok (self.new.progress.image, ending_of (progress_of self.new.progress)))
+            (λ fault. (text : List ℕ) → ReadsLines self.old.kind (progress_of self.old.progress) self.old.part text
+            → image_in_text self.old.kind text (image_size (progress_of self.old.progress)) ≡ Err fault) }
         ensures line { IfErr result IsLineFault }
     {
         if self.part.is_empty() {
@@ -164,10 +167,10 @@ impl LineReader {
 
     /// Takes the last line, and gives what the whole text says.
     pub(crate) fn finish(mut self) -> Result<(Image, Ending), RecordFault>
-        requires range { InRange self.kind (seen self.progress) }
+        requires range { InRange self.kind (progress_of self.progress) }
         requires few { self.progress.lines + least_length self.part < 2 ^ 32 }
-        ensures whole { (text : List ℕ) → Reads self.kind (seen self.progress) self.part text
-            → result ≡ read self.kind text (size_of (seen self.progress)) }
+        ensures whole { (text : List ℕ) → ReadsLines self.kind (progress_of self.progress) self.part text
+            → result ≡ image_in_text self.kind text (image_size (progress_of self.progress)) }
         ensures line { IfErr result IsLineFault }
     {
         match self.end_text() {

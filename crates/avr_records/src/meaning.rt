@@ -1,7 +1,7 @@
 //! What a record means for the file that it stands in.
 
 ghost use Rattle.std.specs.Prelude.{◌≡◌};
-ghost use Rattle.avr_records.specs.Judging.{record_of, meaning_of, Fits, IsNarrow};
+ghost use Rattle.avr_records.specs.Judging.{record_of, meaning_of, FitsKind, FitsFields};
 ghost use Rattle.avr_records.specs.Meaning.{ihex_means, srec_means, means, rebase};
 
 use crate::kind::{Base, Kind};
@@ -11,7 +11,7 @@ use crate::record::LineRecord;
 /// A linear base from the two bytes of its record.
 fn linear_base(bytes: &[u8]) -> Line<'_>
     ensures means { meaning_of result ≡ rebase Base.Linear bytes.now }
-    ensures fits { Fits Kind.Ihex result }
+    ensures fits { FitsKind Kind.Ihex result }
 {
     match bytes {
         [high, low] => Line::Rebase(Base::Linear(*high as u16 * 256 + *low as u16)),
@@ -22,7 +22,7 @@ fn linear_base(bytes: &[u8]) -> Line<'_>
 /// A segment from the two bytes of its record.
 fn segment_base(bytes: &[u8]) -> Line<'_>
     ensures means { meaning_of result ≡ rebase Base.Segment bytes.now }
-    ensures fits { Fits Kind.Ihex result }
+    ensures fits { FitsKind Kind.Ihex result }
 {
     match bytes {
         [high, low] => Line::Rebase(Base::Segment(*high as u16 * 256 + *low as u16)),
@@ -32,9 +32,9 @@ fn segment_base(bytes: &[u8]) -> Line<'_>
 
 /// What a record of Intel HEX means.
 fn ihex_meaning(found: LineRecord<'_>) -> Line<'_>
-    requires { IsNarrow Kind.Ihex found }
+    requires { FitsFields Kind.Ihex found }
     ensures means { meaning_of result ≡ ihex_means (record_of found.entry) }
-    ensures fits { Fits Kind.Ihex result }
+    ensures fits { FitsKind Kind.Ihex result }
 {
     match found.record_type {
         0 => Line::Data(found.address, found.bytes),
@@ -47,9 +47,9 @@ fn ihex_meaning(found: LineRecord<'_>) -> Line<'_>
 
 /// What an S-record means.
 fn srec_meaning(found: LineRecord<'_>) -> Line<'_>
-    requires { IsNarrow Kind.Srec found }
+    requires { FitsFields Kind.Srec found }
     ensures means { meaning_of result ≡ srec_means (record_of found.entry) }
-    ensures fits { Fits Kind.Srec result }
+    ensures fits { FitsKind Kind.Srec result }
 {
     if found.record_type == 0 {
         Line::Nothing
@@ -64,9 +64,9 @@ fn srec_meaning(found: LineRecord<'_>) -> Line<'_>
 
 /// What a record of a file of this kind means.
 pub(crate) fn meaning(kind: Kind, found: LineRecord<'_>) -> Line<'_>
-    requires { IsNarrow kind found }
+    requires { FitsFields kind found }
     ensures means { meaning_of result ≡ means kind (record_of found.entry) }
-    ensures fits { Fits kind result }
+    ensures fits { FitsKind kind result }
 {
     match kind {
         Kind::Ihex => ihex_meaning(found),

@@ -1,12 +1,12 @@
 //! What the lines of a record file leave that have ended.
 
 ghost use Rattle.std.specs.Prelude.{◌≡◌, ◌+◌, ◌<◌, ◌≤◌, ◌^◌, Some, None, Ok, Err, length, MatchResult, OnOk, IfErr};
-ghost use Rattle.avr_records.specs.Judging.{meaning_of, Fits};
+ghost use Rattle.avr_records.specs.Judging.{meaning_of, FitsKind};
 ghost use Rattle.avr_records.specs.Laying.{Near};
 ghost use Rattle.avr_records.specs.Meaning as said;
-ghost use Rattle.avr_records.specs.Progress.{fresh};
-ghost use Rattle.avr_records.specs.Reading.{in_line, says};
-ghost use Rattle.avr_records.specs.Steps.{seen, fault_at, with_meaning, fault_behind, with_line, step, HasBase, InRange, IsLineFault, ending_of};
+ghost use Rattle.avr_records.specs.Progress.{fresh_progress};
+ghost use Rattle.avr_records.specs.Reading.{in_line, said_by_line};
+ghost use Rattle.avr_records.specs.Steps.{progress_of, fault_at, with_meaning, fault_behind, with_line, next_progress, HasBase, InRange, IsLineFault, ending_of};
 
 use crate::digits::ROOM;
 use crate::fault::{LineFault, RecordFault};
@@ -32,7 +32,7 @@ pub struct Progress {
 impl Progress {
     /// What no line leaves, for a memory of this size.
     pub(crate) fn new(alloc: Global, size: u32) -> Result<Progress, ImageFault>
-        ensures { MatchResult result (λ p. seen p ≡ fresh size) (λ fault. fault ≡ ImageFault.Memory) }
+        ensures { MatchResult result (λ p. progress_of p ≡ fresh_progress size) (λ fault. fault ≡ ImageFault.Memory) }
     {
         match Image::new(alloc, size) {
             Ok(image) => Ok(Progress {
@@ -51,9 +51,9 @@ impl Progress {
         requires short { length bytes.now ≤ 255 }
         requires near { Near self.old.base offset }
         requires few { self.old.data_records + 1 < 2 ^ 32 }
-        ensures step { MatchResult result (λ _. (fault_at (seen self.old) (said.Data offset bytes.now) ≡ None)
-            × (seen self.new ≡ with_meaning (seen self.old) (said.Data offset bytes.now)))
-            (λ fault. fault_at (seen self.old) (said.Data offset bytes.now) ≡ Some fault) }
+        ensures step { MatchResult result (λ _. (fault_at (progress_of self.old) (said.Data offset bytes.now) ≡ None)
+            × (progress_of self.new ≡ with_meaning (progress_of self.old) (said.Data offset bytes.now)))
+            (λ fault. fault_at (progress_of self.old) (said.Data offset bytes.now) ≡ Some fault) }
         ensures base { self.new.base ≡ self.old.base }
         ensures lines { self.new.lines ≡ self.old.lines }
         ensures few { self.new.data_records ≤ self.old.data_records + 1 }
@@ -71,12 +71,12 @@ impl Progress {
     /// Takes in what a line says.
     #[tactic(auto, using(crate::proofs::Places::near))]
     pub(crate) fn take(&mut self, kind: Kind, line: Line<'_>) -> Result<(), LineFault>
-        requires fits { Fits kind line }
+        requires fits { FitsKind kind line }
         requires base { HasBase kind self.old.base }
         requires few { self.old.data_records + 1 < 2 ^ 32 }
-        ensures step { MatchResult result (λ _. (fault_at (seen self.old) (meaning_of line.entry) ≡ None)
-            × (seen self.new ≡ with_meaning (seen self.old) (meaning_of line.entry)))
-            (λ fault. fault_at (seen self.old) (meaning_of line.entry) ≡ Some fault) }
+        ensures step { MatchResult result (λ _. (fault_at (progress_of self.old) (meaning_of line.entry) ≡ None)
+            × (progress_of self.new ≡ with_meaning (progress_of self.old) (meaning_of line.entry)))
+            (λ fault. fault_at (progress_of self.old) (meaning_of line.entry) ≡ Some fault) }
         ensures size { length self.new.image ≡ length self.old.image }
         ensures base { OnOk result (HasBase kind self.new.base) }
         ensures lines { self.new.lines ≡ self.old.lines }
@@ -107,9 +107,10 @@ impl Progress {
     fn judge(&mut self, kind: Kind, line: &[u8], room: &mut [u8; ROOM]) -> Result<(), LineFault>
         requires base { HasBase kind self.old.base }
         requires few { self.old.data_records + 1 < 2 ^ 32 }
-        ensures step { MatchResult result (λ _. (fault_behind (seen self.old) (says kind line.now) ≡ None)
-            × (seen self.new ≡ with_line (seen self.old) (says kind line.now)))
-            (λ fault. fault_behind (seen self.old) (says kind line.now) ≡ Some fault) }
+        ensures step { MatchResult result
+            (λ _. (fault_behind (progress_of self.old) (said_by_line kind line.now) ≡ None)
+            × (progress_of self.new ≡ with_line (progress_of self.old) (said_by_line kind line.now)))
+            (λ fault. fault_behind (progress_of self.old) (said_by_line kind line.now) ≡ Some fault) }
         ensures size { length self.new.image ≡ length self.old.image }
         ensures base { OnOk result (HasBase kind self.new.base) }
         ensures lines { self.new.lines ≡ self.old.lines }
@@ -138,12 +139,13 @@ impl Progress {
         line: &[u8],
         room: &mut [u8; ROOM],
     ) -> Result<(), RecordFault>
-        requires range { InRange kind (seen self.old) }
+        requires range { InRange kind (progress_of self.old) }
         requires few { self.old.lines + 1 < 2 ^ 32 }
-        ensures step { MatchResult result (λ _. step (seen self.old) (says kind line.now) ≡ Ok (seen self.new))
-            (λ fault. step (seen self.old) (says kind line.now) ≡ Err fault) }
+        ensures step { MatchResult result
+            (λ _. next_progress (progress_of self.old) (said_by_line kind line.now) ≡ Ok (progress_of self.new))
+            (λ fault. next_progress (progress_of self.old) (said_by_line kind line.now) ≡ Err fault) }
         ensures size { length self.new.image ≡ length self.old.image }
-        ensures range { OnOk result (InRange kind (seen self.new)) }
+        ensures range { OnOk result (InRange kind (progress_of self.new)) }
         ensures lines { OnOk result (self.new.lines ≡ self.old.lines + 1) }
         ensures line { IfErr result IsLineFault }
     {
@@ -158,7 +160,7 @@ impl Progress {
 
     /// Whether an end record came.
     pub(crate) fn ending(&self) -> Ending
-        ensures { result ≡ ending_of (seen self.now) }
+        ensures { result ≡ ending_of (progress_of self.now) }
     {
         if self.ended {
             Ending::Ended

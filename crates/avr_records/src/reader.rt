@@ -1,9 +1,9 @@
 //! The reader of record files.
 
 ghost use Rattle.std.specs.Prelude.{◌≡◌, ◌≢◌, ◌+◌, ◌<◌, ◌^◌, ◌++◌, ℕ, List, [], true, Ok, Err, length, MatchResult, OnOk, OnErr};
-ghost use Rattle.avr_records.specs.Closed.{closed_fault, unless_fault};
-ghost use Rattle.avr_records.specs.Reader.{State, Stands, IsNew, memory_size};
-ghost use Rattle.avr_records.specs.Reading.{read};
+ghost use Rattle.avr_records.specs.Closed.{closed_fault, ok_unless};
+ghost use Rattle.avr_records.specs.Reader.{ReaderState, StandsFor, IsNewReader, memory_size};
+ghost use Rattle.avr_records.specs.Reading.{image_in_text};
 
 use crate::fault::RecordFault;
 use crate::kind::{Ending, Kind};
@@ -15,7 +15,7 @@ use std::marker::Model;
 /// Reads a record file of one kind into an image, from pieces of any length.
 ///
 /// A reader keeps no text: one line of at most 600 bytes, and the image. The contracts speak of the texts that it may
-/// have been fed (`Stands`): whatever the pieces, the answers are those of the whole text.
+/// have been fed (`StandsFor`): whatever the pieces, the answers are those of the whole text.
 ///
 /// ```text
 /// let mut reader = RecordReader::new(alloc, Kind::Ihex, 32_768)?;
@@ -34,21 +34,21 @@ pub struct RecordReader {
 
 impl Model for RecordReader {
     ghost use Rattle.std.specs.Prelude.{◌≡◌, ◌+◌, ◌≤◌, false};
-    ghost use Rattle.avr_records.specs.Reader.{State};
+    ghost use Rattle.avr_records.specs.Reader.{ReaderState};
 
-    ghost Value = { State };
+    ghost Value = { ReaderState };
 
-    ghost use Rattle.avr_records.specs.Steps.{seen, least_length, InRange};
+    ghost use Rattle.avr_records.specs.Steps.{progress_of, least_length, InRange};
 
     ghost view = { λ r. record {
       kind = r.lines.kind;
-      progress = seen r.lines.progress;
+      progress = progress_of r.lines.progress;
       part = r.lines.part;
       fed = r.fed;
       failed = r.failed;
     } };
 
-    ghost invariant = { λ r. r.failed ≡ false → InRange r.lines.kind (seen r.lines.progress)
+    ghost invariant = { λ r. r.failed ≡ false → InRange r.lines.kind (progress_of r.lines.progress)
         × (r.lines.progress.lines + least_length r.lines.part ≤ r.fed) };
 }
 
@@ -63,7 +63,7 @@ impl RecordReader {
     /// assert_eq!(rt; ending, Ending::NoEnd);
     /// ```
     pub fn new(alloc: Global, kind: Kind, size: u32) -> Result<RecordReader, RecordFault>
-        ensures { MatchResult result (IsNew kind size) (λ fault. fault ≡ RecordFault.Memory) }
+        ensures { MatchResult result (IsNewReader kind size) (λ fault. fault ≡ RecordFault.Memory) }
     {
         match LineReader::new(alloc, kind, size) {
             Ok(lines) => Ok(RecordReader {
@@ -100,9 +100,10 @@ impl RecordReader {
     /// ```
     pub fn feed(&mut self, piece: &[u8]) -> Result<(), RecordFault>
         requires { self.old.fed + length piece.now < 2 ^ 32 }
-        ensures answer { (text : List ℕ) → Stands self.old text → result
-            ≡ unless_fault (closed_fault self.old.kind (text ++ piece.now) (memory_size self.old)) }
-        ensures stands { OnOk result ((text : List ℕ) → Stands self.old text → Stands self.new (text ++ piece.now)) }
+        ensures answer { (text : List ℕ) → StandsFor self.old text → result
+            ≡ ok_unless (closed_fault self.old.kind (text ++ piece.now) (memory_size self.old)) }
+        ensures stands { OnOk result ((text : List ℕ) → StandsFor self.old text
+            → StandsFor self.new (text ++ piece.now)) }
         ensures fed { OnOk result (self.new.fed ≡ self.old.fed + length piece.now) }
         ensures fault { OnErr result ((self.new.failed ≡ true) × (self.new.fed ≡ self.old.fed)) }
         ensures kind { self.new.kind ≡ self.old.kind }
@@ -134,7 +135,8 @@ impl RecordReader {
     /// assert_eq!(rt; reader.finish().err(), Some(RecordFault::BadSum(1)));
     /// ```
     pub fn finish(self) -> Result<(Image, Ending), RecordFault>
-        ensures answer { (text : List ℕ) → Stands self text → result ≡ read self.kind text (memory_size self) }
+        ensures answer { (text : List ℕ) → StandsFor self text → result
+            ≡ image_in_text self.kind text (memory_size self) }
         ensures failed { self.failed ≡ true → result ≡ Err RecordFault.Failed }
         ensures memory { result ≢ Err RecordFault.Memory }
     {

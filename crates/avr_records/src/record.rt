@@ -51,7 +51,7 @@ pub struct Record {
 }
 
 impl Model for Record {
-    ghost use Rattle.avr_records.specs.Record.{Record as Fields};
+    ghost use Rattle.avr_records.specs.Record.{RecordFields as Fields};
 
     ghost Value = { Fields };
 

@@ -1,8 +1,8 @@
 //! The fields of an S-record.
 
 ghost use Rattle.std.specs.Prelude.{◌≡◌, ◌≤◌, length, Ok, Err, IfOk, MatchResult};
-ghost use Rattle.avr_records.specs.Srec.{fields, typed, checked, addressed as spec_addressed, without_data as spec_without_data};
-ghost use Rattle.avr_records.specs.Judging.{record_of, IsNarrow};
+ghost use Rattle.avr_records.specs.Srec.{srec_from_fields, typed_srec, checked_srec, record_with_address as spec_addressed, without_data as spec_without_data};
+ghost use Rattle.avr_records.specs.Judging.{record_of, FitsFields};
 
 use crate::checksum::low_sum_of;
 use crate::fault::LineFault;
@@ -17,7 +17,7 @@ fn addressed(record_type: u8, n: usize, bytes: &[u8]) -> Result<LineRecord<'_>, 
     requires most { n ≤ 4 }
     ensures is { MatchResult result (λ found. spec_addressed record_type n bytes.now ≡ Ok (record_of found))
         (λ fault. spec_addressed record_type n bytes.now ≡ Err fault) }
-    ensures narrow { IfOk result (IsNarrow Kind.Srec) }
+    ensures narrow { IfOk result (FitsFields Kind.Srec) }
 {
     if n <= bytes.len() {
         Ok(LineRecord {
@@ -37,7 +37,7 @@ fn without_data(record_type: u8, n: usize, bytes: &[u8]) -> Result<LineRecord<'_
     requires most { n ≤ 4 }
     ensures is { MatchResult result (λ found. spec_without_data record_type n bytes.now ≡ Ok (record_of found))
         (λ fault. spec_without_data record_type n bytes.now ≡ Err fault) }
-    ensures narrow { IfOk result (IsNarrow Kind.Srec) }
+    ensures narrow { IfOk result (FitsFields Kind.Srec) }
 {
     if bytes.len() == n {
         addressed(record_type, n, bytes)
@@ -49,9 +49,9 @@ fn without_data(record_type: u8, n: usize, bytes: &[u8]) -> Result<LineRecord<'_
 /// The record of a type, given by its digit, and the bytes between the count and the checksum.
 fn srec_typed(digit: u8, bytes: &[u8]) -> Result<LineRecord<'_>, LineFault>
     requires { length bytes.now ≤ 255 }
-    ensures is { MatchResult result (λ found. typed digit bytes.now ≡ Ok (record_of found))
-        (λ fault. typed digit bytes.now ≡ Err fault) }
-    ensures narrow { IfOk result (IsNarrow Kind.Srec) }
+    ensures is { MatchResult result (λ found. typed_srec digit bytes.now ≡ Ok (record_of found))
+        (λ fault. typed_srec digit bytes.now ≡ Err fault) }
+    ensures narrow { IfOk result (FitsFields Kind.Srec) }
 {
     match digit {
         b'0' => addressed(0, 2, bytes),
@@ -69,9 +69,9 @@ fn srec_typed(digit: u8, bytes: &[u8]) -> Result<LineRecord<'_>, LineFault>
 
 /// The record behind a count.
 fn srec_checked(digit: u8, count: u8, low_sum: u8, more: &[u8]) -> Result<LineRecord<'_>, LineFault>
-    ensures is { MatchResult result (λ found. checked digit count low_sum more.now ≡ Ok (record_of found))
-        (λ fault. checked digit count low_sum more.now ≡ Err fault) }
-    ensures narrow { IfOk result (IsNarrow Kind.Srec) }
+    ensures is { MatchResult result (λ found. checked_srec digit count low_sum more.now ≡ Ok (record_of found))
+        (λ fault. checked_srec digit count low_sum more.now ≡ Err fault) }
+    ensures narrow { IfOk result (FitsFields Kind.Srec) }
 {
     let count = count as usize;
     if count == 0 || more.len() != count {
@@ -85,9 +85,9 @@ fn srec_checked(digit: u8, count: u8, low_sum: u8, more: &[u8]) -> Result<LineRe
 
 /// The record that the bytes of a line of S-records are.
 pub(crate) fn srec_fields(digit: u8, bytes: &[u8]) -> Result<LineRecord<'_>, LineFault>
-    ensures is { MatchResult result (λ found. fields digit bytes.now ≡ Ok (record_of found))
-        (λ fault. fields digit bytes.now ≡ Err fault) }
-    ensures narrow { IfOk result (IsNarrow Kind.Srec) }
+    ensures is { MatchResult result (λ found. srec_from_fields digit bytes.now ≡ Ok (record_of found))
+        (λ fault. srec_from_fields digit bytes.now ≡ Err fault) }
+    ensures narrow { IfOk result (FitsFields Kind.Srec) }
 {
     match bytes {
         [] => Err(LineFault::Length),

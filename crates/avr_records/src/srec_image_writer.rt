@@ -4,7 +4,7 @@
 //! `SrecWriter`.
 
 ghost use Rattle.std.specs.Prelude.{◌≡◌, ◌-◌, ◌<◌, ◌↔◌, ◌++◌, length, drop, IsTrue, Ok};
-ghost use Rattle.avr_records.specs.Reading.{read};
+ghost use Rattle.avr_records.specs.Reading.{image_in_text};
 ghost use Rattle.avr_records.specs.Sparse.{srec_image_text, last_held};
 ghost use Rattle.avr_records.specs.Text.{IsLine};
 
@@ -80,7 +80,7 @@ impl<'a> SrecImageWriter<'a> {
     /// ```
     pub fn new(image: &'a Image) -> SrecImageWriter<'a>
         ensures text { result ≡ srec_image_text image.now }
-        ensures reads_back { read Kind.Srec result (length image.now) ≡ Ok (image.now, Ending.Ended) }
+        ensures reads_back { image_in_text Kind.Srec result (length image.now) ≡ Ok (image.now, Ending.Ended) }
     {
         let address_size = address_size_of(last_held_of(image));
         SrecImageWriter {

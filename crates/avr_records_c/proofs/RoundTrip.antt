@@ -1,14 +1,14 @@
 -- What is written of a memory reads back.
 use Rattle.std.proofs.Common.{◌≡◌, ◌∙◌, ap, sym, refl, arith, ℕ, zero, suc, ◌<◌, ◌≤◌, ◌^◌, List, [], ◌∷◌, length, Bool, true, false, cond, Some, None, Ok}
 use Rattle.avr_image.specs.Image.{HoldsBytes}
-use Rattle.avr_records.specs.Reading.{read}
+use Rattle.avr_records.specs.Reading.{image_in_text}
 use Rattle.avr_records.specs.declared.kind.Ending.TheVariants.{Ended}
 use Rattle.avr_records.specs.declared.kind.Kind.{Kind}
 use Rattle.avr_records.specs.declared.kind.Kind.TheVariants.{Ihex, Srec}
 use Rattle.avr_records.proofs.Sparse.{ihex-image-reads-back, srec-image-reads-back}
 use Rattle.avr_records_c.specs.Bitmap.{is_there, image_from, image_of}
 use Rattle.avr_records_c.specs.Reading.{left_by}
-use Rattle.avr_records_c.specs.RoundTrip.{AreBytes, written_and_read}
+use Rattle.avr_records_c.specs.RoundTrip.{EachIsByte, written_and_read}
 use Rattle.avr_records_c.specs.Writing.{image_text}
 
 length-image : (addr : ℕ) (present bytes : List ℕ) → length (image_from addr present bytes) ≡ length bytes
@@ -19,21 +19,21 @@ byte_below : (there : Bool) (b byte : ℕ) → b < 256 → cond there (Some b) N
 byte_below true b byte small is = let same : b ≡ byte = cc is in omega (arith, same)
 byte_below false b byte small is = absurd (cc is)
 
-holds : (at : ℕ) (present bytes : List ℕ) → AreBytes bytes → HoldsBytes (image_from at present bytes)
+holds : (at : ℕ) (present bytes : List ℕ) → EachIsByte bytes → HoldsBytes (image_from at present bytes)
 holds at present [] small addr byte is = absurd (cc is)
 holds at present (b ∷ bytes) small zero byte is = byte_below (is_there present at) b byte (small 0 (omega arith)) is
 holds at present (b ∷ bytes) small (suc addr) byte is =
     holds (suc at) present bytes (λ i l. small (suc i) (omega (arith, l))) addr byte is
 
-reads : (kind : Kind) (present bytes : List ℕ) → length bytes ≤ 2 ^ 32 → AreBytes bytes
-    → read kind (image_text kind (image_of present bytes)) (length (image_of present bytes)) ≡ Ok (image_of present bytes, Ended)
+reads : (kind : Kind) (present bytes : List ℕ) → length bytes ≤ 2 ^ 32 → EachIsByte bytes
+    → image_in_text kind (image_text kind (image_of present bytes)) (length (image_of present bytes)) ≡ Ok (image_of present bytes, Ended)
 reads Ihex present bytes few small =
     ihex-image-reads-back (image_of present bytes) (omega (arith, length-image 0 present bytes, few)) (holds 0 present bytes small)
 reads Srec present bytes few small =
     srec-image-reads-back (image_of present bytes) (omega (arith, length-image 0 present bytes, few)) (holds 0 present bytes small)
 
-pub reads_back : (kind : Kind) (present bytes : List ℕ) → length bytes ≤ 2 ^ 32 → AreBytes bytes
-    → left_by bytes present (read kind (image_text kind (image_of present bytes)) (length bytes)) ≡ written_and_read present bytes
+pub reads_back : (kind : Kind) (present bytes : List ℕ) → length bytes ≤ 2 ^ 32 → EachIsByte bytes
+    → left_by bytes present (image_in_text kind (image_text kind (image_of present bytes)) (length bytes)) ≡ written_and_read present bytes
 reads_back kind present bytes few small =
     ap (left_by bytes present)
-    (ap (read kind (image_text kind (image_of present bytes))) (sym (length-image 0 present bytes)) ∙ reads kind present bytes few small)
+    (ap (image_in_text kind (image_text kind (image_of present bytes))) (sym (length-image 0 present bytes)) ∙ reads kind present bytes few small)

@@ -2,7 +2,7 @@
 use Rattle.std.proofs.Common.{◌≡◌, ap, refl, arith, false, ℕ, List, [], ◌∷◌, codes, Option, Some, None, Err, inl, inr}
 use Rattle.avr_records.specs.declared.fault.RecordFault.TheVariants.{BadSum, OutOfRange}
 use Rattle.avr_records.specs.declared.kind.Kind.TheVariants.{Ihex, Srec}
-use Rattle.avr_records_c.specs.Numbers.{refused}
+use Rattle.avr_records_c.specs.Numbers.{outcome_of_fault}
 use Rattle.avr_records_c.specs.Bitmap.{octets_of, bitmap, image_of}
 use Rattle.avr_records_c.specs.Reading.{Left, asked_read, left_by, Reads}
 use Rattle.avr_records_c.specs.Writing.{Put, asked_write, put_from, put_none, Writes}
@@ -58,12 +58,12 @@ behind_the_end : put_from (codes "abcdef") 7 (1 ∷ []) ≡ record { piece = rec
 behind_the_end = refl
 
 -- nothing is a good file: no call may tell a fault of it but want of memory, nor that it has an end record
-no_fault_of_nothing : Reads 1 [] [] [] (record { outcome = refused (BadSum 1); bytes = []; present = [] }) → ⊥
+no_fault_of_nothing : Reads 1 [] [] [] (record { outcome = outcome_of_fault (BadSum 1); bytes = []; present = [] }) → ⊥
 no_fault_of_nothing (inl e) = let same : 4 ≡ 0 = ap (λ (l : Left). l.outcome.fault) e in absurd (omega (arith, same))
 no_fault_of_nothing (inr e) = let same : 4 ≡ 10 = ap (λ (l : Left). l.outcome.fault) e in absurd (omega (arith, same))
 
 -- a misfit is told as one
-no_reading_of_a_third_kind : Reads 3 [] [] [] (record { outcome = refused (BadSum 1); bytes = []; present = [] }) → ⊥
+no_reading_of_a_third_kind : Reads 3 [] [] [] (record { outcome = outcome_of_fault (BadSum 1); bytes = []; present = [] }) → ⊥
 no_reading_of_a_third_kind e = let same : 4 ≡ 11 = ap (λ (l : Left). l.outcome.fault) e in absurd (omega (arith, same))
 
 -- a file of nothing is its end record: no call may put nothing of it without a fault

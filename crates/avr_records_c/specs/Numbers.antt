@@ -1,6 +1,6 @@
 -- The numbers by which C knows formats and faults.
 use Rattle.std.specs.Prelude.{ℕ, true, false, ◌==◌, Option, Some, None, unwrap_or, if◌then◌else◌}
-use Rattle.avr_records.specs.Fault.{fault_number, fault_line, fault_address}
+use Rattle.avr_records.specs.Fault.{fault_number, fault_line_number, fault_address}
 use Rattle.avr_records.specs.declared.fault.RecordFault.{RecordFault}
 use Rattle.avr_records.specs.declared.kind.Kind.{Kind}
 use Rattle.avr_records.specs.declared.kind.Kind.TheVariants as kind
@@ -22,15 +22,15 @@ abbrev pub kind_numbered : ℕ → Option Kind
 kind_numbered number = if number == 1 then Some kind.Ihex else if number == 2 then Some kind.Srec else None
 
 -- a file was read to its end
-abbrev pub done : Ending → Outcome
-done Ended = record { line = 0; address = 0; fault = 0; ended = true }
-done NoEnd = record { line = 0; address = 0; fault = 0; ended = false }
+abbrev pub outcome_of_end : Ending → Outcome
+outcome_of_end Ended = record { line = 0; address = 0; fault = 0; ended = true }
+outcome_of_end NoEnd = record { line = 0; address = 0; fault = 0; ended = false }
 
 -- no file was read, by this fault
-abbrev pub refused : RecordFault → Outcome
-refused fault =
+abbrev pub outcome_of_fault : RecordFault → Outcome
+outcome_of_fault fault =
     record {
-      line = unwrap_or (fault_line fault) 0;
+      line = unwrap_or (fault_line_number fault) 0;
       address = unwrap_or (fault_address fault) 0;
       fault = fault_number fault;
       ended = false;

@@ -1,13 +1,13 @@
 -- What C has of a record file that was read.
 use Rattle.std.specs.Prelude.{◌≡◌, ◌⊎◌, ℕ, ◌==◌, ◌&&◌, ◌^◌, nat_lt, List, length, Option, None, Result, Ok, Err, MatchOption, if◌then◌else◌}
-use Rattle.avr_image.specs.Image.{filled}
-use Rattle.avr_records.specs.Reading.{read}
+use Rattle.avr_image.specs.Image.{filled_bytes}
+use Rattle.avr_records.specs.Reading.{image_in_text}
 use Rattle.avr_records.specs.declared.fault.RecordFault.{RecordFault}
 use Rattle.avr_records.specs.declared.fault.RecordFault.TheVariants.{Memory}
 use Rattle.avr_records.specs.declared.kind.Kind.{Kind}
 use Rattle.avr_records.specs.declared.kind.Ending.{Ending}
 use Rattle.avr_records_c.specs.declared.outcome.Outcome.{Outcome}
-use Rattle.avr_records_c.specs.Numbers.{kind_numbered, done, refused, misfit}
+use Rattle.avr_records_c.specs.Numbers.{kind_numbered, outcome_of_end, outcome_of_fault, misfit}
 use Rattle.avr_records_c.specs.Bitmap.{octets_of, bitmap}
 
 -- what a call leaves: its outcome, the memory's bytes and their bitmap
@@ -19,8 +19,12 @@ pub record Left : Type 0 where
 -- an image goes into bytes, FF in its gaps, and a bitmap; after a fault both are as they were
 abbrev pub left_by : List ℕ → List ℕ → Result (List (Option ℕ) × Ending) RecordFault → Left
 left_by bytes present (Ok (image, ending)) =
-    record { outcome = done ending; bytes = filled image 0 (length bytes); present = bitmap image (length present) }
-left_by bytes present (Err fault) = record { outcome = refused fault; bytes = bytes; present = present }
+    record {
+      outcome = outcome_of_end ending;
+      bytes = filled_bytes image 0 (length bytes);
+      present = bitmap image (length present);
+    }
+left_by bytes present (Err fault) = record { outcome = outcome_of_fault fault; bytes = bytes; present = present }
 
 -- the kind of file, where the number is that of one, file and memory have fewer than 2 to the power 32 bytes, and the
 -- bitmap has as many octets as the memory needs
@@ -34,4 +38,5 @@ abbrev pub Reads : ℕ → List ℕ → List ℕ → List ℕ → Left → Type 
 Reads kind text bytes present left =
     MatchOption (asked_read kind (length text) (length bytes) (length present))
     (left ≡ record { outcome = misfit; bytes = bytes; present = present })
-    (λ k. (left ≡ left_by bytes present (read k text (length bytes))) ⊎ (left ≡ left_by bytes present (Err Memory)))
+    (λ k. (left ≡ left_by bytes present (image_in_text k text (length bytes)))
+    ⊎ (left ≡ left_by bytes present (Err Memory)))

@@ -1,16 +1,20 @@
 -- What is written of a memory, and read again.
 use Rattle.std.specs.Prelude.{ℕ, ◌<◌, List, length, slice_index}
-use Rattle.avr_image.specs.Image.{filled}
+use Rattle.avr_image.specs.Image.{filled_bytes}
 use Rattle.avr_records.specs.declared.kind.Ending.TheVariants.{Ended}
-use Rattle.avr_records_c.specs.Numbers.{done}
+use Rattle.avr_records_c.specs.Numbers.{outcome_of_end}
 use Rattle.avr_records_c.specs.Bitmap.{bitmap, image_of}
 use Rattle.avr_records_c.specs.Reading.{Left}
 
-abbrev pub AreBytes : List ℕ → Type 0
-AreBytes bytes = (i : ℕ) → i < length bytes → slice_index bytes i < 256
+abbrev pub EachIsByte : List ℕ → Type 0
+EachIsByte bytes = (i : ℕ) → i < length bytes → slice_index bytes i < 256
 
 -- the bytes that were there, FF in the place of the others, and the bitmap of the same addresses
 abbrev pub written_and_read : List ℕ → List ℕ → Left
 written_and_read present bytes =
     let image = image_of present bytes in
-    record { outcome = done Ended; bytes = filled image 0 (length bytes); present = bitmap image (length present) }
+    record {
+      outcome = outcome_of_end Ended;
+      bytes = filled_bytes image 0 (length bytes);
+      present = bitmap image (length present);
+    }

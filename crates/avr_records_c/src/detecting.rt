@@ -1,6 +1,6 @@
 //! What the front of a file shows.
 ghost use Rattle.std.specs.Prelude.{◌≡◌};
-ghost use Rattle.avr_records.specs.Detect.{detected};
+ghost use Rattle.avr_records.specs.Detect.{kind_of_file};
 ghost use Rattle.avr_records_c.specs.Numbers.{found_number};
 
 use crate::numbers::found_number;
@@ -10,7 +10,7 @@ use avr_records::detect;
 /// Intel HEX, 2 for S-records, 3 for ELF.
 #[unsafe(no_mangle)]
 pub extern "C" fn avr_records_detect(front: &[u8]) -> u8
-    ensures { result ≡ found_number (detected front.now) }
+    ensures { result ≡ found_number (kind_of_file front.now) }
 {
     found_number(detect(front))
 }

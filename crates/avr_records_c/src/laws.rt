@@ -1,11 +1,11 @@
 //! Laws of what C has, over the definitions alone.
 ghost use Rattle.std.specs.Prelude.{◌≡◌, ◌*◌, ◌<◌, ◌≤◌, ◌^◌, ℕ, List, length, Option, is_some};
 ghost use Rattle.avr_image.specs.Image.{byte_at};
-ghost use Rattle.avr_records.specs.Reading.{read};
+ghost use Rattle.avr_records.specs.Reading.{image_in_text};
 ghost use Rattle.avr_records.specs.declared.kind.Kind.{Kind};
 ghost use Rattle.avr_records_c.specs.Bitmap.{bitmap, image_of, is_there};
 ghost use Rattle.avr_records_c.specs.Reading.{left_by};
-ghost use Rattle.avr_records_c.specs.RoundTrip.{AreBytes, written_and_read};
+ghost use Rattle.avr_records_c.specs.RoundTrip.{EachIsByte, written_and_read};
 ghost use Rattle.avr_records_c.specs.Writing.{image_text};
 
 /// A bit of an image's bitmap is 1 where, and only where, its address holds a byte.
@@ -19,7 +19,7 @@ pub fn a_bitmap_says_what_is_there()
 /// others, and the bitmap of the same addresses, with the end record.
 #[tactic(auto, using(crate::proofs::RoundTrip::reads_back))]
 pub fn what_is_written_reads_back()
-    ensures { (kind : Kind) (present bytes : List ℕ) → length bytes ≤ 2 ^ 32 → AreBytes bytes
-        → left_by bytes present (read kind (image_text kind (image_of present bytes)) (length bytes))
+    ensures { (kind : Kind) (present bytes : List ℕ) → length bytes ≤ 2 ^ 32 → EachIsByte bytes
+        → left_by bytes present (image_in_text kind (image_text kind (image_of present bytes)) (length bytes))
         ≡ written_and_read present bytes }
 {}

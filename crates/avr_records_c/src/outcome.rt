@@ -1,6 +1,6 @@
 //! How a read ended.
 ghost use Rattle.std.specs.Prelude.{◌≡◌};
-ghost use Rattle.avr_records_c.specs.Numbers.{done, misfit, refused};
+ghost use Rattle.avr_records_c.specs.Numbers.{outcome_of_end, misfit, outcome_of_fault};
 
 use avr_records::{Ending, RecordFault};
 
@@ -24,7 +24,7 @@ pub struct Outcome {
 impl Outcome {
     /// A file was read to its end.
     pub(crate) fn done(ending: Ending) -> Outcome
-        ensures { result ≡ done ending }
+        ensures { result ≡ outcome_of_end ending }
     {
         Outcome {
             line: 0,
@@ -36,7 +36,7 @@ impl Outcome {
 
     /// No file was read, by this fault.
     pub(crate) fn refused(fault: RecordFault) -> Outcome
-        ensures { result ≡ refused fault }
+        ensures { result ≡ outcome_of_fault fault }
     {
         Outcome {
             line: fault.line().unwrap_or(0),

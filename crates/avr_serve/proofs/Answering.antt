@@ -7,7 +7,7 @@ use Rattle.stk_frame.specs.Cut.{cut, rest, frames, is_frame}
 use Rattle.stk_frame.proofs.Cut.{cut_append}
 use Rattle.stk_host.specs.Play.{IsPrefixOf}
 use Rattle.stk_emu.specs.Programmer.{Programmer}
-use Rattle.stk_emu.specs.Device.{device, answers, answer_frame, after_all}
+use Rattle.stk_emu.specs.Device.{device, answers, answer_frame, after_frames}
 use Rattle.stk_emu.specs.Emulator.{Machine, IsFed, Answers, emulate}
 use Rattle.stk_emu.proofs.Answering.{answers_more, frames_fed, is_fed, emulated}
 use Rattle.avr_serve.specs.Serving.{AnswersAll, BreaksOff}
@@ -52,7 +52,7 @@ breaks_more p text a x b y mid now first then = record {
 
 -- an answer that was not sent whole is one to a frame, the last that was fed
 breaks_found : (p : Programmer) (text used unused out part unsent : List ℕ) (old now : Machine) (found : List (List ℕ)) → length found ≤ 1
-    → frames (text ++ used) ≡ frames text ++ found → out ≡ answers device found old.programmer → old.programmer ≡ after_all device (frames text) p
+    → frames (text ++ used) ≡ frames text ++ found → out ≡ answers device found old.programmer → old.programmer ≡ after_frames device (frames text) p
     → IsFed p (text ++ used) now → out ≡ part ++ unsent → 0 < length unsent → BreaksOff p text (used ++ unused) part now
 breaks_found p text used unused out part unsent old now [] few fs answered at fed is some =
     absurd (let e : length out ≡ length part + length unsent = ap length is ∙ length-append part unsent in let z : length out ≡ 0 = ap length answered in omega arith)
@@ -83,7 +83,7 @@ answers_front : (p : Programmer) (x y : List ℕ) → IsPrefixOf (emulate p x) (
 answers_front p x y =
     let later : List (List ℕ) = filter is_frame (cut (rest x ++ y)) in
     let all : frames (x ++ y) ≡ frames x ++ later = ap (filter is_frame) (cut_append x y) ∙ filter-append is_frame (cut x) (cut (rest x ++ y)) in
-    (answers device later (after_all device (frames x) p), sym (ap (λ fs. answers device fs p) all ∙ answers_more device (frames x) later p))
+    (answers device later (after_frames device (frames x) p), sym (ap (λ fs. answers device fs p) all ∙ answers_more device (frames x) later p))
 
 -- so is what was sent of them
 pub breaks_front : (p : Programmer) (text bytes out : List ℕ) (now : Machine) → BreaksOff p text bytes out now → IsPrefixOf (emulate p text ++ out) (emulate p (text ++ bytes))
@@ -92,7 +92,7 @@ breaks_front p text bytes out now b =
     let so_far : emulate p (text ++ b.used) ≡ (emulate p text ++ out) ++ b.unsent =
     ap (λ fs. answers device fs p) b.frames_are
     ∙ (answers_more device b.earlier (b.last ∷ []) p
-    ∙ (ap (λ o. answers device b.earlier p ++ o) (append-nil (answer_frame device b.last (after_all device b.earlier p)) ∙ b.answer_is)
+    ∙ (ap (λ o. answers device b.earlier p ++ o) (append-nil (answer_frame device b.last (after_frames device b.earlier p)) ∙ b.answer_is)
     ∙ (sym (append_assoc (answers device b.earlier p) b.part b.unsent) ∙ ap (λ o. o ++ b.unsent) (sym b.sent_is)))) in (
       b.unsent ++ front.0,
       sym (append_assoc (emulate p text ++ out) b.unsent front.0)

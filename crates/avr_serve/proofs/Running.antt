@@ -17,7 +17,7 @@ use Rattle.stk_emu.specs.Programmer.{fresh_programmer}
 use Rattle.stk_emu.specs.Emulator.{Machine, IsFed}
 use Rattle.avr_serve.specs.declared.serving.Served.{Served}
 use Rattle.avr_serve.specs.Serving.{Serves, FailsBy}
-use Rattle.avr_serve.specs.ServedRun.{sides, settings_part, settings_chip, fresh_machine, TellsEnd, IsSaved, ServesChip}
+use Rattle.avr_serve.specs.ServedRun.{sides, settings_part, settings_chip, fresh_machine, TellsEnd, SavesAfterServing, ServesChip}
 
 pub goes_without_parts : (s : Settings) (old new : DeskView) (status : ℕ) → Goes (parts_stage s.parts) old new (Err status)
     → Goes (settings_part s) old new (Err status)
@@ -34,19 +34,19 @@ pub goes_without_part : (s : Settings) (file : Bytes) (old new : DeskView) (stat
     → Goes (settings_chip s file) old new (Err status)
 goes_without_part s file old new status goes = goes_no_further (settings_part s) (λ part. chip_stage part file) old new status goes
 
-pub goes_with_part : (s : Settings) (file : Bytes) (old mid new : DeskView) (part : Part) (result : Result chips.State ℕ)
+pub goes_with_part : (s : Settings) (file : Bytes) (old mid new : DeskView) (part : Part) (result : Result chips.ChipState ℕ)
     → Went (settings_part s) old mid (Made part) → Goes (chip_stage part file) mid new result → Goes (settings_chip s file) old new result
 goes_with_part s file old mid new part result went goes =
     goes_on (settings_part s) (λ part. chip_stage part file) old mid new part result went goes
 
-is_fresh : (chip : chips.State) (machine : Machine) → machine.held ≡ [] → machine.programmer ≡ fresh_programmer chip → machine ≡ fresh_machine chip
+is_fresh : (chip : chips.ChipState) (machine : Machine) → machine.held ≡ [] → machine.programmer ≡ fresh_programmer chip → machine ≡ fresh_machine chip
 is_fresh chip machine held programmer = ap₂ (λ h p. record { held = h; programmer = p }) held programmer
 
 -- an emulator that was fed nothing served, and that was told and saved
-pub serves_chip : (chip : chips.State) (machine left : Machine) (file : Bytes) (turns : ℕ) (served : Served) (o p : LinkView) (old mid new : DeskView) (status : ℕ)
+pub serves_chip : (chip : chips.ChipState) (machine left : Machine) (file : Bytes) (turns : ℕ) (served : Served) (o p : LinkView) (old mid new : DeskView) (status : ℕ)
     → machine.held ≡ [] → machine.programmer ≡ fresh_programmer chip → IsFed (fresh_programmer chip) [] machine
     → Serves machine turns served o p left → FailsBy served o p → TellsEnd served old mid → Follows old mid
-    → IsSaved served mid new file (chip_file left.programmer.chip) status → Follows mid new
+    → SavesAfterServing served mid new file (chip_file left.programmer.chip) status → Follows mid new
     → ServesChip chip file turns (sides o old) (sides p new) status
 serves_chip chip machine left file turns served o p old mid new status held programmer fed serves fails told rises saved follows =
     let is = is_fresh chip machine held programmer in

@@ -11,7 +11,7 @@ use Rattle.stk_emu.specs.Programmer.{Programmer}
 use Rattle.stk_emu.specs.Emulator.{Machine, emulate}
 use Rattle.avr_serve.specs.declared.serving.Served.{Served}
 use Rattle.avr_serve.specs.declared.serving.Served.TheVariants.{Ended, RecvFailed, SendFailed, TooManyReads}
-use Rattle.avr_serve.specs.Serving.{bytes_of, HasNoEnd, Hears, AnswersInTurn, AnswersAll, BreaksOff, Leaves, Serves, FailsBy}
+use Rattle.avr_serve.specs.Serving.{bytes_of, HasNoEnd, HearsUntil, AnswersInTurn, AnswersAll, BreaksOff, ServingLeaves, Serves, FailsBy}
 use Rattle.avr_serve.specs.Replying.{Replies, RepliesPart}
 use Rattle.avr_serve.proofs.Talking.{bytes_append, bytes_on_tape, no_end_append, no_end_on_tape, reads_append, reads_quiet, in_turn_quiet, in_turn_append}
 use Rattle.avr_serve.proofs.Answering.{all_nothing, all_more, breaks_more, breaks_front}
@@ -35,7 +35,7 @@ breaks_talk p text x y mid now first then =
     (breaks_more p text (bytes_of (heard_in x)) (sent x) (bytes_of (heard_in y)) (sent y) mid now first then))
 
 leaves_more : (served : Served) (p : Programmer) (text : List ℕ) (x y : Talk) (mid now : Machine) → AnswersAll p text (bytes_of (heard_in x)) (sent x) mid
-    → Leaves served p (text ++ bytes_of (heard_in x)) y now → Leaves served p text (x ++ y) now
+    → ServingLeaves served p (text ++ bytes_of (heard_in x)) y now → ServingLeaves served p text (x ++ y) now
 leaves_more Ended p text x y mid now first then = all_talk p text x y mid now first then
 leaves_more RecvFailed p text x y mid now first then = all_talk p text x y mid now first then
 leaves_more SendFailed p text x y mid now first then =
@@ -47,7 +47,7 @@ no_end_both : (x y : Talk) → HasNoEnd (heard_in x) → HasNoEnd (heard_in y) �
 no_end_both x y f g = subst HasNoEnd (sym (heard_append x y)) (no_end_append (heard_in x) (heard_in y) f g)
 
 -- one read more
-hears_more : (served : Served) (turns : ℕ) (x y : Talk) → Hears TooManyReads turns x → Hears served 1 y → Hears served (turns + 1) (x ++ y)
+hears_more : (served : Served) (turns : ℕ) (x y : Talk) → HearsUntil TooManyReads turns x → HearsUntil served 1 y → HearsUntil served (turns + 1) (x ++ y)
 hears_more Ended turns x y first then = (
   heard_in x ++ then.0,
   no_end_append (heard_in x) then.0 first.0 then.1,
@@ -83,7 +83,7 @@ serves_more served turns old mid now a b c first then = record {
 }
 
 -- what ended early ended within more reads too
-hears_within : (served : Served) (few many : ℕ) (talk : Talk) → served ≢ TooManyReads → few ≤ many → Hears served few talk → Hears served many talk
+hears_within : (served : Served) (few many : ℕ) (talk : Talk) → served ≢ TooManyReads → few ≤ many → HearsUntil served few talk → HearsUntil served many talk
 hears_within Ended few many talk other le h = (h.0, h.1, h.2, omega (arith, h.3))
 hears_within RecvFailed few many talk other le h = (h.0, omega (arith, h.1))
 hears_within SendFailed few many talk other le h = (h.0, omega (arith, h.1))

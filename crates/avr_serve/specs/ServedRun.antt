@@ -16,7 +16,7 @@ use Rattle.avr_plan.specs.Stage.{Stage, Made, ◌>>=◌}
 use Rattle.stk_host.specs.Talk.{LinkView}
 use Rattle.stk_emu.specs.Programmer.{fresh_programmer}
 use Rattle.stk_emu.specs.Emulator.{Machine}
-use Rattle.avr_serve.specs.Serving.{Serves, AnswersInTurn, Leaves, FailsBy}
+use Rattle.avr_serve.specs.Serving.{Serves, AnswersInTurn, ServingLeaves, FailsBy}
 use Rattle.avr_serve.specs.declared.serving.Served.{Served}
 use Rattle.avr_serve.specs.declared.serving.Served.TheVariants.{Ended, RecvFailed, SendFailed, TooManyReads}
 
@@ -25,11 +25,11 @@ abbrev pub settings_part : Settings → Stage Part
 settings_part s = parts_stage s.parts >>= λ parts. part_stage s.part parts
 
 -- the chip of that part which this file holds; where there is no such file it is fresh
-abbrev pub settings_chip : Settings → Bytes → Stage chips.State
+abbrev pub settings_chip : Settings → Bytes → Stage chips.ChipState
 settings_chip s file = settings_part s >>= λ part. chip_stage part file
 
 -- an emulator with this chip that was fed nothing
-abbrev pub fresh_machine : chips.State → Machine
+abbrev pub fresh_machine : chips.ChipState → Machine
 fresh_machine chip = record { held = []; programmer = fresh_programmer chip }
 
 -- Of an end that was heard nothing is told; of any other the line was printed, or the desk has failed and a front of it
@@ -41,16 +41,16 @@ TellsEnd SendFailed old new = Tells old new (error (codes "link cannot be writte
 TellsEnd TooManyReads old new = Tells old new (error (codes "too many reads" ∷ []))
 
 -- the status, where the chip was saved
-abbrev pub status_of : Served → ℕ
-status_of Ended = 0
-status_of RecvFailed = 1
-status_of SendFailed = 1
-status_of TooManyReads = 1
+abbrev pub status_of_end : Served → ℕ
+status_of_end Ended = 0
+status_of_end RecvFailed = 1
+status_of_end SendFailed = 1
+status_of_end TooManyReads = 1
 
 -- The chip's file was written, and the status is that of how serving ended; or it couldn't be, and the status is 1.
-abbrev pub IsSaved : Served → DeskView → DeskView → Bytes → Bytes → ℕ → Type 0
-IsSaved served old new file bytes status =
-    (Saves old new file bytes (Ok tt) × (status ≡ status_of served))
+abbrev pub SavesAfterServing : Served → DeskView → DeskView → Bytes → Bytes → ℕ → Type 0
+SavesAfterServing served old new file bytes status =
+    (Saves old new file bytes (Ok tt) × (status ≡ status_of_end served))
     ⊎ ((fault : ℕ) × Saves old new file bytes (Err fault) × (status ≡ 1))
 
 -- what is shown on both sides of an emulator that serves: by the link, and by the desk
@@ -64,32 +64,32 @@ sides link desk = record { link = link; desk = desk }
 -- A fresh emulator with this chip served a link in at most so many reads: what was sent are its answers to what was
 -- heard, all of them before the next read, unless a send failed. How that ended was told, and whatever it was, the chip
 -- was saved as it is after the frames that came.
-pub record ServesChip (chip : chips.State) (file : Bytes) (turns : ℕ) (old new : Sides) (status : ℕ) : Type 0 where
+pub record ServesChip (chip : chips.ChipState) (file : Bytes) (turns : ℕ) (old new : Sides) (status : ℕ) : Type 0 where
   pub served : Served
   pub left : Machine
   pub told_desk : DeskView
   pub serves : Serves (fresh_machine chip) turns served old.link new.link left
   pub in_turn : AnswersInTurn (fresh_programmer chip) [] [] serves.during
-  pub leaves : Leaves served (fresh_programmer chip) [] serves.during left
+  pub leaves : ServingLeaves served (fresh_programmer chip) [] serves.during left
   pub fails : FailsBy served old.link new.link
   pub told : TellsEnd served old.desk told_desk
   pub rises : Follows old.desk told_desk
-  pub saved : IsSaved served told_desk new.desk file (chip_file left.programmer.chip) status
+  pub saved : SavesAfterServing served told_desk new.desk file (chip_file left.programmer.chip) status
   pub follows : Follows told_desk new.desk
 
 -- The chip of the settings was loaded, and it was served.
 pub record ServesLoaded (settings : Settings) (file : Bytes) (turns : ℕ) (old new : Sides) (status : ℕ) : Type 0 where
-  pub chip : chips.State
+  pub chip : chips.ChipState
   pub loaded_desk : DeskView
   pub loaded : Went (settings_chip settings file) old.desk loaded_desk (Made chip)
   pub serves : ServesChip chip file turns (sides old.link loaded_desk) new status
 
 -- There is no chip, which was told: nothing was heard or sent.
-pub record LacksChip (settings : Settings) (file : Bytes) (old new : Sides) (status : ℕ) : Type 0 where
+pub record ServesNoChip (settings : Settings) (file : Bytes) (old new : Sides) (status : ℕ) : Type 0 where
   pub refused : Goes (settings_chip settings file) old.desk new.desk (Err status)
   pub silent : new.link ≡ old.link
 
 -- the one or the other
 abbrev pub RunsServed : Settings → Bytes → ℕ → Sides → Sides → ℕ → Type 0
 RunsServed settings file turns old new status =
-    ServesLoaded settings file turns old new status ⊎ LacksChip settings file old new status
+    ServesLoaded settings file turns old new status ⊎ ServesNoChip settings file old new status

@@ -6,7 +6,7 @@ use Rattle.stk_host.specs.Tape.{Tape}
 use Rattle.stk_host.specs.Talk.{Talk, LinkView, Sent, Got, sent, heard, Grows, HasFailed}
 use Rattle.stk_host.specs.Play.{IsPrefixOf}
 use Rattle.stk_emu.specs.Programmer.{Programmer}
-use Rattle.stk_emu.specs.Device.{device, answers, answer_frame, after_all}
+use Rattle.stk_emu.specs.Device.{device, answers, answer_frame, after_frames}
 use Rattle.stk_emu.specs.Emulator.{Machine, IsFed, emulate}
 use Rattle.avr_serve.specs.declared.serving.Served.{Served}
 use Rattle.avr_serve.specs.declared.serving.Served.TheVariants.{Ended, RecvFailed, SendFailed, TooManyReads}
@@ -33,11 +33,12 @@ reads (Got tape ∷ talk) = reads talk + 1
 
 -- What was heard, in at most so many reads, by how serving ended: the end was heard last where it ended with it, and
 -- never where it didn't.
-abbrev pub Hears : Served → ℕ → Talk → Type 0
-Hears Ended turns talk = (before : Tape) × HasNoEnd before × (heard talk ≡ before ++ End ∷ []) × (reads talk ≤ turns)
-Hears RecvFailed turns talk = HasNoEnd (heard talk) × (reads talk < turns)
-Hears SendFailed turns talk = HasNoEnd (heard talk) × (reads talk ≤ turns)
-Hears TooManyReads turns talk = HasNoEnd (heard talk) × (reads talk ≡ turns)
+abbrev pub HearsUntil : Served → ℕ → Talk → Type 0
+HearsUntil Ended turns talk = (before : Tape) × HasNoEnd before × (heard talk ≡ before ++ End ∷ [])
+    × (reads talk ≤ turns)
+HearsUntil RecvFailed turns talk = HasNoEnd (heard talk) × (reads talk < turns)
+HearsUntil SendFailed turns talk = HasNoEnd (heard talk) × (reads talk ≤ turns)
+HearsUntil TooManyReads turns talk = HasNoEnd (heard talk) × (reads talk ≡ turns)
 
 -- At each piece heard, all answers to what was fed before it had been sent: by a programmer that was fed this text and
 -- had sent these answers when the talk began.
@@ -64,17 +65,17 @@ pub record BreaksOff (p : Programmer) (text bytes out : List ℕ) (now : Machine
   pub frames_are : frames (text ++ used) ≡ earlier ++ last ∷ []
   pub part : List ℕ
   pub unsent : List ℕ
-  pub answer_is : answer_frame device last (after_all device earlier p) ≡ part ++ unsent
+  pub answer_is : answer_frame device last (after_frames device earlier p) ≡ part ++ unsent
   pub not_whole : 0 < length unsent
   pub sent_is : emulate p text ++ out ≡ answers device earlier p ++ part
 
 -- What was sent, and what became of the emulator, by how serving ended: where a send failed only a front of all answers
 -- was sent.
-abbrev pub Leaves : Served → Programmer → List ℕ → Talk → Machine → Type 0
-Leaves SendFailed p text talk now =
+abbrev pub ServingLeaves : Served → Programmer → List ℕ → Talk → Machine → Type 0
+ServingLeaves SendFailed p text talk now =
     IsPrefixOf (emulate p text ++ sent talk) (emulate p (text ++ bytes_of (heard talk)))
     × BreaksOff p text (bytes_of (heard talk)) (sent talk) now
-Leaves _ p text talk now = AnswersAll p text (bytes_of (heard talk)) (sent talk) now
+ServingLeaves _ p text talk now = AnswersAll p text (bytes_of (heard talk)) (sent talk) now
 
 -- An emulator served a link that showed this before and after it, in at most so many reads, and this is how it ended:
 -- so it is whatever programmer it began with and whatever text it was fed before.
@@ -82,9 +83,9 @@ pub record Serves (old : Machine) (turns : ℕ) (served : Served) (before after 
     (now : Machine) : Type 0 where
   pub during : Talk
   pub grows : Grows before.talk during after.talk
-  pub hears : Hears served turns during
+  pub hears : HearsUntil served turns during
   pub in_turn : (p : Programmer) (text : List ℕ) → IsFed p text old → AnswersInTurn p text (emulate p text) during
-  pub leaves : (p : Programmer) (text : List ℕ) → IsFed p text old → Leaves served p text during now
+  pub leaves : (p : Programmer) (text : List ℕ) → IsFed p text old → ServingLeaves served p text during now
 
 -- Where the link is said to have failed, its count of failures rose or stands at its end; where it isn't, the count is
 -- what it was.

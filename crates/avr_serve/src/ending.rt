@@ -4,7 +4,7 @@ ghost use Rattle.avr_desk.specs.Fault.{Follows};
 ghost use Rattle.avr_message.specs.Lines.{error};
 ghost use Rattle.avr_message.specs.Said.{Tells};
 ghost use Rattle.avr_part.specs.ChipFile.{chip_file};
-ghost use Rattle.avr_serve.specs.ServedRun.{TellsEnd, IsSaved, status_of as status_of_end};
+ghost use Rattle.avr_serve.specs.ServedRun.{TellsEnd, SavesAfterServing, status_of_end};
 
 use crate::serving::Served;
 use avr_chip::save_chip;
@@ -51,7 +51,7 @@ pub(crate) fn save_served<D: Desk>(
     desk: &mut D,
     served: Served,
 ) -> u8
-    ensures saved { IsSaved served (D.view desk.old) (D.view desk.new) file.now (chip_file chip.now) result }
+    ensures saved { SavesAfterServing served (D.view desk.old) (D.view desk.new) file.now (chip_file chip.now) result }
     ensures follows { Follows (D.view desk.old) (D.view desk.new) }
 {
     match save_chip(alloc, chip, file, desk) {

@@ -7,7 +7,7 @@ use Rattle.std.specs.Cmp.{unsigned_Decides}
 use Rattle.avr_desk.specs.Record.{DeskView}
 use Rattle.avr_cli.specs.declared.chosen.Switches.{Switches}
 use Rattle.avr_cli.specs.declared.update.Format.{Format}
-use Rattle.avr_image.specs.Image.{held}
+use Rattle.avr_image.specs.Image.{byte_count}
 use Rattle.avr_part.specs.Part.{Part}
 use Rattle.avr_part.specs.declared.mem.Mem.{Mem}
 use Rattle.avr_part.specs.declared.mem.Mem.TheVariants.{Flash, Eeprom, Lfuse, Hfuse, Efuse, Lock, Signature, Calibration}
@@ -17,7 +17,7 @@ use Rattle.avr_plan.specs.declared.task.Task.TheVariants.{Write, Verify, Read}
 use Rattle.stk_host.specs.declared.fault.HostFault.{HostFault}
 use Rattle.stk_host.specs.declared.fault.HostFault.TheVariants.{NoAnswer, LinkEnded, SendFailed, Babble, Refused, BadAnswer, WrongSignature, Differs, ReadOnly, Memory, RecvFailed}
 use Rattle.stk_host.specs.Tape.{Tape, Reading, on_tape, answer}
-use Rattle.stk_host.specs.Play.{Progress}
+use Rattle.stk_host.specs.Play.{Position}
 use Rattle.stk_host.specs.Talk.{heard}
 use Rattle.stk_host.specs.Dialog.{Dialog, Done, Say, Ask, ◌>>=◌, lifted, Event, Frame, Said, Played, played, by_answer, next, sayings}
 use Rattle.stk_host.specs.Operations.{opening, erasing, writing, reading, verifying}
@@ -29,7 +29,7 @@ use Rattle.avr_session.specs.FileText.{file_text}
 use Rattle.avr_session.specs.Lines.{informs, warns, other_signature, fault_line}
 use Rattle.avr_session.specs.Parts.{is_told}
 use Rattle.avr_session.specs.Runs.{Devices, Cause, OfSending, OfListening, OfFile, OfPrinting, OfMemory, NotCreated, NotWritten, is_error, tells_fault, Ran, AtFrame, StopsAt, SaysFront}
-use Rattle.avr_session.specs.Session.{says, standing, reported, unless_fault, fault_or, opening_says, warns_of_signature, signature_says, bytes_say, saved, kept_of, erased_says, written_says, verified_says, read_says, left_out_erase, left_out_write, opening_part, chip_erasing_part, is_erase_due, erasing_part, verifying_part, writing_part, read_back_part, write_part, reading_part, task_part, tasks_part, beginning, working}
+use Rattle.avr_session.specs.Session.{says, standing, reported, unless_fault, fault_or, opening_says, warns_of_signature, signature_says, bytes_say, saving_says, kept_of, erased_says, written_says, verified_says, read_says, left_out_erase, left_out_write, opening_phase, chip_erasing_phase, is_erase_due, erasing_phase, verifying_phase, writing_phase, reading_back_phase, write_task_phase, reading_phase, task_phase, tasks_phase, beginning, working}
 use Rattle.avr_session.proofs.Places.{sayings_by}
 
 -- ---- along every way of a dialog
@@ -87,7 +87,7 @@ Foretold said standing = tells_fault said ≡ is_told standing
 abbrev pub Foretells : Dialog Saying Standing → Type 0
 Foretells dialog = Along Foretold dialog
 
-pub foretold : {dialog : Dialog Saying Standing} {m n : Progress} {o p : Devices} {standing : Standing} → Foretells dialog → (ran : Ran dialog m o p standing n) → tells_fault (sayings ran.events) ≡ is_told standing
+pub foretold : {dialog : Dialog Saying Standing} {m n : Position} {o p : Devices} {standing : Standing} → Foretells dialog → (ran : Ran dialog m o p standing n) → tells_fault (sayings ran.events) ≡ is_told standing
 foretold {dialog = dialog} {m = m} f ran =
     subst (λ (p : Played Saying Standing). Ends Foretold (sayings p.events) p.outcome) (ran.plays.plays [])
     (along_play Foretold dialog m.next (on_tape m.unread ++ (heard ran.during ++ [])) f)
@@ -163,7 +163,7 @@ of_signature_none quiet part found = elim (bytes_eq found part.signature) as (λ
   | false ↦ warns_none quiet (other_signature part found)
 ]
 
-saved_none : (file text : Bytes) → tells_fault (saved file text) ≡ false
+saved_none : (file text : Bytes) → tells_fault (saving_says file text) ≡ false
 saved_none file text = elim (bytes_eq file (codes "-")) as (λ b. tells_fault (if b then Outs text ∷ [] else Creates file ∷ Writes text ∷ []) ≡ false) [
   | true ↦ refl
   | false ↦ refl
@@ -172,7 +172,7 @@ saved_none file text = elim (bytes_eq file (codes "-")) as (λ b. tells_fault (i
 pub read_none : (s : Switches) (mem : Mem) (format : Format) (file bytes : Bytes) → tells_fault (read_says s mem format file bytes) ≡ false
 read_none s mem format file bytes =
     let kept = kept_of mem s.all bytes in
-    both_none (saved file (file_text format kept)) (bytes_say s.quiet mem (length kept) (codes " bytes read")) (saved_none file (file_text format kept)) (bytes_none s.quiet mem (length kept) (codes " bytes read"))
+    both_none (saving_says file (file_text format kept)) (bytes_say s.quiet mem (length kept) (codes " bytes read")) (saved_none file (file_text format kept)) (bytes_none s.quiet mem (length kept) (codes " bytes read"))
 
 or_tells : {A : Type 0} (part : Part) (good : A → List Saying) → ((a : A) → tells_fault (good a) ≡ false) → (outcome : Result A HostFault) → tells_fault (fault_or part good outcome) ≡ is_told (standing outcome)
 or_tells part good f (Ok a) = f a
@@ -196,56 +196,56 @@ opening_tells quiet part (Err RecvFailed) = fault_tells part RecvFailed
 
 -- ---- the parts of a session
 
-pub opening_foretells : (part : Part) (s : Switches) → Foretells (opening_part part s)
+pub opening_foretells : (part : Part) (s : Switches) → Foretells (opening_phase part s)
 opening_foretells part s = foretells_reported (opening part.signature s.force) (opening_says s.quiet part) (opening_tells s.quiet part)
 
-erasing_foretells : (part : Part) (s : Switches) (tasks : List Task) → Foretells (erasing_part part s tasks)
-erasing_foretells part s tasks = elim s.dry as (λ b. Foretells (if b then says (left_out_erase s) (Done Fine) else if is_erase_due s tasks then chip_erasing_part part s else Done Fine)) [
+erasing_foretells : (part : Part) (s : Switches) (tasks : List Task) → Foretells (erasing_phase part s tasks)
+erasing_foretells part s tasks = elim s.dry as (λ b. Foretells (if b then says (left_out_erase s) (Done Fine) else if is_erase_due s tasks then chip_erasing_phase part s else Done Fine)) [
   | true ↦ foretells_says (left_out_erase s) (elim s.erase as (λ b. tells_fault (if b then warns s.quiet (codes "chip not erased because of -n" ∷ []) else []) ≡ false) [
     | true ↦ warns_none s.quiet (codes "chip not erased because of -n" ∷ [])
     | false ↦ refl
   ])
-  | false ↦ elim (is_erase_due s tasks) as (λ b. Foretells (if b then chip_erasing_part part s else Done Fine)) [
+  | false ↦ elim (is_erase_due s tasks) as (λ b. Foretells (if b then chip_erasing_phase part s else Done Fine)) [
     | true ↦ foretells_reported erasing (erased_says s.quiet part) (or_tells part (λ _. informs s.quiet (codes "chip erased" ∷ [])) (λ done. unless_quiet (nat_lt 0 s.quiet) (information (codes "chip erased" ∷ [])) refl))
     | false ↦ refl
   ]
 ]
 
-pub verifying_foretells : (part : Part) (s : Switches) (mem : Mem) (image : List (Option ℕ)) → Foretells (verifying_part part s mem image)
-verifying_foretells part s mem image = foretells_reported (verifying part mem image) (verified_says s.quiet part mem image) (or_tells part (λ _. bytes_say s.quiet mem (held image) (codes " bytes verified")) (λ done. bytes_none s.quiet mem (held image) (codes " bytes verified")))
+pub verifying_foretells : (part : Part) (s : Switches) (mem : Mem) (image : List (Option ℕ)) → Foretells (verifying_phase part s mem image)
+verifying_foretells part s mem image = foretells_reported (verifying part mem image) (verified_says s.quiet part mem image) (or_tells part (λ _. bytes_say s.quiet mem (byte_count image) (codes " bytes verified")) (λ done. bytes_none s.quiet mem (byte_count image) (codes " bytes verified")))
 
-pub writing_foretells : (part : Part) (s : Switches) (mem : Mem) (image : List (Option ℕ)) → Foretells (writing_part part s mem image)
-writing_foretells part s mem image = foretells_reported (writing part mem image) (written_says s.quiet part mem image) (or_tells part (λ _. bytes_say s.quiet mem (held image) (codes " bytes written")) (λ done. bytes_none s.quiet mem (held image) (codes " bytes written")))
+pub writing_foretells : (part : Part) (s : Switches) (mem : Mem) (image : List (Option ℕ)) → Foretells (writing_phase part s mem image)
+writing_foretells part s mem image = foretells_reported (writing part mem image) (written_says s.quiet part mem image) (or_tells part (λ _. bytes_say s.quiet mem (byte_count image) (codes " bytes written")) (λ done. bytes_none s.quiet mem (byte_count image) (codes " bytes written")))
 
-read_back_foretells : (part : Part) (s : Switches) (mem : Mem) (image : List (Option ℕ)) → Foretells (read_back_part part s mem image)
-read_back_foretells part s mem image = elim s.no_verify as (λ b. Foretells (if b then Done Fine else verifying_part part s mem image)) [
+read_back_foretells : (part : Part) (s : Switches) (mem : Mem) (image : List (Option ℕ)) → Foretells (reading_back_phase part s mem image)
+read_back_foretells part s mem image = elim s.no_verify as (λ b. Foretells (if b then Done Fine else verifying_phase part s mem image)) [
   | true ↦ refl
   | false ↦ verifying_foretells part s mem image
 ]
 
-write_foretells : (part : Part) (s : Switches) (mem : Mem) (image : List (Option ℕ)) → Foretells (write_part part s mem image)
-write_foretells part s mem image = elim s.dry as (λ b. Foretells (if b then says (left_out_write s mem image) (Done Fine) else writing_part part s mem image >>= unless_fault (read_back_part part s mem image))) [
-  | true ↦ foretells_says (left_out_write s mem image) (bytes_none s.quiet mem (held image) (codes " bytes not written"))
-  | false ↦ foretells_then (writing_part part s mem image) (read_back_part part s mem image) (writing_foretells part s mem image) (read_back_foretells part s mem image)
+write_foretells : (part : Part) (s : Switches) (mem : Mem) (image : List (Option ℕ)) → Foretells (write_task_phase part s mem image)
+write_foretells part s mem image = elim s.dry as (λ b. Foretells (if b then says (left_out_write s mem image) (Done Fine) else writing_phase part s mem image >>= unless_fault (reading_back_phase part s mem image))) [
+  | true ↦ foretells_says (left_out_write s mem image) (bytes_none s.quiet mem (byte_count image) (codes " bytes not written"))
+  | false ↦ foretells_then (writing_phase part s mem image) (reading_back_phase part s mem image) (writing_foretells part s mem image) (read_back_foretells part s mem image)
 ]
 
-reading_foretells : (part : Part) (s : Switches) (mem : Mem) (format : Format) (file : Bytes) → Foretells (reading_part part s mem format file)
+reading_foretells : (part : Part) (s : Switches) (mem : Mem) (format : Format) (file : Bytes) → Foretells (reading_phase part s mem format file)
 reading_foretells part s mem format file = foretells_reported (reading part mem) (fault_or part (read_says s mem format file)) (or_tells part (read_says s mem format file) (λ bytes. read_none s mem format file bytes))
 
-pub task_foretells : (part : Part) (s : Switches) (task : Task) → Foretells (task_part part s task)
+pub task_foretells : (part : Part) (s : Switches) (task : Task) → Foretells (task_phase part s task)
 task_foretells part s (Write mem image) = write_foretells part s mem image
 task_foretells part s (Verify mem image) = verifying_foretells part s mem image
 task_foretells part s (Read mem format file) = reading_foretells part s mem format file
 
-tasks_foretells : (part : Part) (s : Switches) (tasks : List Task) → Foretells (tasks_part part s tasks)
+tasks_foretells : (part : Part) (s : Switches) (tasks : List Task) → Foretells (tasks_phase part s tasks)
 tasks_foretells part s [] = refl
-tasks_foretells part s (task ∷ tasks) = foretells_then (task_part part s task) (tasks_part part s tasks) (task_foretells part s task) (tasks_foretells part s tasks)
+tasks_foretells part s (task ∷ tasks) = foretells_then (task_phase part s task) (tasks_phase part s tasks) (task_foretells part s task) (tasks_foretells part s tasks)
 
 pub beginning_foretells : (plan : Plan) → Foretells (beginning plan)
-beginning_foretells plan = foretells_then (opening_part plan.part plan.switches) (erasing_part plan.part plan.switches plan.tasks) (opening_foretells plan.part plan.switches) (erasing_foretells plan.part plan.switches plan.tasks)
+beginning_foretells plan = foretells_then (opening_phase plan.part plan.switches) (erasing_phase plan.part plan.switches plan.tasks) (opening_foretells plan.part plan.switches) (erasing_foretells plan.part plan.switches plan.tasks)
 
 pub working_foretells : (plan : Plan) → Foretells (working plan)
-working_foretells plan = foretells_then (beginning plan) (tasks_part plan.part plan.switches plan.tasks) (beginning_foretells plan) (tasks_foretells plan.part plan.switches plan.tasks)
+working_foretells plan = foretells_then (beginning plan) (tasks_phase plan.part plan.switches plan.tasks) (beginning_foretells plan) (tasks_foretells plan.part plan.switches plan.tasks)
 
 -- ---- a front of what tells no fault tells none
 

@@ -14,17 +14,17 @@ use Rattle.avr_part.specs.declared.mem.Mem.{Mem}
 use Rattle.stk_host.specs.Tape.{Tape, on_tape}
 use Rattle.stk_host.specs.Steps.{Outcome, step, play}
 use Rattle.stk_host.specs.WriteSteps.{write_steps}
-use Rattle.stk_host.specs.Operations.{host_fault, signature_judged, ended, beginning, opening, closing, operation, judged_by, done, erasing, writing}
+use Rattle.stk_host.specs.Operations.{host_fault, signature_judged, without_bytes, handshake, opening, closing, operation, judged_by, no_result, erasing, writing}
 use Rattle.stk_host.specs.Talk.{LinkView, heard}
 use Rattle.stk_host.specs.Dialog.{Dialog, Done, ◌>>=◌, Played, played}
 use Rattle.stk_host.specs.declared.fault.Broken.{Broken}
 use Rattle.stk_host.specs.declared.fault.Broken.TheVariants.{Send, Recv}
-use Rattle.stk_host.specs.Play.{Progress, PlaysOver, FailsOver}
+use Rattle.stk_host.specs.Play.{Position, PlaysOver, FailsOver}
 use Rattle.stk_host.specs.Calls.{EndsCall, EndsOrLacks, IsBroken}
 use Rattle.stk_host.proofs.Leading.{continued, played_bind}
 use Rattle.avr_message.specs.Said.{Saying, Tells}
 use Rattle.avr_session.specs.declared.standing.Stopped.{Stopped}
-use Rattle.avr_session.specs.Concluding.{after_outcome, concluded}
+use Rattle.avr_session.specs.Concluding.{after_outcome, conclusion}
 use Rattle.avr_session.specs.Lines.{fault_line}
 use Rattle.avr_session.specs.Session.{says, standing, reported, fault_or}
 use Rattle.avr_session.specs.Runs.{Cause, OfSending, OfListening, OfMemory, Devices, devices, Terms, cause_line, HasCome, PrintStops, SaysOrStops, Reports, BrokeOff, Runs}
@@ -99,13 +99,13 @@ link_not Recv outcome is other = cc
 
 -- How a call ended: it was played whole to an outcome that does not stop the run; or the link broke it off; or memory was
 -- refused before anything was sent or heard, where memory is taken.
-abbrev pub Ended : {A : Type 0} → Bool → Dialog ⊥ (Result A HostFault) → Progress → LinkView → LinkView → Result A HostFault → Progress → Type 0
+abbrev pub Ended : {A : Type 0} → Bool → Dialog ⊥ (Result A HostFault) → Position → LinkView → LinkView → Result A HostFault → Position → Type 0
 Ended takes dialog m o p outcome n =
     (PlaysOver dialog m o p outcome n × (after_outcome outcome ≡ Ok (standing outcome)))
     ⊎ (((by : Broken) × (outcome ≡ Err (fault_of by)) × FailsOver by dialog m o p) ⊎ ((takes ≡ true) × IsMemory outcome × (p ≡ o)))
 
 -- memory is refused only where it is taken
-pub lacks_where : {A : Type 0} (takes : Bool) (dialog : Dialog ⊥ (Result A HostFault)) (m : Progress) (o p : LinkView) (outcome : Result A HostFault) (n : Progress) → Ended takes dialog m o p outcome n → IsMemory outcome → takes ≡ true
+pub lacks_where : {A : Type 0} (takes : Bool) (dialog : Dialog ⊥ (Result A HostFault)) (m : Position) (o p : LinkView) (outcome : Result A HostFault) (n : Position) → Ended takes dialog m o p outcome n → IsMemory outcome → takes ≡ true
 lacks_where takes dialog m o p outcome n (inl played) is =
     let e = subst (λ x. after_outcome x ≡ Ok (standing x)) (memory_is outcome is) played.1 in
     cc
@@ -113,13 +113,13 @@ lacks_where takes dialog m o p outcome n (inr (inl broke)) is = absurd (link_not
 lacks_where takes dialog m o p outcome n (inr (inr lacks)) is = lacks.0
 
 -- where none is taken, only the link breaks off a call
-pub only_broken : {A : Type 0} (dialog : Dialog ⊥ (Result A HostFault)) (m : Progress) (o p : LinkView) (outcome : Result A HostFault) (n : Progress) → Ended false dialog m o p outcome n → IsStop outcome → IsBroken outcome
+pub only_broken : {A : Type 0} (dialog : Dialog ⊥ (Result A HostFault)) (m : Position) (o p : LinkView) (outcome : Result A HostFault) (n : Position) → Ended false dialog m o p outcome n → IsStop outcome → IsBroken outcome
 only_broken dialog m o p outcome n ended stop = elim (stop_kind outcome stop) [
   | inl broken ↦ broken
   | inr lacks ↦ let e = lacks_where false dialog m o p outcome n ended lacks in absurd (cc)
 ]
 
-pub call_ended : {A : Type 0} (dialog : Dialog ⊥ (Result A HostFault)) (m : Progress) (o p : LinkView) (outcome : Result A HostFault) (n : Progress) → (PlaysOver dialog m o p (Err Memory) n → ⊥) → EndsCall dialog m o p outcome n → Ended false dialog m o p outcome n
+pub call_ended : {A : Type 0} (dialog : Dialog ⊥ (Result A HostFault)) (m : Position) (o p : LinkView) (outcome : Result A HostFault) (n : Position) → (PlaysOver dialog m o p (Err Memory) n → ⊥) → EndsCall dialog m o p outcome n → Ended false dialog m o p outcome n
 call_ended dialog m o p (Ok a) n never ends = inl (ends, refl)
 call_ended dialog m o p (Err NoAnswer) n never ends = inl (ends, refl)
 call_ended dialog m o p (Err LinkEnded) n never ends = inl (ends, refl)
@@ -133,7 +133,7 @@ call_ended dialog m o p (Err (ReadOnly mem)) n never ends = inl (ends, refl)
 call_ended dialog m o p (Err Memory) n never ends = absurd (never ends)
 call_ended dialog m o p (Err RecvFailed) n never ends = inr (inl (Recv, refl, ends))
 
-pub lack_ended : {A : Type 0} (dialog : Dialog ⊥ (Result A HostFault)) (m : Progress) (o p : LinkView) (outcome : Result A HostFault) (n : Progress) → EndsOrLacks dialog m o p outcome n → Ended true dialog m o p outcome n
+pub lack_ended : {A : Type 0} (dialog : Dialog ⊥ (Result A HostFault)) (m : Position) (o p : LinkView) (outcome : Result A HostFault) (n : Position) → EndsOrLacks dialog m o p outcome n → Ended true dialog m o p outcome n
 lack_ended dialog m o p (Ok a) n ends = inl (ends, refl)
 lack_ended dialog m o p (Err NoAnswer) n ends = inl (ends, refl)
 lack_ended dialog m o p (Err LinkEnded) n ends = inl (ends, refl)
@@ -157,7 +157,7 @@ judged_not : {A : Type 0} (judge : Outcome → Result A HostFault) → ((outcome
 judged_not judge not None is = is
 judged_not judge not (Some x) is = not x.0 is
 
-judged_lacks_none : {A : Type 0} {m n : Progress} {o p : LinkView} (first : Dialog ⊥ Outcome) (judge : Outcome → Result A HostFault) → ((outcome : Outcome) → IsMemory (judge outcome) → ⊥)
+judged_lacks_none : {A : Type 0} {m n : Position} {o p : LinkView} (first : Dialog ⊥ Outcome) (judge : Outcome → Result A HostFault) → ((outcome : Outcome) → IsMemory (judge outcome) → ⊥)
     → PlaysOver (first >>= λ outcome. Done (judge outcome)) m o p (Err Memory) n → ⊥
 judged_lacks_none {A = A} {m = m} first judge not f =
     let tape = on_tape m.unread ++ (heard f.during ++ []) in
@@ -171,11 +171,11 @@ host_fault_not A of_step.Babble is = is
 host_fault_not A (of_step.Refused command status) is = is
 host_fault_not A (of_step.BadAnswer command) is = is
 
-ended_not : (outcome : Outcome) → IsMemory (ended outcome) → ⊥
+ended_not : (outcome : Outcome) → IsMemory (without_bytes outcome) → ⊥
 ended_not (Ok bytes) is = is
 ended_not (Err fault) is = host_fault_not (Unit {0}) fault is
 
-done_not : (outcome : Outcome) → IsMemory (judged_by done outcome) → ⊥
+done_not : (outcome : Outcome) → IsMemory (judged_by no_result outcome) → ⊥
 done_not (Ok bytes) is = is
 done_not (Err fault) is = host_fault_not (Unit {0}) fault is
 
@@ -188,29 +188,29 @@ signature_not wanted false (Ok found) is = by_test (bytes_eq found wanted) is
     by_test false is = is
 signature_not wanted force (Err fault) is = host_fault_not (List ℕ) fault is
 
-pub opening_lacks_none : {m n : Progress} {o p : LinkView} (wanted : List ℕ) (force : Bool) → PlaysOver (opening wanted force) m o p (Err Memory) n → ⊥
+pub opening_lacks_none : {m n : Position} {o p : LinkView} (wanted : List ℕ) (force : Bool) → PlaysOver (opening wanted force) m o p (Err Memory) n → ⊥
 unfolding opening
-opening_lacks_none wanted force f = judged_lacks_none beginning (signature_judged wanted force) (signature_not wanted force) f
+opening_lacks_none wanted force f = judged_lacks_none handshake (signature_judged wanted force) (signature_not wanted force) f
 
-pub closing_lacks_none : {m n : Progress} {o p : LinkView} → PlaysOver closing m o p (Err Memory) n → ⊥
+pub closing_lacks_none : {m n : Position} {o p : LinkView} → PlaysOver closing m o p (Err Memory) n → ⊥
 unfolding closing
-closing_lacks_none f = judged_lacks_none (step (leave ∷ [])) ended ended_not f
+closing_lacks_none f = judged_lacks_none (step (leave ∷ [])) without_bytes ended_not f
 
-operation_lacks_none : {m n : Progress} {o p : LinkView} (steps : List (List Command)) → PlaysOver (operation steps done) m o p (Err Memory) n → ⊥
+operation_lacks_none : {m n : Position} {o p : LinkView} (steps : List (List Command)) → PlaysOver (operation steps no_result) m o p (Err Memory) n → ⊥
 unfolding operation
-operation_lacks_none steps f = judged_lacks_none (play steps []) (judged_by done) done_not f
+operation_lacks_none steps f = judged_lacks_none (play steps []) (judged_by no_result) done_not f
 
-pub erasing_lacks_none : {m n : Progress} {o p : LinkView} → PlaysOver erasing m o p (Err Memory) n → ⊥
+pub erasing_lacks_none : {m n : Position} {o p : LinkView} → PlaysOver erasing m o p (Err Memory) n → ⊥
 erasing_lacks_none f = operation_lacks_none ((erase ∷ []) ∷ []) f
 
-pub writing_lacks_none : {m n : Progress} {o p : LinkView} (part : Part) (mem : Mem) (image : List (Option ℕ)) → PlaysOver (writing part mem image) m o p (Err Memory) n → ⊥
+pub writing_lacks_none : {m n : Position} {o p : LinkView} (part : Part) (mem : Mem) (image : List (Option ℕ)) → PlaysOver (writing part mem image) m o p (Err Memory) n → ⊥
 writing_lacks_none {m = m} {n = n} {o = o} {p = p} part mem image f = by_test (is_writable mem) f
   where
-    by_test : (writes : Bool) → PlaysOver (if writes then operation (write_steps part mem image) done else Done (Err (ReadOnly mem))) m o p (Err Memory) n → ⊥
+    by_test : (writes : Bool) → PlaysOver (if writes then operation (write_steps part mem image) no_result else Done (Err (ReadOnly mem))) m o p (Err Memory) n → ⊥
     by_test true f = operation_lacks_none (write_steps part mem image) f
     by_test false f = subst (λ (p : Played ⊥ (Result (Unit {0}) HostFault)). IsLacking p.outcome) (sym (f.plays.plays [])) tt
 
-stop_goes : {A : Type 0} (outcome : Result A HostFault) (told : Result (Unit {0}) Stopped) → IsStop outcome → concluded outcome told ≡ Err (record {})
+stop_goes : {A : Type 0} (outcome : Result A HostFault) (told : Result (Unit {0}) Stopped) → IsStop outcome → conclusion outcome told ≡ Err (record {})
 stop_goes (Ok a) told stop = absurd stop
 stop_goes (Err NoAnswer) told stop = absurd stop
 stop_goes (Err LinkEnded) told stop = absurd stop
@@ -260,10 +260,10 @@ stop_is (Err Memory) takes o p failed lacks stop = lacks tt
 stop_is (Err RecvFailed) takes o p failed lacks stop = failed tt
 
 -- An operation and its report are a part of a session.
-pub operation_runs : {A : Type 0} {operation : Dialog ⊥ (Result A HostFault)} (takes : Bool) (outcome_says : Result A HostFault → List Saying) {m n : Progress} {o p : LinkView} {d e : DeskView} (outcome : Result A HostFault)
+pub operation_runs : {A : Type 0} {operation : Dialog ⊥ (Result A HostFault)} (takes : Bool) (outcome_says : Result A HostFault → List Saying) {m n : Position} {o p : LinkView} {d e : DeskView} (outcome : Result A HostFault)
     (said : Result (Unit {0}) Stopped) (terms : Terms) (By : DeskView → DeskView → Cause → List ℕ → Type 0) → StopsReport terms p d e (outcome_says outcome) By
     → Ended takes operation m o p outcome n → length n.unread ≤ 281 → o.failures ≤ p.failures → SaysOrStops By d e (outcome_says outcome) said → (IsStop outcome → ToldBy terms (cause_of outcome) (devices o d) (devices p e))
-    → Runs (reported operation outcome_says) m (devices o d) (devices p e) terms (concluded outcome said) n
+    → Runs (reported operation outcome_says) m (devices o d) (devices p e) terms (conclusion outcome said) n
 operation_runs {operation = operation} takes outcome_says {m = m} {n = n} {o = o} {p = p} {d = d} {e = e} outcome (Ok done) terms By why (inl played) few link reports some =
     subst (λ r. Runs (reported operation outcome_says) m (devices o d) (devices p e) terms r n) (sym played.1)
     (ran_from (came_on (came_lifted (λ outcome. says (outcome_says outcome) (Done (standing outcome))) d played.0 few) (came_said (outcome_says outcome) (Done (standing outcome)) n p reports)))

@@ -9,11 +9,11 @@ use Rattle.avr_part.specs.Part.{Part}
 use Rattle.avr_part.specs.declared.mem.Mem.{Mem}
 use Rattle.stk_host.specs.declared.fault.HostFault.{HostFault}
 use Rattle.stk_host.specs.declared.fault.HostFault.TheVariants.{NoAnswer, LinkEnded, SendFailed, Babble, Refused, BadAnswer, WrongSignature, Differs, ReadOnly, Memory, RecvFailed}
-use Rattle.stk_host.specs.State.{HostState, left_by}
+use Rattle.stk_host.specs.State.{HostState, lasting_fault}
 use Rattle.stk_host.specs.Talk as link
-use Rattle.stk_host.specs.Play.{Progress}
+use Rattle.stk_host.specs.Play.{Position}
 use Rattle.stk_host.specs.Talk.{LinkView}
-use Rattle.stk_host.specs.Calls.{IsBroken, given}
+use Rattle.stk_host.specs.Calls.{IsBroken, given_or_fault}
 use Rattle.stk_host.specs.Dialog.{Dialog, Done, ◌>>=◌, sayings}
 use Rattle.avr_message.specs.Said.{Saying, Line, Tells}
 use Rattle.avr_plan.specs.Plan.{Plan}
@@ -21,7 +21,7 @@ use Rattle.avr_plan.specs.declared.task.Task.{Task}
 use Rattle.avr_session.specs.declared.standing.Standing.{Standing}
 use Rattle.avr_session.specs.declared.standing.Standing.TheVariants.{Fine, Faulty, Over}
 use Rattle.avr_session.specs.declared.standing.Stopped.{Stopped}
-use Rattle.avr_session.specs.Concluding.{Serves, after_outcome, concluded, fine_if_said}
+use Rattle.avr_session.specs.Concluding.{HostServes, after_outcome, conclusion, fine_if_said}
 use Rattle.avr_session.specs.Lines.{fault_line}
 use Rattle.avr_session.specs.Session.{says, standing, reported, unless_fault, fault_or, read_says, opening_says, playing, session, status_of, takes_memory}
 use Rattle.avr_session.specs.Runs.{Cause, OfSending, OfListening, OfFile, OfPrinting, OfMemory, cause_line, tells_fault, Devices, devices, start, Terms, untold, TellsCause, StopsBehind, DeskStops, PrintStops, ReadStops, Reports, BrokeOff, Ran, Runs, RunsTo}
@@ -86,7 +86,7 @@ opening_told old new quiet part (Err Memory) told reports stop = told_some old n
 opening_told old new quiet part (Err RecvFailed) told reports stop = told_some old new (fault_line part RecvFailed) told reports
 
 -- the host serves after any outcome that leaves the line
-serves_after : {A : Type 0} (outcome : Result A HostFault) (told : Result (Unit {0}) Stopped) (broken : Option HostFault) → broken ≡ left_by outcome → Serves (concluded outcome told) broken
+serves_after : {A : Type 0} (outcome : Result A HostFault) (told : Result (Unit {0}) Stopped) (broken : Option HostFault) → broken ≡ lasting_fault outcome → HostServes (conclusion outcome told) broken
 serves_after (Ok a) (Ok ok) broken is = is
 serves_after (Err NoAnswer) (Ok ok) broken is = is
 serves_after (Err LinkEnded) (Ok ok) broken is = tt
@@ -109,26 +109,26 @@ told_by takes outcome o p d e failed lacks stop some = (some.told, record { betw
 -- an operation of the host and its report
 pub operation_performs : {A : Type 0} {operation : Dialog ⊥ (Result A HostFault)} (takes : Bool) (outcome_says : Result A HostFault → List Saying) {old new : HostState} {o p : LinkView} {d e : DeskView} (outcome : Result A HostFault) (told : Result (Unit {0}) Stopped)
     (result : Result Standing Stopped) (By : DeskView → DeskView → Cause → List ℕ → Type 0) → StopsReport (untold takes) p d e (outcome_says outcome) By
-    → result ≡ concluded outcome told → Ended takes operation old.progress o p outcome new.progress → length new.progress.unread ≤ 281 → Reports By d e (outcome_says outcome) told → (IsStop outcome → Tells d e (cause_line (cause_of outcome)))
-    → (IsBroken outcome → link.HasFailed o p) → new.broken ≡ left_by outcome → new.part ≡ old.part → o.failures ≤ p.failures
+    → result ≡ conclusion outcome told → Ended takes operation old.progress o p outcome new.progress → length new.progress.unread ≤ 281 → Reports By d e (outcome_says outcome) told → (IsStop outcome → Tells d e (cause_line (cause_of outcome)))
+    → (IsBroken outcome → link.HasFailed o p) → new.broken ≡ lasting_fault outcome → new.part ≡ old.part → o.failures ≤ p.failures
     → Performs takes (reported operation outcome_says) old new (devices o d) (devices p e) result
 operation_performs {operation = operation} takes outcome_says {old = old} {new = new} {o = o} {p = p} {d = d} {e = e} outcome told result By why is ended few reports some failed lasts part counted =
     let lacks = lacks_where takes operation old.progress o p outcome new.progress ended in
     record {
       runs = subst (λ r. Runs (reported operation outcome_says) old.progress (devices o d) (devices p e) (untold takes) r new.progress) (sym is)
           (operation_runs takes outcome_says outcome told (untold takes) By why ended few counted reports.says (λ stop. told_by takes outcome o p d e failed lacks stop (some stop)));
-      serves = subst (λ r. Serves r new.broken) (sym is) (serves_after outcome told new.broken lasts);
+      serves = subst (λ r. HostServes r new.broken) (sym is) (serves_after outcome told new.broken lasts);
       part = part;
       link = counted;
       desk = reports.follows;
     }
 
-left_out_runs : (takes : Bool) (sayings : List Saying) (m : Progress) (o : LinkView) (d e : DeskView) (told : Result (Unit {0}) Stopped) → Reports PrintStops d e sayings told
+left_out_runs : (takes : Bool) (sayings : List Saying) (m : Position) (o : LinkView) (d e : DeskView) (told : Result (Unit {0}) Stopped) → Reports PrintStops d e sayings told
     → Runs (says sayings (Done Fine)) m (devices o d) (devices o e) (untold takes) (fine_if_said told) m
 left_out_runs takes sayings m o d e (Ok done) reports = ran_from (came_said sayings (Done Fine) m o reports.says)
 left_out_runs takes sayings m o d e (Err stopped) reports = broke_saying sayings (Done Fine) m o (print_stops_report takes o reports) reports.says
 
-left_out_serves : (told : Result (Unit {0}) Stopped) (broken : Option HostFault) → broken ≡ None → Serves (fine_if_said told) broken
+left_out_serves : (told : Result (Unit {0}) Stopped) (broken : Option HostFault) → broken ≡ None → HostServes (fine_if_said told) broken
 left_out_serves (Ok done) broken sound = sound
 left_out_serves (Err stopped) broken sound = tt
 
@@ -137,7 +137,7 @@ pub left_out_performs : (takes : Bool) (sayings : List Saying) {host : HostState
     → Performs takes (says sayings (Done Fine)) host host (devices o d) (devices o e) result
 left_out_performs takes sayings {host = host} {o = o} {d = d} {e = e} result sound leaves = record {
   runs = subst (λ r. Runs (says sayings (Done Fine)) host.progress (devices o d) (devices o e) (untold takes) r host.progress) (sym leaves.result_is) (left_out_runs takes sayings host.progress o d e leaves.told leaves.reports);
-  serves = subst (λ r. Serves r host.broken) (sym leaves.result_is) (left_out_serves leaves.told host.broken sound);
+  serves = subst (λ r. HostServes r host.broken) (sym leaves.result_is) (left_out_serves leaves.told host.broken sound);
   part = refl;
   link = omega arith;
   desk = leaves.reports.follows;
@@ -206,7 +206,7 @@ performs_last takes more_takes more {o = o} {p = p} (Err stopped) not done = rec
 
 -- a read, whose data stand in a vector
 
-given_goes : {A : Type 0} (a : A) (outcome : Result (Unit {0}) HostFault) → after_outcome (given a outcome) ≡ after_outcome outcome
+given_goes : {A : Type 0} (a : A) (outcome : Result (Unit {0}) HostFault) → after_outcome (given_or_fault a outcome) ≡ after_outcome outcome
 given_goes a (Ok ok) = refl
 given_goes a (Err NoAnswer) = refl
 given_goes a (Err LinkEnded) = refl
@@ -220,19 +220,19 @@ given_goes a (Err (ReadOnly mem)) = refl
 given_goes a (Err Memory) = refl
 given_goes a (Err RecvFailed) = refl
 
-pub given_concluded : {A : Type 0} (a : A) (outcome : Result (Unit {0}) HostFault) (told : Result (Unit {0}) Stopped) → concluded (given a outcome) told ≡ concluded outcome told
+pub given_concluded : {A : Type 0} (a : A) (outcome : Result (Unit {0}) HostFault) (told : Result (Unit {0}) Stopped) → conclusion (given_or_fault a outcome) told ≡ conclusion outcome told
 given_concluded a outcome (Ok ok) = given_goes a outcome
 given_concluded a outcome (Err stopped) = refl
 
 -- a fault alone tells why a run stops
 pub given_told : {A : Type 0} (a : A) (good : A → List Saying) (old new : DeskView) (part : Part) (outcome : Result (Unit {0}) HostFault) (told : Result (Unit {0}) Stopped)
-    → Reports (ReadStops outcome) old new (fault_or part good (given a outcome)) told → IsStop (given a outcome) → Tells old new (cause_line (cause_of (given a outcome)))
+    → Reports (ReadStops outcome) old new (fault_or part good (given_or_fault a outcome)) told → IsStop (given_or_fault a outcome) → Tells old new (cause_line (cause_of (given_or_fault a outcome)))
 given_told a good old new part (Ok ok) told reports stop = absurd stop
 given_told a good old new part (Err fault) told reports stop = told_of old new part good (Err fault) told reports stop
 
 -- only where bytes were read there is something to save
 pub read_stops_report : (part : Part) (s : Switches) (mem : Mem) (format : Format) (file items : List ℕ) (outcome : Result (Unit {0}) HostFault) (takes : Bool) (o : LinkView) {d e : DeskView} {told : Result (Unit {0}) Stopped}
-    → Reports (ReadStops outcome) d e (fault_or part (read_says s mem format file) (given items outcome)) told → StopsReport (untold takes) o d e (fault_or part (read_says s mem format file) (given items outcome)) (ReadStops outcome)
+    → Reports (ReadStops outcome) d e (fault_or part (read_says s mem format file) (given_or_fault items outcome)) told → StopsReport (untold takes) o d e (fault_or part (read_says s mem format file) (given_or_fault items outcome)) (ReadStops outcome)
 read_stops_report part s mem format file items (Ok done) takes o {d = d} {e = e} reports = desk_stops_report takes o d e (read_says s mem format file items) reports.follows (read_none s mem format file items)
 read_stops_report part s mem format file items (Err fault) takes o reports = print_stops_report takes o reports
 
@@ -283,22 +283,22 @@ told_nothing (Err RecvFailed) d failed broken = ([], record { between = d; has_c
 
 -- an operation of which nothing is told
 pub quietly_performs : {operation : Dialog ⊥ (Result (Unit {0}) HostFault)} {old new : HostState} {o p : LinkView} (d : DeskView) (outcome : Result (Unit {0}) HostFault) (result : Result Standing Stopped)
-    → result ≡ concluded outcome (Ok tt) → Ended false operation old.progress o p outcome new.progress → length new.progress.unread ≤ 281
-    → (IsBroken outcome → link.HasFailed o p) → new.broken ≡ left_by outcome → new.part ≡ old.part → o.failures ≤ p.failures → PerformsBehind told_before (reported operation (λ _. [])) old new (devices o d) (devices p d) result
+    → result ≡ conclusion outcome (Ok tt) → Ended false operation old.progress o p outcome new.progress → length new.progress.unread ≤ 281
+    → (IsBroken outcome → link.HasFailed o p) → new.broken ≡ lasting_fault outcome → new.part ≡ old.part → o.failures ≤ p.failures → PerformsBehind told_before (reported operation (λ _. [])) old new (devices o d) (devices p d) result
 quietly_performs {operation = operation} {old = old} {new = new} {o = o} {p = p} d outcome result is ended few failed lasts part counted =
     let only = only_broken operation old.progress o p outcome new.progress ended in
     record {
       runs = subst (λ r. Runs (reported operation (λ _. [])) old.progress (devices o d) (devices p d) told_before r new.progress) (sym is)
           (operation_runs false (λ _. []) outcome (Ok tt) told_before PrintStops
           (λ mid cause front told stops. print_stops_run told_before p d d (omega arith) (front.whole ++ front.begun) cause told stops) ended few counted (kept_none d.kept) (λ stop. told_nothing outcome d failed (only stop)));
-      serves = subst (λ r. Serves r new.broken) (sym is) (serves_after outcome (Ok tt) new.broken lasts);
+      serves = subst (λ r. HostServes r new.broken) (sym is) (serves_after outcome (Ok tt) new.broken lasts);
       part = part;
       link = counted;
       desk = omega arith;
     }
 
 -- what follows a quiet operation is done
-pub quietly_on : {first : Dialog Saying Standing} (go_on : Standing → Dialog Saying Standing) {x y : HostState} {o p : Devices} (standing then : Standing) → go_on standing ≡ Done then → Serves (Ok then) y.broken
+pub quietly_on : {first : Dialog Saying Standing} (go_on : Standing → Dialog Saying Standing) {x y : HostState} {o p : Devices} (standing then : Standing) → go_on standing ≡ Done then → HostServes (Ok then) y.broken
     → PerformsBehind told_before first x y o p (Ok standing) → PerformsBehind told_before (first >>= go_on) x y o p (Ok then)
 quietly_on go_on {y = y} {p = p} standing then is serves done = record {
   runs = ran_on (came_part go_on done.runs) (subst (λ dialog. Ran dialog y.progress p p then y.progress) (sym is) (ran_from (came_here (Done then) y.progress p)));

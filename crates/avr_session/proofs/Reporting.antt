@@ -9,7 +9,7 @@ use Rattle.stk_host.specs.Dialog.{sayings}
 use Rattle.avr_message.specs.Said.{Saying, Line, IsPrefixOf, IsPrinted, Tells, after_all}
 use Rattle.avr_message.proofs.Saying.{kept_append, kept_none}
 use Rattle.avr_message.proofs.Telling.{failed_later, failure_in, failure_told, follows_on}
-use Rattle.avr_session.specs.Runs.{cause_line, Cause, OfSending, OfListening, OfFile, OfPrinting, OfMemory, Trouble, SaysFront, SaidSome, SaysOrStops, Reports, PrintStops, FileStops, DeskStops}
+use Rattle.avr_session.specs.Runs.{cause_line, Cause, OfSending, OfListening, OfFile, OfPrinting, OfMemory, FileTrouble, SaysFront, SaidSome, SaysOrStops, Reports, PrintStops, FileStops, DeskStops}
 use Rattle.avr_session.specs.declared.standing.Stopped.{Stopped}
 use Rattle.avr_session.specs.Concluding.{stopped_of}
 use Rattle.avr_session.specs.Saving.{SaveStops}
@@ -29,7 +29,7 @@ print_is_desk a b (OfFile file trouble) told stops = absurd stops
 print_is_desk a b OfPrinting told stops = stops
 print_is_desk a b OfMemory told stops = stops
 
-pub file_stops_in : (a b c d : DeskView) (file : List ℕ) (trouble : Trouble) (told : List ℕ) → Follows a b → Follows c d → FileStops b c file trouble told → FileStops a d file trouble told
+pub file_stops_in : (a b c d : DeskView) (file : List ℕ) (trouble : FileTrouble) (told : List ℕ) → Follows a b → Follows c d → FileStops b c file trouble told → FileStops a d file trouble told
 file_stops_in a b c d file trouble told first last stops = failure_in (cause_line (OfFile file trouble)) told a b c d first last stops
 
 pub nothing_printed : (r : Record) → after_err [] r ≡ r
@@ -145,7 +145,7 @@ pub told_some : (old new : DeskView) (l : List ℕ) (result : Result (Unit {0}) 
 told_some old new l result reports = some_told old new l result reports.follows reports.says
 
 -- a file's trouble is told behind what was done
-pub file_stops : (By : DeskView → DeskView → Cause → List ℕ → Type 0) (old mid new : DeskView) (sayings : List Saying) (file : List ℕ) (trouble : Trouble) → SaysFront (OfFile file trouble) old mid sayings
+pub file_stops : (By : DeskView → DeskView → Cause → List ℕ → Type 0) (old mid new : DeskView) (sayings : List Saying) (file : List ℕ) (trouble : FileTrouble) → SaysFront (OfFile file trouble) old mid sayings
     → HasFailed old mid → Follows old mid → ((told : List ℕ) → FileStops old new file trouble told → By old new (OfFile file trouble) told) → Tells mid new (cause_line (OfFile file trouble)) → SaidSome By old new sayings
 file_stops By old mid new sayings file trouble front failed first why some = record {
   between = mid;

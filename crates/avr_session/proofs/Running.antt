@@ -9,8 +9,8 @@ use Rattle.stk_host.specs.declared.fault.Broken.TheVariants.{Send, Recv}
 use Rattle.stk_host.specs.Tape.{Tape, on_tape}
 use Rattle.stk_host.specs.Talk.{Talk, LinkView, Grows, heard}
 use Rattle.stk_host.specs.Dialog.{Dialog, Done, ◌>>=◌, lifted, Event, Frame, Said, Played, played, bytes_sent, sayings}
-use Rattle.stk_host.specs.Play.{Progress, PlaysOver, FailsOver}
-use Rattle.stk_host.specs.Reach.{Leads}
+use Rattle.stk_host.specs.Play.{Position, PlaysOver, FailsOver}
+use Rattle.stk_host.specs.Reach.{TalkLeads}
 use Rattle.stk_host.proofs.Talks.{grows_none, grows_on}
 use Rattle.stk_host.proofs.Leading.{continued, played_bind, leads_here, leads_on, leads_bind, leads_say, leads_from, plays_from, breaks_on, breaks_bind}
 use Rattle.stk_host.proofs.Lifting.{raised, plays_lifted, by_lifted, sayings_raised}
@@ -23,11 +23,11 @@ use Rattle.avr_session.specs.Runs.{Devices, devices, Cause, OfSending, OfListeni
 use Rattle.avr_session.proofs.Places.{place_more, place_behind, place_part, desk_says, desk_listens, sayings_said, map_append}
 
 -- a call has come so far: what is left of its dialog, and what was sent and said
-pub record Came {R : Type 0} (dialog : Dialog Saying R) (before : Progress) (old new : Devices) (rest : Dialog Saying R) (after : Progress) : Type 0 where
+pub record Came {R : Type 0} (dialog : Dialog Saying R) (before : Position) (old new : Devices) (rest : Dialog Saying R) (after : Position) : Type 0 where
   pub during : Talk
   pub events : List (Event Saying)
   pub grows : Grows old.link.talk during new.link.talk
-  pub leads : Leads dialog before.next before.unread during events rest after.next after.unread
+  pub leads : TalkLeads dialog before.next before.unread during events rest after.next after.unread
   pub few : length before.unread ≤ 281 → length after.unread ≤ 281
   pub kept : Passes (after_all (sayings events)) old.desk new.desk
 
@@ -43,10 +43,10 @@ after_both x y r = ap (λ ss. after_all ss r) (sayings_append x y) ∙ after_app
 
 -- how far a call has come
 
-pub came_here : {R : Type 0} (dialog : Dialog Saying R) (m : Progress) (o : Devices) → Came dialog m o o dialog m
+pub came_here : {R : Type 0} (dialog : Dialog Saying R) (m : Position) (o : Devices) → Came dialog m o o dialog m
 came_here dialog m o = record { during = []; events = []; grows = grows_none o.link.talk; leads = leads_here dialog m.next m.unread; few = λ f. f; kept = kept_none o.desk.kept }
 
-pub came_on : {R : Type 0} {a b c : Dialog Saying R} {l m n : Progress} {o p q : Devices} → Came a l o p b m → Came b m p q c n → Came a l o q c n
+pub came_on : {R : Type 0} {a b c : Dialog Saying R} {l m n : Position} {o p q : Devices} → Came a l o p b m → Came b m p q c n → Came a l o q c n
 came_on {o = o} {p = p} {q = q} x y = record {
   during = x.during ++ y.during;
   events = x.events ++ y.events;
@@ -57,7 +57,7 @@ came_on {o = o} {p = p} {q = q} x y = record {
 }
 
 -- an operation of the host, and what follows it
-pub came_lifted : {A R : Type 0} {dialog : Dialog ⊥ A} {m n : Progress} {o p : LinkView} {result : A} (go_on : A → Dialog Saying R) (d : DeskView)
+pub came_lifted : {A R : Type 0} {dialog : Dialog ⊥ A} {m n : Position} {o p : LinkView} {result : A} (go_on : A → Dialog Saying R) (d : DeskView)
     → PlaysOver dialog m o p result n → length n.unread ≤ 281 → Came (lifted dialog >>= go_on) m (devices o d) (devices p d) (go_on result) n
 came_lifted go_on d f few = record {
   during = f.during;
@@ -68,12 +68,12 @@ came_lifted go_on d f few = record {
   kept = subst (λ ss. Passes (after_all ss) d d) (sym (sayings_raised f.events)) (kept_none d.kept);
 }
 
-leads_says : {R : Type 0} (xs : List Saying) (dialog : Dialog Saying R) (seq : ℕ) (u : List ℕ) → Leads (says xs dialog) seq u [] (map Said xs) dialog seq u
+leads_says : {R : Type 0} (xs : List Saying) (dialog : Dialog Saying R) (seq : ℕ) (u : List ℕ) → TalkLeads (says xs dialog) seq u [] (map Said xs) dialog seq u
 leads_says [] dialog seq u = leads_here dialog seq u
 leads_says (x ∷ xs) dialog seq u = leads_on (leads_say x (says xs dialog) seq u) (leads_says xs dialog seq u)
 
 -- what is said
-pub came_said : {R : Type 0} (xs : List Saying) (dialog : Dialog Saying R) (m : Progress) (o : LinkView) {d e : DeskView} → Passes (after_all xs) d e → Came (says xs dialog) m (devices o d) (devices o e) dialog m
+pub came_said : {R : Type 0} (xs : List Saying) (dialog : Dialog Saying R) (m : Position) (o : LinkView) {d e : DeskView} → Passes (after_all xs) d e → Came (says xs dialog) m (devices o d) (devices o e) dialog m
 came_said xs dialog m o {d = d} {e = e} kept = record {
   during = [];
   events = map Said xs;
@@ -83,17 +83,17 @@ came_said xs dialog m o {d = d} {e = e} kept = record {
   kept = subst (λ ss. Passes (after_all ss) d e) (sym (sayings_said xs)) kept;
 }
 
-pub ran_from : {R : Type 0} {a : Dialog Saying R} {m n : Progress} {o p : Devices} {result : R} → Came a m o p (Done result) n → Ran a m o p result n
+pub ran_from : {R : Type 0} {a : Dialog Saying R} {m n : Position} {o p : Devices} {result : R} → Came a m o p (Done result) n → Ran a m o p result n
 ran_from f = record { during = f.during; events = f.events; grows = f.grows; plays = plays_from f.leads; few = f.few; kept = f.kept }
 
-came_from : {R : Type 0} {a : Dialog Saying R} {m n : Progress} {o p : Devices} {result : R} → Ran a m o p result n → Came a m o p (Done result) n
+came_from : {R : Type 0} {a : Dialog Saying R} {m n : Position} {o p : Devices} {result : R} → Ran a m o p result n → Came a m o p (Done result) n
 came_from f = record { during = f.during; events = f.events; grows = f.grows; leads = leads_from f.plays; few = f.few; kept = f.kept }
 
 -- a part of a dialog was played whole
-pub came_part : {A R : Type 0} {a : Dialog Saying A} {m n : Progress} {o p : Devices} {result : A} (go_on : A → Dialog Saying R) → Ran a m o p result n → Came (a >>= go_on) m o p (go_on result) n
+pub came_part : {A R : Type 0} {a : Dialog Saying A} {m n : Position} {o p : Devices} {result : A} (go_on : A → Dialog Saying R) → Ran a m o p result n → Came (a >>= go_on) m o p (go_on result) n
 came_part go_on f = record { during = f.during; events = f.events; grows = f.grows; leads = leads_bind go_on (leads_from f.plays); few = f.few; kept = f.kept }
 
-pub ran_on : {R : Type 0} {a b : Dialog Saying R} {l m n : Progress} {o p q : Devices} {result : R} → Came a l o p b m → Ran b m p q result n → Ran a l o q result n
+pub ran_on : {R : Type 0} {a b : Dialog Saying R} {l m n : Position} {o p q : Devices} {result : R} → Came a l o p b m → Ran b m p q result n → Ran a l o q result n
 ran_on x y = ran_from (came_on x (came_from y))
 
 -- breaking off
@@ -135,7 +135,7 @@ stops_since takes more told o p q also link desk said cause line stops = record 
   until = stops.until;
 }
 
-pub broke_on : {R : Type 0} {a b : Dialog Saying R} {m n : Progress} {o p q : Devices} {some all : Terms} (x : Came a m o p b n) → StopsWhole some all (sayings x.events) o p q → BrokeOff b n p q some → BrokeOff a m o q all
+pub broke_on : {R : Type 0} {a b : Dialog Saying R} {m n : Position} {o p q : Devices} {some all : Terms} (x : Came a m o p b n) → StopsWhole some all (sayings x.events) o p q → BrokeOff b n p q some → BrokeOff a m o q all
 broke_on {a = a} {m = m} {o = o} {p = p} {q = q} {all = all} x why y =
     let front = y.breaks.front in
     let whole = breaks_on SaidPart x.leads y.breaks in
@@ -167,7 +167,7 @@ broke_on {a = a} {m = m} {o = o} {p = p} {q = q} {all = all} x why y =
     }
 
 -- behind an operation of the host
-pub broke_lifted : {A R : Type 0} {dialog : Dialog ⊥ A} {m n : Progress} {o p : LinkView} {d e : DeskView} {result : A} {terms : Terms} (go_on : A → Dialog Saying R) → PlaysOver dialog m o p result n → length n.unread ≤ 281
+pub broke_lifted : {A R : Type 0} {dialog : Dialog ⊥ A} {m n : Position} {o p : LinkView} {d e : DeskView} {result : A} {terms : Terms} (go_on : A → Dialog Saying R) → PlaysOver dialog m o p result n → length n.unread ≤ 281
     → o.failures ≤ p.failures → BrokeOff (go_on result) n (devices p d) (devices p e) terms → BrokeOff (lifted dialog >>= go_on) m (devices o d) (devices p e) terms
 unfolding came_lifted
 broke_lifted {o = o} {p = p} {d = d} {e = e} {terms = terms} go_on f few link y =
@@ -175,7 +175,7 @@ broke_lifted {o = o} {p = p} {d = d} {e = e} {terms = terms} go_on f few link y 
     (stops_since terms.takes terms.takes terms.was_told (devices o d) (devices p d) (devices p e) (λ t. t) link (omega arith) said cause told s)) y
 
 -- behind a part that was played whole
-pub broke_after : {A R : Type 0} {a : Dialog Saying A} {m n : Progress} {o p q : Devices} {result : A} {some all : Terms} (go_on : A → Dialog Saying R) (ran : Ran a m o p result n)
+pub broke_after : {A R : Type 0} {a : Dialog Saying A} {m n : Position} {o p q : Devices} {result : A} {some all : Terms} (go_on : A → Dialog Saying R) (ran : Ran a m o p result n)
     → StopsWhole some all (sayings ran.events) o p q → BrokeOff (go_on result) n p q some → BrokeOff (a >>= go_on) m o q all
 unfolding came_part
 broke_after go_on ran why y = broke_on (came_part go_on ran) why y
@@ -194,7 +194,7 @@ listens_behind OfPrinting outcome go_on listens = tt
 listens_behind OfMemory outcome go_on listens = tt
 
 -- in a part of a dialog
-pub broke_part : {A R : Type 0} {a : Dialog Saying A} {m : Progress} {o p : Devices} {some all : Terms} (go_on : A → Dialog Saying R) → ((said : List Saying) (cause : Cause) (told : List ℕ) → StopsBehind some o p said cause told → StopsBehind all o p said cause told)
+pub broke_part : {A R : Type 0} {a : Dialog Saying A} {m : Position} {o p : Devices} {some all : Terms} (go_on : A → Dialog Saying R) → ((said : List Saying) (cause : Cause) (told : List ℕ) → StopsBehind some o p said cause told → StopsBehind all o p said cause told)
     → BrokeOff a m o p some → BrokeOff (a >>= go_on) m o p all
 broke_part {a = a} {m = m} go_on why f =
     let front = f.breaks.front in
@@ -236,7 +236,7 @@ broken_cause Recv = OfListening
 abbrev pub ToldBy : Terms → Cause → Devices → Devices → Type 0
 ToldBy terms cause o p = (told : List ℕ) × StopsBehind terms o p [] cause told × Passes (after_err told) o.desk p.desk
 
-broke_raised : {A : Type 0} (by : Broken) {dialog : Dialog ⊥ A} {m : Progress} {o p : Devices} {terms : Terms} → FailsOver by dialog m o.link p.link → ToldBy terms (broken_cause by) o p → BrokeOff (lifted dialog) m o p terms
+broke_raised : {A : Type 0} (by : Broken) {dialog : Dialog ⊥ A} {m : Position} {o p : Devices} {terms : Terms} → FailsOver by dialog m o.link p.link → ToldBy terms (broken_cause by) o p → BrokeOff (lifted dialog) m o p terms
 broke_raised Send {dialog = dialog} {m = m} {o = o} {p = p} {terms = terms} f some =
     let g = by_lifted Saying Send dialog m.next m.unread f.during f.shown f.breaks in
     record {
@@ -288,7 +288,7 @@ broke_raised Recv {dialog = dialog} {m = m} {o = o} {p = p} {terms = terms} f so
       kept = subst (λ ss. Passes (λ r. after_err some.0 (after_all ss r)) o.desk p.desk) (sym (sayings_raised f.shown)) some.2;
     }
 
-pub broke_operation : {A R : Type 0} (by : Broken) {dialog : Dialog ⊥ A} {m : Progress} {o p : Devices} {terms : Terms} (go_on : A → Dialog Saying R)
+pub broke_operation : {A R : Type 0} (by : Broken) {dialog : Dialog ⊥ A} {m : Position} {o p : Devices} {terms : Terms} (go_on : A → Dialog Saying R)
     → FailsOver by dialog m o.link p.link → ToldBy terms (broken_cause by) o p → BrokeOff (lifted dialog >>= go_on) m o p terms
 broke_operation by go_on f some = broke_part go_on (λ said cause told s. s) (broke_raised by f some)
 
@@ -306,7 +306,7 @@ no_bytes (x ∷ xs) = no_bytes xs
 abbrev pub StopsReport : Terms → LinkView → DeskView → DeskView → List Saying → (DeskView → DeskView → Cause → List ℕ → Type 0) → Type 0
 StopsReport terms o d e sayings By = (mid : DeskView) (cause : Cause) (front : SaysFront cause d mid sayings) (told : List ℕ) → By d e cause told → StopsBehind terms (devices o d) (devices o e) (front.whole ++ front.begun) cause told
 
-pub broke_saying : {R : Type 0} {By : DeskView → DeskView → Cause → List ℕ → Type 0} {terms : Terms} {d e : DeskView} (xs : List Saying) (dialog : Dialog Saying R) (m : Progress) (o : LinkView)
+pub broke_saying : {R : Type 0} {By : DeskView → DeskView → Cause → List ℕ → Type 0} {terms : Terms} {d e : DeskView} (xs : List Saying) (dialog : Dialog Saying R) (m : Position) (o : LinkView)
     → StopsReport terms o d e xs By → SaidSome By d e xs → BrokeOff (says xs dialog) m (devices o d) (devices o e) terms
 broke_saying {terms = terms} {d = d} {e = e} xs dialog m o why f =
     let front = f.front in
@@ -340,7 +340,7 @@ broke_saying {terms = terms} {d = d} {e = e} xs dialog m o why f =
     }
 
 -- at once, for want of memory
-pub broke_lacking : {R : Type 0} {terms : Terms} {o p : Devices} (dialog : Dialog Saying R) (m : Progress) → p.link ≡ o.link → ToldBy terms OfMemory o p → BrokeOff dialog m o p terms
+pub broke_lacking : {R : Type 0} {terms : Terms} {o p : Devices} (dialog : Dialog Saying R) (m : Position) → p.link ≡ o.link → ToldBy terms OfMemory o p → BrokeOff dialog m o p terms
 broke_lacking {o = o} dialog m same some = record {
   during = [];
   shown = [];

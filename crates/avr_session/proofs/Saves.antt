@@ -12,7 +12,7 @@ use Rattle.avr_message.specs.Said.{Saying, Creates, Writes, Outs, Tells, after_a
 use Rattle.avr_message.proofs.Saying.{kept_append, kept_none}
 use Rattle.avr_message.proofs.Telling.{failure_told, follows_on}
 use Rattle.avr_session.specs.Runs.{Cause, OfSending, OfListening, OfFile, OfPrinting, OfMemory, NotCreated, NotWritten, SaysFront, SaidSome, SaysOrStops, Reports, DeskStops, cause_line}
-use Rattle.avr_session.specs.Session.{saved}
+use Rattle.avr_session.specs.Session.{saving_says}
 use Rattle.avr_session.specs.Saving.{SaveStops, WritesSome, WritesAll}
 use Rattle.avr_session.specs.declared.standing.Stopped.{Stopped}
 use Rattle.avr_session.proofs.Places.{file_part, output_part}
@@ -74,7 +74,7 @@ put_out old new file text (Err stopped) named writes = record {
   kept = writes.kept;
 }
 
-pub saved_out : (old new : DeskView) (file text : List ℕ) (result : Result (Unit {0}) Stopped) → bytes_eq file (codes "-") ≡ true → WritesAll Output file old new text result → Follows old new → Reports (SaveStops file) old new (saved file text) result
+pub saved_out : (old new : DeskView) (file text : List ℕ) (result : Result (Unit {0}) Stopped) → bytes_eq file (codes "-") ≡ true → WritesAll Output file old new text result → Follows old new → Reports (SaveStops file) old new (saving_says file text) result
 saved_out old new file text result same writes follows = record { says = rw same (put_out old new file text result ((bytes_eq-Decides file (codes "-")).0 same) writes); follows = follows }
 
 -- what was told of a file behind a front of its bytes

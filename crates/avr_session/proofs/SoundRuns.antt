@@ -8,7 +8,7 @@ use Rattle.stk_host.specs.Operations as operations
 use Rattle.stk_host.specs.Operations.{opening}
 use Rattle.stk_host.specs.Steps.{tries, attempt, exchange}
 use Rattle.stk_host.specs.Tape.{Tape, on_tape, answer}
-use Rattle.stk_host.specs.Play.{Progress}
+use Rattle.stk_host.specs.Play.{Position}
 use Rattle.stk_host.specs.Talk.{Talk, LinkView, heard, Grows}
 use Rattle.stk_host.specs.Dialog.{Dialog, Event, Said, Played, played, sayings}
 use Rattle.avr_message.specs.Lines.{Bytes}
@@ -39,7 +39,7 @@ told_last before after said told line whole kept =
     (r.messages, ap (λ (x : Record). x.messages) same ∙ ap (λ (xs : Bytes). r.messages ++ xs) whole)
 
 -- so what broke off says so
-pub broke_lacks : {R : Type 0} (dialog : Dialog Saying R) (m : Progress) (o p : LinkView) (before after : Record) (a b : ℕ) (takes : Bool) → IsSound (devices o (keeping before a)) (devices p (keeping after b))
+pub broke_lacks : {R : Type 0} (dialog : Dialog Saying R) (m : Position) (o p : LinkView) (before after : Record) (a b : ℕ) (takes : Bool) → IsSound (devices o (keeping before a)) (devices p (keeping after b))
     → BrokeOff dialog m (devices o (keeping before a)) (devices p (keeping after b)) (untold takes) → LacksMemory after.messages
 broke_lacks dialog m o p before after a b takes sound f = told_last before after (sayings f.shown) f.told (cause_line OfMemory) (lacks f.cause sound f.stops) f.kept
 
@@ -116,7 +116,7 @@ waiting_is_no_run dialog talk during k l before after a b takes status sound has
 
 -- to do nothing and say nothing is no run of a session
 waits_at_once : (plan : Plan) → (played (session plan) 1 []).outcome ≡ None
-unfolding session opening operations.beginning tries attempt exchange answer
+unfolding session opening operations.handshake tries attempt exchange answer
 waits_at_once plan = refl
 
 pub nothing_is_no_run : (plan : Plan) (talk : Talk) (k l : ℕ) (r : Record) (a b : ℕ) (takes : Bool) (status : ℕ) → IsSound (devices (talking talk k) (keeping r a)) (devices (talking talk l) (keeping r b)) → (LacksMemory r.messages → ⊥)

@@ -15,9 +15,9 @@ after_outcome (Err RecvFailed) = Err (record {})
 after_outcome (Err Memory) = Err (record {})
 after_outcome outcome = Ok (standing outcome)
 
-abbrev pub concluded : {A : Type 0} → Result A HostFault → Result ⊤ Stopped → Result Standing Stopped
-concluded outcome (Ok done) = after_outcome outcome
-concluded outcome (Err stopped) = Err stopped
+abbrev pub conclusion : {A : Type 0} → Result A HostFault → Result ⊤ Stopped → Result Standing Stopped
+conclusion outcome (Ok done) = after_outcome outcome
+conclusion outcome (Err stopped) = Err stopped
 
 abbrev pub fine_if_said : Result ⊤ Stopped → Result Standing Stopped
 fine_if_said (Ok done) = Ok Fine
@@ -29,7 +29,7 @@ stopped_of (Ok done) = Ok tt
 stopped_of (Err fault) = Err (record {})
 
 -- after any part that leaves the line, the host serves
-abbrev pub Serves : Result Standing Stopped → Option HostFault → Type 0
-Serves (Ok Fine) broken = broken ≡ None
-Serves (Ok Faulty) broken = broken ≡ None
-Serves result broken = ⊤
+abbrev pub HostServes : Result Standing Stopped → Option HostFault → Type 0
+HostServes (Ok Fine) broken = broken ≡ None
+HostServes (Ok Faulty) broken = broken ≡ None
+HostServes result broken = ⊤

@@ -20,10 +20,10 @@ file_text Binary bytes = list_text Bin bytes
 file_text format bytes = bytes
 
 -- how many bytes there are up to the last that isn't FF
-abbrev pub used : Bytes → ℕ
-used [] = 0
-used (byte ∷ bytes) = if used bytes == 0 && byte == 255 then 0 else 1 + used bytes
+abbrev pub used_length : Bytes → ℕ
+used_length [] = 0
+used_length (byte ∷ bytes) = if used_length bytes == 0 && byte == 255 then 0 else 1 + used_length bytes
 
 -- what is kept of a flash that was read: no trailing FF, but one where the length would be odd
 abbrev pub trimmed : Bytes → Bytes
-trimmed bytes = take ((used bytes + 1) / 2 * 2) bytes
+trimmed bytes = take ((used_length bytes + 1) / 2 * 2) bytes

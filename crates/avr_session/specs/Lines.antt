@@ -1,7 +1,7 @@
 -- What a session says: lines of information, warnings, and the lines of faults.
 use Rattle.std.specs.Prelude.{ℕ, List, [], ◌∷◌, codes, nat_lt, if◌then◌else◌}
 use Rattle.byteorder.specs.Endian.{big_bytes}
-use Rattle.avr_message.specs.Lines.{Bytes, digits, spaced, information, warning, error}
+use Rattle.avr_message.specs.Lines.{Bytes, digits, spaced_digits, information, warning, error}
 use Rattle.avr_message.specs.Said.{Saying, Line}
 use Rattle.avr_part.specs.Mem.{name_of}
 use Rattle.avr_part.specs.Part.{Part}
@@ -18,7 +18,8 @@ warns quiet pieces = if nat_lt 1 quiet then [] else Line (warning pieces) ∷ []
 -- a signature is another than the part's
 abbrev pub other_signature : Part → Bytes → List Bytes
 other_signature part found =
-    codes "signature is " ∷ spaced found ∷ codes ", " ∷ part.id ∷ codes " has " ∷ spaced part.signature ∷ []
+    codes "signature is " ∷ spaced_digits found ∷ codes ", " ∷ part.id ∷ codes " has " ∷ spaced_digits part.signature
+    ∷ []
 
 -- the pieces of the line of a host's fault in the work on a part
 abbrev pub fault_pieces : Part → HostFault → List Bytes

@@ -8,7 +8,7 @@ use Rattle.avr_message.specs.Said.{Saying}
 use Rattle.avr_session.specs.declared.standing.Standing.{Standing}
 use Rattle.avr_session.specs.declared.standing.Standing.TheVariants.{Fine}
 use Rattle.avr_session.specs.declared.standing.Stopped.{Stopped}
-use Rattle.avr_session.specs.Concluding.{Serves, fine_if_said}
+use Rattle.avr_session.specs.Concluding.{HostServes, fine_if_said}
 use Rattle.avr_session.specs.Runs.{Devices, Terms, untold, PrintStops, Reports, Runs}
 
 -- whether a fault was told, by how a session stands
@@ -20,7 +20,7 @@ is_told standing = true
 pub record PerformsBehind (terms : Terms) (dialog : Dialog Saying Standing) (host_old host_new : HostState)
     (old new : Devices) (result : Result Standing Stopped) : Type 0 where
   pub runs : Runs dialog host_old.progress old new terms result host_new.progress
-  pub serves : Serves result host_new.broken
+  pub serves : HostServes result host_new.broken
   pub part : host_new.part ≡ host_old.part
   pub link : old.link.failures ≤ new.link.failures
   pub desk : Follows old.desk new.desk

@@ -20,7 +20,7 @@ pub record RunsPlan (settings : Settings) (old new : Devices) (status : ℕ) : T
 -- there is no plan, or planning broke off: nothing was sent or heard, and the status is 1
 pub record RunsNone (settings : Settings) (old new : Devices) (status : ℕ) : Type 0 where
   pub refused : Went (planned settings) old.desk new.desk Refused
-      ⊎ planning.BrokeOff (planned settings) old.desk new.desk
+      ⊎ planning.StageBrokeOff (planned settings) old.desk new.desk
   pub same : new.link ≡ old.link
   pub status_is : status ≡ 1
 

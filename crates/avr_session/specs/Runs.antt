@@ -8,7 +8,7 @@ use Rattle.stk_host.specs.Talk as link
 use Rattle.stk_host.specs.Tape.{on_tape}
 use Rattle.stk_host.specs.Talk.{Talk, LinkView, heard, Grows}
 use Rattle.stk_host.specs.Dialog.{Dialog, Event, Frame, Said, played, sayings}
-use Rattle.stk_host.specs.Play.{Progress, Plays, Breaks}
+use Rattle.stk_host.specs.Play.{Position, Plays, Breaks}
 use Rattle.avr_message.specs.Lines.{Bytes, error}
 use Rattle.avr_message.specs.Said.{Saying, Line, Creates, Writes, Outs, SaidPart, IsPrefixOf, TellsLine, TellsFailure, after_all}
 use Rattle.avr_session.specs.declared.standing.Stopped.{Stopped}
@@ -22,24 +22,24 @@ abbrev pub devices : LinkView → DeskView → Devices
 devices link desk = record { link = link; desk = desk }
 
 -- where a conversation begins
-abbrev pub start : Progress
+abbrev pub start : Position
 start = record { next = 1; unread = [] }
 
 -- what a desk can't do with a file of a session
-pub data Trouble : Type 0 where
-  NotCreated : Trouble
-  NotWritten : Trouble
+pub data FileTrouble : Type 0 where
+  NotCreated : FileTrouble
+  NotWritten : FileTrouble
 
 -- Why a run stops where it stands: the link failed as it sent or as it listened; the desk failed, at a file or as it
 -- printed; or memory was refused.
 pub data Cause : Type 0 where
   OfSending : Cause
   OfListening : Cause
-  OfFile : Bytes → Trouble → Cause
+  OfFile : Bytes → FileTrouble → Cause
   OfPrinting : Cause
   OfMemory : Cause
 
-abbrev pub trouble_text : Trouble → Bytes
+abbrev pub trouble_text : FileTrouble → Bytes
 trouble_text NotCreated = codes ": cannot be created"
 trouble_text NotWritten = codes ": cannot be written"
 
@@ -164,8 +164,8 @@ pub record StopsBehind (terms : Terms) (old new : Devices) (said : List Saying) 
 
 -- The dialog was played whole over what was unread and what was heard: what was sent, said and answered is its play's,
 -- whatever may follow on the line, and at most one piece heard is left.
-pub record Ran {R : Type 0} (dialog : Dialog Saying R) (before : Progress) (old new : Devices) (result : R)
-    (after : Progress) : Type 0 where
+pub record Ran {R : Type 0} (dialog : Dialog Saying R) (before : Position) (old new : Devices) (result : R)
+    (after : Position) : Type 0 where
   pub during : Talk
   pub events : List (Event Saying)
   pub grows : Grows old.link.talk during new.link.talk
@@ -175,7 +175,7 @@ pub record Ran {R : Type 0} (dialog : Dialog Saying R) (before : Progress) (old 
 
 -- The dialog broke off: what was sent and said is a front of its events, the last one perhaps in part, where its cause
 -- stops it; and behind it stands what was told of the cause.
-pub record BrokeOff {R : Type 0} (dialog : Dialog Saying R) (before : Progress) (old new : Devices)
+pub record BrokeOff {R : Type 0} (dialog : Dialog Saying R) (before : Position) (old new : Devices)
     (terms : Terms) : Type 0 where
   pub during : Talk
   pub shown : List (Event Saying)
@@ -189,7 +189,7 @@ pub record BrokeOff {R : Type 0} (dialog : Dialog Saying R) (before : Progress) 
   pub kept : Passes (λ r. after_err told (after_all (sayings shown) r)) old.desk new.desk
 
 -- the one or the other, as a call answers
-abbrev pub Runs : {R : Type 0} → Dialog Saying R → Progress → Devices → Devices → Terms → Result R Stopped → Progress
+abbrev pub Runs : {R : Type 0} → Dialog Saying R → Position → Devices → Devices → Terms → Result R Stopped → Position
     → Type 0
 Runs dialog before old new terms (Ok result) after = Ran dialog before old new result after
 Runs dialog before old new terms (Err stopped) after = BrokeOff dialog before old new terms
@@ -197,7 +197,7 @@ Runs dialog before old new terms (Err stopped) after = BrokeOff dialog before ol
 -- A whole run: it was played to its status, or it broke off, and then the status is 1.
 abbrev pub RunsTo : Dialog Saying ℕ → Devices → Devices → Bool → ℕ → Type 0
 RunsTo dialog old new takes status =
-    ((after : Progress) × Ran dialog start old new status after)
+    ((after : Position) × Ran dialog start old new status after)
     ⊎ (BrokeOff dialog start old new (untold takes) × (status ≡ 1))
 
 -- A front of the sayings was done: some of them, and perhaps a part of the next, where this cause stops them.
@@ -238,7 +238,7 @@ PrintStops old new OfPrinting told = desk.HasFailed old new × (told ≡ [])
 PrintStops old new cause told = ⊥
 
 -- the desk failed at a file, and from then on that was told
-abbrev pub FileStops : DeskView → DeskView → Bytes → Trouble → Bytes → Type 0
+abbrev pub FileStops : DeskView → DeskView → Bytes → FileTrouble → Bytes → Type 0
 FileStops old new file trouble told = TellsFailure (cause_line (OfFile file trouble)) told old new
 
 -- the desk failed, at a file or as it printed

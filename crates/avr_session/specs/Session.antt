@@ -4,8 +4,8 @@ use Rattle.std.specs.List.{list_any}
 use Rattle.std.specs.Str.{bytes_eq}
 use Rattle.avr_cli.specs.declared.chosen.Switches.{Switches}
 use Rattle.avr_cli.specs.declared.update.Format.{Format}
-use Rattle.avr_image.specs.Image.{held}
-use Rattle.avr_message.specs.Lines.{Bytes, spaced}
+use Rattle.avr_image.specs.Image.{byte_count}
+use Rattle.avr_message.specs.Lines.{Bytes, spaced_digits}
 use Rattle.avr_message.specs.Said.{Saying, Line, Creates, Writes, Outs}
 use Rattle.avr_part.specs.Mem.{name_of}
 use Rattle.avr_part.specs.Part.{Part}
@@ -54,7 +54,7 @@ fault_or part good (Ok a) = good a
 fault_or part good (Err fault) = Line (fault_line part fault) ∷ []
 
 abbrev pub signature_says : ℕ → Bytes → List Saying
-signature_says quiet found = informs quiet (codes "device signature = " ∷ spaced found ∷ [])
+signature_says quiet found = informs quiet (codes "device signature = " ∷ spaced_digits found ∷ [])
 
 -- another signature than the part's is told, though it be taken
 abbrev pub warns_of_signature : ℕ → Part → Bytes → List Saying
@@ -72,8 +72,8 @@ abbrev pub bytes_say : ℕ → Mem → ℕ → Bytes → List Saying
 bytes_say quiet mem count done = informs quiet (name_of mem ∷ codes ": " ∷ decimal count ∷ done ∷ [])
 
 -- standard output is named `-`
-abbrev pub saved : Bytes → Bytes → List Saying
-saved file text = if bytes_eq file (codes "-") then Outs text ∷ [] else Creates file ∷ Writes text ∷ []
+abbrev pub saving_says : Bytes → Bytes → List Saying
+saving_says file text = if bytes_eq file (codes "-") then Outs text ∷ [] else Creates file ∷ Writes text ∷ []
 
 -- what is kept of what was read: trailing FF of flash are dropped, unless all is wanted
 abbrev pub kept_of : Mem → Bool → Bytes → Bytes
@@ -84,10 +84,11 @@ abbrev pub erased_says : ℕ → Part → Result ⊤ HostFault → List Saying
 erased_says quiet part = fault_or part (λ _. informs quiet (codes "chip erased" ∷ []))
 
 abbrev pub written_says : ℕ → Part → Mem → List (Option ℕ) → Result ⊤ HostFault → List Saying
-written_says quiet part mem image = fault_or part (λ _. bytes_say quiet mem (held image) (codes " bytes written"))
+written_says quiet part mem image = fault_or part (λ _. bytes_say quiet mem (byte_count image) (codes " bytes written"))
 
 abbrev pub verified_says : ℕ → Part → Mem → List (Option ℕ) → Result ⊤ HostFault → List Saying
-verified_says quiet part mem image = fault_or part (λ _. bytes_say quiet mem (held image) (codes " bytes verified"))
+verified_says quiet part mem image = fault_or part
+    (λ _. bytes_say quiet mem (byte_count image) (codes " bytes verified"))
 
 abbrev pub closed_says : ℕ → Part → Result ⊤ HostFault → List Saying
 closed_says quiet part = fault_or part (λ _. informs quiet (codes "done" ∷ []))
@@ -95,12 +96,12 @@ closed_says quiet part = fault_or part (λ _. informs quiet (codes "done" ∷ []
 abbrev pub read_says : Switches → Mem → Format → Bytes → Bytes → List Saying
 read_says s mem format file bytes =
     let kept = kept_of mem s.all bytes in
-    saved file (file_text format kept) ++ bytes_say s.quiet mem (length kept) (codes " bytes read")
+    saving_says file (file_text format kept) ++ bytes_say s.quiet mem (length kept) (codes " bytes read")
 
 -- ---- the parts of a session
 
-abbrev pub opening_part : Part → Switches → Dialog Saying Standing
-opening_part part s = reported (opening part.signature s.force) (opening_says s.quiet part)
+abbrev pub opening_phase : Part → Switches → Dialog Saying Standing
+opening_phase part s = reported (opening part.signature s.force) (opening_says s.quiet part)
 
 abbrev pub writes_flash : Task → Bool
 writes_flash (Write Flash image) = true
@@ -114,56 +115,57 @@ is_erase_due s tasks = s.erase || (list_any writes_flash tasks && not s.keep_fla
 abbrev pub left_out_erase : Switches → List Saying
 left_out_erase s = if s.erase then warns s.quiet (codes "chip not erased because of -n" ∷ []) else []
 
-abbrev pub chip_erasing_part : Part → Switches → Dialog Saying Standing
-chip_erasing_part part s = reported erasing (erased_says s.quiet part)
+abbrev pub chip_erasing_phase : Part → Switches → Dialog Saying Standing
+chip_erasing_phase part s = reported erasing (erased_says s.quiet part)
 
 -- the chip is erased where that is due
-abbrev pub erasing_part : Part → Switches → List Task → Dialog Saying Standing
-erasing_part part s tasks =
+abbrev pub erasing_phase : Part → Switches → List Task → Dialog Saying Standing
+erasing_phase part s tasks =
     if s.dry then says (left_out_erase s) (Done Fine)
-    else if is_erase_due s tasks then chip_erasing_part part s
+    else if is_erase_due s tasks then chip_erasing_phase part s
     else Done Fine
 
 -- a memory is compared with an image
-abbrev pub verifying_part : Part → Switches → Mem → List (Option ℕ) → Dialog Saying Standing
-verifying_part part s mem image = reported (verifying part mem image) (verified_says s.quiet part mem image)
+abbrev pub verifying_phase : Part → Switches → Mem → List (Option ℕ) → Dialog Saying Standing
+verifying_phase part s mem image = reported (verifying part mem image) (verified_says s.quiet part mem image)
 
 -- an image is written
-abbrev pub writing_part : Part → Switches → Mem → List (Option ℕ) → Dialog Saying Standing
-writing_part part s mem image = reported (writing part mem image) (written_says s.quiet part mem image)
+abbrev pub writing_phase : Part → Switches → Mem → List (Option ℕ) → Dialog Saying Standing
+writing_phase part s mem image = reported (writing part mem image) (written_says s.quiet part mem image)
 
 -- and then read back, unless that isn't wanted
-abbrev pub read_back_part : Part → Switches → Mem → List (Option ℕ) → Dialog Saying Standing
-read_back_part part s mem image = if s.no_verify then Done Fine else verifying_part part s mem image
+abbrev pub reading_back_phase : Part → Switches → Mem → List (Option ℕ) → Dialog Saying Standing
+reading_back_phase part s mem image = if s.no_verify then Done Fine else verifying_phase part s mem image
 
 -- what is said in place of a write where nothing is to be written
 abbrev pub left_out_write : Switches → Mem → List (Option ℕ) → List Saying
-left_out_write s mem image = bytes_say s.quiet mem (held image) (codes " bytes not written")
+left_out_write s mem image = bytes_say s.quiet mem (byte_count image) (codes " bytes not written")
 
-abbrev pub write_part : Part → Switches → Mem → List (Option ℕ) → Dialog Saying Standing
-write_part part s mem image =
+abbrev pub write_task_phase : Part → Switches → Mem → List (Option ℕ) → Dialog Saying Standing
+write_task_phase part s mem image =
     if s.dry then says (left_out_write s mem image) (Done Fine)
-    else writing_part part s mem image >>= unless_fault (read_back_part part s mem image)
+    else writing_phase part s mem image >>= unless_fault (reading_back_phase part s mem image)
 
-abbrev pub reading_part : Part → Switches → Mem → Format → Bytes → Dialog Saying Standing
-reading_part part s mem format file = reported (reading part mem) (fault_or part (read_says s mem format file))
+abbrev pub reading_phase : Part → Switches → Mem → Format → Bytes → Dialog Saying Standing
+reading_phase part s mem format file = reported (reading part mem) (fault_or part (read_says s mem format file))
 
-abbrev pub task_part : Part → Switches → Task → Dialog Saying Standing
-task_part part s (Write mem image) = write_part part s mem image
-task_part part s (Verify mem image) = verifying_part part s mem image
-task_part part s (Read mem format file) = reading_part part s mem format file
+abbrev pub task_phase : Part → Switches → Task → Dialog Saying Standing
+task_phase part s (Write mem image) = write_task_phase part s mem image
+task_phase part s (Verify mem image) = verifying_phase part s mem image
+task_phase part s (Read mem format file) = reading_phase part s mem format file
 
-abbrev pub tasks_part : Part → Switches → List Task → Dialog Saying Standing
-tasks_part part s [] = Done Fine
-tasks_part part s (task ∷ tasks) = task_part part s task >>= unless_fault (tasks_part part s tasks)
+abbrev pub tasks_phase : Part → Switches → List Task → Dialog Saying Standing
+tasks_phase part s [] = Done Fine
+tasks_phase part s (task ∷ tasks) = task_phase part s task >>= unless_fault (tasks_phase part s tasks)
 
 -- a session is opened, and the chip erased where that is due
 abbrev pub beginning : Plan → Dialog Saying Standing
-beginning plan = opening_part plan.part plan.switches >>= unless_fault (erasing_part plan.part plan.switches plan.tasks)
+beginning plan = opening_phase plan.part plan.switches
+    >>= unless_fault (erasing_phase plan.part plan.switches plan.tasks)
 
 -- all of it but the end
 abbrev pub working : Plan → Dialog Saying Standing
-working plan = beginning plan >>= unless_fault (tasks_part plan.part plan.switches plan.tasks)
+working plan = beginning plan >>= unless_fault (tasks_phase plan.part plan.switches plan.tasks)
 
 -- The end of a session: programming mode is left, also after a fault, but not where the line has ended. A second fault
 -- is not told.

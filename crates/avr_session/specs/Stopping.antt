@@ -5,7 +5,7 @@ use Rattle.avr_desk.specs.Record.{Record, DeskView, showing}
 use Rattle.stk_host.specs.Talk as link
 use Rattle.stk_host.specs.Talk.{Talk, LinkView}
 use Rattle.stk_host.specs.Dialog.{Dialog}
-use Rattle.stk_host.specs.Play.{Progress}
+use Rattle.stk_host.specs.Play.{Position}
 use Rattle.avr_message.specs.Lines.{Bytes}
 use Rattle.avr_message.specs.Said.{Saying}
 use Rattle.avr_session.specs.Runs.{Devices, OfMemory, cause_line, start, Ran}
@@ -29,4 +29,4 @@ LacksMemory messages = (before : Bytes) × (messages ≡ before ++ cause_line Of
 
 -- a run was played whole to this status
 abbrev pub IsPlayed : Dialog Saying ℕ → Devices → Devices → ℕ → Type 0
-IsPlayed dialog old new status = (after : Progress) × Ran dialog start old new status after
+IsPlayed dialog old new status = (after : Position) × Ran dialog start old new status after

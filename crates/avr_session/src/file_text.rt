@@ -3,7 +3,7 @@ ghost use Rattle.std.specs.Prelude.{◌≡◌, ◌+◌, ◌≤◌, ◌^◌, leng
 ghost use Rattle.avr_desk.specs.Fault.{Counts};
 ghost use Rattle.avr_desk.specs.Record.{Passes};
 ghost use Rattle.avr_desk.specs.Stream.{SendsPart, after_sent};
-ghost use Rattle.avr_session.specs.FileText.{file_text, used, trimmed};
+ghost use Rattle.avr_session.specs.FileText.{file_text, used_length, trimmed};
 ghost use Rattle.avr_session.specs.Saving.{SendsFront};
 
 use arrayvec::ArrayVec;
@@ -86,7 +86,7 @@ pub(crate) fn write_text<D: Desk>(
 
 /// How many bytes there are up to the last that isn't FF.
 fn used(bytes: &[u8]) -> usize
-    ensures value { result ≡ used bytes.now }
+    ensures value { result ≡ used_length bytes.now }
     ensures within { result ≤ length bytes.now }
 {
     let mut count = bytes.len();

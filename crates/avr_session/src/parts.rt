@@ -6,7 +6,7 @@ ghost use Rattle.avr_plan.specs.Plan.{IsFitted};
 ghost use Rattle.avr_session.specs.Lines.{warns};
 ghost use Rattle.avr_session.specs.Runs.{devices, Reports, PrintStops};
 ghost use Rattle.avr_session.specs.Parts.{Performs, LeavesOut};
-ghost use Rattle.avr_session.specs.Session.{opening_part, chip_erasing_part, left_out_erase, erasing_part, verifying_part, writing_part, read_back_part, reading_part, left_out_write, write_part, task_part, tasks_part, writes_flash, is_erase_due, task_takes_memory};
+ghost use Rattle.avr_session.specs.Session.{opening_phase, chip_erasing_phase, left_out_erase, erasing_phase, verifying_phase, writing_phase, reading_back_phase, reading_phase, left_out_write, write_task_phase, task_phase, tasks_phase, writes_flash, is_erase_due, task_takes_memory};
 ghost use Rattle.stk_host.specs.Talk.{Stays};
 
 use crate::reports::{report_bytes, report_done, report_erased, report_opening, warn};
@@ -30,7 +30,7 @@ pub(crate) fn open_session<D: Desk, L: Link>(
 ) -> Result<Standing, Stopped>
     requires sound { host.old.broken ≡ None }
     requires part { host.old.part ≡ plan.now.part }
-    ensures performs { Performs false (opening_part plan.now.part plan.now.switches) host.old host.new
+    ensures performs { Performs false (opening_phase plan.now.part plan.now.switches) host.old host.new
         (devices (L.view link.old) (D.view desk.old)) (devices (L.view link.new) (D.view desk.new)) result }
     ensures comes { Stays L.comes_of link.old link.new }
 {
@@ -48,7 +48,7 @@ fn erase_chip<D: Desk, L: Link>(
     plan: &Plan,
 ) -> Result<Standing, Stopped>
     requires sound { host.old.broken ≡ None }
-    ensures performs { Performs false (chip_erasing_part plan.now.part plan.now.switches) host.old host.new
+    ensures performs { Performs false (chip_erasing_phase plan.now.part plan.now.switches) host.old host.new
         (devices (L.view link.old) (D.view desk.old)) (devices (L.view link.new) (D.view desk.new)) result }
     ensures comes { Stays L.comes_of link.old link.new }
 {
@@ -105,7 +105,7 @@ pub(crate) fn erase_if_due<D: Desk, L: Link>(
     plan: &Plan,
 ) -> Result<Standing, Stopped>
     requires sound { host.old.broken ≡ None }
-    ensures performs { Performs false (erasing_part plan.now.part plan.now.switches plan.now.tasks) host.old host.new
+    ensures performs { Performs false (erasing_phase plan.now.part plan.now.switches plan.now.tasks) host.old host.new
         (devices (L.view link.old) (D.view desk.old)) (devices (L.view link.new) (D.view desk.new)) result }
     ensures comes { Stays L.comes_of link.old link.new }
 {
@@ -132,7 +132,7 @@ fn verify<D: Desk, L: Link>(
     requires sound { host.old.broken ≡ None }
     requires part { host.old.part ≡ plan.now.part }
     requires fits { length image.now ≤ size_of mem plan.now.part }
-    ensures performs { Performs true (verifying_part plan.now.part plan.now.switches mem image.now) host.old host.new
+    ensures performs { Performs true (verifying_phase plan.now.part plan.now.switches mem image.now) host.old host.new
         (devices (L.view link.old) (D.view desk.old)) (devices (L.view link.new) (D.view desk.new)) result }
     ensures comes { Stays L.comes_of link.old link.new }
 {
@@ -162,7 +162,7 @@ fn write<D: Desk, L: Link>(
     requires sound { host.old.broken ≡ None }
     requires part { host.old.part ≡ plan.now.part }
     requires fits { length image.now ≤ size_of mem plan.now.part }
-    ensures performs { Performs false (writing_part plan.now.part plan.now.switches mem image.now) host.old host.new
+    ensures performs { Performs false (writing_phase plan.now.part plan.now.switches mem image.now) host.old host.new
         (devices (L.view link.old) (D.view desk.old)) (devices (L.view link.new) (D.view desk.new)) result }
     ensures comes { Stays L.comes_of link.old link.new }
 {
@@ -194,7 +194,7 @@ fn read_back<D: Desk, L: Link>(
     requires part { host.old.part ≡ plan.now.part }
     requires fits { length image.now ≤ size_of mem plan.now.part }
     ensures performs { Performs (not plan.now.switches.no_verify)
-        (read_back_part plan.now.part plan.now.switches mem image.now) host.old host.new
+        (reading_back_phase plan.now.part plan.now.switches mem image.now) host.old host.new
         (devices (L.view link.old) (D.view desk.old)) (devices (L.view link.new) (D.view desk.new)) result }
     ensures comes { Stays L.comes_of link.old link.new }
 {
@@ -237,7 +237,7 @@ fn write_and_verify<D: Desk, L: Link>(
     requires part { host.old.part ≡ plan.now.part }
     requires fits { length image.now ≤ size_of mem plan.now.part }
     ensures performs { Performs (not (plan.now.switches.dry || plan.now.switches.no_verify))
-        (write_part plan.now.part plan.now.switches mem image.now) host.old host.new
+        (write_task_phase plan.now.part plan.now.switches mem image.now) host.old host.new
         (devices (L.view link.old) (D.view desk.old)) (devices (L.view link.new) (D.view desk.new)) result }
     ensures comes { Stays L.comes_of link.old link.new }
 {
@@ -263,7 +263,7 @@ fn read<D: Desk, L: Link>(
     requires sound { host.old.broken ≡ None }
     requires part { host.old.part ≡ plan.now.part }
     ensures performs { Performs true
-        (reading_part plan.now.part plan.now.switches mem target.entry.format target.entry.file.now)
+        (reading_phase plan.now.part plan.now.switches mem target.entry.format target.entry.file.now)
         host.old host.new
         (devices (L.view link.old) (D.view desk.old)) (devices (L.view link.new) (D.view desk.new)) result }
     ensures comes { Stays L.comes_of link.old link.new }
@@ -287,7 +287,7 @@ fn perform<D: Desk, L: Link>(
     requires part { host.old.part ≡ plan.now.part }
     requires fits { IsFitted plan.now.part task.now }
     ensures performs { Performs (task_takes_memory plan.now.switches task.now)
-        (task_part plan.now.part plan.now.switches task.now) host.old host.new
+        (task_phase plan.now.part plan.now.switches task.now) host.old host.new
         (devices (L.view link.old) (D.view desk.old)) (devices (L.view link.new) (D.view desk.new)) result }
     ensures comes { Stays L.comes_of link.old link.new }
 {
@@ -321,7 +321,7 @@ pub(crate) fn perform_all<D: Desk, L: Link>(
     requires part { host.old.part ≡ plan.now.part }
     requires fits { All (IsFitted plan.now.part) tasks.now }
     ensures performs { Performs (list_any (task_takes_memory plan.now.switches) tasks.now)
-        (tasks_part plan.now.part plan.now.switches tasks.now) host.old host.new
+        (tasks_phase plan.now.part plan.now.switches tasks.now) host.old host.new
         (devices (L.view link.old) (D.view desk.old)) (devices (L.view link.new) (D.view desk.new)) result }
     ensures comes { Stays L.comes_of link.old link.new }
 {

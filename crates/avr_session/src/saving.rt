@@ -6,8 +6,8 @@ ghost use Rattle.avr_message.specs.Said.{Creates, Writes, Tells};
 ghost use Rattle.avr_session.specs.FileText.{file_text};
 ghost use Rattle.avr_session.specs.Runs.{Reports, DeskStops, ReadStops};
 ghost use Rattle.avr_session.specs.Saving.{SaveStops, WritesAll};
-ghost use Rattle.avr_session.specs.Session.{saved, kept_of, read_says, fault_or};
-ghost use Rattle.stk_host.specs.Calls.{given};
+ghost use Rattle.avr_session.specs.Session.{saving_says, kept_of, read_says, fault_or};
+ghost use Rattle.stk_host.specs.Calls.{given_or_fault};
 
 use crate::file_text::{trimmed, write_text};
 use crate::reports::{report_bytes, tell_fault};
@@ -73,7 +73,7 @@ fn create_file<D: Desk>(desk: &mut D, target: Target<'_>, bytes: &[u8]) -> Resul
 pub(crate) fn save<D: Desk>(desk: &mut D, target: Target<'_>, bytes: &[u8]) -> Result<(), Stopped>
     requires { length bytes.now ≤ 2 ^ 32 }
     ensures { Reports (SaveStops target.entry.file.now) (D.view desk.old) (D.view desk.new)
-        (saved target.entry.file.now (file_text target.entry.format bytes.now)) result }
+        (saving_says target.entry.file.now (file_text target.entry.format bytes.now)) result }
 {
     if target.file == "-" {
         write_file(desk, Stream::Output, target, bytes)
@@ -121,7 +121,7 @@ pub(crate) fn report_read<D: Desk>(
     requires { length bytes.now < 2 ^ 32 }
     ensures { Reports (ReadStops outcome.now) (D.view desk.old) (D.view desk.new)
         (fault_or plan.now.part (read_says plan.now.switches mem target.entry.format target.entry.file.now)
-        (given bytes.now outcome.now)) result }
+        (given_or_fault bytes.now outcome.now)) result }
 {
     match outcome {
         Ok(()) => report_bytes_read(desk, plan.switches(), mem, target, bytes),

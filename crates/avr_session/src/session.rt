@@ -2,7 +2,7 @@
 ghost use Rattle.std.specs.Prelude.{◌≡◌, ◌∷◌, [], None, Ok, codes, true, false};
 ghost use Rattle.avr_desk.specs.Fault.{Follows};
 ghost use Rattle.avr_session.specs.declared.standing.Standing.TheVariants.{Fine, Faulty};
-ghost use Rattle.avr_session.specs.Concluding.{Serves};
+ghost use Rattle.avr_session.specs.Concluding.{HostServes};
 ghost use Rattle.avr_session.specs.Parts.{is_told, Performs, PerformsBehind};
 ghost use Rattle.avr_session.specs.Runs.{devices, RunsTo};
 ghost use Rattle.avr_session.specs.Session.{beginning, working, ending, playing, session, takes_memory};
@@ -98,7 +98,7 @@ fn end<D: Desk, L: Link>(
     plan: &Plan,
     standing: Standing,
 ) -> Result<Standing, Stopped>
-    requires { Serves (Ok standing) host.old.broken }
+    requires { HostServes (Ok standing) host.old.broken }
     ensures performs { PerformsBehind (record { takes = false; was_told = is_told standing })
         (ending plan.now.part plan.now.switches standing) host.old host.new
         (devices (L.view link.old) (D.view desk.old)) (devices (L.view link.new) (D.view desk.new)) result }

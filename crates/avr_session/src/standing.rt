@@ -1,6 +1,6 @@
 //! How a session stands after a part of it.
 ghost use Rattle.std.specs.Prelude.{◌≡◌};
-ghost use Rattle.avr_session.specs.Concluding.{concluded, fine_if_said};
+ghost use Rattle.avr_session.specs.Concluding.{conclusion, fine_if_said};
 ghost use Rattle.avr_session.specs.Session.{status_of};
 
 use stk_host::HostFault;
@@ -26,7 +26,7 @@ pub(crate) fn conclude<T>(
     outcome: &Result<T, HostFault>,
     reported: Result<(), Stopped>,
 ) -> Result<Standing, Stopped>
-    ensures { result ≡ concluded outcome.now reported }
+    ensures { result ≡ conclusion outcome.now reported }
 {
     if reported.is_err() {
         return Err(Stopped);

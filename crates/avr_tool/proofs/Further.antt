@@ -7,10 +7,10 @@ use Rattle.avr_session.specs.Runs.{start}
 use Rattle.avr_session.specs.Session.{session, is_erase_due, takes_memory}
 use Rattle.avr_session.specs.Stopping.{IsSound, LacksMemory, keeping}
 use Rattle.avr_session.proofs.SoundRuns.{broke_lacks}
-use Rattle.stk_emu.specs.Effect.{keeps_eeprom}
+use Rattle.stk_emu.specs.Effect.{erase_keeps_eeprom}
 use Rattle.stk_emu.specs.Few.{AreFew}
 use Rattle.stk_emu.specs.Settled.{FitsPart}
-use Rattle.stk_emu.specs.Wired.{State, wired_view}
+use Rattle.stk_emu.specs.Wired.{WiredState, wired_view}
 use Rattle.avr_emulated.specs.Again.{AreKeeping, AgreesAnyway}
 use Rattle.avr_emulated.specs.AnyLine.{Stopped, OverAnyLine, memories}
 use Rattle.avr_emulated.specs.Items.{items}
@@ -20,7 +20,7 @@ use Rattle.avr_emulated.proofs.AgainAgrees.{agrees_anyway}
 use Rattle.avr_emulated.proofs.AgainHeals.{done_again}
 use Rattle.avr_tool.specs.Headline.{over}
 
-module _ (plan : Plan) (w v : State) (d e : Record) (a b status : ℕ) (few : AreFew w.wire.fates) (sound : IsSound (over w (keeping d a)) (over v (keeping e b))) (has_memory : LacksMemory e.messages → ⊥) where
+module _ (plan : Plan) (w v : WiredState) (d e : Record) (a b status : ℕ) (few : AreFew w.wire.fates) (sound : IsSound (over w (keeping d a)) (over v (keeping e b))) (has_memory : LacksMemory e.messages → ⊥) where
   abbrev old : DeskView
   old = keeping d a
 
@@ -37,10 +37,10 @@ module _ (plan : Plan) (w v : State) (d e : Record) (a b status : ℕ) (few : Ar
       → OverAnyLine plan w v old now status → (status ≡ 0) × IsWritten plan (memories w) (memories v)
   sound_images wet verified due both is_over = elim (is_over.again few wet due both) [ inl zero ↦ (zero, is_over.images zero wet verified) | inr stopped ↦ absurd (goes_on stopped) ]
 
-pub further_heals : (plan : Plan) (w v x y : State) (d e f g : DeskView) (status further : ℕ)
+pub further_heals : (plan : Plan) (w v x y : WiredState) (d e f g : DeskView) (status further : ℕ)
     → IsPart plan.part → All (IsFitted plan.part) plan.tasks → FitsPart plan.part (memories w)
     → plan.switches.dry ≡ false → is_erase_due plan.switches plan.tasks ≡ true → AgreesAnyway plan
-    → (keeps_eeprom plan.part (memories w) ≡ true → AreKeeping plan.part (items plan))
+    → (erase_keeps_eeprom plan.part (memories w) ≡ true → AreKeeping plan.part (items plan))
     → OverAnyLine plan w v d e status
     → memories x ≡ memories v → AreFew x.wire.fates → OverAnyLine plan x y f g further
     → ((further ≡ 0) × IsDone plan (memories w) (memories y)) ⊎ Stopped plan x y f g

@@ -3,7 +3,7 @@ use Rattle.std.proofs.Common.{◌≡◌, ◌*◌, ℕ, List, [], ◌++◌, All, 
 use Rattle.std.proofs.lemmas.List.{append-nil}
 use Rattle.avr_message.specs.Said.{Saying}
 use Rattle.avr_part.specs.Part.{IsPart}
-use Rattle.avr_part.specs.Sound.{IsSound}
+use Rattle.avr_part.specs.Sound.{IsSoundChip}
 use Rattle.avr_part.specs.State as chips
 use Rattle.avr_plan.specs.Plan.{Plan, IsFitted}
 use Rattle.avr_session.specs.Session.{session}
@@ -38,8 +38,8 @@ use Rattle.avr_emulated.proofs.Success.{session_succeeds}
 use Rattle.avr_emulated.proofs.FewBadEnds.{Came}
 use Rattle.avr_emulated.proofs.Weighing.{session_weighs}
 
-module _ (plan : Plan) (s : chips.State) (q : Programmer) (fates : List Fate) (bytes : List ℕ) (tape left : Tape) (events : List (Event Saying)) (status next : ℕ)
-    (is_sound : IsSound s) (part_is : s.part ≡ plan.part) (fitted : All (IsFitted plan.part) plan.tasks) (lawful : AreLawful fates)
+module _ (plan : Plan) (s : chips.ChipState) (q : Programmer) (fates : List Fate) (bytes : List ℕ) (tape left : Tape) (events : List (Event Saying)) (status next : ℕ)
+    (is_sound : IsSoundChip s) (part_is : s.part ≡ plan.part) (fitted : All (IsFitted plan.part) plan.tasks) (lawful : AreLawful fates)
     (talks : Talks device fates (fresh_programmer s) bytes tape q)
     (is : played (session plan) 1 tape ≡ record { events = events; outcome = Some (status, next, left) }) (sent_is : bytes_sent events ≡ bytes) where
   abbrev begun : Programmer
@@ -63,11 +63,11 @@ module _ (plan : Plan) (s : chips.State) (q : Programmer) (fates : List Fate) (b
   front : (others : List (List ℕ)) × (frames_in events ≡ frames bytes ++ others)
   front = frames_front events bytes [] (subst (λ p. AreWhole (frames_in p.events)) is (sends_whole (session plan) 1 tape asks)) (append-nil bytes ∙ sym sent_is)
 
-  over : frames_in (played (session plan) 1 (tape_of device (frames bytes) (wire.fresh begun fates))).events ≡ frames bytes ++ front.0
+  over : frames_in (played (session plan) 1 (tape_of device (frames bytes) (wire.fresh_wire begun fates))).events ≡ frames bytes ++ front.0
   over = ap (λ t. frames_in (played (session plan) 1 t).events) talks.tape_is ∙ (ap (λ p. frames_in p.events) is ∙ front.1)
 
-  goes : Fused device (session plan) 1 (wire.fresh begun fates) (frames bytes)
-  goes = fused device answers_bodies (session plan) 1 (wire.fresh begun fates) (frames bytes) front.0 asks (none_clear 1) lawful over
+  goes : Fused device (session plan) 1 (wire.fresh_wire begun fates) (frames bytes)
+  goes = fused device answers_bodies (session plan) 1 (wire.fresh_wire begun fates) (frames bytes) front.0 asks (none_clear 1) lawful over
 
   comes : (along device count (session plan) begun fates).dialog ≡ Done status
   comes = (goes.outcome status next left (ap (λ t. (played (session plan) 1 t).outcome) talks.tape_is ∙ ap (λ p. p.outcome) is)).0
@@ -78,7 +78,7 @@ module _ (plan : Plan) (s : chips.State) (q : Programmer) (fates : List Fate) (b
   said : sayings events ≡ said_along device count (session plan) begun fates
   said =
       ap (λ p. sayings p.events) (sym is) ∙ (ap (λ t. sayings (played (session plan) 1 t).events) (sym talks.tape_is)
-      ∙ said_over device answers_bodies (session plan) 1 (wire.fresh begun fates) (frames bytes) front.0 asks (none_clear 1) lawful over)
+      ∙ said_over device answers_bodies (session plan) 1 (wire.fresh_wire begun fates) (frames bytes) front.0 asks (none_clear 1) lawful over)
 
   came : status ≡ 0 → Came status (course plan (memories_of s)).status (said_along device count (session plan) begun fates) (course plan (memories_of s)).says
       (memories_of (along device count (session plan) begun fates).programmer.chip ≡ (course plan (memories_of s)).memories)

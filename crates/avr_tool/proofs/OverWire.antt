@@ -18,30 +18,30 @@ use Rattle.stk_emu.specs.Lawful.{none_late}
 use Rattle.stk_emu.specs.Programmer.{Programmer, fresh_programmer}
 use Rattle.stk_emu.specs.Wire as wire
 use Rattle.stk_emu.specs.Wire.{Wire, wire_after}
-use Rattle.stk_emu.specs.Wired.{State, IsFresh}
+use Rattle.stk_emu.specs.Wired.{WiredState, IsFresh}
 use Rattle.avr_emulated.specs.AnyLine.{Stopped, OverAnyLine}
 use Rattle.avr_tool.specs.Headline.{IsRun, StoppedPlanning, IsNew, over, RunsOverWire, RunsNowhere}
 use Rattle.avr_tool.proofs.Joining.{ran_whole, ran_openings, refused_whole}
 
 -- a new wire keeps what its frames have brought, as there are none
-pub is_fresh : (w : State) → IsNew w → IsFresh w
+pub is_fresh : (w : WiredState) → IsNew w → IsFresh w
 is_fresh w new = record {
   silent = new.none_passed;
   begins = record {
     held = subst (λ held. Stands held (sent w.talk)) (sym new.none_held) (subst (λ talk. Stands [] (sent talk)) (sym new.none_passed) refl);
-    stands = as_begun w.wire new.programmer new.none_late ∙ ap (λ talk. wire_after device (frames (sent talk)) (wire.fresh (fresh_programmer w.wire.programmer.chip) w.wire.fates)) (sym new.none_passed);
-    brings = λ never. ap (λ talk. wire.tape_of device (frames (sent talk)) (wire.fresh (fresh_programmer w.wire.programmer.chip) w.wire.fates)) new.none_passed
+    stands = as_begun w.wire new.programmer new.none_late ∙ ap (λ talk. wire_after device (frames (sent talk)) (wire.fresh_wire (fresh_programmer w.wire.programmer.chip) w.wire.fates)) (sym new.none_passed);
+    brings = λ never. ap (λ talk. wire.tape_of device (frames (sent talk)) (wire.fresh_wire (fresh_programmer w.wire.programmer.chip) w.wire.fates)) new.none_passed
         ∙ sym (ap (λ talk. heard talk ++ w.waits) new.none_passed ∙ new.none_waits);
   };
   lawful = new.lawful;
 }
   where
-    as_begun : (x : Wire Programmer) → x.programmer ≡ fresh_programmer x.programmer.chip → x.late ≡ none_late → x ≡ wire.fresh (fresh_programmer x.programmer.chip) x.fates
+    as_begun : (x : Wire Programmer) → x.programmer ≡ fresh_programmer x.programmer.chip → x.late ≡ none_late → x ≡ wire.fresh_wire (fresh_programmer x.programmer.chip) x.fates
     as_begun x p l = ap (λ q. record x { programmer = q }) p ∙ ap (λ late. record { programmer = fresh_programmer x.programmer.chip; fates = x.fates; late = late }) l
 
 module _ (settings : Settings) (old now : DeskView) (status : ℕ) where
   -- a plan that was made, and its session
-  module _ (plan : Plan) (w v : State) (between : DeskView) (made : Went (planned settings) old between (Made plan)) (follows : Follows between now) where
+  module _ (plan : Plan) (w v : WiredState) (between : DeskView) (made : Went (planned settings) old between (Made plan)) (follows : Follows between now) where
     run_or_stop : RunsTo (session plan) (over w between) (over v now) (takes_memory plan) status
         → ((r : IsRun settings (over w old) (over v now) status) × (r.openings ≡ made.passed)) ⊎ (Stopped plan w v between now × (status ≡ 1))
     run_or_stop (inl whole) = inl (ran_whole settings plan (over w old) (over v now) between status made whole, ran_openings settings plan (over w old) (over v now) between status made whole)
@@ -59,10 +59,10 @@ module _ (settings : Settings) (old now : DeskView) (status : ℕ) where
     }
 
   -- no plan
-  pub runs_nowhere : (w : State) → Goes {A = Plan} (planned settings) old now (Err status) → RunsNowhere settings w w old now status
+  pub runs_nowhere : (w : WiredState) → Goes {A = Plan} (planned settings) old now (Err status) → RunsNowhere settings w w old now status
   runs_nowhere w none = record { runs = either none.1; untouched = refl; status_is = none.0 }
     where
-      either : Went (planned settings) old now Refused ⊎ planning.BrokeOff (planned settings) old now
+      either : Went (planned settings) old now Refused ⊎ planning.StageBrokeOff (planned settings) old now
           → IsRun settings (over w old) (over w now) status ⊎ StoppedPlanning settings (over w old) (over w now) status
       either (inl went) = inl (subst (IsRun settings (over w old) (over w now)) (sym none.0) (refused_whole settings (over w old) (over w now) refl went))
       either (inr broke) = inr (record { broke = broke; same = refl; status_is = none.0 })

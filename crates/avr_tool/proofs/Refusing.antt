@@ -9,55 +9,55 @@ use Rattle.avr_session.specs.Session.{session}
 use Rattle.avr_session.specs.Stopping.{talking}
 use Rattle.stk_frame.specs.Cut.{body_of}
 use Rattle.stk_host.specs.Dialog.{bytes_sent, sayings}
-use Rattle.stk_host.specs.Operations.{beginning, opening, closing, operation}
+use Rattle.stk_host.specs.Operations.{handshake, opening, closing, operation}
 use Rattle.stk_host.specs.Steps.{exchange, attempt, tries, play}
 use Rattle.stk_host.specs.Talk.{Talk, sent, heard}
 use Rattle.stk_host.specs.Tape.{answer, on_tape}
 use Rattle.stk_emu.specs.Effect.{effects}
-use Rattle.stk_emu.specs.Wired.{State}
+use Rattle.stk_emu.specs.Wired.{WiredState}
 use Rattle.avr_emulated.specs.AnyLine.{OverAnyLine, Weight, weighed, bodies_in, memories, frames_over}
 use Rattle.avr_emulated.specs.Bound.{run_steps}
 use Rattle.avr_emulated.specs.Course.{course}
 use Rattle.avr_emulated.specs.Items.{items}
 use Rattle.avr_tool.specs.Headline.{run, IsRun}
-use Rattle.avr_tool.specs.Worked.{asked, answers, frames_due, lines_due}
+use Rattle.avr_tool.specs.Worked.{worked_settings, worked_answers, frames_due, lines_due}
 
 some_is : {A : Type 0} (a b : A) → ◌≡◌ {A = Option A} (Some a) (Some b) → a ≡ b
 some_is a b e = cc
 
-pub too_much : (plan : Plan) (w v : State) (d e : DeskView) (status : ℕ) (weight : Weight)
+pub too_much : (plan : Plan) (w v : WiredState) (d e : DeskView) (status : ℕ) (weight : Weight)
     → 4 * weighed weight (bodies_in (run_steps plan)) < weighed weight (map body_of (frames_over v)) → OverAnyLine plan w v d e status → ⊥
 too_much plan w v d e status weight more over = let most = over.four weight in absurd (omega (arith, more, most))
 
-pub not_all_written : (plan : Plan) (w v : State) (d e : DeskView) → (memories v ≡ effects plan.part (items plan) (memories w) → ⊥) → OverAnyLine plan w v d e 0 → ⊥
+pub not_all_written : (plan : Plan) (w v : WiredState) (d e : DeskView) → (memories v ≡ effects plan.part (items plan) (memories w) → ⊥) → OverAnyLine plan w v d e 0 → ⊥
 not_all_written plan w v d e other over = other (over.done refl).memories
 
-pub said_otherwise : (plan : Plan) (w v : State) (d e : DeskView) → (Passes (after_all (course plan (memories w)).says) d e → ⊥) → OverAnyLine plan w v d e 0 → ⊥
+pub said_otherwise : (plan : Plan) (w v : WiredState) (d e : DeskView) → (Passes (after_all (course plan (memories w)).says) d e → ⊥) → OverAnyLine plan w v d e 0 → ⊥
 said_otherwise plan w v d e other over = other (over.success refl).said
 
-pub touched_in_silence : (plan : Plan) (w v : State) (d e : DeskView) (status : ℕ) → frames_over v ≡ [] → (memories v ≡ memories w → ⊥) → OverAnyLine plan w v d e status → ⊥
+pub touched_in_silence : (plan : Plan) (w v : WiredState) (d e : DeskView) (status : ℕ) → frames_over v ≡ [] → (memories v ≡ memories w → ⊥) → OverAnyLine plan w v d e status → ⊥
 touched_in_silence plan w v d e status none other over = other (over.untouched none)
 
 -- ---- the worked run
 
-answered_due : (openings : List Opening) → (run asked openings answers).outcome ≡ Some (0, 7, [])
-unfolding session opening beginning operation closing play tries attempt exchange answer
+answered_due : (openings : List Opening) → (run worked_settings openings worked_answers).outcome ≡ Some (0, 7, [])
+unfolding session opening handshake operation closing play tries attempt exchange answer
 answered_due openings = refl
 
-sent_due : (openings : List Opening) → bytes_sent (run asked openings answers).events ≡ frames_due
-unfolding session opening beginning operation closing play tries attempt exchange answer
+sent_due : (openings : List Opening) → bytes_sent (run worked_settings openings worked_answers).events ≡ frames_due
+unfolding session opening handshake operation closing play tries attempt exchange answer
 sent_due openings = refl
 
-said_due : (openings : List Opening) → sayings (run asked openings answers).events ≡ lines_due
-unfolding session opening beginning operation closing play tries attempt exchange answer
+said_due : (openings : List Opening) → sayings (run worked_settings openings worked_answers).events ≡ lines_due
+unfolding session opening handshake operation closing play tries attempt exchange answer
 said_due openings = refl
 
-module _ (talk : Talk) (a b : ℕ) (d e : DeskView) (status : ℕ) (all : heard talk ≡ answers) (x : IsRun asked (devices (talking [] a) d) (devices (talking talk b) e) status) where
+module _ (talk : Talk) (a b : ℕ) (d e : DeskView) (status : ℕ) (all : heard talk ≡ worked_answers) (x : IsRun worked_settings (devices (talking [] a) d) (devices (talking talk b) e) status) where
   passed : x.during ≡ talk
   passed = sym (some_is talk x.during x.grows)
 
-  played_over : run asked (x.openings ++ []) (answers ++ []) ≡ record { events = x.events; outcome = Some (status, x.next, on_tape x.left ++ []) }
-  played_over = subst (λ tape. run asked (x.openings ++ []) (tape ++ []) ≡ record { events = x.events; outcome = Some (status, x.next, on_tape x.left ++ []) }) (ap heard passed ∙ all) (x.is [] [])
+  played_over : run worked_settings (x.openings ++ []) (worked_answers ++ []) ≡ record { events = x.events; outcome = Some (status, x.next, on_tape x.left ++ []) }
+  played_over = subst (λ tape. run worked_settings (x.openings ++ []) (tape ++ []) ≡ record { events = x.events; outcome = Some (status, x.next, on_tape x.left ++ []) }) (ap heard passed ∙ all) (x.is [] [])
 
   pub worked_status : status ≡ 0
   worked_status = ap (λ z. z.0) (some_is (status, x.next, on_tape x.left ++ []) (0, 7, []) (sym (ap (λ p. p.outcome) played_over) ∙ answered_due (x.openings ++ [])))
@@ -68,15 +68,15 @@ module _ (talk : Talk) (a b : ℕ) (d e : DeskView) (status : ℕ) (all : heard 
   worked_said : sayings x.events ≡ lines_due
   worked_said = sym (ap (λ p. sayings p.events) played_over) ∙ said_due (x.openings ++ [])
 
-pub another_status : (talk : Talk) (a b : ℕ) (d e : DeskView) → heard talk ≡ answers → IsRun asked (devices (talking [] a) d) (devices (talking talk b) e) 1 → ⊥
+pub another_status : (talk : Talk) (a b : ℕ) (d e : DeskView) → heard talk ≡ worked_answers → IsRun worked_settings (devices (talking [] a) d) (devices (talking talk b) e) 1 → ⊥
 another_status talk a b d e all x = absurd (one_no (worked_status talk a b d e 1 all x))
   where
     one_no : ◌≡◌ {A = ℕ} 1 0 → ⊥
     one_no e = cc
 
-pub another_frame : (talk : Talk) (a b : ℕ) (d e : DeskView) (status : ℕ) → heard talk ≡ answers → (sent talk ≡ frames_due → ⊥) → IsRun asked (devices (talking [] a) d) (devices (talking talk b) e) status → ⊥
+pub another_frame : (talk : Talk) (a b : ℕ) (d e : DeskView) (status : ℕ) → heard talk ≡ worked_answers → (sent talk ≡ frames_due → ⊥) → IsRun worked_settings (devices (talking [] a) d) (devices (talking talk b) e) status → ⊥
 another_frame talk a b d e status all other x = other (worked_sent talk a b d e status all x)
 
-pub another_line : (talk : Talk) (a b : ℕ) (d e : DeskView) (status : ℕ) → heard talk ≡ answers → (Passes (after_all lines_due) d e → ⊥)
-    → IsRun asked (devices (talking [] a) d) (devices (talking talk b) e) status → ⊥
+pub another_line : (talk : Talk) (a b : ℕ) (d e : DeskView) (status : ℕ) → heard talk ≡ worked_answers → (Passes (after_all lines_due) d e → ⊥)
+    → IsRun worked_settings (devices (talking [] a) d) (devices (talking talk b) e) status → ⊥
 another_line talk a b d e status all other x = other (x.kept ∙ ap (λ said. option_map (after_all said) d.kept) (worked_said talk a b d e status all x))

@@ -31,7 +31,7 @@ use Rattle.stk_emu.specs.Effect.{memories_of}
 use Rattle.stk_emu.specs.Lawful.{none_late}
 use Rattle.stk_emu.specs.Programmer.{Programmer, fresh_programmer}
 use Rattle.stk_emu.specs.Wire.{AreLawful}
-use Rattle.stk_emu.specs.Wired.{State, wired_view}
+use Rattle.stk_emu.specs.Wired.{WiredState, wired_view}
 use Rattle.stk_emu.specs.declared.fate.Fate.{Fate}
 use Rattle.stk_frame.specs.Cut.{body_of, frames}
 use Rattle.stk_host.specs.Dialog.{Event, Said, Played, played, behind, bytes_sent, sayings}
@@ -47,7 +47,7 @@ after_answer (Made plan) tape = played (session plan) 1 tape
 after_answer Refused tape = record { events = []; outcome = Some (1, 1, tape) }
 after_answer Unread tape = record { events = []; outcome = None }
 
-abbrev pub after_planning : stage.Played Plan → Tape → Played Saying ℕ
+abbrev pub after_planning : stage.StageResult Plan → Tape → Played Saying ℕ
 after_planning p tape = behind (map Said p.says) (after_answer p.answer tape)
 
 -- THE RUN: all that is sent and said, and the status
@@ -96,7 +96,7 @@ pub record StoppedPlaying (settings : Settings) (before now : Devices) (status :
 
 -- As it was planned: a front of what planning says was done, and nothing was sent or heard.
 pub record StoppedPlanning (settings : Settings) (before now : Devices) (status : ℕ) : Type 0 where
-  pub broke : planning.BrokeOff (planned settings) before.desk now.desk
+  pub broke : planning.StageBrokeOff (planned settings) before.desk now.desk
   pub same : now.link ≡ before.link
   pub status_is : status ≡ 1
 
@@ -127,7 +127,7 @@ pub record IsFrontOfRun (settings : Settings) (before now : Devices) : Type 0 wh
 
 -- Nothing is held of a frame, nothing waits to be heard, comes late or has passed; the programmer has done nothing yet;
 -- and whatever spoils an answer doesn't make another good frame of it.
-pub record IsNew (w : State) : Type 0 where
+pub record IsNew (w : WiredState) : Type 0 where
   pub none_held : w.held ≡ []
   pub none_waits : w.waits ≡ []
   pub none_passed : w.talk ≡ []
@@ -136,12 +136,12 @@ pub record IsNew (w : State) : Type 0 where
   pub lawful : AreLawful w.wire.fates
 
 -- a wire and a desk
-abbrev pub over : State → DeskView → Devices
+abbrev pub over : WiredState → DeskView → Devices
 over w desk = devices (wired_view w) desk
 
 -- A plan was made of these openings; its session was run, or stopped; and if the chip is of the plan's part, that is
 -- what became of it. A failure of the desk that stopped it is one since before the run.
-pub record RunsOverWire (settings : Settings) (before after : State) (desk_before desk_now : DeskView)
+pub record RunsOverWire (settings : Settings) (before after : WiredState) (desk_before desk_now : DeskView)
     (status : ℕ) : Type 0 where
   pub plan : Plan
   pub between : DeskView
@@ -152,14 +152,14 @@ pub record RunsOverWire (settings : Settings) (before after : State) (desk_befor
   pub line : before.wire.programmer.chip.part ≡ plan.part → OverAnyLine plan before after between desk_now status
 
 -- There is no plan: that was told, or planning stopped, and the wire is untouched.
-pub record RunsNowhere (settings : Settings) (before after : State) (desk_before desk_now : DeskView)
+pub record RunsNowhere (settings : Settings) (before after : WiredState) (desk_before desk_now : DeskView)
     (status : ℕ) : Type 0 where
   pub runs : IsRun settings (over before desk_before) (over after desk_now) status
       ⊎ StoppedPlanning settings (over before desk_before) (over after desk_now) status
   pub untouched : after ≡ before
   pub status_is : status ≡ 1
 
-abbrev pub RunsWired : Settings → State → State → DeskView → DeskView → ℕ → Type 0
+abbrev pub RunsWired : Settings → WiredState → WiredState → DeskView → DeskView → ℕ → Type 0
 RunsWired settings before after desk_before desk_now status =
     RunsOverWire settings before after desk_before desk_now status
     ⊎ RunsNowhere settings before after desk_before desk_now status

@@ -23,7 +23,7 @@ chip_file_of (Served port chip) = chip
 chip_file_of port = []
 
 -- where it is: HOST:PORT of a connection, the digits of a service
-abbrev pub name_of : Port → List ℕ
-name_of (Network address) = address
-name_of (Served port chip) = port
-name_of port = []
+abbrev pub port_place : Port → List ℕ
+port_place (Network address) = address
+port_place (Served port chip) = port
+port_place port = []

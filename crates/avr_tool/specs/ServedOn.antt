@@ -11,7 +11,7 @@ use Rattle.avr_net.specs.ServedNet.{ServesOn}
 
 -- The chip of the settings was loaded; then it was served, or no connection could be accepted.
 pub record ServesFirst (settings : Settings) (port file : Bytes) (old new : DeskView) (status : ℕ) : Type 0 where
-  pub chip : chips.State
+  pub chip : chips.ChipState
   pub loaded_desk : DeskView
   pub loaded : Went (settings_chip settings file) old loaded_desk (Made chip)
   pub serves : ServesOn chip port file loaded_desk new status

@@ -2,13 +2,13 @@
 use Rattle.std.specs.Prelude.{ℕ, List, [], ◌∷◌, ◌++◌, None, false, codes}
 use Rattle.avr_cli.specs.declared.chosen.Settings.{Settings}
 use Rattle.avr_cli.specs.declared.chosen.Port.TheVariants.{Stdio}
-use Rattle.avr_message.specs.Lines.{spaced}
+use Rattle.avr_message.specs.Lines.{spaced_digits}
 use Rattle.avr_message.specs.Said.{Saying}
 use Rattle.avr_session.specs.Lines.{informs}
 use Rattle.stk_host.specs.Tape.{Tape, on_tape}
 
-abbrev pub asked : Settings
-asked = record {
+abbrev pub worked_settings : Settings
+worked_settings = record {
   part = codes "m328p";
   port = Stdio;
   parts = None;
@@ -25,8 +25,8 @@ asked = record {
 }
 
 -- the answers: a name, programming mode, the signature 1E 95 0F, and out of it
-abbrev pub answers : Tape
-answers = on_tape (
+abbrev pub worked_answers : Tape
+worked_answers = on_tape (
     0x1B ∷ 0x01 ∷ 0x00 ∷ 0x0B ∷ 0x0E ∷ 0x01 ∷ 0x00 ∷ 0x08 ∷ 0x53 ∷ 0x54 ∷ 0x4B ∷ 0x35 ∷ 0x30 ∷ 0x30 ∷ 0x5F ∷ 0x32 ∷ 0x02
     ∷ 0x1B ∷ 0x02 ∷ 0x00 ∷ 0x02 ∷ 0x0E ∷ 0x10 ∷ 0x00 ∷ 0x05
     ∷ 0x1B ∷ 0x03 ∷ 0x00 ∷ 0x04 ∷ 0x0E ∷ 0x1B ∷ 0x00 ∷ 0x1E ∷ 0x00 ∷ 0x17
@@ -49,4 +49,5 @@ frames_due =
 -- the lines: the signature, and the end
 abbrev pub lines_due : List Saying
 lines_due =
-    informs 0 (codes "device signature = " ∷ spaced (0x1E ∷ 0x95 ∷ 0x0F ∷ []) ∷ []) ++ informs 0 (codes "done" ∷ [])
+    informs 0 (codes "device signature = " ∷ spaced_digits (0x1E ∷ 0x95 ∷ 0x0F ∷ []) ∷ [])
+    ++ informs 0 (codes "done" ∷ [])

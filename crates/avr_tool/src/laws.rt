@@ -12,23 +12,23 @@ ghost use Rattle.avr_emulated.specs.Outcome.{IsCourse, IsDone};
 ghost use Rattle.avr_emulated.specs.Written.{IsWritten};
 ghost use Rattle.avr_message.specs.Said.{Saying, after_all};
 ghost use Rattle.avr_part.specs.Part.{IsPart};
-ghost use Rattle.avr_part.specs.Sound.{IsSound as IsSoundChip};
-ghost use Rattle.avr_part.specs.State.{State as Chip};
+ghost use Rattle.avr_part.specs.Sound.{IsSoundChip};
+ghost use Rattle.avr_part.specs.State.{ChipState as Chip};
 ghost use Rattle.avr_plan.specs.Plan.{Plan, IsFitted};
 ghost use Rattle.avr_session.specs.Run.{RunsSettings};
 ghost use Rattle.avr_session.specs.Runs.{Devices, devices};
 ghost use Rattle.avr_session.specs.Session.{session, is_erase_due};
 ghost use Rattle.avr_session.specs.Stopping.{IsSound, LacksMemory, keeping, talking};
 ghost use Rattle.avr_tool.specs.Headline.{IsRun, IsStopped, StoppedPlaying, IsFrontOfRun, OverAnyLink, over};
-ghost use Rattle.avr_tool.specs.Worked.{asked, answers, frames_due, lines_due};
+ghost use Rattle.avr_tool.specs.Worked.{worked_settings, worked_answers, frames_due, lines_due};
 ghost use Rattle.stk_emu.specs.Along.{along, said_along};
 ghost use Rattle.stk_emu.specs.Device.{device};
-ghost use Rattle.stk_emu.specs.Effect.{Memories, memories_of, keeps_eeprom, effects};
+ghost use Rattle.stk_emu.specs.Effect.{Memories, memories_of, erase_keeps_eeprom, effects};
 ghost use Rattle.stk_emu.specs.Few.{AreFew};
 ghost use Rattle.stk_emu.specs.Programmer.{Programmer, fresh_programmer};
 ghost use Rattle.stk_emu.specs.Settled.{Idle, FitsPart};
 ghost use Rattle.stk_emu.specs.Wire.{AreLawful, Talks};
-ghost use Rattle.stk_emu.specs.Wired.{State};
+ghost use Rattle.stk_emu.specs.Wired.{WiredState};
 ghost use Rattle.stk_frame.specs.Cut.{body_of};
 ghost use Rattle.stk_emu.specs.declared.fate.Fate.{Fate};
 ghost use Rattle.stk_host.specs.Dialog.{Done, Event, played, bytes_sent};
@@ -69,14 +69,14 @@ pub fn a_stop_is_a_front()
 /// other sayings than those of a perfect line; with any status a chip that changed though no frame went out, or more
 /// frames than four for each command, by any weight of them.
 pub fn a_wrong_outcome_is_refused()
-    ensures memories { (plan : Plan) (w v : State) (d e : DeskView)
+    ensures memories { (plan : Plan) (w v : WiredState) (d e : DeskView)
         → (memories v ≡ effects plan.part (items plan) (memories w) → ⊥) → OverAnyLine plan w v d e 0 → ⊥ }
-    ensures sayings { (plan : Plan) (w v : State) (d e : DeskView)
+    ensures sayings { (plan : Plan) (w v : WiredState) (d e : DeskView)
         → (Passes (after_all (course plan (memories w)).says) d e → ⊥)
         → OverAnyLine plan w v d e 0 → ⊥ }
-    ensures silence { (plan : Plan) (w v : State) (d e : DeskView) (status : ℕ)
+    ensures silence { (plan : Plan) (w v : WiredState) (d e : DeskView) (status : ℕ)
         → frames_over v ≡ [] → (memories v ≡ memories w → ⊥) → OverAnyLine plan w v d e status → ⊥ }
-    ensures frames { (plan : Plan) (w v : State) (d e : DeskView) (status : ℕ) (weight : Weight)
+    ensures frames { (plan : Plan) (w v : WiredState) (d e : DeskView) (status : ℕ) (weight : Weight)
         → 4 * weighed weight (bodies_in (run_steps plan)) < weighed weight (map body_of (frames_over v))
         → OverAnyLine plan w v d e status → ⊥ }
 {}
@@ -85,11 +85,11 @@ pub fn a_wrong_outcome_is_refused()
 /// do not say that memory was refused: a session is its course; and that of a plan that erases, and agrees on a chip of
 /// 00 and on one of FF, has status 0 and, verified, leaves its images, whatever the chip was.
 pub fn a_sound_run_is_its_course()
-    ensures course { (plan : Plan) (w v : State) (d e : Record) (a b status : ℕ)
+    ensures course { (plan : Plan) (w v : WiredState) (d e : Record) (a b status : ℕ)
         → AreFew w.wire.fates → IsSound (over w (keeping d a)) (over v (keeping e b)) → (LacksMemory e.messages → ⊥)
         → OverAnyLine plan w v (keeping d a) (keeping e b) status
         → IsCourse plan (memories w) (memories v) (keeping d a) (keeping e b) status }
-    ensures images { (plan : Plan) (w v : State) (d e : Record) (a b status : ℕ)
+    ensures images { (plan : Plan) (w v : WiredState) (d e : Record) (a b status : ℕ)
         → AreFew w.wire.fates → IsSound (over w (keeping d a)) (over v (keeping e b)) → (LacksMemory e.messages → ⊥)
         → plan.switches.dry ≡ false → plan.switches.no_verify ≡ false
         → is_erase_due plan.switches plan.tasks ≡ true → AgreesAnyway plan
@@ -102,10 +102,10 @@ pub fn a_sound_run_is_its_course()
 /// FF, comes to status 0, and leaves what one run would have left of the chip before both. Only where the chip keeps
 /// EEPROM at an erase must each byte that the plan writes to the high fuse keep it too.
 pub fn a_further_run_heals()
-    ensures { (plan : Plan) (w v x y : State) (d e f g : DeskView) (status further : ℕ)
+    ensures { (plan : Plan) (w v x y : WiredState) (d e f g : DeskView) (status further : ℕ)
         → IsPart plan.part → All (IsFitted plan.part) plan.tasks → FitsPart plan.part (memories w)
         → plan.switches.dry ≡ false → is_erase_due plan.switches plan.tasks ≡ true → AgreesAnyway plan
-        → (keeps_eeprom plan.part (memories w) ≡ true → AreKeeping plan.part (items plan))
+        → (erase_keeps_eeprom plan.part (memories w) ≡ true → AreKeeping plan.part (items plan))
         → OverAnyLine plan w v d e status
         → memories x ≡ memories v → AreFew x.wire.fates → OverAnyLine plan x y f g further
         → ((further ≡ 0) × IsDone plan (memories w) (memories y)) ⊎ Stopped plan x y f g }
@@ -114,13 +114,14 @@ pub fn a_further_run_heals()
 /// A worked run, `-p m328p`, to which all answers came: another status, another frame or another line is no run.
 pub fn a_worked_run_has_one_outcome()
     ensures status { (talk : Talk) (a b : ℕ) (d e : DeskView)
-        → heard talk ≡ answers → IsRun asked (devices (talking [] a) d) (devices (talking talk b) e) 1 → ⊥ }
+        → heard talk ≡ worked_answers → IsRun worked_settings (devices (talking [] a) d) (devices (talking talk b) e) 1
+        → ⊥ }
     ensures frames { (talk : Talk) (a b : ℕ) (d e : DeskView) (status : ℕ)
-        → heard talk ≡ answers → (sent talk ≡ frames_due → ⊥)
-        → IsRun asked (devices (talking [] a) d) (devices (talking talk b) e) status → ⊥ }
+        → heard talk ≡ worked_answers → (sent talk ≡ frames_due → ⊥)
+        → IsRun worked_settings (devices (talking [] a) d) (devices (talking talk b) e) status → ⊥ }
     ensures lines { (talk : Talk) (a b : ℕ) (d e : DeskView) (status : ℕ)
-        → heard talk ≡ answers → (Passes (after_all lines_due) d e → ⊥)
-        → IsRun asked (devices (talking [] a) d) (devices (talking talk b) e) status → ⊥ }
+        → heard talk ≡ worked_answers → (Passes (after_all lines_due) d e → ⊥)
+        → IsRun worked_settings (devices (talking [] a) d) (devices (talking talk b) e) status → ⊥ }
 {}
 
 /// Over any link that behaves as the definition of a line with fates has it, a session that was played whole did what

@@ -3,7 +3,7 @@ ghost use Rattle.avr_net.specs.OverNet.{RunsOverNet};
 ghost use Rattle.avr_net.specs.ServedNet.{ServesNet};
 ghost use Rattle.avr_serve.specs.ServedRun.{RunsServed, sides};
 ghost use Rattle.avr_emulated.specs.Emulated.{RunsEmulator};
-ghost use Rattle.avr_tool.specs.Ports.{IsEmulated, IsNetwork, IsServed, name_of, chip_file_of};
+ghost use Rattle.avr_tool.specs.Ports.{IsEmulated, IsNetwork, IsServed, port_place, chip_file_of};
 ghost use Rattle.avr_tool.specs.ServedOn.{ServesListener};
 
 use avr_cli::{Port, Settings};
@@ -33,7 +33,7 @@ pub fn run_emu<D: Desk>(alloc: Global, settings: &Settings, desk: &mut D) -> u8
 /// Runs what the settings ask for over the network, as [`avr_net::run_net`] does with the address of their port.
 pub fn run_net<R: Net, D: Desk>(rt: &R, alloc: Global, settings: &Settings, desk: &mut D) -> u8
     requires port { IsNetwork settings.now.port }
-    ensures runs { RunsOverNet settings.now (name_of settings.now.port) (D.view desk.old) (D.view desk.new) result }
+    ensures runs { RunsOverNet settings.now (port_place settings.now.port) (D.view desk.old) (D.view desk.new) result }
 {
     let Port::Network(address) = &settings.port else {
         unreachable!()
@@ -88,7 +88,7 @@ pub fn serve_on<L: OpenListener, D: Desk>(
 where
     L::Stream: Read + Write + OpenStream,
     requires port { IsServed settings.now.port }
-    ensures serves { ServesListener settings.now (name_of settings.now.port) (chip_file_of settings.now.port)
+    ensures serves { ServesListener settings.now (port_place settings.now.port) (chip_file_of settings.now.port)
         (D.view desk.old) (D.view desk.new) result }
 {
     let Port::Served { port, chip } = &settings.port else {
@@ -108,7 +108,7 @@ where
 /// and the chip file of the settings.
 pub fn serve_net<R: Net, D: Desk>(rt: &R, alloc: Global, settings: &Settings, desk: &mut D) -> u8
     requires port { IsServed settings.now.port }
-    ensures serves { ServesNet settings.now (name_of settings.now.port) (chip_file_of settings.now.port)
+    ensures serves { ServesNet settings.now (port_place settings.now.port) (chip_file_of settings.now.port)
         (D.view desk.old) (D.view desk.new) result }
 {
     let Port::Served { port, chip } = &settings.port else {

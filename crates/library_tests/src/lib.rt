@@ -1,5 +1,5 @@
-//! Tests of parts, frames, desks, messages and command lines, by their public calls: worked rows from outside, texts, the
-//! examples of the documentation, and that calls succeed.
+//! Tests of parts, frames, desks, messages and command lines, by their public calls: worked rows from outside, texts,
+//! the examples of the documentation, and that calls succeed.
 //!
 //! They stand in a crate of their own since a crate with tests is proved twice.
 #![tactic(auto)]

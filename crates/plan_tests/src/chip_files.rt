@@ -25,8 +25,8 @@ fn desk_with(alloc: Global, file: &[u8]) -> Result<MemDesk, AllocError> {
     Ok(desk)
 }
 
-/// The chip of this file. It says nothing of it, nor does [`is_given_back`]: a test carries each clause that it meets to
-/// its end, and these are long.
+/// The chip of this file. It says nothing of it, nor does [`is_given_back`]: a test carries each clause that it meets
+/// to its end, and these are long.
 fn load<D: Desk>(alloc: Global, file: &str, desk: &mut D) -> Result<Result<Chip, u8>, PartFault> {
     Ok(load_chip(alloc, &m328p()?, file, desk))
 }

@@ -11,9 +11,9 @@ use Rattle.stk_host.specs.declared.fault.StepFault.{StepFault}
 use Rattle.stk_host.specs.declared.fault.StepFault.TheVariants.{NoAnswer}
 use Rattle.stk_host.specs.declared.fault.HostFault.{HostFault}
 use Rattle.stk_host.specs.Dialog.{Dialog, Done, Say, Ask, ◌>>=◌, lifted}
-use Rattle.stk_host.specs.Steps.{Reply, Data, Again, Stop, Outcome, replied, with_data, exchange, attempt, settled, tries, step, if_done, play}
+use Rattle.stk_host.specs.Steps.{Reply, Data, Again, Stop, Outcome, reading_reply, with_data, exchange, attempt, end_or_again, tries, step, if_done, play}
 use Rattle.stk_host.specs.ReadSteps.{signature_steps}
-use Rattle.stk_host.specs.Operations.{beginning, signature_judged, opening, ended, closing, judged_by, operation}
+use Rattle.stk_host.specs.Operations.{handshake, signature_judged, opening, without_bytes, closing, judged_by, operation}
 use Rattle.stk_host.proofs.Pages.{page_most}
 use Rattle.stk_emu.specs.Lawful.{IsBody}
 use Rattle.stk_emu.specs.Along.{AsksBodies}
@@ -46,9 +46,9 @@ asks_attempt : (commands : List Command) (before : List ℕ) → AreSendable com
 unfolding attempt exchange
 asks_attempt [] before s = tt
 asks_attempt (command ∷ commands) before s =
-    (s.0, λ reading. asks_reply (replied command reading) (λ bytes. attempt commands (before ++ bytes)) (λ bytes. asks_attempt commands (before ++ bytes) s.1))
+    (s.0, λ reading. asks_reply (reading_reply command reading) (λ bytes. attempt commands (before ++ bytes)) (λ bytes. asks_attempt commands (before ++ bytes) s.1))
 
-asks_settled : (again : StepFault → Dialog ⊥ Outcome) (reply : Reply) → ((fault : StepFault) → AsksBodies (again fault)) → AsksBodies (settled again reply)
+asks_settled : (again : StepFault → Dialog ⊥ Outcome) (reply : Reply) → ((fault : StepFault) → AsksBodies (again fault)) → AsksBodies (end_or_again again reply)
 asks_settled again (Data bytes) f = tt
 asks_settled again (Again fault) f = f fault
 asks_settled again (Stop fault) f = tt
@@ -57,7 +57,7 @@ asks_tries : (more : ℕ) (commands : List Command) (fault : StepFault) → AreS
 unfolding tries
 asks_tries zero commands fault s = tt
 asks_tries (suc more) commands fault s =
-    asks_bind (attempt commands []) (settled (tries more commands)) (asks_attempt commands [] s) (λ reply. asks_settled (tries more commands) reply (λ again. asks_tries more commands again s))
+    asks_bind (attempt commands []) (end_or_again (tries more commands)) (asks_attempt commands [] s) (λ reply. asks_settled (tries more commands) reply (λ again. asks_tries more commands again s))
 
 pub asks_step : (commands : List Command) → AreSendable commands → AsksBodies (step commands)
 asks_step commands s = asks_tries 4 commands NoAnswer s
@@ -116,7 +116,7 @@ module _ (part : Part) (sound : IsPart part) where
   asks_operation steps judge are = asks_bind (play steps []) (λ outcome. Done (judged_by judge outcome)) (asks_play steps [] (all_sendable steps are)) (λ outcome. tt)
 
 pub asks_opening : (wanted : List ℕ) (force : Bool) → AsksBodies (opening wanted force)
-unfolding opening beginning
+unfolding opening handshake
 asks_opening wanted force =
     asks_bind (step (SignOn ∷ []) >>= if_done (λ name. step (enter ∷ []) >>= if_done (λ nothing. play signature_steps []))) (λ outcome. Done (signature_judged wanted force outcome))
     (asks_bind (step (SignOn ∷ [])) (if_done (λ name. step (enter ∷ []) >>= if_done (λ nothing. play signature_steps []))) (asks_step (SignOn ∷ []) (record { some = omega arith; few = omega arith }, tt))
@@ -130,4 +130,4 @@ asks_opening wanted force =
 
 pub asks_closing : AsksBodies closing
 unfolding closing
-asks_closing = asks_bind (step (leave ∷ [])) (λ outcome. Done (ended outcome)) (asks_step (leave ∷ []) (record { some = omega arith; few = omega arith }, tt)) (λ outcome. tt)
+asks_closing = asks_bind (step (leave ∷ [])) (λ outcome. Done (without_bytes outcome)) (asks_step (leave ∷ []) (record { some = omega arith; few = omega arith }, tt)) (λ outcome. tt)

@@ -17,22 +17,22 @@ cond_twice true y x e = refl
 cond_twice false y x e = refl
 
 -- a load and an extended address know nothing of each other
-loads_apart : (word i x y : ℕ) (bytes : List ℕ) (s : chip.State)
+loads_apart : (word i x y : ℕ) (bytes : List ℕ) (s : chip.ChipState)
     → record (loaded_in_turn word i bytes (record s { extended = x })) { extended = y } ≡ record (loaded_in_turn word i bytes s) { extended = y }
 loads_apart word i x y [] s = refl
-loads_apart word i x y (d ∷ ds) s = loads_apart word (suc i) x y ds (chip.after (LoadFlash (half_at i) ((word + i / 2) % 256) d) s)
+loads_apart word i x y (d ∷ ds) s = loads_apart word (suc i) x y ds (chip.after_instruction (LoadFlash (half_at i) ((word + i / 2) % 256) d) s)
 
-keeps_extended : (word i : ℕ) (bytes : List ℕ) (s : chip.State) → (loaded_in_turn word i bytes s).extended ≡ s.extended
+keeps_extended : (word i : ℕ) (bytes : List ℕ) (s : chip.ChipState) → (loaded_in_turn word i bytes s).extended ≡ s.extended
 keeps_extended word i [] s = refl
-keeps_extended word i (d ∷ ds) s = keeps_extended word (suc i) ds (chip.after (LoadFlash (half_at i) ((word + i / 2) % 256) d) s)
+keeps_extended word i (d ∷ ds) s = keeps_extended word (suc i) ds (chip.after_instruction (LoadFlash (half_at i) ((word + i / 2) % 256) d) s)
 
 -- one byte is loaded
-one_load : (wide : Bool) (a i d : ℕ) (ds : List ℕ) (s : chip.State)
+one_load : (wide : Bool) (a i d : ℕ) (ds : List ℕ) (s : chip.ChipState)
     → sent_to (flash_loads wide 0x40 a i (d ∷ ds)) s
-    ≡ sent_to (flash_loads wide 0x40 a (suc i) ds) (record (chip.after (LoadFlash (half_at i) ((a % 256 + i / 2) % 256) d) s) { extended = cond wide (word_at a i / 65536 % 256) s.extended })
+    ≡ sent_to (flash_loads wide 0x40 a (suc i) ds) (record (chip.after_instruction (LoadFlash (half_at i) ((a % 256 + i / 2) % 256) d) s) { extended = cond wide (word_at a i / 65536 % 256) s.extended })
 one_load wide a i d ds s =
     let x = cond wide (word_at a i / 65536 % 256) s.extended in
-    let s₁ : chip.State = record s { extended = x } in
+    let s₁ : chip.ChipState = record s { extended = x } in
     let place : low (word_at a i) % (s.part.flash_page / 2) * 2 + i % 2 ≡ (a % 256 + i / 2) % 256 % (s.part.flash_page / 2) * 2 + half_offset (half_at i) =
     ap₂ (λ w o. w % (s.part.flash_page / 2) * 2 + o) (let e : (a + i / 2) % 2147483648 % 256 ≡ (a % 256 + i / 2) % 256 = omega arith in e) (sym (offset_at i)) in
     sent-append (extension wide (word_at a i)) _ s
@@ -41,16 +41,16 @@ one_load wide a i d ds s =
     (load_byte i (high (word_at a i)) (low (word_at a i)) d s₁
     ∙ ap (λ q. record s { flash_buffer = set s.flash_buffer q d; extended = x }) place))
 
-all_loads : (wide : Bool) (a i d : ℕ) (ds : List ℕ) (s : chip.State)
+all_loads : (wide : Bool) (a i d : ℕ) (ds : List ℕ) (s : chip.ChipState)
     → sent_to (flash_loads wide 0x40 a i (d ∷ ds)) s
     ≡ record (loaded_in_turn (a % 256) i (d ∷ ds) s) { extended = cond wide (word_at a (i + length ds) / 65536 % 256) s.extended }
 all_loads wide a i d [] s =
     one_load wide a i d [] s
-    ∙ ap (λ k. record (chip.after (LoadFlash (half_at i) ((a % 256 + i / 2) % 256) d) s) { extended = cond wide (word_at a k / 65536 % 256) s.extended }) (let e : i ≡ i + 0 = omega arith in e)
+    ∙ ap (λ k. record (chip.after_instruction (LoadFlash (half_at i) ((a % 256 + i / 2) % 256) d) s) { extended = cond wide (word_at a k / 65536 % 256) s.extended }) (let e : i ≡ i + 0 = omega arith in e)
 all_loads wide a i d (b ∷ bs) s =
     let x = cond wide (word_at a i / 65536 % 256) s.extended in
-    let s₁ : chip.State = chip.after (LoadFlash (half_at i) ((a % 256 + i / 2) % 256) d) s in
-    let s₂ : chip.State = record s₁ { extended = x } in
+    let s₁ : chip.ChipState = chip.after_instruction (LoadFlash (half_at i) ((a % 256 + i / 2) % 256) d) s in
+    let s₂ : chip.ChipState = record s₁ { extended = x } in
     let y = cond wide (word_at a (suc i + length bs) / 65536 % 256) x in
     one_load wide a i d (b ∷ bs) s
     ∙ (all_loads wide a (suc i) b bs s₂
@@ -60,12 +60,12 @@ all_loads wide a i d (b ∷ bs) s =
     ∙ ap (λ k. cond wide (word_at a k / 65536 % 256) s.extended) (let e : suc i + length bs ≡ i + suc (length bs) = omega arith in e))))
 
 -- a chip that loaded a block
-load_answer : (test : Bool) (whole s : chip.State) (answer : Bool × chip.State) → answer ≡ cond test (true, whole) (false, s) → answer.0 ≡ true → answer.1 ≡ whole
+load_answer : (test : Bool) (whole s : chip.ChipState) (answer : Bool × chip.ChipState) → answer ≡ cond test (true, whole) (false, s) → answer.0 ≡ true → answer.1 ≡ whole
 load_answer true whole s answer e t = ap (λ z. z.1) e
 load_answer false whole s answer e t = absurd (false≢true (sym (ap (λ z. z.0) e) ∙ t))
 
 -- the block was loaded, and the extended address of its last word is sent
-pub block_is_loads : (wide : Bool) (cmd a word last : ℕ) (bytes : List ℕ) (s loaded new : chip.State) (done : Bool) → cmd ≡ 0x40 → 0 < length bytes
+pub block_is_loads : (wide : Bool) (cmd a word last : ℕ) (bytes : List ℕ) (s loaded new : chip.ChipState) (done : Bool) → cmd ≡ 0x40 → 0 < length bytes
     → word ≡ a % 256 → last ≡ word_at a (length bytes - 1)
     → (done, loaded) ≡ load_block word bytes s → done ≡ true → new ≡ sent_to (extension wide last) loaded
     → new ≡ sent_to (flash_loads wide cmd a 0 bytes) s
@@ -77,13 +77,13 @@ block_is_loads wide cmd a word last (d ∷ ds) s loaded new done c some w l answ
     let place : last ≡ word_at a (0 + length ds) = l ∙ ap (word_at a) (let e : length bytes - 1 ≡ 0 + length ds = omega arith in e) in
     ext
     ∙ (extended_is wide last loaded
-    ∙ (ap (λ (t : chip.State). record t { extended = cond wide (last / 65536 % 256) t.extended }) loaded_is
+    ∙ (ap (λ (t : chip.ChipState). record t { extended = cond wide (last / 65536 % 256) t.extended }) loaded_is
     ∙ (ap₂ (λ k e. record (loaded_in_turn (a % 256) 0 bytes s) { extended = cond wide (k / 65536 % 256) e }) place (keeps_extended (a % 256) 0 bytes s)
     ∙ (sym (all_loads wide a 0 d ds s)
     ∙ ap (λ k. sent_to (flash_loads wide k a 0 bytes) s) (sym c)))))
 
 -- where the extended address is right already, reading changes nothing
-all_looks : (wide : Bool) (a i n : ℕ) (s : chip.State) → cond wide (a / 65536 % 256) s.extended ≡ s.extended → a < 2147483648 → a % 65536 * 2 + i + n ≤ 131072
+all_looks : (wide : Bool) (a i n : ℕ) (s : chip.ChipState) → cond wide (a / 65536 % 256) s.extended ≡ s.extended → a < 2147483648 → a % 65536 * 2 + i + n ≤ 131072
     → flash_looks wide 0x20 a i n s ≡ (read_in_turn (a % 65536) i n s, s)
 all_looks wide a i zero s right few inside = refl
 all_looks wide a i (suc n) s right few inside =
@@ -98,15 +98,15 @@ all_looks wide a i (suc n) s right few inside =
     ap (chip.spi_of (at_address (for_half 0x20 i) w 0)) same
     ∙ (look_byte i (high w) (low w) s
     ∙ ap₂ (λ k o. (0 ∷ for_half 0x20 i ∷ high w ∷ get_or s.flash ((s.extended * 65536 + k) % (s.part.flash_size / 2) * 2 + o) 0 ∷ [], s)) inner (sym (offset_at i))) in
-    ap (λ (z : List ℕ × chip.State). (slice_index z.0 3 ∷ (flash_looks wide 0x20 a (suc i) n z.1).0, (flash_looks wide 0x20 a (suc i) n z.1).1)) spi
-    ∙ ap (λ (z : List ℕ × chip.State). (byte ∷ z.0, z.1)) (all_looks wide a (suc i) n s right few (omega arith))
+    ap (λ (z : List ℕ × chip.ChipState). (slice_index z.0 3 ∷ (flash_looks wide 0x20 a (suc i) n z.1).0, (flash_looks wide 0x20 a (suc i) n z.1).1)) spi
+    ∙ ap (λ (z : List ℕ × chip.ChipState). (byte ∷ z.0, z.1)) (all_looks wide a (suc i) n s right few (omega arith))
 
 -- an extended address that is sent twice
-extended_twice : (wide : Bool) (a b : ℕ) (s : chip.State) → a / 65536 % 256 ≡ b / 65536 % 256 → sent_to (extension wide b) (sent_to (extension wide a) s) ≡ sent_to (extension wide b) s
+extended_twice : (wide : Bool) (a b : ℕ) (s : chip.ChipState) → a / 65536 % 256 ≡ b / 65536 % 256 → sent_to (extension wide b) (sent_to (extension wide a) s) ≡ sent_to (extension wide b) s
 extended_twice true a b s e = refl
 extended_twice false a b s e = refl
 
-looks_again : (wide : Bool) (cmd a n : ℕ) (s new : chip.State) → a < 2147483648 → 0 < n → new ≡ sent_to (extension wide a) s
+looks_again : (wide : Bool) (cmd a n : ℕ) (s new : chip.ChipState) → a < 2147483648 → 0 < n → new ≡ sent_to (extension wide a) s
     → flash_looks wide cmd a 0 n new ≡ flash_looks wide cmd a 0 n s
 looks_again wide cmd a zero s new few some ext = absurd (omega arith)
 looks_again wide cmd a (suc n) s new few some ext =
@@ -123,13 +123,13 @@ left : (a b : Bool) → (a && b) ≡ true → a ≡ true
 left true b e = refl
 left false b e = absurd (cc)
 
-pub block_is_looks : (wide : Bool) (cmd a word n : ℕ) (bytes : List ℕ) (s new : chip.State) → cmd ≡ 0x20 → a < 2147483648 → 0 < n → word ≡ a % 65536
+pub block_is_looks : (wide : Bool) (cmd a word n : ℕ) (bytes : List ℕ) (s new : chip.ChipState) → cmd ≡ 0x20 → a < 2147483648 → 0 < n → word ≡ a % 65536
     → new ≡ sent_to (extension wide a) s → Some bytes ≡ flash_block word n new
     → flash_looks wide cmd a 0 n s ≡ (bytes, new)
 block_is_looks wide cmd a word n bytes s new c few some w ext given =
     let got = in_flash (is_in_flash word n new) bytes (read_in_turn word 0 n new) given in
     let fits : word * 2 + n ≤ 131072 = leb-true (word * 2 + n) 131072 (left (nat_le (word * 2 + n) 131072) _ got.0) in
-    let extended : new.extended ≡ cond wide (a / 65536 % 256) s.extended = ap (λ (t : chip.State). t.extended) (ext ∙ extended_is wide a s) in
+    let extended : new.extended ≡ cond wide (a / 65536 % 256) s.extended = ap (λ (t : chip.ChipState). t.extended) (ext ∙ extended_is wide a s) in
     let right : cond wide (a / 65536 % 256) new.extended ≡ new.extended =
     ap (cond wide (a / 65536 % 256)) extended ∙ (cond_twice wide (a / 65536 % 256) (a / 65536 % 256) s.extended ∙ sym extended) in
     ap (λ k. flash_looks wide k a 0 n s) c
@@ -137,11 +137,11 @@ block_is_looks wide cmd a word n bytes s new c few some w ext given =
     ∙ (all_looks wide a 0 n new right few (omega arith)
     ∙ ap (λ bs. (bs, new)) (ap (λ k. read_in_turn k 0 n new) (sym w) ∙ sym got.1)))
 
-reads_length : (word i n : ℕ) (s : chip.State) → length (read_in_turn word i n s) ≡ n
+reads_length : (word i n : ℕ) (s : chip.ChipState) → length (read_in_turn word i n s) ≡ n
 reads_length word i zero s = refl
 reads_length word i (suc n) s = ap suc (reads_length word (suc i) n s)
 
-pub block_length : (word n : ℕ) (bytes : List ℕ) (s : chip.State) → Some bytes ≡ flash_block word n s → length bytes ≡ n
+pub block_length : (word n : ℕ) (bytes : List ℕ) (s : chip.ChipState) → Some bytes ≡ flash_block word n s → length bytes ≡ n
 block_length word n bytes s given =
     let got = in_flash (is_in_flash word n s) bytes (read_in_turn word 0 n s) given in
     ap length got.1 ∙ reads_length word 0 n s

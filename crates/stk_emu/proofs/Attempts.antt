@@ -6,14 +6,14 @@ use Rattle.stk_host.specs.declared.fault.StepFault.{StepFault}
 use Rattle.stk_host.specs.declared.fault.StepFault.TheVariants.{NoAnswer}
 use Rattle.stk_host.specs.Tape.{Reading}
 use Rattle.stk_host.specs.Dialog.{Dialog, Done, Say, Ask, ◌>>=◌}
-use Rattle.stk_host.specs.Steps.{Reply, Data, Again, Stop, Outcome, replied, with_data, exchange, attempt, settled, tries, step}
+use Rattle.stk_host.specs.Steps.{Reply, Data, Again, Stop, Outcome, reading_reply, with_data, exchange, attempt, end_or_again, tries, step}
 use Rattle.stk_emu.specs.declared.fate.Fate.{Fate}
 use Rattle.stk_emu.specs.declared.fate.Fate.TheVariants.{Good, LostCommand, LostAnswer, LateAnswer, HeldAnswer, Reset, CommandRefused, AnswerSpoiled}
 use Rattle.stk_emu.specs.Device.{Device}
 use Rattle.stk_emu.specs.Wire.{first_fate, other_fates, after_fate}
-use Rattle.stk_emu.specs.Along.{reading_of, Standing, along}
-use Rattle.stk_emu.specs.Fits.{obeyed, Fits}
-use Rattle.stk_emu.specs.Given.{gathered}
+use Rattle.stk_emu.specs.Along.{fate_reading, Standing, along}
+use Rattle.stk_emu.specs.Fits.{after_commands, Fits}
+use Rattle.stk_emu.specs.Given.{joined_reply}
 use Rattle.stk_emu.proofs.Gathered.{attempt_gives}
 
 -- from where a dialog stands, the next one
@@ -36,8 +36,8 @@ along_bind m (suc k) (Ask bytes go_on) next p fates = along_bind m k (go_on _) n
 -- of them.
 pub record Obeyed {P : Type 0} (m : Device P) (commands : List Command) (p : P) (s : Standing ⊥ Reply P) : Type 0 where
   pub count : ℕ
-  pub is : (s.programmer ≡ obeyed m count commands p) ⊎ (s.programmer ≡ m.reset (obeyed m count commands p))
-  pub whole : (bytes : List ℕ) → s.dialog ≡ Done (Data bytes) → s.programmer ≡ obeyed m (length commands) commands p
+  pub is : (s.programmer ≡ after_commands m count commands p) ⊎ (s.programmer ≡ m.reset (after_commands m count commands p))
+  pub whole : (bytes : List ℕ) → s.dialog ≡ Done (Data bytes) → s.programmer ≡ after_commands m (length commands) commands p
 
 again≢data : (fault : StepFault) (bytes : List ℕ) → ◌≡◌ {A = Dialog ⊥ Reply} (Done (Again fault)) (Done (Data bytes)) → ⊥
 again≢data fault bytes e = cc
@@ -53,10 +53,10 @@ err≢ok fault bytes e = cc
 
 module _ {P : Type 0} (m : Device P) where
   -- the command was not obeyed, or its answer is lost
-  ends_again : (k i : ℕ) (commands : List Command) (fault : StepFault) (p q : P) (fates : List Fate) → q ≡ obeyed m i commands p → Obeyed m commands p (along m k (Done (Again fault)) q fates)
+  ends_again : (k i : ℕ) (commands : List Command) (fault : StepFault) (p q : P) (fates : List Fate) → q ≡ after_commands m i commands p → Obeyed m commands p (along m k (Done (Again fault)) q fates)
   ends_again k i commands fault p q fates is = record { count = i; is = inl is; whole = λ bytes e. absurd (again≢data fault bytes e) }
 
-  ends_stop : (k i : ℕ) (commands : List Command) (fault : StepFault) (p q : P) (fates : List Fate) → q ≡ obeyed m i commands p → Obeyed m commands p (along m k (Done (Stop fault)) q fates)
+  ends_stop : (k i : ℕ) (commands : List Command) (fault : StepFault) (p q : P) (fates : List Fate) → q ≡ after_commands m i commands p → Obeyed m commands p (along m k (Done (Stop fault)) q fates)
   ends_stop k i commands fault p q fates is = record { count = i; is = inl is; whole = λ bytes e. absurd (stop≢data fault bytes e) }
 
   -- the device begins anew
@@ -76,7 +76,7 @@ module _ {P : Type 0} (m : Device P) where
 
   asked : (k : ℕ) (fate : Fate) (command : Command) (commands : List Command) (go_on : List ℕ → Dialog ⊥ Reply) (p : P) (fates : List Fate)
       → ((bytes : List ℕ) → Obeyed m commands (m.after (body command) p) (along m k (go_on bytes) (m.after (body command) p) fates))
-      → Obeyed m (command ∷ commands) p (along m k (with_data go_on (replied command (reading_of fate (m.answer (body command) p)))) (after_fate fate (m.after (body command) p) p (m.reset p)) fates)
+      → Obeyed m (command ∷ commands) p (along m k (with_data go_on (reading_reply command (fate_reading fate (m.answer (body command) p)))) (after_fate fate (m.after (body command) p) p (m.reset p)) fates)
   asked k Good command commands go_on p fates each = answered k _ command commands go_on p fates each
   asked k LostCommand command commands go_on p fates each = ends_again k 0 (command ∷ commands) _ p p fates refl
   asked k LostAnswer command commands go_on p fates each = ends_again k 1 (command ∷ commands) _ p (m.after (body command) p) fates refl
@@ -110,18 +110,18 @@ module _ {P : Type 0} (m : Device P) where
     on_from : (again : StepFault → Dialog ⊥ Outcome) (left : ℕ) (fates : List Fate) (q : P) (d : Dialog ⊥ Reply)
         → Before q ⊎ After q → ((bytes : List ℕ) → d ≡ Done (Data bytes) → After q)
         → ((fault : StepFault) → Stepped Before After (along m left (again fault) q fates))
-        → Stepped Before After (onward m (settled again) left fates q d)
+        → Stepped Before After (onward m (end_or_again again) left fates q d)
     on_from again left fates q (Done (Data bytes)) stands given more = succeeds left bytes q fates (given bytes refl)
     on_from again left fates q (Done (Again fault)) stands given more = more fault
     on_from again left fates q (Done (Stop fault)) stands given more = fails left fault q fates stands
     on_from again left fates q (Say e dialog) stands given more = absurd e
     on_from again left fates q (Ask bytes go_on) stands given more = record { stands = stands; whole = λ data_of e. absurd (asks≢done _ _ _ e) }
 
-    fronts : (commands : List Command) → Fits m commands Before After → (p : P) (i : ℕ) → Before p ⊎ After p → Before (obeyed m i commands p) ⊎ After (obeyed m i commands p)
+    fronts : (commands : List Command) → Fits m commands Before After → (p : P) (i : ℕ) → Before p ⊎ After p → Before (after_commands m i commands p) ⊎ After (after_commands m i commands p)
     fronts commands fits p i (inl b) = fits.front p i b
     fronts commands fits p i (inr a) = inr (fits.again p i a)
 
-    wholes : (commands : List Command) → Fits m commands Before After → (p : P) (bytes : List ℕ) → gathered m commands [] p ≡ Data bytes → Before p ⊎ After p → After (obeyed m (length commands) commands p)
+    wholes : (commands : List Command) → Fits m commands Before After → (p : P) (bytes : List ℕ) → joined_reply m commands [] p ≡ Data bytes → Before p ⊎ After p → After (after_commands m (length commands) commands p)
     wholes commands fits p bytes has (inl b) = fits.whole p bytes has b
     wholes commands fits p bytes has (inr a) = fits.again p (length commands) a
 
@@ -133,9 +133,9 @@ module _ {P : Type 0} (m : Device P) where
     pub stood_after : (commands : List Command) → Fits m commands Before After → (p : P) (s : Standing ⊥ Reply P) → Obeyed m commands p s → Before p ⊎ After p → Before s.programmer ⊎ After s.programmer
     stood_after commands fits p s o stood = by_end o.is
       where
-        by_end : (s.programmer ≡ obeyed m o.count commands p) ⊎ (s.programmer ≡ m.reset (obeyed m o.count commands p)) → Before s.programmer ⊎ After s.programmer
+        by_end : (s.programmer ≡ after_commands m o.count commands p) ⊎ (s.programmer ≡ m.reset (after_commands m o.count commands p)) → Before s.programmer ⊎ After s.programmer
         by_end (inl is) = subst (λ q. Before q ⊎ After q) (sym is) (fronts commands fits p o.count stood)
-        by_end (inr is) = subst (λ q. Before q ⊎ After q) (sym is) (anews commands fits (obeyed m o.count commands p) (fronts commands fits p o.count stood))
+        by_end (inr is) = subst (λ q. Before q ⊎ After q) (sym is) (anews commands fits (after_commands m o.count commands p) (fronts commands fits p o.count stood))
 
     pub tries_stand : (k more : ℕ) (commands : List Command) (fault : StepFault) (p : P) (fates : List Fate) → Fits m commands Before After → Before p ⊎ After p
         → Stepped Before After (along m k (tries more commands fault) p fates)
@@ -147,7 +147,7 @@ module _ {P : Type 0} (m : Device P) where
         let now : Before s.programmer ⊎ After s.programmer = stood_after commands fits p s o stands in
         let given : (bytes : List ℕ) → s.dialog ≡ Done (Data bytes) → After s.programmer =
         λ bytes e. subst After (sym (o.whole bytes e)) (wholes commands fits p bytes (attempt_gives m k commands [] bytes p fates e) stands) in
-        subst (λ z. Stepped Before After z) (sym (along_bind m k (attempt commands []) (settled (tries more commands)) p fates))
+        subst (λ z. Stepped Before After z) (sym (along_bind m k (attempt commands []) (end_or_again (tries more commands)) p fates))
         (on_from (tries more commands) s.left s.fates s.programmer s.dialog now given (λ again. tries_stand s.left more commands again s.programmer s.fates fits now))
 
     pub step_stands : (k : ℕ) (commands : List Command) (p : P) (fates : List Fate) → Fits m commands Before After → Before p → Stepped Before After (along m k (step commands) p fates)

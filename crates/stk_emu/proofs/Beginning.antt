@@ -1,7 +1,7 @@
 -- A programmer as it begins, and plays of steps from a settled one.
 use Rattle.std.proofs.Common.{◌≡◌, ℕ, List, [], ◌∷◌, refl}
 use Rattle.avr_part.specs.State as chip
-use Rattle.avr_part.specs.Sound.{IsSound}
+use Rattle.avr_part.specs.Sound.{IsSoundChip}
 use Rattle.avr_part.specs.Part.{Part, IsPart}
 use Rattle.stk_frame.specs.declared.command.Command.{Command}
 use Rattle.stk_host.specs.Steps.{play}
@@ -16,10 +16,10 @@ use Rattle.stk_emu.specs.Strokes.{struck_by, IsStep, Erases, ProgramsPage, Progr
 use Rattle.stk_emu.proofs.Climbing.{play_climbs}
 use Rattle.stk_emu.proofs.Outside.{all_fit}
 
-pub fresh_idle : (s : chip.State) → IsSound s → Idle s.part (memories_of s) (fresh_programmer s)
+pub fresh_idle : (s : chip.ChipState) → IsSoundChip s → Idle s.part (memories_of s) (fresh_programmer s)
 fresh_idle s sound = record { memories = refl; part_is = refl; flash_buffer = sound.flash_buffer_size; eeprom_buffer = sound.eeprom_buffer_size }
 
-pub fresh_fits : (s : chip.State) → IsSound s → FitsPart s.part (memories_of s)
+pub fresh_fits : (s : chip.ChipState) → IsSoundChip s → FitsPart s.part (memories_of s)
 fresh_fits s sound = record { flash = sound.flash_size; eeprom = sound.eeprom_size; bytes = sound.flash }
 
 one_some : (commands : List Command) (c : Command) (more : List Command) (steps : List (List Command)) → commands ≡ c ∷ more → AreSome steps → AreSome (commands ∷ steps)

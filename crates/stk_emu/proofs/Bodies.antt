@@ -3,13 +3,13 @@ use Rattle.std.proofs.Common.{◌≡◌, ℕ, zero, suc, ◌+◌, ◌%◌, ◌�
 use Rattle.std.proofs.lemmas.Bool.{leb-true, false≢true}
 use Rattle.std.proofs.lemmas.List.{length-take}
 use Rattle.std.specs.Prelude.{◌==◌, ◌&&◌, not, nat_le}
-use Rattle.avr_part.specs.State.{State, spi_of}
+use Rattle.avr_part.specs.State.{ChipState, spi_of}
 use Rattle.stk_frame.specs.declared.command.Command.{Command}
 use Rattle.stk_frame.specs.declared.command.Command.TheVariants.{SignOn, SetParameter, GetParameter, LoadAddress, EnterProgmode, LeaveProgmode, ChipErase, ProgramFlash, ReadFlash, ProgramEeprom, ReadEeprom, ProgramFuse, ReadFuse, ProgramLock, ReadLock, ReadSignature, ReadOsccal, SpiMulti}
 use Rattle.stk_frame.specs.declared.command.ReadBlock.{ReadBlock}
 use Rattle.stk_frame.specs.declared.command.ReadByte.{ReadByte}
 use Rattle.stk_frame.specs.Decoding.{command_of}
-use Rattle.stk_emu.specs.Programmer.{Programmer, Done, obey, obey_command, read_as, flash_looks, eeprom_looks, extension, at_address, for_half, word_at, byte_at, sent_to, read_flash, read_eeprom, read_byte, spi_multi}
+use Rattle.stk_emu.specs.Programmer.{Programmer, Response, obey, obey_command, read_as, flash_looks, eeprom_looks, extension, at_address, for_half, word_at, byte_address, sent_to, read_flash, read_eeprom, read_byte, spi_multi}
 use Rattle.stk_emu.specs.Device.{device}
 use Rattle.stk_emu.specs.Lawful.{IsBody}
 use Rattle.stk_emu.proofs.Fused.{AnswersBodies}
@@ -24,25 +24,25 @@ four : (x y z u : ℕ) → IsBody (x ∷ y ∷ z ∷ u ∷ [])
 four x y z u = record { some = omega arith; few = omega arith }
 
 -- a choice of answers
-when : (b : Bool) (x y : Done) → (b ≡ true → IsBody x.0) → IsBody y.0 → IsBody (if b then x else y).0
+when : (b : Bool) (x y : Response) → (b ≡ true → IsBody x.0) → IsBody y.0 → IsBody (if b then x else y).0
 when true x y f g = f refl
 when false x y f g = g
 
-either : (b : Bool) (x y : Done) → IsBody x.0 → IsBody y.0 → IsBody (if b then x else y).0
+either : (b : Bool) (x y : Response) → IsBody x.0 → IsBody y.0 → IsBody (if b then x else y).0
 either b x y f g = when b x y (λ e. f) g
 
 second_true : (a b : Bool) → (a && b) ≡ true → b ≡ true
 second_true true b e = e
 second_true false b e = absurd (false≢true e)
 
-flash_length : (wide : Bool) (cmd address i n : ℕ) (chip : State) → length (flash_looks wide cmd address i n chip).0 ≡ n
+flash_length : (wide : Bool) (cmd address i n : ℕ) (chip : ChipState) → length (flash_looks wide cmd address i n chip).0 ≡ n
 flash_length wide cmd address i zero chip = refl
 flash_length wide cmd address i (suc n) chip =
     ap suc (flash_length wide cmd address (suc i) n (spi_of (at_address (for_half cmd i) (word_at address i) 0) (sent_to (extension wide (word_at address i)) chip)).1)
 
-eeprom_length : (cmd address i n : ℕ) (chip : State) → length (eeprom_looks cmd address i n chip).0 ≡ n
+eeprom_length : (cmd address i n : ℕ) (chip : ChipState) → length (eeprom_looks cmd address i n chip).0 ≡ n
 eeprom_length cmd address i zero chip = refl
-eeprom_length cmd address i (suc n) chip = ap suc (eeprom_length cmd address (suc i) n (spi_of (at_address cmd (byte_at address i) 0) chip).1)
+eeprom_length cmd address i (suc n) chip = ap suc (eeprom_length cmd address (suc i) n (spi_of (at_address cmd (byte_address address i) 0) chip).1)
 
 between : (x y : ℕ) (bytes : List ℕ) → length bytes ≤ 272 → IsBody (x ∷ y ∷ (bytes ++ 0 ∷ []))
 between x y bytes few = record { some = omega arith; few = omega (arith, length-append bytes (0 ∷ [])) }

@@ -6,7 +6,7 @@ use Rattle.stk_host.specs.Steps.{Outcome, exchange, attempt, tries, step, if_don
 use Rattle.stk_emu.specs.declared.fate.Fate.{Fate}
 use Rattle.stk_emu.specs.Device.{Device}
 use Rattle.stk_emu.specs.Along.{Standing, along}
-use Rattle.stk_emu.specs.Climbs.{AllFit, AreSome, counted, steps_done, Climbs}
+use Rattle.stk_emu.specs.Climbs.{AllFit, AreSome, step_count, steps_done, Climbs}
 use Rattle.stk_emu.proofs.Attempts.{along_bind, onward, step_stands, Stepped, asks≢done, err≢ok}
 
 done_is : {E R : Type 0} (a b : R) → ◌≡◌ {A = Dialog E R} (Done a) (Done b) → a ≡ b
@@ -51,7 +51,7 @@ module _ {P : Type 0} (m : Device P) where
         let q = (along m (suc k) (step commands) p fates).programmer in
         let fs = (along m (suc k) (step commands) p fates).fates in
         let before : steps_done m (commands ∷ steps) k p fates ≡ suc (steps_done m steps left q fs) =
-        ap (λ (s : Standing ⊥ Outcome P). counted s.dialog (steps_done m steps s.left s.programmer s.fates)) (along_before k left (step commands) p fates (Ok bytes) e n) in
+        ap (λ (s : Standing ⊥ Outcome P). step_count s.dialog (steps_done m steps s.left s.programmer s.fates)) (along_before k left (step commands) p fates (Ok bytes) e n) in
         let l = c.at_least in
         let u : c.count ≤ suc (steps_done m steps left q fs) = subst (λ i. c.count ≤ suc (steps_done m steps i q fs)) (omega arith) c.at_most in
         (suc c.count, omega arith, omega arith, subst (λ i. At i t.programmer) (omega arith) c.stands, λ b f. ap suc (c.whole b f))
@@ -63,7 +63,7 @@ module _ {P : Type 0} (m : Device P) where
         → Climbs m At (suc j) (along m (suc k) (step commands) p fates).left steps (along m (suc k) (step commands) p fates).programmer (along m (suc k) (step commands) p fates).fates
         (along m (along m (suc k) (step commands) p fates).left (go_on bytes) (along m (suc k) (step commands) p fates).programmer (along m (suc k) (step commands) p fates).fates))
         → Rest j (suc (length steps)) (suc k) (onward m (if_done go_on) (along m (suc k) (step commands) p fates).left (along m (suc k) (step commands) p fates).fates (along m (suc k) (step commands) p fates).programmer d)
-        (counted d (steps_done m steps (along m (suc k) (step commands) p fates).left (along m (suc k) (step commands) p fates).programmer (along m (suc k) (step commands) p fates).fates))
+        (step_count d (steps_done m steps (along m (suc k) (step commands) p fates).left (along m (suc k) (step commands) p fates).programmer (along m (suc k) (step commands) p fates).fates))
         (steps_done m (commands ∷ steps) k p fates)
     climbs_from j k steps commands p fates go_on (Done (Ok bytes)) e stepped rest =
         behind j (along m (suc k) (step commands) p fates).left k steps commands p fates bytes _ e refl (rest bytes (stepped.whole bytes e))
@@ -106,7 +106,7 @@ module _ {P : Type 0} (m : Device P) where
         let cs = command ∷ commands in
         let s = along m (suc k) (step cs) p fates in
         let stepped : Stepped m (At j) (At (suc j)) s = step_stands m (At j) (At (suc j)) (suc k) cs p fates fit.0 at in
-        let r : Rest j (suc (length steps)) (suc k) (onward m (if_done (λ bytes. play steps (before ++ bytes))) s.left s.fates s.programmer s.dialog) (counted s.dialog (steps_done m steps s.left s.programmer s.fates)) (steps_done m (cs ∷ steps) k p fates) =
+        let r : Rest j (suc (length steps)) (suc k) (onward m (if_done (λ bytes. play steps (before ++ bytes))) s.left s.fates s.programmer s.dialog) (step_count s.dialog (steps_done m steps s.left s.programmer s.fates)) (steps_done m (cs ∷ steps) k p fates) =
         climbs_from j k steps cs p fates (λ bytes. play steps (before ++ bytes)) s.dialog refl stepped
         (λ bytes here. play_climbs steps (suc j) s.left (before ++ bytes) s.programmer s.fates some fit.1 here) in
         subst (λ z. Climbs m At j (suc k) (cs ∷ steps) p fates z) (sym (along_bind m (suc k) (step cs) (if_done (λ bytes. play steps (before ++ bytes))) p fates)) (record {

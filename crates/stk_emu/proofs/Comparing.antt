@@ -9,7 +9,7 @@ use Rattle.std.specs.Prelude.{◌==◌}
 use Rattle.avr_image.specs.Image.{byte_at, or_blank}
 use Rattle.stk_frame.proofs.Cut.{chosen, refused}
 use Rattle.stk_host.specs.Operations.{Difference, difference_from}
-use Rattle.stk_emu.specs.Effect.{Image, laid, and_in, and_with}
+use Rattle.stk_emu.specs.Effect.{Image, with_image, and_in, and_with}
 use Rattle.stk_emu.specs.Given.{Holds}
 use Rattle.stk_emu.proofs.Images.{get_laid, length-laid, get_and_in}
 
@@ -50,7 +50,7 @@ held_same addr (Some want ∷ image) (found ∷ bytes) holds =
     ∙ held_same (addr + 1) image bytes (λ i b held l. holds (suc i) b held (omega (arith, l)))
 
 -- an image that was laid over a memory is held
-pub laid_holds : (image : Image) (bytes : List ℕ) → Holds image (laid image bytes)
+pub laid_holds : (image : Image) (bytes : List ℕ) → Holds image (with_image image bytes)
 laid_holds image bytes i b held l =
     get_laid image bytes i (omega (arith, l, length-laid image bytes)) ∙ ap (λ (o : Option ℕ). unwrap_or o (get_or bytes i 0)) held
 

@@ -8,7 +8,7 @@ use Rattle.stk_frame.specs.declared.command.Command.{Command}
 use Rattle.stk_frame.specs.declared.host_command.Fuse.TheVariants.{Low, High, Extended}
 use Rattle.stk_frame.specs.HostCommands.{program_fuse, program_lock}
 use Rattle.stk_host.specs.Places.{each_from}
-use Rattle.stk_host.specs.WriteSteps.{is_used, page_step, page_steps, begins_run, run_step, run_steps, byte_steps, write_steps}
+use Rattle.stk_host.specs.WriteSteps.{is_used, page_step, page_steps, begins_run, run_step, run_steps_at, byte_steps, write_steps}
 use Rattle.stk_emu.specs.Effect.{Memories, Image, Item, Erase, Write, effect, effects}
 use Rattle.stk_emu.specs.Strokes.{stroke_of, strokes_of, struck_by, all_steps}
 
@@ -49,7 +49,7 @@ byte_strokes program (Some v) each = (each v, tt)
 write_strokes : (part : Part) (mem : Mem) (image : Image) → AreStrokes (write_steps part mem image)
 write_strokes part Flash image =
     each_stroke (page_steps part image) 0 (part.flash_size / part.flash_page) (λ n. either_strokes (is_used part.flash_page image (n * part.flash_page)) (page_step part image (n * part.flash_page) ∷ []) (refl, tt))
-write_strokes part Eeprom image = each_stroke (run_steps part image) 0 part.eeprom_size (λ a. either_strokes (begins_run part.eeprom_page image a) (run_step part image a ∷ []) (refl, tt))
+write_strokes part Eeprom image = each_stroke (run_steps_at part image) 0 part.eeprom_size (λ a. either_strokes (begins_run part.eeprom_page image a) (run_step part image a ∷ []) (refl, tt))
 write_strokes part Lfuse image = byte_strokes (program_fuse Low) (byte_at image 0) (λ v. refl)
 write_strokes part Hfuse image = byte_strokes (program_fuse High) (byte_at image 0) (λ v. refl)
 write_strokes part Efuse image = byte_strokes (program_fuse Extended) (byte_at image 0) (λ v. refl)

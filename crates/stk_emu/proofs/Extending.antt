@@ -7,7 +7,7 @@ use Rattle.std.specs.Prelude.{nat_le as leb}
 use Rattle.stk_frame.specs.Cut.{cut, rest, body_of}
 use Rattle.stk_frame.proofs.Cut.{cut_append, cut_joined, chosen, refused}
 use Rattle.stk_host.specs.declared.link.Item.TheVariants.{Byte, Silence, End}
-use Rattle.stk_host.specs.Tape.{Tape, on_tape, bytes_in, answer, read_to, stopped, first_answer, is_answer, further, limit, Reading, Answered, Silent, Ended, Babbled}
+use Rattle.stk_host.specs.Tape.{Tape, on_tape, bytes_in, answer, read_to, silence_or_end, first_answer, is_answer, further, limit, Reading, Answered, Silent, Ended, Babbled}
 use Rattle.stk_host.proofs.Tapes.{answer_silent, answer_ended, first_answer_stays}
 
 none≢some : {A : Type 0} (a : A) → None ≡ Some a → ⊥
@@ -92,7 +92,7 @@ some_tape a b s t e =
 cons_nil : (b : ℕ) (bs : List ℕ) → b ∷ bs ≡ [] → ⊥
 cons_nil b bs e = cc
 
-stops_more : (seq : ℕ) (b : List ℕ) (tail u : Tape) (reading : Reading) (left : Tape) → bytes_in tail ≡ [] → first_answer seq (cut b) ≡ None → length b < limit → stopped tail ≡ Some (reading, left)
+stops_more : (seq : ℕ) (b : List ℕ) (tail u : Tape) (reading : Reading) (left : Tape) → bytes_in tail ≡ [] → first_answer seq (cut b) ≡ None → length b < limit → silence_or_end tail ≡ Some (reading, left)
     → answer seq ((on_tape b ++ tail) ++ u) ≡ Some (reading, left ++ u)
 stops_more seq b [] u reading left stops none few e = absurd (none≢some (reading, left) e)
 stops_more seq b (Byte c ∷ tail) u reading left stops none few e = absurd (cons_nil c (bytes_in tail) stops)
@@ -127,20 +127,20 @@ given_more seq t u None reading left none e =
           let le : limit ≤ length x = leb-true limit (length x) full in
           let z = bytes_more t u in
           let bytes : take limit (bytes_in (t ++ u)) ≡ x = ap (take limit) z.1 ∙ take-append-le limit (bytes_in t) z.0 (omega arith) in
-          let f = some_tape Babbled reading (drop limit t) left (sym (chosen (leb limit (length x)) (Some (Babbled, drop limit t)) (stopped (drop (length x) t)) full) ∙ e) in
+          let f = some_tape Babbled reading (drop limit t) left (sym (chosen (leb limit (length x)) (Some (Babbled, drop limit t)) (silence_or_end (drop (length x) t)) full) ∙ e) in
           answer_by seq (t ++ u) x bytes
           ∙ (ap (λ o. read_to o x (t ++ u)) none
-          ∙ (chosen (leb limit (length x)) (Some (Babbled, drop limit (t ++ u))) (stopped (drop (length x) (t ++ u))) full
+          ∙ (chosen (leb limit (length x)) (Some (Babbled, drop limit (t ++ u))) (silence_or_end (drop (length x) (t ++ u))) full
           ∙ (ap (λ r. Some (Babbled, r)) (drop_more_tape limit t u (omega arith))
           ∙ ap₂ (λ r q. Some (r, q ++ u)) f.0 f.1)))
       | inr few ↦
           let lt : length x < limit = leb-false limit (length x) few in
           let same : x ≡ bytes_in t = take_all limit (bytes_in t) (omega arith) in
           let s = split t in
-          let stop : stopped (drop (length x) t) ≡ Some (reading, left) = sym (refused (leb limit (length x)) (Some (Babbled, drop limit t)) (stopped (drop (length x) t)) few) ∙ e in
+          let stop : silence_or_end (drop (length x) t) ≡ Some (reading, left) = sym (refused (leb limit (length x)) (Some (Babbled, drop limit t)) (silence_or_end (drop (length x) t)) few) ∙ e in
           let at : drop (length x) t ≡ s.tail = ap (λ n. drop (length n) t) same ∙ (ap (drop (length (bytes_in t))) s.is ∙ drop_tape (bytes_in t) s.tail) in
           ap (λ w. answer seq (w ++ u)) s.is
-          ∙ stops_more seq (bytes_in t) s.tail u reading left s.stops (ap (λ y. first_answer seq (cut y)) (sym same) ∙ none) (subst (λ y. length y < limit) same lt) (ap stopped (sym at) ∙ stop)
+          ∙ stops_more seq (bytes_in t) s.tail u reading left s.stops (ap (λ y. first_answer seq (cut y)) (sym same) ∙ none) (subst (λ y. length y < limit) same lt) (ap silence_or_end (sym at) ∙ stop)
     ]
 
 pub answer_extends : (seq : ℕ) (t u : Tape) (reading : Reading) (left : Tape) → answer seq t ≡ Some (reading, left) → answer seq (t ++ u) ≡ Some (reading, left ++ u)

@@ -9,21 +9,21 @@ use Rattle.stk_host.specs.declared.fault.StepFault.{StepFault}
 use Rattle.stk_host.specs.declared.fault.StepFault.TheVariants.{NoAnswer}
 use Rattle.stk_host.specs.Dialog.{Dialog, Done, Say, Ask}
 use Rattle.stk_host.specs.Bound.{AsksAtMost}
-use Rattle.stk_host.specs.Steps.{Reply, Data, Again, Stop, Outcome, replied, with_data, exchange, attempt, settled, tries, step, if_done, play}
+use Rattle.stk_host.specs.Steps.{Reply, Data, Again, Stop, Outcome, reading_reply, with_data, exchange, attempt, end_or_again, tries, step, if_done, play}
 use Rattle.stk_host.proofs.Bounds.{step_most}
 use Rattle.stk_emu.specs.declared.fate.Fate.{Fate}
 use Rattle.stk_emu.specs.declared.fate.Fate.TheVariants.{Good, LostCommand, LostAnswer, LateAnswer, HeldAnswer, Reset, CommandRefused, AnswerSpoiled}
 use Rattle.stk_emu.specs.Programmer.{Programmer}
 use Rattle.stk_emu.specs.Device.{Device, device}
 use Rattle.stk_emu.specs.Wire.{first_fate, other_fates, after_fate}
-use Rattle.stk_emu.specs.Along.{reading_of, Standing, along}
+use Rattle.stk_emu.specs.Along.{fate_reading, Standing, along}
 use Rattle.stk_emu.specs.Effect.{Memories}
 use Rattle.stk_emu.specs.Few.{bad, bad_in, FewOf, AreFew, each_second}
 use Rattle.stk_emu.specs.Climbs.{Climbs}
 use Rattle.stk_emu.specs.Fits.{Fits}
 use Rattle.stk_emu.specs.Settled.{Ready, FitsPart}
 use Rattle.stk_emu.specs.Strokes.{struck, struck_by, IsStep, Erases, ProgramsPage, ProgramsRun, ProgramsFuse, ProgramsLock, ReadsFlash, ReadsEeprom, ReadsFuse, ReadsLock, ReadsSignature, ReadsCalibration, AreSteps}
-use Rattle.stk_emu.specs.Given.{on_data, reply_to, gathered, given_by, all_given}
+use Rattle.stk_emu.specs.Given.{on_data, reply_to, joined_reply, given_by, all_given}
 use Rattle.stk_emu.specs.Leads.{AreGood}
 use Rattle.stk_emu.proofs.Attempts.{along_bind, onward, step_stands, Stepped, attempt_obeys, stood_after, asks≢done}
 use Rattle.stk_emu.proofs.Gathered.{done_reply}
@@ -76,7 +76,7 @@ done_within m zero k (Ask bytes go_on) p fates asks le = absurd asks
 done_within m (suc n) zero (Ask bytes go_on) p fates asks le = absurd (omega (arith, le))
 done_within m (suc n) (suc k) (Ask bytes go_on) p fates asks le =
     let fate = first_fate fates in
-    let reading = reading_of fate (m.answer bytes p) in
+    let reading = fate_reading fate (m.answer bytes p) in
     done_within m n k (go_on reading) (after_fate fate (m.after bytes p) p (m.reset p)) (other_fates fates) (asks reading) (omega (arith, le))
 
 -- the fates behind so many
@@ -152,8 +152,8 @@ module _ {P : Type 0} (m : Device P) where
 
   by_fate : (k : ℕ) (fate : Fate) (command : Command) (then : Reply) (go_on : List ℕ → Dialog ⊥ Reply) (go : List ℕ → Reply) (size : ℕ) (p : P) (fates : List Fate) (got : List ℕ) → bad (first_fate fates) ≡ bad fate → on_data (reply_to m command p) go ≡ Data got
       → ((bytes : List ℕ) → go bytes ≡ Data got → (along m k (go_on bytes) (m.after (body command) p) (other_fates fates)).dialog ≡ Done then → Tried size (other_fates fates) got then (along m k (go_on bytes) (m.after (body command) p) (other_fates fates)).fates)
-      → (along m k (with_data go_on (replied command (reading_of fate (m.answer (body command) p)))) (after_fate fate (m.after (body command) p) p (m.reset p)) (other_fates fates)).dialog ≡ Done then
-      → Tried (suc size) fates got then (along m k (with_data go_on (replied command (reading_of fate (m.answer (body command) p)))) (after_fate fate (m.after (body command) p) p (m.reset p)) (other_fates fates)).fates
+      → (along m k (with_data go_on (reading_reply command (fate_reading fate (m.answer (body command) p)))) (after_fate fate (m.after (body command) p) p (m.reset p)) (other_fates fates)).dialog ≡ Done then
+      → Tried (suc size) fates got then (along m k (with_data go_on (reading_reply command (fate_reading fate (m.answer (body command) p)))) (after_fate fate (m.after (body command) p) p (m.reset p)) (other_fates fates)).fates
   by_fate k Good command then go_on go size p fates got is has each e = answered k (reply_to m command p) then go_on go size (m.after (body command) p) fates got has each e
   by_fate k LostCommand command then go_on go size p fates got is has each e = wrong 0 size fates got then _ is e
   by_fate k LostAnswer command then go_on go size p fates got is has each e = wrong 0 size fates got then _ is e
@@ -164,20 +164,20 @@ module _ {P : Type 0} (m : Device P) where
   by_fate k (AnswerSpoiled noise) command then go_on go size p fates got is has each e = wrong 0 size fates got then _ is e
 
   -- an attempt whose commands would all have data: they come, or a frame went wrong
-  attempt_tried : (k : ℕ) (commands : List Command) (before : List ℕ) (p : P) (fates : List Fate) (got : List ℕ) (then : Reply) → gathered m commands before p ≡ Data got → (along m k (attempt commands before) p fates).dialog ≡ Done then
+  attempt_tried : (k : ℕ) (commands : List Command) (before : List ℕ) (p : P) (fates : List Fate) (got : List ℕ) (then : Reply) → joined_reply m commands before p ≡ Data got → (along m k (attempt commands before) p fates).dialog ≡ Done then
       → Tried (length commands) fates got then (along m k (attempt commands before) p fates).fates
   unfolding attempt exchange
   attempt_tried k [] before p fates got then has e = inl (sym (done_reply (Data before) then e) ∙ has)
   attempt_tried zero (command ∷ commands) before p fates got then has e = absurd (asks≢done _ _ _ e)
   attempt_tried (suc k) (command ∷ commands) before p fates got then has e =
-      by_fate k (first_fate fates) command then (λ bytes. attempt commands (before ++ bytes)) (λ bytes. gathered m commands (before ++ bytes) (m.after (body command) p)) (length commands) p fates got refl has
+      by_fate k (first_fate fates) command then (λ bytes. attempt commands (before ++ bytes)) (λ bytes. joined_reply m commands (before ++ bytes) (m.after (body command) p)) (length commands) p fates got refl has
       (λ bytes f g. attempt_tried k commands (before ++ bytes) (m.after (body command) p) (other_fates fates) got then f g) e
 
   module _ (Before After : P → Type 0) (commands : List Command) (got : List ℕ) (fits : Fits m commands Before After)
-      (has : (q : P) → Before q ⊎ After q → gathered m commands [] q ≡ Data got) where
+      (has : (q : P) → Before q ⊎ After q → joined_reply m commands [] q ≡ Data got) where
     after_try : (again : StepFault → Dialog ⊥ Outcome) (left : ℕ) (first fates : List Fate) (q : P) (o : Outcome) (then : Reply)
         → ((fault : StepFault) → Spent (length commands) first then fates → (along m left (again fault) q fates).dialog ≡ Done o → o ≡ Ok got)
-        → Tried (length commands) first got then fates → (along m left (settled again then) q fates).dialog ≡ Done o → o ≡ Ok got
+        → Tried (length commands) first got then fates → (along m left (end_or_again again then) q fates).dialog ≡ Done o → o ≡ Ok got
     after_try again left first fates q o (Data bytes) more (inl is) e = sym (done_outcome (Ok bytes) o e) ∙ ap (λ x. Ok x) (same_data bytes got is)
     after_try again left first fates q o (Data bytes) more (inr s) e = absurd (again_not s.fault bytes (sym s.again))
     after_try again left first fates q o (Again fault) more (inl is) e = absurd (again_not fault got is)
@@ -188,7 +188,7 @@ module _ {P : Type 0} (m : Device P) where
     on_from : (again : StepFault → Dialog ⊥ Outcome) (left : ℕ) (first fates : List Fate) (q : P) (d : Dialog ⊥ Reply) (o : Outcome)
         → ((then : Reply) → d ≡ Done then → Tried (length commands) first got then fates)
         → ((then : Reply) (fault : StepFault) → Spent (length commands) first then fates → (along m left (again fault) q fates).dialog ≡ Done o → o ≡ Ok got)
-        → (onward m (settled again) left fates q d).dialog ≡ Done o → o ≡ Ok got
+        → (onward m (end_or_again again) left fates q d).dialog ≡ Done o → o ≡ Ok got
     on_from again left first fates q (Done then) o each more e = after_try again left first fates q o then (more then) (each then refl) e
     on_from again left first fates q (Say s dialog) o each more e = absurd s
     on_from again left first fates q (Ask bytes go_on) o each more e = absurd (asks≢done _ _ _ e)
@@ -206,14 +206,14 @@ module _ {P : Type 0} (m : Device P) where
         on_from (tries 0 commands) s.left fates s.fates s.programmer s.dialog o
         (λ then f. attempt_tried k commands [] p fates got then (has p stood) f)
         (λ then again spent f. absurd (none_wrong spent.place fates (let n = spent.near in omega (arith, n, short)) spent.went_wrong clear))
-        (sym (ap (λ z. z.dialog) (along_bind m k (attempt commands []) (settled (tries 0 commands)) p fates)) ∙ e)
+        (sym (ap (λ z. z.dialog) (along_bind m k (attempt commands []) (end_or_again (tries 0 commands)) p fates)) ∙ e)
     tries_few k (suc more) fault p fates o short stood clear e =
         let s = along m k (attempt commands []) p fates in
         on_from (tries (suc more) commands) s.left fates s.fates s.programmer s.dialog o
         (λ then f. attempt_tried k commands [] p fates got then (has p stood) f)
         (λ then again spent f. tries_few s.left more again s.programmer s.fates o short (stood_on k p fates stood)
         (clear_behind spent.place more fates s.fates (let n = spent.near in omega (arith, n, short)) spent.behind_it spent.went_wrong clear) f)
-        (sym (ap (λ z. z.dialog) (along_bind m k (attempt commands []) (settled (tries (suc more) commands)) p fates)) ∙ e)
+        (sym (ap (λ z. z.dialog) (along_bind m k (attempt commands []) (end_or_again (tries (suc more) commands)) p fates)) ∙ e)
 
     -- a step of at most two commands
     pub step_few : (k : ℕ) (p : P) (fates : List Fate) (o : Outcome) → length commands ≤ 2 → AreFew fates → Before p → (along m k (step commands) p fates).dialog ≡ Done o → o ≡ Ok got
@@ -275,12 +275,12 @@ along_steady k (Say e d) p fates s = along_steady k d p fates s
 along_steady zero (Ask bytes go_on) p fates s = refl
 along_steady (suc k) (Ask bytes go_on) p fates s =
     let fate = first_fate fates in
-    let d = go_on (reading_of fate (device.answer bytes p)) in
+    let d = go_on (fate_reading fate (device.answer bytes p)) in
     ap (λ q. along device k d q (other_fates fates)) (same_after fate (device.after bytes p) p (device.reset p) p (first_steady fates s))
     ∙ along_steady k d (after_fate fate (device.after bytes p) p p) (other_fates fates) (others_steady fates s)
 
 -- a step of at most two commands, which have these data from under the one condition and the other
-pub step_steady : (Before After : Programmer → Type 0) (commands : List Command) (got : List ℕ) → Fits steady commands Before After → ((q : Programmer) → Before q ⊎ After q → gathered device commands [] q ≡ Data got)
+pub step_steady : (Before After : Programmer → Type 0) (commands : List Command) (got : List ℕ) → Fits steady commands Before After → ((q : Programmer) → Before q ⊎ After q → joined_reply device commands [] q ≡ Data got)
     → (k : ℕ) (p : Programmer) (fates : List Fate) (o : Outcome) → length commands ≤ 2 → AreFew fates → Before p → (along device k (step commands) p fates).dialog ≡ Done o
     → (o ≡ Ok got) × After (along device k (step commands) p fates).programmer
 step_steady Before After commands got fits has k p fates o short few before e =
@@ -310,12 +310,12 @@ module _ (part : Part) (sound : IsPart part) where
 
   -- whether or not the step was already done, all of one attempt's commands have its data
   data_either : (commands : List Command) (m : Memories) → IsStep part commands → FitsPart part m → (q : Programmer) → Ready part m q ⊎ Ready part (struck part commands m) q
-      → gathered device commands [] q ≡ Data (given_by part commands m)
+      → joined_reply device commands [] q ≡ Data (given_by part commands m)
   data_either commands m is f q (inl t) = step_data part sound commands m q is f t
   data_either commands m is f q (inr t) = step_data part sound commands (struck part commands m) q is (struck_sizes part commands m sound f) t ∙ ap Data (given_same part sound commands m is)
 
   data_steady : (commands : List Command) (m : Memories) → IsStep part commands → FitsPart part m → (q : Programmer) → Ready part m q ⊎ Ready part (struck part commands m) q
-      → gathered steady commands [] q ≡ Data (given_by part commands m)
+      → joined_reply steady commands [] q ≡ Data (given_by part commands m)
   data_steady commands m is f q stood = gathered_steady commands [] q ∙ data_either commands m is f q stood
 
   -- a step comes to what it gives, in at most eight questions

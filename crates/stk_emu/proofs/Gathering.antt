@@ -4,7 +4,7 @@ use Rattle.stk_frame.specs.declared.command.Command.{Command}
 use Rattle.stk_host.specs.declared.fault.StepFault.{StepFault}
 use Rattle.stk_host.specs.declared.fault.StepFault.TheVariants.{NoAnswer}
 use Rattle.stk_host.specs.Dialog.{Dialog, Done, Say, Ask}
-use Rattle.stk_host.specs.Steps.{Reply, Data, Again, Stop, Outcome, attempt, settled, tries, step}
+use Rattle.stk_host.specs.Steps.{Reply, Data, Again, Stop, Outcome, attempt, end_or_again, tries, step}
 use Rattle.stk_emu.specs.declared.fate.Fate.{Fate}
 use Rattle.stk_emu.specs.Device.{Device}
 use Rattle.stk_emu.specs.Along.{along}
@@ -27,7 +27,7 @@ module _ {P : Type 0} (m : Device P) where
     on_from : (again : StepFault → Dialog ⊥ Outcome) (left : ℕ) (fates : List Fate) (q : P) (d : Dialog ⊥ Reply) (got : List ℕ)
         → ((bytes : List ℕ) → d ≡ Done (Data bytes) → Gives m commands Before After bytes)
         → ((fault : StepFault) → (along m left (again fault) q fates).dialog ≡ Done (Ok got) → Gives m commands Before After got)
-        → (onward m (settled again) left fates q d).dialog ≡ Done (Ok got) → Gives m commands Before After got
+        → (onward m (end_or_again again) left fates q d).dialog ≡ Done (Ok got) → Gives m commands Before After got
     on_from again left fates q (Done (Data bytes)) got now more e = subst (Gives m commands Before After) (ok_is bytes got (done_outcome (Ok bytes) (Ok got) e)) (now bytes refl)
     on_from again left fates q (Done (Again fault)) got now more e = more fault e
     on_from again left fates q (Done (Stop fault)) got now more e = absurd (err_no fault got (done_outcome (Err fault) (Ok got) e))
@@ -45,7 +45,7 @@ module _ {P : Type 0} (m : Device P) where
         on_from (tries more commands) s.left s.fates s.programmer s.dialog got
         (λ bytes f. record { from = p; stood = stood; is = attempt_gives m k commands [] bytes p fates f })
         (λ again f. tries_give s.left more again s.programmer s.fates got stood' f)
-        (sym (ap (λ z. z.dialog) (along_bind m k (attempt commands []) (settled (tries more commands)) p fates)) ∙ e)
+        (sym (ap (λ z. z.dialog) (along_bind m k (attempt commands []) (end_or_again (tries more commands)) p fates)) ∙ e)
 
     pub step_gives : (k : ℕ) (p : P) (fates : List Fate) (got : List ℕ) → Before p → (along m k (step commands) p fates).dialog ≡ Done (Ok got) → Gives m commands Before After got
     step_gives k p fates got before e = tries_give k 4 NoAnswer p fates got (inl before) e

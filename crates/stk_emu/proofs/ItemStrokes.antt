@@ -8,7 +8,7 @@ use Rattle.avr_part.specs.Memory.{AreBytes, blank}
 use Rattle.stk_emu.proofs.Pages.{page_even}
 use Rattle.std.proofs.Math.Nat.{suc-mul, mul-le-mul_right}
 use Rattle.std.specs.Prelude.{◌==◌, ◌||◌, not, min}
-use Rattle.avr_image.specs.Image.{byte_at, filled, run_end}
+use Rattle.avr_image.specs.Image.{byte_at, filled_bytes, run_end}
 use Rattle.avr_image.proofs.Shown.{byte_at-past}
 use Rattle.avr_image.proofs.Walking.{is_filled, run_ends}
 use Rattle.avr_part.specs.declared.mem.Mem.{Mem}
@@ -18,9 +18,9 @@ use Rattle.stk_frame.specs.declared.command.Command.{Command}
 use Rattle.stk_frame.specs.declared.host_command.Fuse.TheVariants.{Low, High, Extended}
 use Rattle.stk_frame.specs.HostCommands.{program_fuse, program_lock}
 use Rattle.stk_host.specs.Places.{each_from}
-use Rattle.stk_host.specs.WriteSteps.{is_used, page_step, page_steps, page_end, begins_run, run_step, run_steps, byte_steps, write_steps}
+use Rattle.stk_host.specs.WriteSteps.{is_used, page_step, page_steps, page_end, begins_run, run_step, run_steps_at, byte_steps, write_steps}
 use Rattle.stk_host.specs.ReadSteps.{block_count, block_size, block_steps, signature_step, read_steps}
-use Rattle.stk_emu.specs.Effect.{Memories, Image, Item, Erase, Write, effect, effects, laid, and_in, and_with, locked, keeps_eeprom}
+use Rattle.stk_emu.specs.Effect.{Memories, Image, Item, Erase, Write, effect, effects, with_image, and_in, and_with, are_locked, erase_keeps_eeprom}
 use Rattle.stk_emu.specs.Settled.{FitsPart}
 use Rattle.stk_emu.specs.Strokes.{struck, struck_by, stroke_of, strokes_of, IsStep, Erases, ProgramsPage, ProgramsRun, ProgramsFuse, ProgramsLock, ReadsFlash, ReadsEeprom, ReadsFuse, ReadsLock, ReadsSignature, ReadsCalibration, AreSteps, IsBlock, AreWords, steps_of, all_steps, FitsItem, AllFitItems}
 use Rattle.stk_emu.proofs.Images.{length-laid, length-and_in}
@@ -33,17 +33,17 @@ either_way true x = refl
 either_way false x = refl
 
 module _ (part : Part) where
-  lfuse_item : (o : Option ℕ) (m : Memories) → effects part (strokes_of (byte_steps (program_fuse Low) o)) m ≡ record m { lfuse = cond (locked m) m.lfuse (unwrap_or o m.lfuse) }
+  lfuse_item : (o : Option ℕ) (m : Memories) → effects part (strokes_of (byte_steps (program_fuse Low) o)) m ≡ record m { lfuse = cond (are_locked m) m.lfuse (unwrap_or o m.lfuse) }
   lfuse_item (Some v) m = refl
-  lfuse_item None m = ap (λ x. record m { lfuse = x }) (sym (either_way (locked m) m.lfuse))
+  lfuse_item None m = ap (λ x. record m { lfuse = x }) (sym (either_way (are_locked m) m.lfuse))
 
-  hfuse_item : (o : Option ℕ) (m : Memories) → effects part (strokes_of (byte_steps (program_fuse High) o)) m ≡ record m { hfuse = cond (locked m) m.hfuse (unwrap_or o m.hfuse) }
+  hfuse_item : (o : Option ℕ) (m : Memories) → effects part (strokes_of (byte_steps (program_fuse High) o)) m ≡ record m { hfuse = cond (are_locked m) m.hfuse (unwrap_or o m.hfuse) }
   hfuse_item (Some v) m = refl
-  hfuse_item None m = ap (λ x. record m { hfuse = x }) (sym (either_way (locked m) m.hfuse))
+  hfuse_item None m = ap (λ x. record m { hfuse = x }) (sym (either_way (are_locked m) m.hfuse))
 
-  efuse_item : (o : Option ℕ) (m : Memories) → effects part (strokes_of (byte_steps (program_fuse Extended) o)) m ≡ record m { efuse = cond (locked m) m.efuse (unwrap_or o m.efuse) }
+  efuse_item : (o : Option ℕ) (m : Memories) → effects part (strokes_of (byte_steps (program_fuse Extended) o)) m ≡ record m { efuse = cond (are_locked m) m.efuse (unwrap_or o m.efuse) }
   efuse_item (Some v) m = refl
-  efuse_item None m = ap (λ x. record m { efuse = x }) (sym (either_way (locked m) m.efuse))
+  efuse_item None m = ap (λ x. record m { efuse = x }) (sym (either_way (are_locked m) m.efuse))
 
   lock_item : (o : Option ℕ) (m : Memories) → effects part (strokes_of (byte_steps program_lock o)) m ≡ record m { lock = and_with o m.lock }
   lock_item (Some v) m = refl
@@ -73,13 +73,13 @@ blank_below xs i l =
 module _ (part : Part) (sound : IsPart part) where
   written_sizes : (mem : Mem) (image : Image) (m : Memories) → FitsPart part m → FitsPart part (effect part (Write mem image) m)
   written_sizes Flash image m f = record {
-    flash = either_length (locked m) m.flash (and_in image m.flash) part.flash_size f.flash (length-and_in image m.flash ∙ f.flash);
+    flash = either_length (are_locked m) m.flash (and_in image m.flash) part.flash_size f.flash (length-and_in image m.flash ∙ f.flash);
     eeprom = f.eeprom;
-    bytes = either_bytes (locked m) m.flash (and_in image m.flash) f.bytes (all_below (and_in image m.flash) (below_and_in image m.flash (below_all m.flash f.bytes)));
+    bytes = either_bytes (are_locked m) m.flash (and_in image m.flash) f.bytes (all_below (and_in image m.flash) (below_and_in image m.flash (below_all m.flash f.bytes)));
   }
   written_sizes Eeprom image m f = record {
     flash = f.flash;
-    eeprom = either_length (locked m) m.eeprom (laid image m.eeprom) part.eeprom_size f.eeprom (length-laid image m.eeprom ∙ f.eeprom);
+    eeprom = either_length (are_locked m) m.eeprom (with_image image m.eeprom) part.eeprom_size f.eeprom (length-laid image m.eeprom ∙ f.eeprom);
     bytes = f.bytes;
   }
   written_sizes Lfuse image m f = record { flash = f.flash; eeprom = f.eeprom; bytes = f.bytes }
@@ -92,7 +92,7 @@ module _ (part : Part) (sound : IsPart part) where
   pub effect_sizes : (item : Item) (m : Memories) → FitsPart part m → FitsPart part (effect part item m)
   effect_sizes Erase m f = record {
     flash = length-replicate (length m.flash) 255 ∙ f.flash;
-    eeprom = either_length (keeps_eeprom part m) m.eeprom (blank m.eeprom) part.eeprom_size f.eeprom (length-replicate (length m.eeprom) 255 ∙ f.eeprom);
+    eeprom = either_length (erase_keeps_eeprom part m) m.eeprom (blank m.eeprom) part.eeprom_size f.eeprom (length-replicate (length m.eeprom) 255 ∙ f.eeprom);
     bytes = all_below (blank m.flash) (blank_below m.flash);
   }
   effect_sizes (Write mem image) m f = written_sizes mem image m f
@@ -156,9 +156,9 @@ module _ (part : Part) (sound : IsPart part) where
           let whole = sound.flash_pages in
           let up : suc n * part.flash_page ≤ part.flash_size / part.flash_page * part.flash_page = mul-le-mul_right part.flash_page (omega (arith, l)) in
           let next = suc-mul n part.flash_page in
-          ProgramsPage n (filled image (n * part.flash_page) part.flash_page) (record { whole = (is_filled image (n * part.flash_page) part.flash_page).size; inside = omega (arith, all, whole, up, next) }) refl
+          ProgramsPage n (filled_bytes image (n * part.flash_page) part.flash_page) (record { whole = (is_filled image (n * part.flash_page) part.flash_page).size; inside = omega (arith, all, whole, up, next) }) refl
 
-  run_is_step : (image : Image) (addr : ℕ) → length image ≤ part.eeprom_size → AreSteps part (run_steps part image addr)
+  run_is_step : (image : Image) (addr : ℕ) → length image ≤ part.eeprom_size → AreSteps part (run_steps_at part image addr)
   run_is_step image addr fits = either_steps part (begins_run part.eeprom_page image addr) (run_step part image addr ∷ []) [] (λ begins. (is_run begins, tt)) tt
     where
       is_run : begins_run part.eeprom_page image addr ≡ true → IsStep part (run_step part image addr)
@@ -178,7 +178,7 @@ module _ (part : Part) (sound : IsPart part) where
           ] in
           let last : end - 1 < length image = held_within image (end - 1) (run.held (end - 1) (omega (arith, longer)) (omega (arith, longer))) in
           let size = (is_filled image addr (end - addr)).size in
-          ProgramsRun addr (filled image addr (end - addr)) (record {
+          ProgramsRun addr (filled_bytes image addr (end - addr)) (record {
             some = omega (arith, size, longer);
             within = omega (arith, size, run.bound, here, rest, longer);
             inside = omega (arith, size, last, fits, longer);
@@ -190,7 +190,7 @@ module _ (part : Part) (sound : IsPart part) where
 
   pub write_are_steps : (mem : Mem) (image : Image) → length image ≤ size_of mem part → AreSteps part (write_steps part mem image)
   write_are_steps Flash image fits = each_step part (page_steps part image) 0 (part.flash_size / part.flash_page) (λ i a l. page_is_step image i (omega (arith, l)))
-  write_are_steps Eeprom image fits = each_step part (run_steps part image) 0 part.eeprom_size (λ i a l. run_is_step image i fits)
+  write_are_steps Eeprom image fits = each_step part (run_steps_at part image) 0 part.eeprom_size (λ i a l. run_is_step image i fits)
   write_are_steps Lfuse image fits = byte_is_step (program_fuse Low) (byte_at image 0) (λ v. ProgramsFuse Low v refl)
   write_are_steps Hfuse image fits = byte_is_step (program_fuse High) (byte_at image 0) (λ v. ProgramsFuse High v refl)
   write_are_steps Efuse image fits = byte_is_step (program_fuse Extended) (byte_at image 0) (λ v. ProgramsFuse Extended v refl)

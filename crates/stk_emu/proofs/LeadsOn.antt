@@ -11,7 +11,7 @@ use Rattle.stk_host.specs.declared.fault.HostFault.TheVariants.{WrongSignature}
 use Rattle.stk_host.specs.Dialog.{Dialog, Done, Say, Ask, ◌>>=◌, lifted}
 use Rattle.stk_host.specs.Steps.{Outcome, step, if_done, play}
 use Rattle.stk_host.specs.ReadSteps.{signature_steps}
-use Rattle.stk_host.specs.Operations.{host_fault, beginning, signature_judged, opening, ended, closing, judged_by, operation}
+use Rattle.stk_host.specs.Operations.{host_fault, handshake, signature_judged, opening, without_bytes, closing, judged_by, operation}
 use Rattle.stk_emu.specs.declared.fate.Fate.{Fate}
 use Rattle.stk_emu.specs.Programmer.{Programmer}
 use Rattle.stk_emu.specs.Device.{Device, device}
@@ -186,8 +186,8 @@ module _ (part : Part) (sound : IsPart part) where
   second m f (Err fault) q fates (inl i) = leads_done device (Err fault) q fates (Idle part m) (AfterBeginning part m) i i
   second m f (Err fault) q fates (inr i) = leads_done device (Err fault) q fates (Idle part m) (AfterBeginning part m) i i
 
-  pub leads_beginning : (m : Memories) (p : Programmer) (fates : List Fate) → FitsPart part m → Idle part m p → Leads device beginning p fates (Idle part m) (AfterBeginning part m)
-  unfolding beginning
+  pub leads_beginning : (m : Memories) (p : Programmer) (fates : List Fate) → FitsPart part m → Idle part m p → Leads device handshake p fates (Idle part m) (AfterBeginning part m)
+  unfolding handshake
   leads_beginning m p fates f idle =
       leads_bind device (Idle part m) (OnData (Idle part m) (Idle part m)) (AfterBeginning part m) (if_done (λ name. step (enter ∷ []) >>= if_done (λ nothing. play signature_steps []))) (second m f) (step (SignOn ∷ [])) p fates
       (leads_step device (SignOn ∷ []) (Idle part m) (Idle part m) (Idle part m) p fates (sign_on_fits part m) idle (λ q i. i) (λ q i. i))
@@ -212,14 +212,14 @@ module _ (part : Part) (sound : IsPart part) where
   leads_opening wanted force m p fates f idle =
       leads_bind device (Idle part m) (AfterBeginning part m) (AfterOpening part m) (λ outcome. Done (signature_judged wanted force outcome))
       (λ o q fs a. leads_done device (signature_judged wanted force o) q fs (Idle part m) (AfterOpening part m) (begun_idle m o q a) (signature_after m wanted force o q a))
-      beginning p fates (leads_beginning m p fates f idle)
+      handshake p fates (leads_beginning m p fates f idle)
 
 -- to close it
 pub leads_closing : (part : Part) (m : Memories) (p : Programmer) (fates : List Fate) → Idle part m p → Leads device closing p fates (Idle part m) (λ result q. Idle part m q)
 unfolding closing
 leads_closing part m p fates idle =
-    leads_bind device (Idle part m) (OnData (Idle part m) (Idle part m)) (λ result q. Idle part m q) (λ outcome. Done (ended outcome))
-    (λ o q fs a. leads_done device (ended o) q fs (Idle part m) (λ result r. Idle part m r) (either o q a) (either o q a))
+    leads_bind device (Idle part m) (OnData (Idle part m) (Idle part m)) (λ result q. Idle part m q) (λ outcome. Done (without_bytes outcome))
+    (λ o q fs a. leads_done device (without_bytes o) q fs (Idle part m) (λ result r. Idle part m r) (either o q a) (either o q a))
     (step (leave ∷ [])) p fates
     (leads_step device (leave ∷ []) (Idle part m) (Idle part m) (Idle part m) p fates (leave_fits part m) idle (λ q i. i) (λ q i. i))
   where

@@ -12,9 +12,9 @@ use Rattle.stk_frame.specs.Decoding as decoding
 use Rattle.stk_frame.specs.HostCommands.{enter, leave, erase, program_fuse, program_lock, read_fuse, read_lock, read_signature, read_calibration}
 use Rattle.stk_frame.proofs.Decoding.{read_back}
 use Rattle.stk_frame.proofs.Cut.{chosen}
-use Rattle.stk_emu.specs.Programmer.{Programmer, Done, obey, obey_command, read_as}
+use Rattle.stk_emu.specs.Programmer.{Programmer, Response, obey, obey_command, read_as}
 use Rattle.stk_emu.specs.Device.{Device, device}
-use Rattle.stk_emu.specs.Fits.{obeyed, Fits}
+use Rattle.stk_emu.specs.Fits.{after_commands, Fits}
 use Rattle.stk_emu.specs.Effect.{Memories, memories_of}
 use Rattle.stk_emu.specs.Strokes.{struck}
 use Rattle.stk_emu.specs.Settled.{Idle, Settled, Ready}
@@ -24,7 +24,7 @@ pub obeys : (c : Command) (p : Programmer) → decoding.FieldsFit c → obey (bo
 obeys c p fits = ap (λ o. read_as o (body c) p) (read_back c fits)
 
 module _ {P : Type 0} (m : Device P) where
-  pub obeyed_none : (i : ℕ) (p : P) → obeyed m i [] p ≡ p
+  pub obeyed_none : (i : ℕ) (p : P) → after_commands m i [] p ≡ p
   obeyed_none zero p = refl
   obeyed_none (suc i) p = refl
 
@@ -39,11 +39,11 @@ module _ {P : Type 0} (m : Device P) where
     anew_again = anew_again;
   }
     where
-      fronts : (p : P) (i : ℕ) → Before p → Before (obeyed m i (c ∷ []) p) ⊎ After (obeyed m i (c ∷ []) p)
+      fronts : (p : P) (i : ℕ) → Before p → Before (after_commands m i (c ∷ []) p) ⊎ After (after_commands m i (c ∷ []) p)
       fronts p zero b = inl b
       fronts p (suc i) b = inr (subst After (sym (obeyed_none i (m.after (body c) p))) (does p b))
 
-      agains : (p : P) (i : ℕ) → After p → After (obeyed m i (c ∷ []) p)
+      agains : (p : P) (i : ℕ) → After p → After (after_commands m i (c ∷ []) p)
       agains p zero a = a
       agains p (suc i) a = subst After (sym (obeyed_none i (m.after (body c) p))) (again p a)
 
@@ -59,12 +59,12 @@ module _ {P : Type 0} (m : Device P) where
     anew_again = anew_again;
   }
     where
-      fronts : (p : P) (i : ℕ) → Before p → Before (obeyed m i (c ∷ d ∷ []) p) ⊎ After (obeyed m i (c ∷ d ∷ []) p)
+      fronts : (p : P) (i : ℕ) → Before p → Before (after_commands m i (c ∷ d ∷ []) p) ⊎ After (after_commands m i (c ∷ d ∷ []) p)
       fronts p zero b = inl b
       fronts p (suc zero) b = inl (first p b)
       fronts p (suc (suc i)) b = inr (subst After (sym (obeyed_none i (m.after (body d) (m.after (body c) p)))) (does p b))
 
-      agains : (p : P) (i : ℕ) → After p → After (obeyed m i (c ∷ d ∷ []) p)
+      agains : (p : P) (i : ℕ) → After p → After (after_commands m i (c ∷ d ∷ []) p)
       agains p zero a = a
       agains p (suc zero) a = first_again p a
       agains p (suc (suc i)) a = subst After (sym (obeyed_none i (m.after (body d) (m.after (body c) p)))) (again p a)
@@ -82,7 +82,7 @@ pub two_steady : (c d : Command) (Before After : Programmer → Type 0) → ((p 
 two_steady c d Before After first first_again does again = two_fits steady c d Before After first first_again does again (λ p b. b) (λ p a. a)
 
 -- a command of programming mode, in it
-pub in_mode_is : (p : Programmer) (x y : Done) → p.mode ≡ true → (cond p.mode x y).1 ≡ x.1
+pub in_mode_is : (p : Programmer) (x y : Response) → p.mode ≡ true → (cond p.mode x y).1 ≡ x.1
 in_mode_is p x y e = ap (λ z. z.1) (chosen p.mode x y e)
 
 module _ (part : Part) where
@@ -187,7 +187,7 @@ module _ (part : Part) where
   })
 
   -- the EESAVE bit is the part's
-  erase_memories : (s : chip.State) → s.part ≡ part → memories_of (chip.with_erased s) ≡ struck part (erase ∷ []) (memories_of s)
+  erase_memories : (s : chip.ChipState) → s.part ≡ part → memories_of (chip.with_erased s) ≡ struck part (erase ∷ []) (memories_of s)
   erase_memories s e = ap (λ (q : Part). struck q (erase ∷ []) (memories_of s)) e
 
   pub erase_does : (m : Memories) (p : Programmer) → Ready part m p → Ready part (struck part (erase ∷ []) m) (device.after (body erase) p)

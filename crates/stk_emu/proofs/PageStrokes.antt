@@ -6,7 +6,7 @@ use Rattle.std.proofs.lemmas.Bool.{cases_Bool, false≢true}
 use Rattle.std.proofs.lemmas.List.{get_or-take, get_or-drop}
 use Rattle.std.proofs.Math.Nat.{mod-eq_of_lt, suc-mul, zero-mul, mul-le-mul_right}
 use Rattle.std.specs.List.{list_any}
-use Rattle.avr_image.specs.Image.{byte_at, filled, or_blank}
+use Rattle.avr_image.specs.Image.{byte_at, filled_bytes, or_blank}
 use Rattle.avr_image.proofs.Walking.{is_filled}
 use Rattle.avr_part.specs.declared.mem.Mem.TheVariants.{Flash}
 use Rattle.avr_part.specs.Part.{Part, IsPart}
@@ -14,8 +14,8 @@ use Rattle.stk_frame.specs.declared.command.Command.{Command}
 use Rattle.stk_frame.proofs.Cut.{chosen, refused}
 use Rattle.stk_host.specs.Places.{each_from}
 use Rattle.stk_host.specs.WriteSteps.{is_used, page_step, page_steps}
-use Rattle.stk_emu.specs.Effect.{Memories, Image, Item, Write, effect, effects, and_in, and_with, locked}
-use Rattle.stk_emu.specs.Strokes.{placed, stroke_of, strokes_of}
+use Rattle.stk_emu.specs.Effect.{Memories, Image, Item, Write, effect, effects, and_in, and_with, are_locked}
+use Rattle.stk_emu.specs.Strokes.{image_at, stroke_of, strokes_of}
 use Rattle.stk_emu.proofs.Images.{get_and_in, length-and_in}
 use Rattle.stk_emu.proofs.Pages.{flash_address_back, page_even}
 use Rattle.stk_emu.proofs.Written.{Written, Struck, struck_first, gap_first, nothing_left, all_anded, placed_before, placed_within, placed_behind}
@@ -60,27 +60,27 @@ unused_gap page image start unused i from to =
     ∙ none_any (take page (drop start image)) (i - start) unused))
 
 -- the stroke of a page
-page_struck : (image : Image) (start page : ℕ) (old : List ℕ) → AllBelow old → Struck and_with image start (start + page) old (and_in (placed start (filled image start page)) old)
+page_struck : (image : Image) (start page : ℕ) (old : List ℕ) → AllBelow old → Struck and_with image start (start + page) old (and_in (image_at start (filled_bytes image start page)) old)
 page_struck image start page old below =
     let f = is_filled image start page in
-    let bytes = filled image start page in
+    let bytes = filled_bytes image start page in
     record {
       order = omega arith;
-      long = length-and_in (placed start bytes) old;
-      before = λ i l b. get_and_in (placed start bytes) old i l ∙ ap (λ (o : Option ℕ). and_with o (get_or old i 0)) (placed_before start bytes i b);
+      long = length-and_in (image_at start bytes) old;
+      before = λ i l b. get_and_in (image_at start bytes) old i l ∙ ap (λ (o : Option ℕ). and_with o (get_or old i 0)) (placed_before start bytes i b);
       within = λ i l a b.
-          get_and_in (placed start bytes) old i l
+          get_and_in (image_at start bytes) old i l
           ∙ (ap (λ (o : Option ℕ). and_with o (get_or old i 0)) (placed_within start bytes i a (omega (arith, b, f.size)))
           ∙ (ap (bit_and (get_or old i 0)) (f.byte (i - start) (omega arith) ∙ ap (λ (j : ℕ). or_blank (byte_at image j)) (omega arith))
           ∙ and_blank (byte_at image i) (get_or old i 0) (below i l)));
-      behind = λ i l b. get_and_in (placed start bytes) old i l ∙ ap (λ (o : Option ℕ). and_with o (get_or old i 0)) (placed_behind start bytes i (omega (arith, b, f.size)));
+      behind = λ i l b. get_and_in (image_at start bytes) old i l ∙ ap (λ (o : Option ℕ). and_with o (get_or old i 0)) (placed_behind start bytes i (omega (arith, b, f.size)));
     }
 
 module _ (part : Part) (sound : IsPart part) (image : Image) where
   -- the stroke of the step
   page_stroke : (start : ℕ) (m : Memories) → start < 4294967296 → start % 2 ≡ 0
-      → effects part (stroke_of (page_step part image start)) m ≡ effect part (Write Flash (placed start (filled image start part.flash_page))) m
-  page_stroke start m few even = ap (λ a. effect part (Write Flash (placed a (filled image start part.flash_page))) m) (flash_address_back part start few even)
+      → effects part (stroke_of (page_step part image start)) m ≡ effect part (Write Flash (image_at start (filled_bytes image start part.flash_page))) m
+  page_stroke start m few even = ap (λ a. effect part (Write Flash (image_at a (filled_bytes image start part.flash_page))) m) (flash_address_back part start few even)
 
   -- flash after the strokes of these steps
   pub record Flashed (steps : List (List Command)) (m : Memories) (from : ℕ) (old : List ℕ) : Type 0 where
@@ -89,7 +89,7 @@ module _ (part : Part) (sound : IsPart part) (image : Image) where
     pub written : Written and_with image from old new
 
   -- one page more in front
-  page_first : (n : ℕ) (others : List (List Command)) (m : Memories) (old : List ℕ) → locked m ≡ false → AllBelow old → n * part.flash_page < 4294967296
+  page_first : (n : ℕ) (others : List (List Command)) (m : Memories) (old : List ℕ) → are_locked m ≡ false → AllBelow old → n * part.flash_page < 4294967296
       → ((mid : List ℕ) → AllBelow mid → length mid ≡ length old → Flashed others m ((n + 1) * part.flash_page) mid)
       → Flashed (page_steps part image n ++ others) m (n * part.flash_page) old
   page_first n others m old free below few rest =
@@ -98,9 +98,9 @@ module _ (part : Part) (sound : IsPart part) (image : Image) where
       let next : (n + 1) * page ≡ start + page = let e = suc-mul n page in let f : n + 1 ≡ suc n = omega arith in ap (λ k. k * page) f ∙ omega arith in
       elim (cases_Bool (is_used page image start)) [
         | inl used ↦
-            let bytes = filled image start page in
-            let mid = and_in (placed start bytes) old in
-            let r : Flashed others m ((n + 1) * page) mid = rest mid (below_and_in (placed start bytes) old below) (length-and_in (placed start bytes) old) in
+            let bytes = filled_bytes image start page in
+            let mid = and_in (image_at start bytes) old in
+            let r : Flashed others m ((n + 1) * page) mid = rest mid (below_and_in (image_at start bytes) old below) (length-and_in (image_at start bytes) old) in
             let steps_are : page_steps part image n ≡ page_step part image start ∷ [] = chosen (is_used page image start) (page_step part image start ∷ []) [] used in
             record {
               new = r.new;
@@ -108,7 +108,7 @@ module _ (part : Part) (sound : IsPart part) (image : Image) where
                   ∙ (effects_on part (stroke_of (page_step part image start)) (strokes_of others) (record m { flash = old })
                   ∙ (ap (effects part (strokes_of others))
                   (page_stroke start (record m { flash = old }) few (page_even part sound n)
-                  ∙ ap (λ flash. record m { flash = flash }) (refused (locked m) old mid free))
+                  ∙ ap (λ flash. record m { flash = flash }) (refused (are_locked m) old mid free))
                   ∙ r.is));
               written = struck_first and_with image start (start + page) old mid r.new (page_struck image start page old below) (subst (λ to. Written and_with image to mid r.new) next r.written);
             }
@@ -122,7 +122,7 @@ module _ (part : Part) (sound : IsPart part) (image : Image) where
             }
       ]
 
-  pages_free : (n k : ℕ) (m : Memories) (old : List ℕ) → locked m ≡ false → AllBelow old → (n + k) * part.flash_page ≡ length old → length old ≤ 262144
+  pages_free : (n k : ℕ) (m : Memories) (old : List ℕ) → are_locked m ≡ false → AllBelow old → (n + k) * part.flash_page ≡ length old → length old ≤ 262144
       → Flashed (each_from (page_steps part image) n k) m (n * part.flash_page) old
   pages_free n zero m old free below long most = record {
     new = old;
@@ -138,7 +138,7 @@ module _ (part : Part) (sound : IsPart part) (image : Image) where
       less a b page le = mul-le-mul_right page le
 
   -- where it is locked nothing changes
-  page_locked : (n : ℕ) (others : List (List Command)) (m : Memories) → locked m ≡ true → n * part.flash_page < 4294967296 → effects part (strokes_of others) m ≡ m → effects part (strokes_of (page_steps part image n ++ others)) m ≡ m
+  page_locked : (n : ℕ) (others : List (List Command)) (m : Memories) → are_locked m ≡ true → n * part.flash_page < 4294967296 → effects part (strokes_of others) m ≡ m → effects part (strokes_of (page_steps part image n ++ others)) m ≡ m
   page_locked n others m lock few rest =
       let start = n * part.flash_page in
       let page = part.flash_page in
@@ -148,12 +148,12 @@ module _ (part : Part) (sound : IsPart part) (image : Image) where
             ∙ (effects_on part (stroke_of (page_step part image start)) (strokes_of others) m
             ∙ (ap (effects part (strokes_of others))
             (page_stroke start m few (page_even part sound n)
-            ∙ ap (λ flash. record m { flash = flash }) (chosen (locked m) m.flash (and_in (placed start (filled image start page)) m.flash) lock))
+            ∙ ap (λ flash. record m { flash = flash }) (chosen (are_locked m) m.flash (and_in (image_at start (filled_bytes image start page)) m.flash) lock))
             ∙ rest))
         | inr unused ↦ ap (λ ss. effects part (strokes_of (ss ++ others)) m) (refused (is_used page image start) (page_step part image start ∷ []) [] unused) ∙ rest
       ]
 
-  pages_locked : (n k : ℕ) (m : Memories) → locked m ≡ true → (n + k) * part.flash_page ≤ 262144 → effects part (strokes_of (each_from (page_steps part image) n k)) m ≡ m
+  pages_locked : (n k : ℕ) (m : Memories) → are_locked m ≡ true → (n + k) * part.flash_page ≤ 262144 → effects part (strokes_of (each_from (page_steps part image) n k)) m ≡ m
   pages_locked n zero m lock most = refl
   pages_locked n (suc k) m lock most =
       let within : n * part.flash_page ≤ (n + suc k) * part.flash_page = mul-le-mul_right part.flash_page (omega arith) in
@@ -170,11 +170,11 @@ module _ (part : Part) (sound : IsPart part) (image : Image) where
       let h : 0 + part.flash_size / part.flash_page ≡ part.flash_size / part.flash_page = omega arith in
       ap (λ j. j * part.flash_page) h ∙ omega arith in
       let most = sound.flash_most in
-      elim (cases_Bool (locked m)) [
-        | inl lock ↦ pages_locked 0 (part.flash_size / part.flash_page) m lock (omega (arith, count)) ∙ ap (λ f. record m { flash = f }) (sym (chosen (locked m) m.flash (and_in image m.flash) lock))
+      elim (cases_Bool (are_locked m)) [
+        | inl lock ↦ pages_locked 0 (part.flash_size / part.flash_page) m lock (omega (arith, count)) ∙ ap (λ f. record m { flash = f }) (sym (chosen (are_locked m) m.flash (and_in image m.flash) lock))
         | inr free ↦
             let r : Flashed (each_from (page_steps part image) 0 (part.flash_size / part.flash_page)) m (0 * part.flash_page) m.flash = pages_free 0 (part.flash_size / part.flash_page) m m.flash free below (count ∙ sym long) (omega (arith, long)) in
             r.is
             ∙ (ap (λ f. record m { flash = f }) (all_anded image m.flash r.new (subst (λ from. Written and_with image from m.flash r.new) (zero-mul part.flash_page) r.written))
-            ∙ ap (λ f. record m { flash = f }) (sym (refused (locked m) m.flash (and_in image m.flash) free)))
+            ∙ ap (λ f. record m { flash = f }) (sym (refused (are_locked m) m.flash (and_in image m.flash) free)))
       ]

@@ -7,7 +7,7 @@ use Rattle.std.proofs.lemmas.Bool.{ne_eqb, eq-eqb, eqb-true, eqb-false, and_from
 use Rattle.std.proofs.lemmas.List.{append-nil, map-id}
 use Rattle.std.specs.Prelude.{◌==◌, ◌&&◌, not, nat_le, nat_lt, bit_or}
 use Rattle.avr_part.specs.Part.{Part, IsPart}
-use Rattle.avr_part.specs.Memory.{changed, anded, page_start, blank}
+use Rattle.avr_part.specs.Memory.{map_indexed, byte_and_page, page_start, blank}
 use Rattle.avr_part.specs.State as chip
 use Rattle.stk_frame.specs.declared.command.Command.TheVariants.{LoadAddress}
 use Rattle.stk_frame.specs.Commands.{body}
@@ -15,12 +15,12 @@ use Rattle.stk_frame.specs.HostCommands.{program_page}
 use Rattle.stk_frame.proofs.Cut.{chosen, refused}
 use Rattle.stk_host.specs.Places.{flash_address, load_flash}
 use Rattle.stk_host.proofs.Pages.{page_most}
-use Rattle.stk_emu.specs.Programmer.{Programmer, sent_to, extension, flash_loads, flash_writes, for_half, word_at, moved, instructed, high, low}
+use Rattle.stk_emu.specs.Programmer.{Programmer, sent_to, extension, flash_loads, flash_writes, for_half, word_at, with_address_moved, with_instructions, high, low}
 use Rattle.stk_emu.specs.Device.{device}
 use Rattle.avr_part.specs.declared.mem.Mem.TheVariants.{Flash}
 use Rattle.stk_emu.specs.Effect.{Memories, Write, and_in, effects}
 use Rattle.stk_emu.specs.Settled.{Ready, IsNarrow}
-use Rattle.stk_emu.specs.Strokes.{placed, struck, IsPage}
+use Rattle.stk_emu.specs.Strokes.{image_at, struck, IsPage}
 use Rattle.stk_emu.proofs.Blocks.{sent-append}
 use Rattle.stk_emu.proofs.Images.{put, put_is, anded_in}
 use Rattle.stk_emu.proofs.Obeying.{in_mode_is, obeys}
@@ -76,12 +76,12 @@ flash_address_back part start few even = elim (cases_Bool (nat_lt 131072 part.fl
       ∙ (let e : start / 2 % 2147483648 * 2 ≡ start = omega arith in e)
 ]
 
-pub extended_is : (wide : Bool) (a : ℕ) (s : chip.State) → sent_to (extension wide a) s ≡ record s { extended = cond wide (a / 65536 % 256) s.extended }
+pub extended_is : (wide : Bool) (a : ℕ) (s : chip.ChipState) → sent_to (extension wide a) s ≡ record s { extended = cond wide (a / 65536 % 256) s.extended }
 extended_is true a s = refl
 extended_is false a s = refl
 
 -- one byte is loaded
-pub load_byte : (i h lo d : ℕ) (s : chip.State) → (chip.spi_of (for_half 0x40 i ∷ h ∷ lo ∷ d ∷ []) s).1 ≡ record s { flash_buffer = set s.flash_buffer (lo % (s.part.flash_page / 2) * 2 + i % 2) d }
+pub load_byte : (i h lo d : ℕ) (s : chip.ChipState) → (chip.spi_of (for_half 0x40 i ∷ h ∷ lo ∷ d ∷ []) s).1 ≡ record s { flash_buffer = set s.flash_buffer (lo % (s.part.flash_page / 2) * 2 + i % 2) d }
 load_byte i h lo d s = elim (cases_Bool (i % 2 == 0)) [
   | inl e ↦
       let even : 0 ≡ i % 2 = sym (eqb-true (i % 2) 0 e) in
@@ -94,7 +94,7 @@ load_byte i h lo d s = elim (cases_Bool (i % 2 == 0)) [
 ]
 
 -- the buffer behind the loads, and some extended address
-record Loaded (wide : Bool) (i : ℕ) (ds : List ℕ) (s t : chip.State) : Type 0 where
+record Loaded (wide : Bool) (i : ℕ) (ds : List ℕ) (s t : chip.ChipState) : Type 0 where
   value : ℕ
   kept : wide ≡ false → value ≡ s.extended
   is : t ≡ record s { flash_buffer = put (λ d. d) i ds s.flash_buffer; extended = value }
@@ -102,15 +102,15 @@ record Loaded (wide : Bool) (i : ℕ) (ds : List ℕ) (s t : chip.State) : Type 
 kept_narrow : (wide : Bool) (x y : ℕ) → wide ≡ false → cond wide x y ≡ y
 kept_narrow wide x y e = refused wide x y e
 
-flash_loaded : (wide : Bool) (a i half : ℕ) (ds : List ℕ) (s : chip.State) → s.part.flash_page / 2 ≡ half → ((k : ℕ) → k < length ds → word_at a (i + k) % 256 % half * 2 + (i + k) % 2 ≡ i + k)
+flash_loaded : (wide : Bool) (a i half : ℕ) (ds : List ℕ) (s : chip.ChipState) → s.part.flash_page / 2 ≡ half → ((k : ℕ) → k < length ds → word_at a (i + k) % 256 % half * 2 + (i + k) % 2 ≡ i + k)
     → Loaded wide i ds s (sent_to (flash_loads wide 0x40 a i ds) s)
 flash_loaded wide a i half [] s e each = record { value = s.extended; kept = λ n. refl; is = refl }
 flash_loaded wide a i half (d ∷ ds) s e each =
     let x = cond wide (word_at a i / 65536 % 256) s.extended in
-    let s₁ : chip.State = record s { extended = x } in
+    let s₁ : chip.ChipState = record s { extended = x } in
     let here : low (word_at a i) % (s.part.flash_page / 2) * 2 + i % 2 ≡ i =
     ap (λ h. low (word_at a i) % h * 2 + i % 2) e ∙ (ap (λ j. word_at a j % 256 % half * 2 + j % 2) (omega arith) ∙ (each 0 (omega arith) ∙ omega arith)) in
-    let s₂ : chip.State = record s { flash_buffer = set s.flash_buffer i d; extended = x } in
+    let s₂ : chip.ChipState = record s { flash_buffer = set s.flash_buffer i d; extended = x } in
     let one : sent_to (flash_loads wide 0x40 a i (d ∷ ds)) s ≡ sent_to (flash_loads wide 0x40 a (suc i) ds) s₂ =
     sent-append (extension wide (word_at a i)) _ s
     ∙ (ap (λ t. sent_to ((for_half 0x40 i ∷ high (word_at a i) ∷ low (word_at a i) ∷ d ∷ []) ∷ flash_loads wide 0x40 a (suc i) ds) t) (extended_is wide (word_at a i) s)
@@ -136,10 +136,10 @@ word_place n half j whole within few =
     ap (λ x. x * 2 + j % 2) e ∙ omega arith
 
 -- the page is written at the address of its low word
-flash_written : (wide : Bool) (s : chip.State) (a start size page : ℕ) → s.part.flash_page ≡ page → s.part.flash_size ≡ size → a < 16777216 → a < size / 2 → (wide ≡ false → (s.extended ≡ 0) × (a < 65536))
+flash_written : (wide : Bool) (s : chip.ChipState) (a start size page : ℕ) → s.part.flash_page ≡ page → s.part.flash_size ≡ size → a < 16777216 → a < size / 2 → (wide ≡ false → (s.extended ≡ 0) × (a < 65536))
     → a * 2 / page * page ≡ start
     → sent_to (flash_writes wide 0x4C a true) s ≡ record s {
-      flash = cond (chip.is_locked s) s.flash (changed (anded start s.flash_buffer) s.flash);
+      flash = cond (chip.is_locked s) s.flash (map_indexed (byte_and_page start s.flash_buffer) s.flash);
       flash_buffer = blank s.flash_buffer;
       extended = cond wide (a / 65536 % 256) s.extended;
     }
@@ -152,7 +152,7 @@ flash_written wide s a start size page pe se few inside narrow at =
     ap (λ z. page_start s.part.flash_page (z * 2)) word ∙ (ap (λ q. a * 2 / q * q) pe ∙ at) in
     sent-append (extension wide a) ((0x4C ∷ high a ∷ low a ∷ 0 ∷ []) ∷ []) s
     ∙ (ap (sent_to ((0x4C ∷ high a ∷ low a ∷ 0 ∷ []) ∷ [])) (extended_is wide a s)
-    ∙ ap (λ z. record s { flash = cond (chip.is_locked s) s.flash (changed (anded z s.flash_buffer) s.flash); flash_buffer = blank s.flash_buffer; extended = x }) first)
+    ∙ ap (λ z. record s { flash = cond (chip.is_locked s) s.flash (map_indexed (byte_and_page z s.flash_buffer) s.flash); flash_buffer = blank s.flash_buffer; extended = x }) first)
   where
     whole : (wide : Bool) → (wide ≡ false → (s.extended ≡ 0) × (a < 65536)) → cond wide (a / 65536 % 256) s.extended * 65536 + (high a * 256 + low a) ≡ a
     whole true n = let e : a / 65536 % 256 * 65536 + (a / 256 % 256 * 256 + a % 256) ≡ a = omega arith in e
@@ -166,7 +166,7 @@ pub flash_test : (n : ℕ) → 0 < n → n % 2 ≡ 0 → (not (n == 0) && (n % 2
 flash_test n some even = and_from _ _ (and_from _ _ (and_from _ _ (ap not (ne_eqb n 0 (λ e. omega (arith, e)))) (eq-eqb (n % 2) 0 even)) (eq-eqb n n refl)) refl
 
 flash_after : (page : List ℕ) (p : Programmer) → p.mode ≡ true → 0 < length page → length page < 65536 → length page % 2 ≡ 0
-    → device.after (body (program_page page)) p ≡ moved (length page / 2) (instructed (flash_loads p.wide 0x40 p.address 0 page ++ flash_writes p.wide 0x4C p.address true) p)
+    → device.after (body (program_page page)) p ≡ with_address_moved (length page / 2) (with_instructions (flash_loads p.wide 0x40 p.address 0 page ++ flash_writes p.wide 0x4C p.address true) p)
 flash_after page p mode some few even =
     ap (λ z. z.1) (obeys (program_page page) p few)
     ∙ (in_mode_is p _ _ mode
@@ -174,12 +174,12 @@ flash_after page p mode some few even =
 
 module _ (part : Part) (sound : IsPart part) where
   -- the chip behind a page
-  record Paged (n : ℕ) (page : List ℕ) (s t : chip.State) : Type 0 where
+  record Paged (n : ℕ) (page : List ℕ) (s t : chip.ChipState) : Type 0 where
     value : ℕ
     kept : is_wide part ≡ false → value ≡ s.extended
-    is : t ≡ record s { flash = cond (chip.is_locked s) s.flash (and_in (placed (n * part.flash_page) page) s.flash); flash_buffer = replicate part.flash_page 255; extended = value }
+    is : t ≡ record s { flash = cond (chip.is_locked s) s.flash (and_in (image_at (n * part.flash_page) page) s.flash); flash_buffer = replicate part.flash_page 255; extended = value }
 
-  page_chip : (s : chip.State) (n : ℕ) (page : List ℕ) → s.part ≡ part → s.flash_buffer ≡ replicate part.flash_page 255 → (is_wide part ≡ false → s.extended ≡ 0) → IsPage part n page
+  page_chip : (s : chip.ChipState) (n : ℕ) (page : List ℕ) → s.part ≡ part → s.flash_buffer ≡ replicate part.flash_page 255 → (is_wide part ≡ false → s.extended ≡ 0) → IsPage part n page
       → Paged n page s (sent_to (flash_loads (is_wide part) 0x40 (n * (part.flash_page / 2)) 0 page ++ flash_writes (is_wide part) 0x4C (n * (part.flash_page / 2)) true) s)
   page_chip s n page e empty narrow is_page =
       let a = n * (part.flash_page / 2) in
@@ -195,7 +195,7 @@ module _ (part : Part) (sound : IsPart part) where
       flash_loaded wide a 0 (part.flash_page / 2) page s (ap (λ (x : Part). x.flash_page / 2) e)
       (λ k le. ap (λ j. word_at a j % 256 % (part.flash_page / 2) * 2 + j % 2) (omega arith)
       ∙ (word_place n (part.flash_page / 2) k (ap (λ x. 256 % x) (sym halves) ∙ sound.flash_fits) (omega arith) (omega arith) ∙ omega arith)) in
-      let t : chip.State = record s { flash_buffer = put (λ d. d) 0 page s.flash_buffer; extended = loads.value } in
+      let t : chip.ChipState = record s { flash_buffer = put (λ d. d) 0 page s.flash_buffer; extended = loads.value } in
       let buffer : put (λ d. d) 0 page s.flash_buffer ≡ page =
       ap (put (λ d. d) 0 page) (empty ∙ ap (λ k. replicate k 255) (let c : part.flash_page ≡ length page + 0 = omega arith in c))
       ∙ (put_is (λ d. d) 255 page [] 0 0 refl ∙ (append-nil (map (λ d. d) page) ∙ map-id page)) in
@@ -209,9 +209,9 @@ module _ (part : Part) (sound : IsPart part) where
         is = sent-append (flash_loads wide 0x40 a 0 page) (flash_writes wide 0x4C a true) s
             ∙ (ap (sent_to (flash_writes wide 0x4C a true)) loads.is
             ∙ (written
-            ∙ (ap (λ b. record s { flash = cond (chip.is_locked s) s.flash (changed (anded (n * part.flash_page) b) s.flash); flash_buffer = blank b; extended = cond wide (a / 65536 % 256) loads.value }) buffer
+            ∙ (ap (λ b. record s { flash = cond (chip.is_locked s) s.flash (map_indexed (byte_and_page (n * part.flash_page) b) s.flash); flash_buffer = blank b; extended = cond wide (a / 65536 % 256) loads.value }) buffer
             ∙ (ap (λ f. record s { flash = cond (chip.is_locked s) s.flash f; flash_buffer = blank page; extended = cond wide (a / 65536 % 256) loads.value }) (anded_in (n * part.flash_page) page s.flash)
-            ∙ ap (λ b. record s { flash = cond (chip.is_locked s) s.flash (and_in (placed (n * part.flash_page) page) s.flash); flash_buffer = b; extended = cond wide (a / 65536 % 256) loads.value }) (ap (λ k. replicate k 255) count)))));
+            ∙ ap (λ b. record s { flash = cond (chip.is_locked s) s.flash (and_in (image_at (n * part.flash_page) page) s.flash); flash_buffer = b; extended = cond wide (a / 65536 % 256) loads.value }) (ap (λ k. replicate k 255) count)))));
       }
     where
       small : is_wide part ≡ false → n * (part.flash_page / 2) < 65536
@@ -225,12 +225,12 @@ module _ (part : Part) (sound : IsPart part) where
 
   -- what the step of a page writes
   page_struck : (n : ℕ) (page : List ℕ) (m : Memories) → IsPage part n page
-      → struck part (load_flash part (n * part.flash_page) ∷ program_page page ∷ []) m ≡ effects part (Write Flash (placed (n * part.flash_page) page) ∷ []) m
+      → struck part (load_flash part (n * part.flash_page) ∷ program_page page ∷ []) m ≡ effects part (Write Flash (image_at (n * part.flash_page) page) ∷ []) m
   page_struck n page m is_page =
       let inside = is_page.inside in
       let most = sound.flash_most in
       let some = sound.flash_page in
-      ap (λ start. effects part (Write Flash (placed start page) ∷ []) m)
+      ap (λ start. effects part (Write Flash (image_at start page) ∷ []) m)
       (flash_address_back part (n * part.flash_page) (omega arith) (page_even part sound n))
 
   pub page_does : (n : ℕ) (page : List ℕ) (m : Memories) (p : Programmer) → IsPage part n page → Ready part m p
@@ -250,13 +250,13 @@ module _ (part : Part) (sound : IsPart part) where
       let loaded : device.after (body (load_flash part (n * part.flash_page))) p ≡ q =
       flash_loaded_at part (n * part.flash_page) p (omega arith) ∙ ap (λ x. record p { address = x; wide = wide }) (page_words n part.flash_page p_halves) in
       let after_is : device.after (body (program_page page)) (device.after (body (load_flash part (n * part.flash_page))) p)
-      ≡ moved (length page / 2) (record q { chip = record p.chip { flash = cond (chip.is_locked p.chip) p.chip.flash (and_in (placed (n * part.flash_page) page) p.chip.flash); flash_buffer = replicate part.flash_page 255; extended = paged.value } }) =
+      ≡ with_address_moved (length page / 2) (record q { chip = record p.chip { flash = cond (chip.is_locked p.chip) p.chip.flash (and_in (image_at (n * part.flash_page) page) p.chip.flash); flash_buffer = replicate part.flash_page 255; extended = paged.value } }) =
       ap (device.after (body (program_page page))) loaded
       ∙ (flash_after page q s.mode (omega arith) (omega arith) (ap (λ x. x % 2) count ∙ p_halves)
-      ∙ ap (λ c. moved (length page / 2) (record q { chip = c })) paged.is) in
+      ∙ ap (λ c. with_address_moved (length page / 2) (record q { chip = c })) paged.is) in
       subst (λ x. Ready part x (device.after (body (program_page page)) (device.after (body (load_flash part (n * part.flash_page))) p))) (sym (page_struck n page m is_page))
-      (subst (Ready part (effects part (Write Flash (placed (n * part.flash_page) page) ∷ []) m)) (sym after_is) (record {
-        memories = ap (effects part (Write Flash (placed (n * part.flash_page) page) ∷ [])) s.memories;
+      (subst (Ready part (effects part (Write Flash (image_at (n * part.flash_page) page) ∷ []) m)) (sym after_is) (record {
+        memories = ap (effects part (Write Flash (image_at (n * part.flash_page) page) ∷ [])) s.memories;
         part_is = s.part_is;
         mode = s.mode;
         flash_buffer = refl;

@@ -7,12 +7,12 @@ use Rattle.stk_frame.specs.Frame.{frame}
 use Rattle.stk_frame.specs.HostCommands.{enter}
 use Rattle.stk_host.specs.declared.link.Item.TheVariants.{Silence}
 use Rattle.stk_host.specs.Tape.{Tape, on_tape}
-use Rattle.stk_emu.specs.Programmer.{Programmer, fresh_programmer, restarted, obey}
+use Rattle.stk_emu.specs.Programmer.{Programmer, fresh_programmer, restarted_programmer, obey}
 use Rattle.stk_emu.specs.Emulator.{emulate}
 use Rattle.stk_emu.specs.declared.fate.Fate.{Fate}
 use Rattle.stk_emu.specs.declared.fate.Fate.TheVariants.{Good, LostAnswer, LateAnswer, HeldAnswer, Reset}
 use Rattle.stk_emu.specs.Device.{device}
-use Rattle.stk_emu.specs.Wire.{fresh, tape_of}
+use Rattle.stk_emu.specs.Wire.{fresh_wire, tape_of}
 
 abbrev small : Part
 small = record {
@@ -84,7 +84,7 @@ abbrev told : ℕ → List ℕ
 told n = frame n (0x05 ∷ 0xC9 ∷ [])
 
 abbrev brings : List Fate → Tape
-brings fates = tape_of device (asked 1 ∷ asked 2 ∷ asked 3 ∷ asked 4 ∷ asked 5 ∷ []) (fresh start fates)
+brings fates = tape_of device (asked 1 ∷ asked 2 ∷ asked 3 ∷ asked 4 ∷ asked 5 ∷ []) (fresh_wire start fates)
 
 -- Two answers are held, and come together; a late one is held with them; of four the first is lost.
 pub two_held : brings (HeldAnswer ∷ HeldAnswer ∷ Good ∷ [])
@@ -109,5 +109,5 @@ pub held_before_reset : brings (HeldAnswer ∷ Reset ∷ [])
 held_before_reset = refl
 
 -- a page that is loaded, and not written, is lost with programming mode
-pub load_is_lost : restarted (behind (0x13 ∷ 0x00 ∷ 0x02 ∷ 0x41 ∷ 0x0A ∷ 0x40 ∷ 0x4C ∷ 0x20 ∷ 0xFF ∷ 0xFF ∷ 0x12 ∷ 0x34 ∷ []) loaded) ≡ start
+pub load_is_lost : restarted_programmer (behind (0x13 ∷ 0x00 ∷ 0x02 ∷ 0x41 ∷ 0x0A ∷ 0x40 ∷ 0x4C ∷ 0x20 ∷ 0xFF ∷ 0xFF ∷ 0x12 ∷ 0x34 ∷ []) loaded) ≡ start
 load_is_lost = refl

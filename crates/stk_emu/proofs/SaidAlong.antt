@@ -11,10 +11,10 @@ use Rattle.stk_host.proofs.Tapes.{answer_waits}
 use Rattle.stk_emu.specs.declared.fate.Fate.{Fate}
 use Rattle.stk_emu.specs.Programmer.{Programmer}
 use Rattle.stk_emu.specs.Device.{Device, device}
-use Rattle.stk_emu.specs.Wire.{AreLawful, first_fate, other_fates, after_fate, Wire, passed, tape_of, fresh}
-use Rattle.stk_emu.specs.Wired.{State, Keeps, brought}
+use Rattle.stk_emu.specs.Wire.{AreLawful, first_fate, other_fates, after_fate, Wire, wire_behind, tape_of, fresh_wire}
+use Rattle.stk_emu.specs.Wired.{WiredState, Keeps, brought}
 use Rattle.stk_emu.specs.Lawful.{IsClear}
-use Rattle.stk_emu.specs.Along.{along, said_along, reading_of, AsksBodies}
+use Rattle.stk_emu.specs.Along.{along, said_along, fate_reading, AsksBodies}
 use Rattle.stk_emu.proofs.Segments.{none_clear, segment_late, segment_leaves}
 use Rattle.stk_emu.proofs.Bodies.{answers_bodies}
 use Rattle.stk_emu.proofs.Fused.{AnswersBodies, first_played, others_lawful, head_is, tail_is}
@@ -34,7 +34,7 @@ said_bind m k (Done a) next p fates = refl
 said_bind m k (Say e d) next p fates = ap (λ said. e ∷ said) (said_bind m k d next p fates)
 said_bind m zero (Ask bytes go_on) next p fates = refl
 said_bind m (suc k) (Ask bytes go_on) next p fates =
-    said_bind m k (go_on (reading_of (first_fate fates) (m.answer bytes p))) next (after_fate (first_fate fates) (m.after bytes p) p (m.reset p)) (other_fates fates)
+    said_bind m k (go_on (fate_reading (first_fate fates) (m.answer bytes p))) next (after_fate (first_fate fates) (m.after bytes p) p (m.reset p)) (other_fates fates)
 
 -- a dialog that can say nothing says nothing
 pub said_lifted : {E R P : Type 0} (m : Device P) (k : ℕ) (d : Dialog ⊥ R) (p : P) (fates : List Fate) → said_along {E = E} m k (lifted d) p fates ≡ []
@@ -42,7 +42,7 @@ said_lifted m k (Done r) p fates = refl
 said_lifted m k (Say e d) p fates = absurd e
 said_lifted m zero (Ask bytes go_on) p fates = refl
 said_lifted {E = E} m (suc k) (Ask bytes go_on) p fates =
-    said_lifted {E = E} m k (go_on (reading_of (first_fate fates) (m.answer bytes p))) (after_fate (first_fate fates) (m.after bytes p) p (m.reset p)) (other_fates fates)
+    said_lifted {E = E} m k (go_on (fate_reading (first_fate fates) (m.answer bytes p))) (after_fate (first_fate fates) (m.after bytes p) p (m.reset p)) (other_fates fates)
 
 cons_none : (x : List ℕ) (xs : List (List ℕ)) → [] ≡ x ∷ xs → ⊥
 cons_none x xs e = cc
@@ -59,19 +59,19 @@ module _ {P : Type 0} (m : Device P) (answers : AnswersBodies m) where
   said_over {E = E} (Ask bytes go_on) n w (f ∷ sent) more asks clear lawful e =
       let is : frame n bytes ≡ f = head_is (frame n bytes) f _ (sent ++ more) e in
       let first = first_played m answers bytes go_on n w sent asks.0 clear lawful in
-      let w' = passed m (frame n bytes) w in
-      let d' = go_on (reading_of (first_fate w.fates) (m.answer bytes w.programmer)) in
+      let w' = wire_behind m (frame n bytes) w in
+      let d' = go_on (fate_reading (first_fate w.fates) (m.answer bytes w.programmer)) in
       let leaves : w'.programmer ≡ _ = segment_leaves m n bytes w asks.0 in
       let over = ap (λ g. played (Ask bytes go_on) n (tape_of m (g ∷ sent) w)) (sym is) ∙ first in
       ap (λ p. sayings p.events) over
-      ∙ (said_over d' (next n) w' sent more (asks.1 (reading_of (first_fate w.fates) (m.answer bytes w.programmer)))
+      ∙ (said_over d' (next n) w' sent more (asks.1 (fate_reading (first_fate w.fates) (m.answer bytes w.programmer)))
       (segment_late m n bytes w asks.0 (answers bytes w.programmer asks.0) clear)
       (others_lawful w.fates lawful)
       (tail_is (frame n bytes) f _ (sent ++ more) (sym (ap (λ p. frames_in p.events) over) ∙ e))
       ∙ ap (λ q. said_along m (length sent) d' q (other_fates w.fates)) leaves)
 
 -- where a talk over a wire was the whole play of a dialog, it said what the dialog says along the line
-pub whole_said : {E R : Type 0} (d : Dialog E R) (n : ℕ) (p : Programmer) (fates : List Fate) (w : State) (events : List (Event E)) (r : R) (next : ℕ) (left : List ℕ)
+pub whole_said : {E R : Type 0} (d : Dialog E R) (n : ℕ) (p : Programmer) (fates : List Fate) (w : WiredState) (events : List (Event E)) (r : R) (next : ℕ) (left : List ℕ)
     → AsksBodies d → AreLawful fates → Keeps p fates w → Plays d n [] w.talk events r next left
     → sayings events ≡ said_along device (length (frames (sent w.talk))) d p fates
 whole_said d n p fates w events r next left asks lawful keeps plays =
@@ -82,4 +82,4 @@ whole_said d n p fates w events r next left asks lawful keeps plays =
     let front = frames_front (played d n (brought p fates (sent w.talk))).events (sent w.talk) [] whole
     (append-nil (sent w.talk) ∙ (sym plays.all_sent ∙ ap (λ x. bytes_sent x.events) (sym over))) in
     ap (λ x. sayings x.events) (sym over)
-    ∙ said_over device answers_bodies d n (fresh p fates) (frames (sent w.talk)) front.0 asks (none_clear n) lawful front.1
+    ∙ said_over device answers_bodies d n (fresh_wire p fates) (frames (sent w.talk)) front.0 asks (none_clear n) lawful front.1

@@ -13,16 +13,16 @@ use Rattle.stk_frame.specs.declared.command.Command.TheVariants.{SignOn}
 use Rattle.stk_frame.specs.declared.host_command.Fuse.{Fuse}
 use Rattle.stk_frame.specs.declared.host_command.Fuse.TheVariants.{Low, High, Extended}
 use Rattle.stk_frame.specs.Commands.{body}
-use Rattle.stk_frame.specs.HostCommands.{enter, leave, erase, program_page, program_eeprom, program_fuse, program_lock, read_flash, read_eeprom, read_fuse, read_lock, read_signature, read_calibration}
+use Rattle.stk_frame.specs.HostCommands.{enter, leave, erase, program_page, program_eeprom_block, program_fuse, program_lock, read_flash_block, read_eeprom_block, read_fuse, read_lock, read_signature, read_calibration}
 use Rattle.stk_frame.proofs.Cut.{chosen, refused}
 use Rattle.stk_host.specs.Places.{flash_address, load_flash, load_eeprom}
 use Rattle.stk_emu.specs.Programmer.{Programmer}
 use Rattle.stk_emu.specs.Device.{Device, device}
-use Rattle.stk_emu.specs.Effect.{Memories, Item, Erase, Write, effect, written, laid, and_in, locked, keeps_eeprom}
+use Rattle.stk_emu.specs.Effect.{Memories, Item, Erase, Write, effect, write_effect, with_image, and_in, are_locked, erase_keeps_eeprom}
 use Rattle.stk_emu.specs.Settled.{Idle, Settled, Ready}
 use Rattle.stk_emu.specs.Fits.{Fits}
 use Rattle.stk_emu.specs.Climbs.{AllFit}
-use Rattle.stk_emu.specs.Strokes.{struck, struck_by, IsStep, Erases, ProgramsPage, ProgramsRun, ProgramsFuse, ProgramsLock, ReadsFlash, ReadsEeprom, ReadsFuse, ReadsLock, ReadsSignature, ReadsCalibration, AreSteps, IsPage, IsRun, IsBlock, AreWords}
+use Rattle.stk_emu.specs.Strokes.{struck, struck_by, IsStep, Erases, ProgramsPage, ProgramsRun, ProgramsFuse, ProgramsLock, ReadsFlash, ReadsEeprom, ReadsFuse, ReadsLock, ReadsSignature, ReadsCalibration, AreSteps, IsPage, FitsEepromPage, IsBlock, AreWords}
 use Rattle.stk_emu.proofs.Images.{laid_twice, and_in_twice, and_byte, laid_byte}
 use Rattle.stk_emu.proofs.Obeying.{one_fits, steady, one_steady, two_steady, settled_idle, ready_settled, ready_idle, anew_idle, anew_settled, sign_on_keeps, sign_on_stays, enter_does, leave_keeps, load_keeps, fuse_does, lock_does, erase_does, fuse_read_after, lock_read_after, signature_read_after, calibration_read_after}
 use Rattle.stk_emu.proofs.Runs.{run_does}
@@ -37,12 +37,12 @@ changes_twice : {A : Type 0} (f : A → A) (b : Bool) (x : A) → f (f x) ≡ f 
 changes_twice f true x e = refl
 changes_twice f false x e = e
 
-written_twice : (mem : Mem) (image : List (Option ℕ)) (m : Memories) → written mem image (written mem image m) ≡ written mem image m
-written_twice Flash image m = ap (λ x. record m { flash = x }) (changes_twice (and_in image) (locked m) m.flash (and_in_twice image m.flash))
-written_twice Eeprom image m = ap (λ x. record m { eeprom = x }) (changes_twice (laid image) (locked m) m.eeprom (laid_twice image m.eeprom))
-written_twice Lfuse image m = ap (λ x. record m { lfuse = x }) (changes_twice (unwrap_or (byte_at image 0)) (locked m) m.lfuse (laid_byte (byte_at image 0) m.lfuse))
-written_twice Hfuse image m = ap (λ x. record m { hfuse = x }) (changes_twice (unwrap_or (byte_at image 0)) (locked m) m.hfuse (laid_byte (byte_at image 0) m.hfuse))
-written_twice Efuse image m = ap (λ x. record m { efuse = x }) (changes_twice (unwrap_or (byte_at image 0)) (locked m) m.efuse (laid_byte (byte_at image 0) m.efuse))
+written_twice : (mem : Mem) (image : List (Option ℕ)) (m : Memories) → write_effect mem image (write_effect mem image m) ≡ write_effect mem image m
+written_twice Flash image m = ap (λ x. record m { flash = x }) (changes_twice (and_in image) (are_locked m) m.flash (and_in_twice image m.flash))
+written_twice Eeprom image m = ap (λ x. record m { eeprom = x }) (changes_twice (with_image image) (are_locked m) m.eeprom (laid_twice image m.eeprom))
+written_twice Lfuse image m = ap (λ x. record m { lfuse = x }) (changes_twice (unwrap_or (byte_at image 0)) (are_locked m) m.lfuse (laid_byte (byte_at image 0) m.lfuse))
+written_twice Hfuse image m = ap (λ x. record m { hfuse = x }) (changes_twice (unwrap_or (byte_at image 0)) (are_locked m) m.hfuse (laid_byte (byte_at image 0) m.hfuse))
+written_twice Efuse image m = ap (λ x. record m { efuse = x }) (changes_twice (unwrap_or (byte_at image 0)) (are_locked m) m.efuse (laid_byte (byte_at image 0) m.efuse))
 written_twice Lock image m = ap (λ x. record m { lock = x }) (and_byte (byte_at image 0) m.lock)
 written_twice Signature image m = refl
 written_twice Calibration image m = refl
@@ -50,7 +50,7 @@ written_twice Calibration image m = refl
 -- twice is once
 pub effect_twice : (part : Part) (item : Item) (m : Memories) → effect part item (effect part item m) ≡ effect part item m
 effect_twice part Erase m =
-    ap₂ (λ flash eeprom. record m { flash = flash; eeprom = eeprom; lock = 255 }) (blank_twice m.flash) (changes_twice blank (keeps_eeprom part m) m.eeprom (blank_twice m.eeprom))
+    ap₂ (λ flash eeprom. record m { flash = flash; eeprom = eeprom; lock = 255 }) (blank_twice m.flash) (changes_twice blank (erase_keeps_eeprom part m) m.eeprom (blank_twice m.eeprom))
 effect_twice part (Write mem image) m = written_twice mem image m
 
 fuse_twice : (part : Part) (f : Fuse) (v : ℕ) (m : Memories) → struck part (program_fuse f v ∷ []) (struck part (program_fuse f v ∷ []) m) ≡ struck part (program_fuse f v ∷ []) m
@@ -113,34 +113,34 @@ module _ (part : Part) where
         (λ p s. page_does part sound number bytes m p is_page s)
         (λ p s. again_of commands m _ (effect_twice part (Write Flash _) m) (page_does part sound number bytes (struck part commands m) p is_page s))
 
-    run_fits : (address : ℕ) (bytes : List ℕ) (m : Memories) → IsRun part address bytes
-        → Fits steady (load_eeprom address ∷ program_eeprom bytes ∷ []) (Ready part m) (Ready part (struck part (load_eeprom address ∷ program_eeprom bytes ∷ []) m))
+    run_fits : (address : ℕ) (bytes : List ℕ) (m : Memories) → FitsEepromPage part address bytes
+        → Fits steady (load_eeprom address ∷ program_eeprom_block bytes ∷ []) (Ready part m) (Ready part (struck part (load_eeprom address ∷ program_eeprom_block bytes ∷ []) m))
     run_fits address bytes m is_run =
         let inside = is_run.inside in
         let most = sound.eeprom_most in
         let few : address < 2 ^ 32 = omega arith in
-        let commands = load_eeprom address ∷ program_eeprom bytes ∷ [] in
-        two_steady (load_eeprom address) (program_eeprom bytes) _ _
+        let commands = load_eeprom address ∷ program_eeprom_block bytes ∷ [] in
+        two_steady (load_eeprom address) (program_eeprom_block bytes) _ _
         (λ p s. load_keeps part address m p few s)
         (λ p s. load_keeps part address (struck part commands m) p few s)
         (λ p s. run_does part sound address bytes m p is_run s)
         (λ p s. again_of commands m _ (effect_twice part (Write Eeprom _) m) (run_does part sound address bytes (struck part commands m) p is_run s))
 
-    flash_read_fits : (start count : ℕ) (m : Memories) → IsBlock part Flash start count → AreWords start count → Fits steady (load_flash part start ∷ read_flash count ∷ []) (Ready part m) (Ready part m)
+    flash_read_fits : (start count : ℕ) (m : Memories) → IsBlock part Flash start count → AreWords start count → Fits steady (load_flash part start ∷ read_flash_block count ∷ []) (Ready part m) (Ready part m)
     flash_read_fits start count m is_block words =
         let inside = is_block.inside in
         let most = sound.flash_most in
         let few : flash_address part start < 2 ^ 32 = address_fits start (omega arith) in
-        two_steady (load_flash part start) (read_flash count) _ _
+        two_steady (load_flash part start) (read_flash_block count) _ _
         (λ p s. load_keeps part (flash_address part start) m p few s) (λ p s. load_keeps part (flash_address part start) m p few s)
         (λ p s. flash_read_keeps part sound start count m p is_block words s) (λ p s. flash_read_keeps part sound start count m p is_block words s)
 
-    eeprom_read_fits : (start count : ℕ) (m : Memories) → IsBlock part Eeprom start count → Fits steady (load_eeprom start ∷ read_eeprom count ∷ []) (Ready part m) (Ready part m)
+    eeprom_read_fits : (start count : ℕ) (m : Memories) → IsBlock part Eeprom start count → Fits steady (load_eeprom start ∷ read_eeprom_block count ∷ []) (Ready part m) (Ready part m)
     eeprom_read_fits start count m is_block =
         let inside = is_block.inside in
         let most = sound.eeprom_most in
         let few : start < 2 ^ 32 = omega arith in
-        two_steady (load_eeprom start) (read_eeprom count) _ _
+        two_steady (load_eeprom start) (read_eeprom_block count) _ _
         (λ p s. load_keeps part start m p few s) (λ p s. load_keeps part start m p few s)
         (λ p s. eeprom_read_keeps part sound start count m p is_block s) (λ p s. eeprom_read_keeps part sound start count m p is_block s)
 

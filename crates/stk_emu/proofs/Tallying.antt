@@ -10,7 +10,7 @@ use Rattle.stk_emu.specs.Device.{Device, device}
 use Rattle.stk_emu.specs.Along.{Standing, along}
 use Rattle.stk_emu.specs.Effect.{Memories}
 use Rattle.stk_emu.specs.Settled.{Settled}
-use Rattle.stk_emu.specs.Climbs.{counted, steps_done, Climbs}
+use Rattle.stk_emu.specs.Climbs.{step_count, steps_done, Climbs}
 use Rattle.stk_emu.specs.Strokes.{struck_by, AreSteps}
 use Rattle.stk_emu.specs.Leads.{Leads}
 use Rattle.stk_emu.specs.Tallies.{Count, with_next, then_count, Tallies, GoesOn}
@@ -138,7 +138,7 @@ module _ {P : Type 0} (m : Device P) where
   -- all steps of a play that came to data are done
   all_on : (left : ℕ) (fates : List Fate) (q : P) (x : Dialog ⊥ Outcome) (go_on : List ℕ → Dialog ⊥ Outcome) (got : List ℕ) (rest total : ℕ)
       → ((bytes : List ℕ) → (along m left (go_on bytes) q fates).dialog ≡ Done (Ok got) → rest ≡ total)
-      → (onward m (if_done go_on) left fates q x).dialog ≡ Done (Ok got) → counted x rest ≡ suc total
+      → (onward m (if_done go_on) left fates q x).dialog ≡ Done (Ok got) → step_count x rest ≡ suc total
   all_on left fates q (Done (Ok bytes)) go_on got rest total each e = ap suc (each bytes e)
   all_on left fates q (Done (Err fault)) go_on got rest total each e = absurd (err≢ok fault got e)
   all_on left fates q (Say s dialog) go_on got rest total each e = absurd s

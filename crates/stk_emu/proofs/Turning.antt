@@ -15,10 +15,10 @@ use Rattle.stk_host.proofs.Leading.{bytes_append}
 use Rattle.stk_emu.specs.declared.fate.Fate.{Fate}
 use Rattle.stk_emu.specs.Programmer.{Programmer}
 use Rattle.stk_emu.specs.Device.{Device, device}
-use Rattle.stk_emu.specs.Wire.{AreLawful, first_fate, Wire, passed, tape_of, fresh}
-use Rattle.stk_emu.specs.Wired.{State, Keeps, NeverIdle, brought}
+use Rattle.stk_emu.specs.Wire.{AreLawful, first_fate, Wire, wire_behind, tape_of, fresh_wire}
+use Rattle.stk_emu.specs.Wired.{WiredState, Keeps, NeverIdle, brought}
 use Rattle.stk_emu.specs.Lawful.{IsBody, IsClear}
-use Rattle.stk_emu.specs.Along.{along, reading_of, AsksBodies, Fused}
+use Rattle.stk_emu.specs.Along.{along, fate_reading, AsksBodies, Fused}
 use Rattle.stk_emu.specs.Leads.{GoesAlong}
 use Rattle.stk_emu.proofs.Segments.{none_clear, segment_late}
 use Rattle.stk_emu.proofs.Bodies.{answers_bodies}
@@ -76,8 +76,8 @@ never_waits m answers (Ask bytes go_on) n w (f ∷ sent) asks clear lawful waits
     let is : frame n bytes ≡ f = head_is (frame n bytes) f _ sent e in
     let first = first_played m answers bytes go_on n w sent asks.0 clear lawful in
     let at : (g : List ℕ) → g ≡ f → played (Ask bytes go_on) n (tape_of m (f ∷ sent) w) ≡ played (Ask bytes go_on) n (tape_of m (g ∷ sent) w) = λ g same. ap (λ h. played (Ask bytes go_on) n (tape_of m (h ∷ sent) w)) (sym same) in
-    never_waits m answers (go_on (reading_of (first_fate w.fates) (m.answer bytes w.programmer))) (next n) (passed m (frame n bytes) w) sent
-    (asks.1 (reading_of (first_fate w.fates) (m.answer bytes w.programmer)))
+    never_waits m answers (go_on (fate_reading (first_fate w.fates) (m.answer bytes w.programmer))) (next n) (wire_behind m (frame n bytes) w) sent
+    (asks.1 (fate_reading (first_fate w.fates) (m.answer bytes w.programmer)))
     (segment_late m n bytes w asks.0 (answers bytes w.programmer asks.0) clear)
     (others_lawful w.fates lawful)
     (sym (ap (λ p. p.outcome) (at (frame n bytes) is ∙ first)) ∙ waits)
@@ -97,7 +97,7 @@ never_idle d n p fates talk asks lawful turns before after items split same =
     let due : IsDue d n (heard before) (sent before) = due_at d n [] [] before after items (subst (TurnsFrom d n [] []) split turns) in
     let here : IsDue d n (brought p fates (sent before)) (sent before) = subst (λ t. IsDue d n t (sent before)) (sym same) due in
     let events = (played d n (brought p fates (sent before))).events in
-    never_waits device answers_bodies d n (fresh p fates) (frames (sent before)) asks (none_clear n) lawful here.waits
+    never_waits device answers_bodies d n (fresh_wire p fates) (frames (sent before)) asks (none_clear n) lawful here.waits
     (sym (frames_sent events (sends_whole d n (brought p fates (sent before)) asks)) ∙ ap frames here.all_sent)
 
 -- more of the tape, more frames behind those sent
@@ -177,16 +177,16 @@ shown_front SaidPart shown events f =
           ∙ (sym (bytes_append f.whole f.later) ∙ ap bytes_sent (sym f.events_are)))),
     )
 
-module _ {E R : Type 0} (d : Dialog E R) (n : ℕ) (p : Programmer) (fates : List Fate) (w : State) (asks : AsksBodies d) (lawful : AreLawful fates) (keeps : Keeps p fates w) (turns : InTurn d n [] w.talk) where
+module _ {E R : Type 0} (d : Dialog E R) (n : ℕ) (p : Programmer) (fates : List Fate) (w : WiredState) (asks : AsksBodies d) (lawful : AreLawful fates) (keeps : Keeps p fates w) (turns : InTurn d n [] w.talk) where
   brings : brought p fates (sent w.talk) ≡ heard w.talk ++ w.waits
   brings = keeps.brings (never_idle d n p fates w.talk asks lawful turns)
 
   -- from a front of the bytes of the play over what was heard
-  goes_along : IsPrefixOf (sent w.talk) (bytes_sent (played d n (heard w.talk)).events) → Fused device d n (fresh p fates) (frames (sent w.talk))
+  goes_along : IsPrefixOf (sent w.talk) (bytes_sent (played d n (heard w.talk)).events) → Fused device d n (fresh_wire p fates) (frames (sent w.talk))
   goes_along front =
       let f = frames_front (played d n (heard w.talk)).events (sent w.talk) front.0 (sends_whole d n (heard w.talk) asks) front.1 in
       let g = played_goes d n (heard w.talk) w.waits in
-      fused device answers_bodies d n (fresh p fates) (frames (sent w.talk)) (f.0 ++ g.0) asks (none_clear n) lawful
+      fused device answers_bodies d n (fresh_wire p fates) (frames (sent w.talk)) (f.0 ++ g.0) asks (none_clear n) lawful
       (ap (λ t. frames_in (played d n t).events) brings ∙ (g.1 ∙ (ap (λ fs. fs ++ g.0) f.1 ∙ append_assoc (frames (sent w.talk)) f.0 g.0)))
 
   -- where the talk broke off the programmer stands along the line

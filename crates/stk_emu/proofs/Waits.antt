@@ -5,7 +5,7 @@ use Rattle.std.proofs.lemmas.List.{take_more, take_more_set, map_push, map-appen
 use Rattle.stk_host.specs.declared.link.Item.TheVariants.{Byte, Silence}
 use Rattle.stk_host.specs.Tape.{Tape, on_tape}
 use Rattle.stk_host.proofs.Tapes.{on_tape_append}
-use Rattle.stk_emu.specs.Waiting.{item_of, tape_in, IsQuiet}
+use Rattle.stk_emu.specs.Waiting.{item_of, tape_in, BeginsSilent}
 
 -- three pieces of bytes, put one behind another
 pub three_put : (t x y z : Tape) (a b c : List ℕ) → t ≡ [] → x ≡ t ++ on_tape a → y ≡ x ++ on_tape b → z ≡ y ++ on_tape c → z ≡ on_tape (a ++ (b ++ c))
@@ -40,12 +40,12 @@ taken_next items buffer count b h k is taken =
     ∙ sym (take_more (tape_in items) count Silence inside ∙ ap (λ x. take count (tape_in items) ++ x ∷ []) (item_at items count ∙ ap item_of is))))
 
 -- no byte comes first
-pub quiet_first : (items : List (Option ℕ)) → get_or items 0 None ≡ None → IsQuiet items
+pub quiet_first : (items : List (Option ℕ)) → get_or items 0 None ≡ None → BeginsSilent items
 quiet_first [] e = tt
 quiet_first (Some b ∷ items) e = absurd (cc)
 quiet_first (None ∷ items) e = tt
 
-pub quiet_none : (items : List (Option ℕ)) → length items ≤ 0 → IsQuiet items
+pub quiet_none : (items : List (Option ℕ)) → length items ≤ 0 → BeginsSilent items
 quiet_none [] e = tt
 quiet_none (x ∷ items) e = absurd (omega arith)
 

@@ -3,8 +3,8 @@ use Rattle.std.proofs.Common.{◌≡◌, ℕ, ◌+◌, ◌-◌, ◌≤◌, ◌<�
 use Rattle.std.proofs.lemmas.Bool.{cases_lt}
 use Rattle.std.proofs.lemmas.List.{ext_get_or, length-map, get_or_past}
 use Rattle.avr_image.specs.Image.{byte_at}
-use Rattle.stk_emu.specs.Effect.{Image, laid, and_in, and_with}
-use Rattle.stk_emu.specs.Strokes.{placed}
+use Rattle.stk_emu.specs.Effect.{Image, with_image, and_in, and_with}
+use Rattle.stk_emu.specs.Strokes.{image_at}
 use Rattle.stk_emu.proofs.Images.{length-laid, length-and_in, get_laid, get_and_in, before_part, in_part, some_at}
 
 -- From a place on each byte is changed as the image says.
@@ -51,8 +51,8 @@ gap_first f image from to old new none order gap w = struck_first f image from t
 }) w
 
 -- all is changed
-pub all_laid : (image : Image) (old new : List ℕ) → Written (λ b x. unwrap_or b x) image 0 old new → new ≡ laid image old
-all_laid image old new w = ext_get_or 0 new (laid image old) (w.long ∙ sym (length-laid image old))
+pub all_laid : (image : Image) (old new : List ℕ) → Written (λ b x. unwrap_or b x) image 0 old new → new ≡ with_image image old
+all_laid image old new w = ext_get_or 0 new (with_image image old) (w.long ∙ sym (length-laid image old))
     (λ i l. w.done i (omega (arith, l, w.long)) (omega arith) ∙ sym (get_laid image old i (omega (arith, l, w.long))))
 
 pub all_anded : (image : Image) (old new : List ℕ) → Written and_with image 0 old new → new ≡ and_in image old
@@ -61,12 +61,12 @@ all_anded image old new w = ext_get_or 0 new (and_in image old) (w.long ∙ sym 
 
 -- the bytes of a stroke, by their addresses
 
-pub placed_before : (start : ℕ) (bytes : List ℕ) (i : ℕ) → i < start → get_or (placed start bytes) i None ≡ None
+pub placed_before : (start : ℕ) (bytes : List ℕ) (i : ℕ) → i < start → get_or (image_at start bytes) i None ≡ None
 placed_before start bytes i l = before_part start (map Some bytes) i l
 
-pub placed_within : (start : ℕ) (bytes : List ℕ) (i : ℕ) → start ≤ i → i < start + length bytes → get_or (placed start bytes) i None ≡ Some (get_or bytes (i - start) 0)
+pub placed_within : (start : ℕ) (bytes : List ℕ) (i : ℕ) → start ≤ i → i < start + length bytes → get_or (image_at start bytes) i None ≡ Some (get_or bytes (i - start) 0)
 placed_within start bytes i from to = in_part start (map Some bytes) i from ∙ some_at bytes (i - start) (omega arith)
 
-pub placed_behind : (start : ℕ) (bytes : List ℕ) (i : ℕ) → start + length bytes ≤ i → get_or (placed start bytes) i None ≡ None
+pub placed_behind : (start : ℕ) (bytes : List ℕ) (i : ℕ) → start + length bytes ≤ i → get_or (image_at start bytes) i None ≡ None
 placed_behind start bytes i past =
     in_part start (map Some bytes) i (omega arith) ∙ get_or_past (map Some bytes) (i - start) None (let e : length (map {B = Option ℕ} Some bytes) ≤ i - start = rw length-map (omega arith) in e)

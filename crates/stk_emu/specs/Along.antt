@@ -9,15 +9,15 @@ use Rattle.stk_emu.specs.Lawful.{IsBody}
 use Rattle.stk_emu.specs.Wire.{first_fate, other_fates, after_fate, Wire, tape_of, wire_after}
 
 -- how listening for an answer ends
-abbrev pub reading_of : Fate → List ℕ → Reading
-reading_of Good answered = Answered answered
-reading_of LostCommand answered = Silent
-reading_of LostAnswer answered = Silent
-reading_of LateAnswer answered = Silent
-reading_of HeldAnswer answered = Silent
-reading_of Reset answered = Silent
-reading_of CommandRefused answered = Answered refusal
-reading_of (AnswerSpoiled noise) answered = Silent
+abbrev pub fate_reading : Fate → List ℕ → Reading
+fate_reading Good answered = Answered answered
+fate_reading LostCommand answered = Silent
+fate_reading LostAnswer answered = Silent
+fate_reading LateAnswer answered = Silent
+fate_reading HeldAnswer answered = Silent
+fate_reading Reset answered = Silent
+fate_reading CommandRefused answered = Answered refusal
+fate_reading (AnswerSpoiled noise) answered = Silent
 
 -- How a dialog stands: what is left of it, the programmer, the fates to come, and the questions that it may still ask.
 pub record Standing (E R P : Type 0) : Type 0 where
@@ -32,7 +32,7 @@ along m k (Done r) p fates = record { dialog = Done r; programmer = p; fates = f
 along m k (Say e dialog) p fates = along m k dialog p fates
 along m zero (Ask bytes go_on) p fates = record { dialog = Ask bytes go_on; programmer = p; fates = fates; left = 0 }
 along m (suc k) (Ask bytes go_on) p fates =
-    along m k (go_on (reading_of (first_fate fates) (m.answer bytes p)))
+    along m k (go_on (fate_reading (first_fate fates) (m.answer bytes p)))
     (after_fate (first_fate fates) (m.after bytes p) p (m.reset p)) (other_fates fates)
 
 -- what a dialog says beside the line in at most so many questions
@@ -41,7 +41,7 @@ said_along m k (Done r) p fates = []
 said_along m k (Say e dialog) p fates = e ∷ said_along m k dialog p fates
 said_along m zero (Ask bytes go_on) p fates = []
 said_along m (suc k) (Ask bytes go_on) p fates =
-    said_along m k (go_on (reading_of (first_fate fates) (m.answer bytes p)))
+    said_along m k (go_on (fate_reading (first_fate fates) (m.answer bytes p)))
     (after_fate (first_fate fates) (m.after bytes p) p (m.reset p)) (other_fates fates)
 
 -- each question is a body that a frame can carry

@@ -20,11 +20,11 @@ AreSome ([] ∷ steps) = ⊥
 AreSome ((command ∷ commands) ∷ steps) = AreSome steps
 
 -- one more step, where it came to data
-abbrev pub counted : Dialog ⊥ Outcome → ℕ → ℕ
-counted (Done (Ok bytes)) more = suc more
-counted (Done (Err fault)) more = 0
-counted (Say e dialog) more = 0
-counted (Ask bytes go_on) more = 0
+abbrev pub step_count : Dialog ⊥ Outcome → ℕ → ℕ
+step_count (Done (Ok bytes)) more = suc more
+step_count (Done (Err fault)) more = 0
+step_count (Say e dialog) more = 0
+step_count (Ask bytes go_on) more = 0
 
 -- How many steps have come to data after so many questions, along the line: by what its fates bring, not by what
 -- somebody heard.
@@ -32,7 +32,7 @@ abbrev pub steps_done : {P : Type 0} → Device P → List (List Command) → �
 steps_done m [] k p fates = 0
 steps_done m (commands ∷ steps) k p fates =
     let s = along m k (step commands) p fates in
-    counted s.dialog (steps_done m steps s.left s.programmer s.fates)
+    step_count s.dialog (steps_done m steps s.left s.programmer s.fates)
 
 -- How a play of steps stands after k questions: under the condition of so many steps, which are those that came to data
 -- and perhaps one more. The one more is counted by the questions before the last, whose answer may not have come; and

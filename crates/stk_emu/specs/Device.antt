@@ -2,7 +2,7 @@
 use Rattle.std.specs.Prelude.{ℕ, List, [], ◌∷◌, ◌++◌, if◌then◌else◌}
 use Rattle.stk_frame.specs.Frame.{frame}
 use Rattle.stk_frame.specs.Cut.{is_good, seq_of, body_of}
-use Rattle.stk_emu.specs.Programmer.{Programmer, obey, restarted}
+use Rattle.stk_emu.specs.Programmer.{Programmer, obey, restarted_programmer}
 
 -- the body of the answer to a body, what is there afterwards, and what is there when it begins anew
 pub record Device (P : Type 0) : Type 0 where
@@ -11,7 +11,11 @@ pub record Device (P : Type 0) : Type 0 where
   pub reset : P → P
 
 abbrev pub device : Device Programmer
-device = record { answer = λ bytes p. (obey bytes p).0; after = λ bytes p. (obey bytes p).1; reset = restarted }
+device = record {
+  answer = λ bytes p. (obey bytes p).0;
+  after = λ bytes p. (obey bytes p).1;
+  reset = restarted_programmer;
+}
 
 -- the body that tells of a wrong XOR
 abbrev pub refusal : List ℕ
@@ -33,6 +37,6 @@ abbrev pub answers : {P : Type 0} → Device P → List (List ℕ) → P → Lis
 answers m [] p = []
 answers m (piece ∷ pieces) p = answer_frame m piece p ++ answers m pieces (after_frame m piece p)
 
-abbrev pub after_all : {P : Type 0} → Device P → List (List ℕ) → P → P
-after_all m [] p = p
-after_all m (piece ∷ pieces) p = after_all m pieces (after_frame m piece p)
+abbrev pub after_frames : {P : Type 0} → Device P → List (List ℕ) → P → P
+after_frames m [] p = p
+after_frames m (piece ∷ pieces) p = after_frames m pieces (after_frame m piece p)

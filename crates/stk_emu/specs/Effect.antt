@@ -6,7 +6,7 @@ use Rattle.avr_part.specs.declared.mem.Mem.{Mem}
 use Rattle.avr_part.specs.declared.mem.Mem.TheVariants.{Flash, Eeprom, Lfuse, Hfuse, Efuse, Lock, Signature, Calibration}
 use Rattle.avr_part.specs.Part.{Part}
 use Rattle.avr_part.specs.Memory.{blank}
-use Rattle.avr_part.specs.State.{State}
+use Rattle.avr_part.specs.State.{ChipState}
 
 pub record Memories : Type 0 where
   pub flash : List ℕ
@@ -16,7 +16,7 @@ pub record Memories : Type 0 where
   pub efuse : ℕ
   pub lock : ℕ
 
-abbrev pub memories_of : State → Memories
+abbrev pub memories_of : ChipState → Memories
 memories_of s =
     record { flash = s.flash; eeprom = s.eeprom; lfuse = s.lfuse; hfuse = s.hfuse; efuse = s.efuse; lock = s.lock }
 
@@ -29,10 +29,10 @@ pub data Item : Type 0 where
   Write : Mem → Image → Item
 
 -- an image laid over a memory
-abbrev pub laid : Image → List ℕ → List ℕ
-laid image [] = []
-laid [] (x ∷ xs) = x ∷ xs
-laid (b ∷ image) (x ∷ xs) = unwrap_or b x ∷ laid image xs
+abbrev pub with_image : Image → List ℕ → List ℕ
+with_image image [] = []
+with_image [] (x ∷ xs) = x ∷ xs
+with_image (b ∷ image) (x ∷ xs) = unwrap_or b x ∷ with_image image xs
 
 abbrev pub and_with : Option ℕ → ℕ → ℕ
 and_with (Some b) x = bit_and x b
@@ -45,31 +45,31 @@ and_in [] (x ∷ xs) = x ∷ xs
 and_in (b ∷ image) (x ∷ xs) = and_with b x ∷ and_in image xs
 
 -- lock bit 0 is 0: nothing but an erase changes flash, EEPROM and fuses
-abbrev pub locked : Memories → Bool
-locked m = bit_at m.lock 0 == 0
+abbrev pub are_locked : Memories → Bool
+are_locked m = bit_at m.lock 0 == 0
 
 -- the EESAVE bit is 0
-abbrev pub keeps_eeprom : Part → Memories → Bool
-keeps_eeprom part m = bit_at m.hfuse part.eesave_bit == 0
+abbrev pub erase_keeps_eeprom : Part → Memories → Bool
+erase_keeps_eeprom part m = bit_at m.hfuse part.eesave_bit == 0
 
-abbrev pub written : Mem → Image → Memories → Memories
-written Flash image m = record m { flash = if locked m then m.flash else and_in image m.flash }
-written Eeprom image m = record m { eeprom = if locked m then m.eeprom else laid image m.eeprom }
-written Lfuse image m = record m { lfuse = if locked m then m.lfuse else unwrap_or (byte_at image 0) m.lfuse }
-written Hfuse image m = record m { hfuse = if locked m then m.hfuse else unwrap_or (byte_at image 0) m.hfuse }
-written Efuse image m = record m { efuse = if locked m then m.efuse else unwrap_or (byte_at image 0) m.efuse }
-written Lock image m = record m { lock = and_with (byte_at image 0) m.lock }
-written Signature image m = m
-written Calibration image m = m
+abbrev pub write_effect : Mem → Image → Memories → Memories
+write_effect Flash image m = record m { flash = if are_locked m then m.flash else and_in image m.flash }
+write_effect Eeprom image m = record m { eeprom = if are_locked m then m.eeprom else with_image image m.eeprom }
+write_effect Lfuse image m = record m { lfuse = if are_locked m then m.lfuse else unwrap_or (byte_at image 0) m.lfuse }
+write_effect Hfuse image m = record m { hfuse = if are_locked m then m.hfuse else unwrap_or (byte_at image 0) m.hfuse }
+write_effect Efuse image m = record m { efuse = if are_locked m then m.efuse else unwrap_or (byte_at image 0) m.efuse }
+write_effect Lock image m = record m { lock = and_with (byte_at image 0) m.lock }
+write_effect Signature image m = m
+write_effect Calibration image m = m
 
 -- what an item does to the memories of a part
 abbrev pub effect : Part → Item → Memories → Memories
 effect part Erase m = record m {
   flash = blank m.flash;
   lock = 255;
-  eeprom = if keeps_eeprom part m then m.eeprom else blank m.eeprom;
+  eeprom = if erase_keeps_eeprom part m then m.eeprom else blank m.eeprom;
 }
-effect part (Write mem image) m = written mem image m
+effect part (Write mem image) m = write_effect mem image m
 
 -- items, one after another
 abbrev pub effects : Part → List Item → Memories → Memories

@@ -3,7 +3,7 @@ use Rattle.std.specs.Prelude.{ℕ, List, ◌≡◌, ◌<◌, ◌≤◌, length, 
 use Rattle.stk_frame.specs.Cut.{frames, is_frame}
 use Rattle.stk_frame.specs.Reader.{HoldsFrame, Stands, Fed}
 use Rattle.stk_emu.specs.Programmer.{Programmer}
-use Rattle.stk_emu.specs.Device.{device, answers, after_all}
+use Rattle.stk_emu.specs.Device.{device, answers, after_frames}
 
 -- the bytes of a frame that has not ended, or of one that has just ended; and the programmer
 pub record Machine : Type 0 where
@@ -17,7 +17,7 @@ emulate p text = answers device (frames text) p
 -- An emulator may have begun with this programmer and have been fed this text.
 pub record IsFed (p : Programmer) (text : List ℕ) (machine : Machine) : Type 0 where
   pub stands : Stands machine.held text
-  pub obeyed : machine.programmer ≡ after_all device (frames text) p
+  pub obeyed : machine.programmer ≡ after_frames device (frames text) p
 
 -- It was fed these bytes, in which at most one frame ends, and that with the last byte; and this is the answer to it.
 pub record Answers (old : Machine) (used : List ℕ) (new : Machine) (out : List ℕ) : Type 0 where
@@ -27,4 +27,4 @@ pub record Answers (old : Machine) (used : List ℕ) (new : Machine) (out : List
   pub fed : Fed old.held used new.held found
   pub ends : 0 < length out → HoldsFrame new.held
   pub answered : out ≡ answers device found old.programmer
-  pub obeyed : new.programmer ≡ after_all device found old.programmer
+  pub obeyed : new.programmer ≡ after_frames device found old.programmer

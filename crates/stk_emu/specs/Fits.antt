@@ -4,21 +4,22 @@ use Rattle.stk_frame.specs.declared.command.Command.{Command}
 use Rattle.stk_frame.specs.Commands.{body}
 use Rattle.stk_host.specs.Steps.{Data}
 use Rattle.stk_emu.specs.Device.{Device}
-use Rattle.stk_emu.specs.Given.{gathered}
+use Rattle.stk_emu.specs.Given.{joined_reply}
 
 -- what is there after the first so many of these commands
-abbrev pub obeyed : {P : Type 0} → Device P → ℕ → List Command → P → P
-obeyed m zero commands p = p
-obeyed m (suc i) [] p = p
-obeyed m (suc i) (command ∷ commands) p = obeyed m i commands (m.after (body command) p)
+abbrev pub after_commands : {P : Type 0} → Device P → ℕ → List Command → P → P
+after_commands m zero commands p = p
+after_commands m (suc i) [] p = p
+after_commands m (suc i) (command ∷ commands) p = after_commands m i commands (m.after (body command) p)
 
 -- The commands lead from the one condition to the other, also where they are cut short and begun again: from the first
 -- any front leaves the one or the other, the second is kept by any front, and all of them, where each brought its data,
 -- lead to the second. A device that begins anew keeps either.
 pub record Fits {P : Type 0} (m : Device P) (commands : List Command) (Before After : P → Type 0) : Type 0 where
-  pub front : (p : P) (i : ℕ) → Before p → Before (obeyed m i commands p) ⊎ After (obeyed m i commands p)
-  pub again : (p : P) (i : ℕ) → After p → After (obeyed m i commands p)
-  pub whole : (p : P) (bytes : List ℕ) → gathered m commands [] p ≡ Data bytes → Before p
-      → After (obeyed m (length commands) commands p)
+  pub front : (p : P) (i : ℕ) → Before p → Before (after_commands m i commands p)
+      ⊎ After (after_commands m i commands p)
+  pub again : (p : P) (i : ℕ) → After p → After (after_commands m i commands p)
+  pub whole : (p : P) (bytes : List ℕ) → joined_reply m commands [] p ≡ Data bytes → Before p
+      → After (after_commands m (length commands) commands p)
   pub anew : (p : P) → Before p → Before (m.reset p)
   pub anew_again : (p : P) → After p → After (m.reset p)

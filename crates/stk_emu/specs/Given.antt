@@ -9,7 +9,7 @@ use Rattle.stk_frame.specs.declared.command.Command.{Command}
 use Rattle.stk_frame.specs.declared.command.Command.TheVariants.{LoadAddress, ReadFlash, ReadEeprom, ReadFuse, ReadLock, ReadSignature, ReadOsccal}
 use Rattle.stk_frame.specs.Commands.{body}
 use Rattle.stk_host.specs.Tape.{Answered}
-use Rattle.stk_host.specs.Steps.{Reply, Data, Again, Stop, replied}
+use Rattle.stk_host.specs.Steps.{Reply, Data, Again, Stop, reading_reply}
 use Rattle.stk_emu.specs.Device.{Device}
 use Rattle.avr_image.specs.Image.{byte_at}
 use Rattle.stk_emu.specs.Effect.{Memories, Image}
@@ -53,13 +53,13 @@ on_data (Stop fault) go_on = Stop fault
 
 -- how a command is answered
 abbrev pub reply_to : {P : Type 0} → Device P → Command → P → Reply
-reply_to m command p = replied command (Answered (m.answer (body command) p))
+reply_to m command p = reading_reply command (Answered (m.answer (body command) p))
 
 -- what commands come to of which each is obeyed and answered: all data joined, behind those before
-abbrev pub gathered : {P : Type 0} → Device P → List Command → List ℕ → P → Reply
-gathered m [] before p = Data before
-gathered m (command ∷ commands) before p =
-    on_data (reply_to m command p) (λ bytes. gathered m commands (before ++ bytes) (m.after (body command) p))
+abbrev pub joined_reply : {P : Type 0} → Device P → List Command → List ℕ → P → Reply
+joined_reply m [] before p = Data before
+joined_reply m (command ∷ commands) before p =
+    on_data (reply_to m command p) (λ bytes. joined_reply m commands (before ++ bytes) (m.after (body command) p))
 
 -- The data of a step are those of one attempt, all of whose commands were obeyed in order, from under the one condition
 -- or the other.
@@ -67,7 +67,7 @@ pub record Gives {P : Type 0} (m : Device P) (commands : List Command) (Before A
     (bytes : List ℕ) : Type 0 where
   pub from : P
   pub stood : Before from ⊎ After from
-  pub is : gathered m commands [] from ≡ Data bytes
+  pub is : joined_reply m commands [] from ≡ Data bytes
 
 -- the bytes of a memory are those of the image, at each address where it holds one
 abbrev pub Holds : Image → List ℕ → Type 0

@@ -11,7 +11,7 @@ use Rattle.stk_emu.specs.declared.fate.Fate.{Fate}
 use Rattle.stk_emu.specs.declared.fate.Fate.TheVariants.{Good}
 use Rattle.stk_emu.specs.Programmer.{Programmer}
 use Rattle.stk_emu.specs.Device.{Device, device}
-use Rattle.stk_emu.specs.Wired.{State}
+use Rattle.stk_emu.specs.Wired.{WiredState}
 use Rattle.stk_emu.specs.Along.{along}
 use Rattle.stk_emu.specs.Effect.{Memories}
 use Rattle.stk_emu.specs.Settled.{Idle, Settled}
@@ -65,7 +65,7 @@ AreGood (fate ∷ fates) = (fate ≡ Good) × AreGood fates
 
 -- A talk over a wire was the whole play of a dialog: the programmer stands along the line, where the dialog has come to
 -- the same result, and nothing that came is left.
-pub record GoesAlong {E R : Type 0} (d : Dialog E R) (p : Programmer) (fates : List Fate) (w : State) (r : R)
+pub record GoesAlong {E R : Type 0} (d : Dialog E R) (p : Programmer) (fates : List Fate) (w : WiredState) (r : R)
     (left : List ℕ) : Type 0 where
   pub programmer : w.wire.programmer ≡ (along device (length (frames (sent w.talk))) d p fates).programmer
   pub result : (along device (length (frames (sent w.talk))) d p fates).dialog ≡ Done r

@@ -1,7 +1,7 @@
 -- The programmer, and what each command makes it do.
 use Rattle.std.specs.Prelude.{ℕ, Bool, true, false, zero, suc, List, [], ◌∷◌, ◌++◌, ◌+◌, ◌-◌, ◌/◌, ◌%◌, length, ◌==◌, ◌&&◌, ◌||◌, not, nat_le, nat_lt, if◌then◌else◌, slice_index, slice_set, bit_or, take, drop, replicate, Option, Some, None}
 use Rattle.std.specs.Int.{bit_at}
-use Rattle.avr_part.specs.State.{State, spi_of, with_empty_buffers}
+use Rattle.avr_part.specs.State.{ChipState, spi_of, with_empty_buffers}
 use Rattle.stk_frame.specs.declared.command.Command.{Command}
 use Rattle.stk_frame.specs.declared.command.Command.TheVariants.{SignOn, SetParameter, GetParameter, LoadAddress, EnterProgmode, LeaveProgmode, ChipErase, ProgramFlash, ReadFlash, ProgramEeprom, ReadEeprom, ProgramFuse, ReadFuse, ProgramLock, ReadLock, ReadSignature, ReadOsccal, SpiMulti}
 use Rattle.stk_frame.specs.declared.command.EnterProgmode.{EnterProgmode as EnterFields}
@@ -18,10 +18,10 @@ pub record Programmer : Type 0 where
   -- the extended address is sent, too
   pub wide : Bool
   pub parameters : List ℕ
-  pub chip : State
+  pub chip : ChipState
 
 -- a programmer as it begins, with this chip
-abbrev pub fresh_programmer : State → Programmer
+abbrev pub fresh_programmer : ChipState → Programmer
 fresh_programmer chip = record {
   mode = false;
   address = 0;
@@ -31,35 +31,35 @@ fresh_programmer chip = record {
 }
 
 -- A programmer that begins anew: the memories of its part stay, and all else is lost, the page buffers too.
-abbrev pub restarted : Programmer → Programmer
-restarted p = fresh_programmer (with_empty_buffers p.chip)
+abbrev pub restarted_programmer : Programmer → Programmer
+restarted_programmer p = fresh_programmer (with_empty_buffers p.chip)
 
 -- the body of an answer, and the programmer behind the command
-abbrev pub Done : Type 0
-Done = List ℕ × Programmer
+abbrev pub Response : Type 0
+Response = List ℕ × Programmer
 
 -- a command that fails changes nothing
-abbrev pub fail : ℕ → Programmer → Done
+abbrev pub fail : ℕ → Programmer → Response
 fail code p = (code ∷ 0xC0 ∷ [], p)
 
 -- outside programming mode a command fails
-abbrev pub in_mode : ℕ → Programmer → Done → Done
+abbrev pub in_mode : ℕ → Programmer → Response → Response
 in_mode code p done = if p.mode then done else fail code p
 
 -- serial programming instructions, one after another
-abbrev pub sent_to : List (List ℕ) → State → State
+abbrev pub sent_to : List (List ℕ) → ChipState → ChipState
 sent_to [] chip = chip
 sent_to (x ∷ xs) chip = sent_to xs ((spi_of x chip).1)
 
-abbrev pub instructed : List (List ℕ) → Programmer → Programmer
-instructed xs p = record p { chip = sent_to xs p.chip }
+abbrev pub with_instructions : List (List ℕ) → Programmer → Programmer
+with_instructions xs p = record p { chip = sent_to xs p.chip }
 
 -- addresses are below this, and a LOAD_ADDRESS from it on asks for the extended address
 abbrev pub bit_31 : ℕ
 bit_31 = 2147483648
 
-abbrev pub moved : ℕ → Programmer → Programmer
-moved count p = record p { address = (p.address + count) % bit_31 }
+abbrev pub with_address_moved : ℕ → Programmer → Programmer
+with_address_moved count p = record p { address = (p.address + count) % bit_31 }
 
 -- bits 15 to 8, and 7 to 0, of an address
 abbrev pub high : ℕ → ℕ
@@ -85,53 +85,53 @@ for_half cmd i = if i % 2 == 0 then cmd else bit_or cmd 8
 abbrev pub word_at : ℕ → ℕ → ℕ
 word_at address i = (address + i / 2) % bit_31
 
-abbrev pub byte_at : ℕ → ℕ → ℕ
-byte_at address i = (address + i) % bit_31
+abbrev pub byte_address : ℕ → ℕ → ℕ
+byte_address address i = (address + i) % bit_31
 
-abbrev pub sign_on : Programmer → Done
+abbrev pub sign_on : Programmer → Response
 sign_on p = (0x01 ∷ 0 ∷ 8 ∷ 0x53 ∷ 0x54 ∷ 0x4B ∷ 0x35 ∷ 0x30 ∷ 0x30 ∷ 0x5F ∷ 0x32 ∷ [], p)
 
-abbrev pub set_parameter : ℕ → ℕ → Programmer → Done
+abbrev pub set_parameter : ℕ → ℕ → Programmer → Response
 set_parameter number value p = (0x02 ∷ 0 ∷ [], record p { parameters = slice_set p.parameters number value })
 
-abbrev pub get_parameter : ℕ → Programmer → Done
+abbrev pub get_parameter : ℕ → Programmer → Response
 get_parameter number p = (0x03 ∷ 0 ∷ slice_index p.parameters number ∷ [], p)
 
-abbrev pub load_address : ℕ → Programmer → Done
+abbrev pub load_address : ℕ → Programmer → Response
 load_address address p = (0x06 ∷ 0 ∷ [], record p { address = address % bit_31; wide = nat_le bit_31 address })
 
 -- the byte out that is asked for is as the poll wants it
 abbrev pub is_polled : ℕ → ℕ → List ℕ → Bool
 is_polled value index out = index == 0 || slice_index out (index - 1) == value
 
-abbrev pub entered : Bool → Programmer → Done
-entered ok p = (0x10 ∷ (if ok then 0 else 0xC0) ∷ [], record p { mode = ok })
+abbrev pub enter_response : Bool → Programmer → Response
+enter_response ok p = (0x10 ∷ (if ok then 0 else 0xC0) ∷ [], record p { mode = ok })
 
-abbrev pub enter_progmode : EnterFields → Programmer → Done
+abbrev pub enter_progmode : EnterFields → Programmer → Response
 enter_progmode f p =
     if nat_lt 4 f.poll_index
-    then entered false p
-    else entered (is_polled f.poll_value f.poll_index (spi_of f.instruction p.chip).0)
-    (instructed (f.instruction ∷ []) p)
+    then enter_response false p
+    else enter_response (is_polled f.poll_value f.poll_index (spi_of f.instruction p.chip).0)
+    (with_instructions (f.instruction ∷ []) p)
 
-abbrev pub leave_progmode : Programmer → Done
+abbrev pub leave_progmode : Programmer → Response
 leave_progmode p = (0x11 ∷ 0 ∷ [], record p { mode = false })
 
-abbrev pub chip_erase : List ℕ → Programmer → Done
-chip_erase instruction p = in_mode 0x12 p (0x12 ∷ 0 ∷ [], instructed (instruction ∷ []) p)
+abbrev pub chip_erase : List ℕ → Programmer → Response
+chip_erase instruction p = in_mode 0x12 p (0x12 ∷ 0 ∷ [], with_instructions (instruction ∷ []) p)
 
 -- a fuse or the lock
-abbrev pub program_byte : ℕ → List ℕ → Programmer → Done
-program_byte code instruction p = in_mode code p (code ∷ 0 ∷ 0 ∷ [], instructed (instruction ∷ []) p)
+abbrev pub program_byte : ℕ → List ℕ → Programmer → Response
+program_byte code instruction p = in_mode code p (code ∷ 0 ∷ 0 ∷ [], with_instructions (instruction ∷ []) p)
 
 -- a fuse, the lock, a signature byte or the calibration
-abbrev pub read_byte : ℕ → ReadByte → Programmer → Done
+abbrev pub read_byte : ℕ → ReadByte → Programmer → Response
 read_byte code f p =
     in_mode code p (if nat_le 1 f.return_address && nat_le f.return_address 4
     then (
       code ∷ 0 ∷ slice_index (spi_of f.instruction p.chip).0 (f.return_address - 1) ∷ 0
           ∷ [],
-      instructed (f.instruction ∷ []) p,
+      with_instructions (f.instruction ∷ []) p,
     )
     else fail code p)
 
@@ -158,19 +158,20 @@ writes_page f = is_paged f && is_written f
 abbrev pub flash_fits : ProgramBlock → Bool
 flash_fits f = not (f.count == 0) && f.count % 2 == 0 && f.count == length f.bytes && is_paged f
 
-abbrev pub program_flash : ProgramBlock → Programmer → Done
+abbrev pub program_flash : ProgramBlock → Programmer → Response
 program_flash f p =
     in_mode 0x13 p (if flash_fits f
     then (
       0x13 ∷ 0 ∷ [],
-      moved (f.count / 2) (instructed
+      with_address_moved (f.count / 2) (with_instructions
           (flash_loads p.wide f.cmd1 p.address 0 f.bytes ++ flash_writes p.wide f.cmd2 p.address (is_written f)) p),
     )
     else fail 0x13 p)
 
 abbrev pub eeprom_loads : ℕ → ℕ → ℕ → List ℕ → List (List ℕ)
 eeprom_loads cmd address i [] = []
-eeprom_loads cmd address i (b ∷ bytes) = at_address cmd (byte_at address i) b ∷ eeprom_loads cmd address (suc i) bytes
+eeprom_loads cmd address i (b ∷ bytes) = at_address cmd (byte_address address i) b
+    ∷ eeprom_loads cmd address (suc i) bytes
 
 abbrev pub eeprom_writes : ℕ → ℕ → Bool → List (List ℕ)
 eeprom_writes cmd address true = at_address cmd address 0 ∷ []
@@ -179,65 +180,65 @@ eeprom_writes cmd address false = []
 abbrev pub eeprom_fits : ProgramBlock → Bool
 eeprom_fits f = not (f.count == 0) && f.count == length f.bytes
 
-abbrev pub program_eeprom : ProgramBlock → Programmer → Done
+abbrev pub program_eeprom : ProgramBlock → Programmer → Response
 program_eeprom f p =
     in_mode 0x15 p (if eeprom_fits f
     then (
       0x15 ∷ 0 ∷ [],
-      moved f.count (instructed
+      with_address_moved f.count (with_instructions
           (eeprom_loads f.cmd1 p.address 0 f.bytes ++ eeprom_writes f.cmd2 p.address (writes_page f)) p),
     )
     else fail 0x15 p)
 
 -- bytes read, and the chip behind the instructions that read them
 abbrev pub Looked : Type 0
-Looked = List ℕ × State
+Looked = List ℕ × ChipState
 
 abbrev pub behind_byte : ℕ → Looked → Looked
 behind_byte b looked = (b ∷ looked.0, looked.1)
 
 -- the fourth byte out of an instruction, and then what is read from the chip behind it
-abbrev pub look : List ℕ → State → (State → Looked) → Looked
+abbrev pub look : List ℕ → ChipState → (ChipState → Looked) → Looked
 look x chip more = behind_byte (slice_index (spi_of x chip).0 3) (more (spi_of x chip).1)
 
-abbrev pub flash_looks : Bool → ℕ → ℕ → ℕ → ℕ → State → Looked
+abbrev pub flash_looks : Bool → ℕ → ℕ → ℕ → ℕ → ChipState → Looked
 flash_looks wide cmd address i zero chip = ([], chip)
 flash_looks wide cmd address i (suc n) chip =
     look (at_address (for_half cmd i) (word_at address i) 0) (sent_to (extension wide (word_at address i)) chip)
     (flash_looks wide cmd address (suc i) n)
 
-abbrev pub eeprom_looks : ℕ → ℕ → ℕ → ℕ → State → Looked
+abbrev pub eeprom_looks : ℕ → ℕ → ℕ → ℕ → ChipState → Looked
 eeprom_looks cmd address i zero chip = ([], chip)
 eeprom_looks cmd address i (suc n) chip =
-    look (at_address cmd (byte_at address i) 0) chip (eeprom_looks cmd address (suc i) n)
+    look (at_address cmd (byte_address address i) 0) chip (eeprom_looks cmd address (suc i) n)
 
 -- a block that was read
-abbrev pub block : ℕ → Looked → Programmer → Done
+abbrev pub block : ℕ → Looked → Programmer → Response
 block code looked p = (code ∷ 0 ∷ (looked.0 ++ 0 ∷ []), record p { chip = looked.1 })
 
-abbrev pub read_flash : ReadBlock → Programmer → Done
+abbrev pub read_flash : ReadBlock → Programmer → Response
 read_flash f p =
     in_mode 0x14 p (if not (f.count == 0) && f.count % 2 == 0 && nat_le f.count 272
-    then block 0x14 (flash_looks p.wide f.cmd1 p.address 0 f.count p.chip) (moved (f.count / 2) p)
+    then block 0x14 (flash_looks p.wide f.cmd1 p.address 0 f.count p.chip) (with_address_moved (f.count / 2) p)
     else fail 0x14 p)
 
-abbrev pub read_eeprom : ReadBlock → Programmer → Done
+abbrev pub read_eeprom : ReadBlock → Programmer → Response
 read_eeprom f p =
     in_mode 0x16 p (if not (f.count == 0) && nat_le f.count 272
-    then block 0x16 (eeprom_looks f.cmd1 p.address 0 f.count p.chip) (moved f.count p)
+    then block 0x16 (eeprom_looks f.cmd1 p.address 0 f.count p.chip) (with_address_moved f.count p)
     else fail 0x16 p)
 
-abbrev pub spi_multi : ℕ → ℕ → ℕ → List ℕ → Programmer → Done
+abbrev pub spi_multi : ℕ → ℕ → ℕ → List ℕ → Programmer → Response
 spi_multi send_count receive_count receive_start bytes p =
     in_mode 0x1D p (if send_count == 4 && length bytes == 4 && nat_le (receive_start + receive_count) 4
     then (
       0x1D ∷ 0 ∷ (take receive_count (drop receive_start (spi_of bytes p.chip).0) ++ 0 ∷ []),
-      instructed
+      with_instructions
           (bytes ∷ []) p,
     )
     else fail 0x1D p)
 
-abbrev pub obey_command : Command → Programmer → Done
+abbrev pub obey_command : Command → Programmer → Response
 obey_command SignOn p = sign_on p
 obey_command (SetParameter number value) p = set_parameter number value p
 obey_command (GetParameter number) p = get_parameter number p
@@ -263,13 +264,13 @@ abbrev pub is_known : ℕ → Bool
 is_known code = nat_le 0x01 code && nat_le code 0x03 || code == 0x06 || nat_le 0x10 code && nat_le code 0x1D
 
 -- A body that is no command's: the answer tells whether its first byte is.
-abbrev pub not_read : ℕ → Programmer → Done
+abbrev pub not_read : ℕ → Programmer → Response
 not_read code p = (code ∷ (if is_known code then 0xC0 else 0xC9) ∷ [], p)
 
-abbrev pub read_as : Option Command → List ℕ → Programmer → Done
+abbrev pub read_as : Option Command → List ℕ → Programmer → Response
 read_as (Some command) bytes p = obey_command command p
 read_as None bytes p = not_read (slice_index bytes 0) p
 
 -- what the body of a frame makes the programmer answer and become
-abbrev pub obey : List ℕ → Programmer → Done
+abbrev pub obey : List ℕ → Programmer → Response
 obey bytes p = read_as (command_of bytes) bytes p

@@ -11,14 +11,14 @@ use Rattle.avr_part.specs.Part.{Part, size_of}
 use Rattle.stk_frame.specs.declared.command.Command.{Command}
 use Rattle.stk_frame.specs.declared.command.Command.TheVariants.{LoadAddress, ChipErase, ProgramFlash, ProgramEeprom, ProgramFuse, ProgramLock}
 use Rattle.stk_frame.specs.declared.host_command.Fuse.{Fuse}
-use Rattle.stk_frame.specs.HostCommands.{erase, program_page, program_eeprom, program_fuse, program_lock, read_flash, read_eeprom, read_fuse, read_lock, read_signature, read_calibration}
+use Rattle.stk_frame.specs.HostCommands.{erase, program_page, program_eeprom_block, program_fuse, program_lock, read_flash_block, read_eeprom_block, read_fuse, read_lock, read_signature, read_calibration}
 use Rattle.stk_host.specs.Places.{load_flash, load_eeprom}
 use Rattle.stk_host.specs.WriteSteps.{write_steps}
 use Rattle.stk_emu.specs.Effect.{Image, Item, Erase, Write, Memories, effects}
 
 -- these bytes from this address on, and nothing else
-abbrev pub placed : ℕ → List ℕ → Image
-placed start bytes = replicate start None ++ map Some bytes
+abbrev pub image_at : ℕ → List ℕ → Image
+image_at start bytes = replicate start None ++ map Some bytes
 
 -- the memory of a fuse
 abbrev pub memory_of_fuse : instruction_fuse.Fuse → Mem
@@ -36,8 +36,8 @@ written_by i = []
 -- what is written at an address: a block of flash, whose address counts words and may ask for the extended one by bit
 -- 31, or of EEPROM
 abbrev pub written_at : ℕ → List Command → List Item
-written_at address (ProgramFlash f ∷ []) = Write Flash (placed (address % 2 ^ 31 * 2) f.bytes) ∷ []
-written_at address (ProgramEeprom f ∷ []) = Write Eeprom (placed address f.bytes) ∷ []
+written_at address (ProgramFlash f ∷ []) = Write Flash (image_at (address % 2 ^ 31 * 2) f.bytes) ∷ []
+written_at address (ProgramEeprom f ∷ []) = Write Eeprom (image_at address f.bytes) ∷ []
 written_at address commands = []
 
 -- what the commands of a step write: one part of an item, or nothing
@@ -89,7 +89,7 @@ pub record IsPage (part : Part) (number : ℕ) (bytes : List ℕ) : Type 0 where
   pub inside : number * part.flash_page + part.flash_page ≤ part.flash_size
 
 -- some bytes of EEPROM inside one page
-pub record IsRun (part : Part) (address : ℕ) (bytes : List ℕ) : Type 0 where
+pub record FitsEepromPage (part : Part) (address : ℕ) (bytes : List ℕ) : Type 0 where
   pub some : 0 < length bytes
   pub within : address % part.eeprom_page + length bytes ≤ part.eeprom_page
   pub inside : address + length bytes ≤ part.eeprom_size
@@ -110,14 +110,14 @@ pub data IsStep (part : Part) (commands : List Command) : Type 0 where
   Erases : commands ≡ erase ∷ [] → IsStep part commands
   ProgramsPage : (number : ℕ) (bytes : List ℕ) → IsPage part number bytes
       → commands ≡ load_flash part (number * part.flash_page) ∷ program_page bytes ∷ [] → IsStep part commands
-  ProgramsRun : (address : ℕ) (bytes : List ℕ) → IsRun part address bytes
-      → commands ≡ load_eeprom address ∷ program_eeprom bytes ∷ [] → IsStep part commands
+  ProgramsRun : (address : ℕ) (bytes : List ℕ) → FitsEepromPage part address bytes
+      → commands ≡ load_eeprom address ∷ program_eeprom_block bytes ∷ [] → IsStep part commands
   ProgramsFuse : (f : Fuse) (byte : ℕ) → commands ≡ program_fuse f byte ∷ [] → IsStep part commands
   ProgramsLock : (byte : ℕ) → commands ≡ program_lock byte ∷ [] → IsStep part commands
   ReadsFlash : (start count : ℕ) → IsBlock part Flash start count → AreWords start count
-      → commands ≡ load_flash part start ∷ read_flash count ∷ [] → IsStep part commands
+      → commands ≡ load_flash part start ∷ read_flash_block count ∷ [] → IsStep part commands
   ReadsEeprom : (start count : ℕ) → IsBlock part Eeprom start count
-      → commands ≡ load_eeprom start ∷ read_eeprom count ∷ [] → IsStep part commands
+      → commands ≡ load_eeprom start ∷ read_eeprom_block count ∷ [] → IsStep part commands
   ReadsFuse : (f : Fuse) → commands ≡ read_fuse f ∷ [] → IsStep part commands
   ReadsLock : commands ≡ read_lock ∷ [] → IsStep part commands
   ReadsSignature : (place : ℕ) → place < 3 → commands ≡ read_signature place ∷ [] → IsStep part commands

@@ -12,7 +12,7 @@ abbrev pub tape_in : List (Option ℕ) → Tape
 tape_in = map item_of
 
 -- no byte comes first
-abbrev pub IsQuiet : List (Option ℕ) → Type 0
-IsQuiet [] = Unit {0}
-IsQuiet (Some b ∷ items) = ⊥
-IsQuiet (None ∷ items) = Unit {0}
+abbrev pub BeginsSilent : List (Option ℕ) → Type 0
+BeginsSilent [] = Unit {0}
+BeginsSilent (Some b ∷ items) = ⊥
+BeginsSilent (None ∷ items) = Unit {0}

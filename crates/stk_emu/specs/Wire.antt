@@ -92,8 +92,8 @@ segment m piece w =
     ++ back (first_fate w.fates) (answer_frame m piece w.programmer) (frame (seq_of piece) refusal)
 
 -- and what it leaves
-abbrev pub passed : {P : Type 0} → Device P → List ℕ → Wire P → Wire P
-passed m piece w = record {
+abbrev pub wire_behind : {P : Type 0} → Device P → List ℕ → Wire P → Wire P
+wire_behind m piece w = record {
   programmer = after_fate (first_fate w.fates) (after_frame m piece w.programmer) w.programmer (m.reset w.programmer);
   fates = other_fates w.fates;
   late = late_of (first_fate w.fates) (answer_frame m piece w.programmer) w.late;
@@ -102,18 +102,18 @@ passed m piece w = record {
 -- the segments of whole frames, joined, and the wire behind them
 abbrev pub tape_of : {P : Type 0} → Device P → List (List ℕ) → Wire P → Tape
 tape_of m [] w = []
-tape_of m (piece ∷ pieces) w = segment m piece w ++ tape_of m pieces (passed m piece w)
+tape_of m (piece ∷ pieces) w = segment m piece w ++ tape_of m pieces (wire_behind m piece w)
 
 abbrev pub wire_after : {P : Type 0} → Device P → List (List ℕ) → Wire P → Wire P
 wire_after m [] w = w
-wire_after m (piece ∷ pieces) w = wire_after m pieces (passed m piece w)
+wire_after m (piece ∷ pieces) w = wire_after m pieces (wire_behind m piece w)
 
 -- a wire that nothing passed yet
-abbrev pub fresh : {P : Type 0} → P → List Fate → Wire P
-fresh p fates = record { programmer = p; fates = fates; late = none_late }
+abbrev pub fresh_wire : {P : Type 0} → P → List Fate → Wire P
+fresh_wire p fates = record { programmer = p; fates = fates; late = none_late }
 
 -- These bytes were sent over a wire, this is the whole tape that they bring, and this programmer stands at its end.
 pub record Talks {P : Type 0} (m : Device P) (fates : List Fate) (p : P) (sent : List ℕ) (tape : Tape)
     (q : P) : Type 0 where
-  pub tape_is : tape_of m (frames sent) (fresh p fates) ≡ tape
-  pub end_is : (wire_after m (frames sent) (fresh p fates)).programmer ≡ q
+  pub tape_is : tape_of m (frames sent) (fresh_wire p fates) ≡ tape
+  pub end_is : (wire_after m (frames sent) (fresh_wire p fates)).programmer ≡ q

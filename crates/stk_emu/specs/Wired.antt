@@ -8,10 +8,10 @@ use Rattle.stk_host.specs.Talk.{Talk, LinkView, Sent, Got, sent, heard}
 use Rattle.stk_emu.specs.declared.fate.Fate.{Fate}
 use Rattle.stk_emu.specs.Programmer.{Programmer, fresh_programmer}
 use Rattle.stk_emu.specs.Device.{device}
-use Rattle.stk_emu.specs.Wire.{Wire, AreLawful, fresh, tape_of, wire_after}
+use Rattle.stk_emu.specs.Wire.{Wire, AreLawful, fresh_wire, tape_of, wire_after}
 
 -- the bytes of a frame that has not ended; the wire; the items that wait to be heard; what passed; and the failures
-pub record State : Type 0 where
+pub record WiredState : Type 0 where
   pub held : List ℕ
   pub wire : Wire Programmer
   pub waits : Tape
@@ -19,12 +19,12 @@ pub record State : Type 0 where
   pub failures : ℕ
 
 -- it keeps all that passed
-abbrev pub wired_view : State → LinkView
+abbrev pub wired_view : WiredState → LinkView
 wired_view wired = record { talk = Some wired.talk; failures = wired.failures }
 
 -- what the frames of these bytes bring over a wire that nothing passed yet
 abbrev pub brought : Programmer → List Fate → List ℕ → Tape
-brought p fates bytes = tape_of device (frames bytes) (fresh p fates)
+brought p fates bytes = tape_of device (frames bytes) (fresh_wire p fates)
 
 -- Nobody listened where all that was brought had been heard.
 abbrev pub NeverIdle : Programmer → List Fate → Talk → Type 0
@@ -34,9 +34,9 @@ NeverIdle p fates talk =
 
 -- A wire that began with this programmer and these fates: it stands where the frames sent have brought it, and, unless
 -- somebody listened where nothing waited, what was heard and what waits are what these frames bring.
-pub record Keeps (p : Programmer) (fates : List Fate) (w : State) : Type 0 where
+pub record Keeps (p : Programmer) (fates : List Fate) (w : WiredState) : Type 0 where
   pub held : Stands w.held (sent w.talk)
-  pub stands : w.wire ≡ wire_after device (frames (sent w.talk)) (fresh p fates)
+  pub stands : w.wire ≡ wire_after device (frames (sent w.talk)) (fresh_wire p fates)
   pub brings : NeverIdle p fates w.talk → brought p fates (sent w.talk) ≡ heard w.talk ++ w.waits
 
 -- how a wire began: its programmer, and the fates of its frames
@@ -44,18 +44,18 @@ pub record Start : Type 0 where
   pub programmer : Programmer
   pub fates : List Fate
 
-abbrev pub ComesOf : Start → State → Type 0
+abbrev pub ComesOf : Start → WiredState → Type 0
 ComesOf start w = Keeps start.programmer start.fates w
 
 -- Nothing has passed over the wire, its programmer has done nothing yet, and its fates are lawful.
-pub record IsFresh (w : State) : Type 0 where
+pub record IsFresh (w : WiredState) : Type 0 where
   pub silent : w.talk ≡ []
   pub begins : Keeps (fresh_programmer w.wire.programmer.chip) w.wire.fates w
   pub lawful : AreLawful w.wire.fates
 
 -- Bytes were sent, in which these frames ended: behind what waited now waits what they bring, and the wire stands
 -- behind them.
-pub record Passes (old new : State) (used : List ℕ) : Type 0 where
+pub record PassesBytes (old new : WiredState) (used : List ℕ) : Type 0 where
   pub found : List (List ℕ)
   pub are_frames : filter is_frame found ≡ found
   pub fed : Fed old.held used new.held found
@@ -64,7 +64,7 @@ pub record Passes (old new : State) (used : List ℕ) : Type 0 where
   pub talk : new.talk ≡ old.talk ++ Sent used ∷ []
 
 -- items are heard, and wait no more
-abbrev pub after_hearing : Tape → State → State
+abbrev pub after_hearing : Tape → WiredState → WiredState
 after_hearing items w = record w { talk = w.talk ++ Got items ∷ []; waits = drop (length items) w.waits }
 
 -- what is heard next: some of the items that wait first, or a silence where nothing waits

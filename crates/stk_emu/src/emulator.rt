@@ -3,9 +3,9 @@
 ghost use Rattle.std.specs.Prelude.{◌≡◌, ◌<◌, ◌≤◌, ◌++◌, ◌∷◌, [], ℕ, List, length, take};
 ghost use Rattle.stk_frame.specs.Frame.{frame};
 ghost use Rattle.stk_frame.specs.Cut.{is_good, seq_of, body_of};
-ghost use Rattle.stk_frame.specs.Reader.{HoldsFrame, Tells, found};
+ghost use Rattle.stk_frame.specs.Reader.{HoldsFrame, TellsEvent, frames_of_event};
 ghost use Rattle.stk_emu.specs.Programmer.{Programmer as ProgrammerState, fresh_programmer, obey};
-ghost use Rattle.stk_emu.specs.Device.{device, refusal, answer_frame, after_frame, answers, after_all};
+ghost use Rattle.stk_emu.specs.Device.{device, refusal, answer_frame, after_frame, answers, after_frames};
 ghost use Rattle.stk_emu.specs.Emulator.{Answers, IsFed, emulate};
 
 use crate::programmer::{Body, Programmer};
@@ -56,9 +56,9 @@ pub(crate) fn answer(reader: &FrameReader, good: bool, programmer: &mut Programm
 
 /// Answers the frame of which the event tells; `out` becomes empty where it tells of none.
 fn answer_event(reader: &FrameReader, event: Event, programmer: &mut Programmer, out: &mut Frame)
-    requires { Tells event reader.now }
-    ensures answers { out.new.items ≡ answers device (found event reader.now) programmer.old }
-    ensures after { programmer.new ≡ after_all device (found event reader.now) programmer.old }
+    requires { TellsEvent event reader.now }
+    ensures answers { out.new.items ≡ answers device (frames_of_event event reader.now) programmer.old }
+    ensures after { programmer.new ≡ after_frames device (frames_of_event event reader.now) programmer.old }
 {
     match event {
         Event::More => out.clear(),

@@ -12,7 +12,8 @@ pub enum Fate {
     /// The frame is obeyed, and a silence comes; the answer comes in front of what the next frame brings.
     LateAnswer,
     /// The frame is obeyed, and a silence comes; the answer waits behind those that wait already, and all of them come
-    /// in front of what the first later frame of another fate brings. Three can wait: of a fourth one the first is lost.
+    /// in front of what the first later frame of another fate brings. Three can wait: of a fourth one the first is
+    /// lost.
     HeldAnswer,
     /// The frame is not obeyed, and the programmer begins anew: its memories stay, and programming mode, address,
     /// parameters and page buffers are lost. A silence comes.

@@ -5,7 +5,7 @@ ghost use Rattle.std.specs.Prelude.{◌≡◌, ◌++◌, ℕ, List, [], ◌∷�
 ghost use Rattle.avr_image.specs.Image.{byte_at, or_blank};
 ghost use Rattle.avr_part.specs.State as chip;
 ghost use Rattle.avr_part.specs.Part.{Part, IsPart};
-ghost use Rattle.avr_part.specs.Sound.{IsSound};
+ghost use Rattle.avr_part.specs.Sound.{IsSoundChip};
 ghost use Rattle.avr_part.specs.declared.mem.Mem.{Mem};
 ghost use Rattle.stk_frame.specs.declared.command.Command.{Command};
 ghost use Rattle.stk_frame.specs.Frame.{frame};
@@ -23,13 +23,13 @@ ghost use Rattle.stk_emu.specs.Programmer.{Programmer, fresh_programmer};
 ghost use Rattle.stk_emu.specs.Device.{device};
 ghost use Rattle.stk_emu.specs.Lawful.{IsBody, IsClear};
 ghost use Rattle.stk_emu.specs.Wire.{Wire, AreLawful, IsLawfulFate, first_fate, segment, tape_of};
-ghost use Rattle.stk_emu.specs.Along.{along, said_along, reading_of, AsksBodies, Fused};
-ghost use Rattle.stk_emu.specs.Effect.{Memories, Image, Item, effect, effects, memories_of, memory_in, laid, and_in};
+ghost use Rattle.stk_emu.specs.Along.{along, said_along, fate_reading, AsksBodies, Fused};
+ghost use Rattle.stk_emu.specs.Effect.{Memories, Image, Item, effect, effects, memories_of, memory_in, with_image, and_in};
 ghost use Rattle.stk_emu.specs.Settled.{Idle, Settled, Ready, FitsPart};
 ghost use Rattle.stk_emu.specs.Fits.{Fits};
 ghost use Rattle.stk_emu.specs.Strokes.{IsStep, AreSteps, struck, struck_by, strokes_of, all_steps, AllFitItems};
 ghost use Rattle.stk_emu.specs.Given.{given_by, all_given, Holds};
-ghost use Rattle.stk_emu.specs.Wired.{State, Keeps, NeverIdle};
+ghost use Rattle.stk_emu.specs.Wired.{WiredState, Keeps, NeverIdle};
 ghost use Rattle.stk_emu.specs.Leads.{Leads, Reached, AfterOperation, AfterOpening, AreGood, GoesAlong};
 ghost use Rattle.stk_emu.specs.Few.{AreFew, FewOf, each_second};
 ghost use Rattle.stk_emu.specs.Climbs.{Climbs};
@@ -49,7 +49,7 @@ pub fn a_segment_is_read_whole()
     ensures { (n : ℕ) (bytes : List ℕ) (w : Wire Programmer) (more : Tape) → IsBody bytes → IsClear n w.late
         → IsLawfulFate (first_fate w.fates)
         → answer n (segment device (frame n bytes) w ++ more) ≡ Some
-        (reading_of (first_fate w.fates) (device.answer bytes w.programmer), more) }
+        (fate_reading (first_fate w.fates) (device.answer bytes w.programmer), more) }
 {}
 
 /// A conversation that is played over what a wire brings for its frames goes along the line question by question: the
@@ -64,8 +64,8 @@ pub fn a_conversation_goes_along_the_line<E, R>()
 /// A programmer as it begins, with any chip, is ready for SIGN_ON, and the chip's memories have its part's sizes.
 #[tactic(auto, using(crate::proofs::Beginning::fresh_idle, crate::proofs::Beginning::fresh_fits))]
 pub fn a_programmer_begins_idle()
-    ensures idle { (s : chip.State) → IsSound s → Idle s.part (memories_of s) (fresh_programmer s) }
-    ensures sizes { (s : chip.State) → IsSound s → FitsPart s.part (memories_of s) }
+    ensures idle { (s : chip.ChipState) → IsSoundChip s → Idle s.part (memories_of s) (fresh_programmer s) }
+    ensures sizes { (s : chip.ChipState) → IsSoundChip s → FitsPart s.part (memories_of s) }
 {}
 
 /// SIGN_ON changes nothing, ENTER settles the programmer, and LEAVE keeps the memories: whatever of them is obeyed, and
@@ -200,11 +200,11 @@ pub trait Talks {
 /// conversation has come there to the same result, and nothing that came is left; where it broke off in any part of a
 /// frame, the programmer stands there all the same.
 pub fn a_talk_over_a_wire_goes_along_the_line<T: Talks>()
-    ensures whole { (d : Dialog T.Saying T.Outcome) (n : ℕ) (p : Programmer) (fates : List Fate) (w : State)
+    ensures whole { (d : Dialog T.Saying T.Outcome) (n : ℕ) (p : Programmer) (fates : List Fate) (w : WiredState)
         (events : List (Event T.Saying)) (r : T.Outcome) (next : ℕ) (left : List ℕ)
         → AsksBodies d → AreLawful fates → Keeps p fates w → Plays d n [] w.talk events r next left
         → GoesAlong d p fates w r left }
-    ensures broken { (d : Dialog T.Saying T.Outcome) (n : ℕ) (p : Programmer) (fates : List Fate) (w : State)
+    ensures broken { (d : Dialog T.Saying T.Outcome) (n : ℕ) (p : Programmer) (fates : List Fate) (w : WiredState)
         (shown : List (Event T.Saying))
         → AsksBodies d → AreLawful fates → Keeps p fates w → Breaks T.SaidPart d n [] w.talk shown
         → w.wire.programmer ≡ (along device (length (frames (sent w.talk))) d p fates).programmer }
@@ -217,7 +217,7 @@ pub fn what_is_said_over_a_wire_is_said_along_the_line<E, R>()
         → IsClear n w.late → AreLawful w.fates
         → frames_in (played d n (tape_of device sent w)).events ≡ sent ++ more
         → sayings (played d n (tape_of device sent w)).events ≡ said_along device (length sent) d w.programmer w.fates }
-    ensures whole { (d : Dialog E R) (n : ℕ) (p : Programmer) (fates : List Fate) (w : State)
+    ensures whole { (d : Dialog E R) (n : ℕ) (p : Programmer) (fates : List Fate) (w : WiredState)
         (events : List (Event E)) (r : R) (next : ℕ) (left : List ℕ)
         → AsksBodies d → AreLawful fates → Keeps p fates w → Plays d n [] w.talk events r next left
         → sayings events ≡ said_along device (length (frames (sent w.talk))) d p fates }
@@ -228,7 +228,7 @@ pub fn what_is_said_over_a_wire_is_said_along_the_line<E, R>()
 pub fn no_difference_is_the_image()
     ensures same { (addr : ℕ) (image : Image) (bytes : List ℕ)
         → difference_from addr image bytes ≡ None ↔ Holds image bytes }
-    ensures laid { (image : Image) (bytes : List ℕ) → Holds image (laid image bytes) }
+    ensures laid { (image : Image) (bytes : List ℕ) → Holds image (with_image image bytes) }
     ensures erased { (image : Image) (n i : ℕ) → i < n → ((b : ℕ) → byte_at image i ≡ Some b → b < 256)
         → slice_index (and_in image (replicate n 255)) i ≡ or_blank (byte_at image i) }
 {}

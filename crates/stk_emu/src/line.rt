@@ -3,13 +3,13 @@
 ghost use Rattle.std.specs.Prelude.{◌≡◌, ◌≤◌, ◌++◌, [], length, if◌then◌else◌};
 ghost use Rattle.stk_frame.specs.Frame.{frame};
 ghost use Rattle.stk_frame.specs.Cut.{is_good, seq_of};
-ghost use Rattle.stk_frame.specs.Reader.{HoldsFrame, Tells, found};
+ghost use Rattle.stk_frame.specs.Reader.{HoldsFrame, TellsEvent, frames_of_event};
 ghost use Rattle.stk_host.specs.Tape.{on_tape};
-ghost use Rattle.stk_emu.specs.Programmer.{fresh_programmer, restarted};
+ghost use Rattle.stk_emu.specs.Programmer.{fresh_programmer, restarted_programmer};
 ghost use Rattle.stk_emu.specs.Device.{device, refusal, answer_frame, after_frame};
 ghost use Rattle.stk_emu.specs.Lawful.{none_late};
 ghost use Rattle.stk_emu.specs.Waiting.{tape_in};
-ghost use Rattle.stk_emu.specs.Wire.{AreLawful, IsLawfulFate, fresh, segment, passed, tape_of, wire_after, is_held, let_go, late_of, after_fate, back};
+ghost use Rattle.stk_emu.specs.Wire.{AreLawful, IsLawfulFate, fresh_wire, segment, wire_behind, tape_of, wire_after, is_held, let_go, late_of, after_fate, back};
 
 use crate::emulator::{Frame, answer, refuse};
 use crate::fate::Fate;
@@ -90,7 +90,7 @@ fn pass_with(
     ensures items { tape_in out.new.items ≡ on_tape (let_go fate.now late.old)
         ++ back fate.now (answer_frame device reader.now programmer.old) (frame (seq_of reader.now) refusal) }
     ensures programmer { programmer.new ≡ after_fate fate.now (after_frame device reader.now programmer.old)
-        programmer.old (restarted programmer.old) }
+        programmer.old (restarted_programmer programmer.old) }
     ensures late { late.new ≡ late_of fate.now (answer_frame device reader.now programmer.old) late.old }
 {
     let mut frame = Frame::new();
@@ -131,7 +131,7 @@ impl Line {
     /// are good.
     pub fn new(chip: Chip, fates: Vec<Fate>) -> Line
         requires { AreLawful fates.items }
-        ensures { result ≡ fresh (fresh_programmer chip) fates.items }
+        ensures { result ≡ fresh_wire (fresh_programmer chip) fates.items }
     {
         Line {
             programmer: Programmer::new(chip),
@@ -153,7 +153,7 @@ impl Line {
         requires holds { HoldsFrame reader.now }
         requires tells { is_good reader.now ≡ good }
         ensures items { tape_in out.new.items ≡ segment device reader.now self.old }
-        ensures line { self.new ≡ passed device reader.now self.old }
+        ensures line { self.new ≡ wire_behind device reader.now self.old }
     {
         match self.fates.get(self.next) {
             Some(fate) => {
@@ -184,9 +184,9 @@ impl Line {
     /// Passes the frame of which the event tells, if it tells of one.
     pub fn pass_event(&mut self, reader: &FrameReader, event: Event, out: &mut Segment)
         requires empty { out.old.items ≡ [] }
-        requires tells { Tells event reader.now }
-        ensures items { tape_in out.new.items ≡ tape_of device (found event reader.now) self.old }
-        ensures line { self.new ≡ wire_after device (found event reader.now) self.old }
+        requires tells { TellsEvent event reader.now }
+        ensures items { tape_in out.new.items ≡ tape_of device (frames_of_event event reader.now) self.old }
+        ensures line { self.new ≡ wire_after device (frames_of_event event reader.now) self.old }
     {
         match event {
             Event::More => {}

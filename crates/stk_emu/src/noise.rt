@@ -2,7 +2,7 @@
 
 ghost use Rattle.std.specs.Prelude.{◌≡◌, ◌≢◌, ◌↔◌, [], ◌∷◌, IsTrue, true, false, filter};
 ghost use Rattle.stk_frame.specs.Cut.{cut, is_good};
-ghost use Rattle.stk_frame.specs.Reader.{Tells, found};
+ghost use Rattle.stk_frame.specs.Reader.{TellsEvent, frames_of_event};
 ghost use Rattle.stk_emu.specs.Lawful.{IsLawful};
 
 use stk_frame::{Event, FrameReader};
@@ -12,9 +12,9 @@ const LIMIT: usize = 2048;
 
 /// Whether the event tells of a good frame.
 fn tells_of_good(reader: &FrameReader, event: Event) -> bool
-    requires { Tells event reader.now }
-    ensures no { result ≡ false → filter is_good (found event reader.now) ≡ [] }
-    ensures yes { result ≡ true → (found event reader.now ≡ reader.now ∷ []) × (is_good reader.now ≡ true) }
+    requires { TellsEvent event reader.now }
+    ensures no { result ≡ false → filter is_good (frames_of_event event reader.now) ≡ [] }
+    ensures yes { result ≡ true → (frames_of_event event reader.now ≡ reader.now ∷ []) × (is_good reader.now ≡ true) }
 {
     match event {
         Event::Frame => true,

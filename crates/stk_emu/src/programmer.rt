@@ -2,7 +2,7 @@
 
 ghost use Rattle.std.specs.Prelude.{◌≡◌, ◌<◌, ◌≤◌, ◌∷◌, [], ◌+◌, ◌%◌, ℕ, length, slice_index, if◌then◌else◌, false, true};
 ghost use Rattle.avr_part.specs.State.{spi_of};
-ghost use Rattle.stk_emu.specs.Programmer.{fresh_programmer, restarted, sign_on, set_parameter, get_parameter, load_address, entered, enter_progmode, leave_progmode, chip_erase, program_byte, read_byte, program_flash, flash_fits, program_eeprom, eeprom_fits, is_paged, is_written, writes_page, is_polled, read_flash, read_eeprom, spi_multi, obey_command, is_known, not_read, obey, bit_31};
+ghost use Rattle.stk_emu.specs.Programmer.{fresh_programmer, restarted_programmer, sign_on, set_parameter, get_parameter, load_address, enter_response, enter_progmode, leave_progmode, chip_erase, program_byte, read_byte, program_flash, flash_fits, program_eeprom, eeprom_fits, is_paged, is_written, writes_page, is_polled, read_flash, read_eeprom, spi_multi, obey_command, is_known, not_read, obey, bit_31};
 
 use crate::spi::BIT_31;
 use crate::{eeprom, flash};
@@ -164,7 +164,7 @@ impl Programmer {
 
     /// Begins anew: the memories of its part stay, and all else is lost, the page buffers too.
     pub fn restart(&mut self)
-        ensures { self.new ≡ restarted self.old }
+        ensures { self.new ≡ restarted_programmer self.old }
     {
         self.mode = false;
         self.address = 0;
@@ -196,7 +196,7 @@ impl Programmer {
 
     /// The mode is on or off now.
     fn entered(&mut self, ok: bool, out: &mut Body)
-        ensures { (out.new.items, self.new) ≡ entered ok self.old }
+        ensures { (out.new.items, self.new) ≡ enter_response ok self.old }
     {
         self.mode = ok;
         let status = if ok { OK } else { FAILED };

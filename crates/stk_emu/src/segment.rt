@@ -3,7 +3,7 @@
 ghost use Rattle.std.specs.Prelude.{◌≡◌, ◌+◌, ◌<◌, ◌≤◌, ◌++◌, ◌∷◌, [], length, take};
 ghost use Rattle.stk_host.specs.declared.link.Item.TheVariants as item;
 ghost use Rattle.stk_host.specs.Tape.{on_tape};
-ghost use Rattle.stk_emu.specs.Waiting.{tape_in, IsQuiet};
+ghost use Rattle.stk_emu.specs.Waiting.{tape_in, BeginsSilent};
 
 use arrayvec::ArrayVec;
 
@@ -37,7 +37,7 @@ pub(crate) fn take_bytes(items: &[Option<u8>], buffer: &mut [u8]) -> usize
     ensures within { result ≤ length buffer.new }
     ensures taken { on_tape (take result buffer.new) ≡ take result (tape_in items.now) }
     ensures inside { result ≤ length items.now }
-    ensures some { 0 < length buffer.old → result ≡ 0 → IsQuiet items.now }
+    ensures some { 0 < length buffer.old → result ≡ 0 → BeginsSilent items.now }
 {
     let mut count = 0;
     while count < buffer.len() && count < items.len() {

@@ -1,7 +1,7 @@
 //! Serial programming instructions for an address.
 
 ghost use Rattle.std.specs.Prelude.{◌≡◌, ◌<◌, ◌≤◌};
-ghost use Rattle.stk_emu.specs.Programmer.{bit_31, at_address, word_at, byte_at, for_half, extension, sent_to};
+ghost use Rattle.stk_emu.specs.Programmer.{bit_31, at_address, word_at, byte_address, for_half, extension, sent_to};
 
 use avr_part::Chip;
 
@@ -36,7 +36,7 @@ pub(crate) fn word_at(address: u32, place: u16) -> u32
 /// The address of the byte of this place.
 pub(crate) fn byte_at(address: u32, place: u16) -> u32
     requires { address < bit_31 }
-    ensures value { result ≡ byte_at address place }
+    ensures value { result ≡ byte_address address place }
     ensures small { result < bit_31 }
 {
     (address + u32::from(place)) % BIT_31

@@ -6,8 +6,8 @@ ghost use Rattle.stk_host.specs.Tape.{Tape, on_tape};
 ghost use Rattle.stk_host.specs.Talk as talk;
 ghost use Rattle.stk_host.specs.Talk.{HasRisen, Sends, Receives, Stays, FitsBuffer, items_of};
 ghost use Rattle.stk_emu.specs.Programmer.{fresh_programmer};
-ghost use Rattle.stk_emu.specs.Wire.{AreLawful, fresh};
-ghost use Rattle.stk_emu.specs.Wired.{Start, wired_view, ComesOf, IsFresh, Passes, IsNext, after_hearing};
+ghost use Rattle.stk_emu.specs.Wire.{AreLawful, fresh_wire};
+ghost use Rattle.stk_emu.specs.Wired.{Start, wired_view, ComesOf, IsFresh, PassesBytes, IsNext, after_hearing};
 
 use crate::fate::Fate;
 use crate::line::Line;
@@ -36,15 +36,15 @@ pub struct Wired {
 }
 
 impl Model for Wired {
-    ghost use Rattle.stk_emu.specs.Wired.{State};
+    ghost use Rattle.stk_emu.specs.Wired.{WiredState};
 
-    ghost Value = { State };
+    ghost Value = { WiredState };
 
-    ghost use Rattle.stk_emu.specs.WiredInside.{state_of, IsSound};
+    ghost use Rattle.stk_emu.specs.WiredInside.{wired_state, IsSoundWired};
 
-    ghost view = { state_of };
+    ghost view = { wired_state };
 
-    ghost invariant = { IsSound };
+    ghost invariant = { IsSoundWired };
 }
 
 /// Makes room for all that a frame can bring, and for a piece of so many bytes that is sent.
@@ -90,7 +90,7 @@ impl Wired {
     pub fn new(alloc: Global, chip: Chip, fates: Vec<Fate>) -> Wired
         requires { AreLawful fates.items }
         ensures held { result.held ≡ [] }
-        ensures wire { result.wire ≡ fresh (fresh_programmer chip) fates.items }
+        ensures wire { result.wire ≡ fresh_wire (fresh_programmer chip) fates.items }
         ensures waits { result.waits ≡ [] }
         ensures talk { result.talk ≡ [] }
         ensures sound { result.failures ≡ 0 }
@@ -136,7 +136,7 @@ impl Wired {
         ensures progress { IfOk result (λ n. 0 < length bytes.now → 0 < n) }
         ensures talk { IfOk result (λ n. self.new.talk ≡ self.old.talk ++ talk.Sent (take n bytes.now) ∷ []) }
         ensures failures { self.new.failures ≡ self.old.failures }
-        ensures passes { IfOk result (λ n. Passes self.old self.new (take n bytes.now)) }
+        ensures passes { IfOk result (λ n. PassesBytes self.old self.new (take n bytes.now)) }
         ensures comes { IfOk result (λ n. Stays ComesOf self.old self.new) }
         ensures err { OnErr result (self.new ≡ self.old) }
     {
@@ -204,7 +204,7 @@ impl Link for Wired {
         ensures sound { OnOk result (self.new.failures ≡ self.old.failures) }
         // Whatever was sent and heard before, and whoever listened idly, what the frames bring waits behind what
         // waited.
-        ensures passes { IfOk result (λ n. Passes self.old self.new (take n bytes.now)) }
+        ensures passes { IfOk result (λ n. PassesBytes self.old self.new (take n bytes.now)) }
         ensures same { OnErr result (self.new ≡ record self.old { failures = self.new.failures }) }
         // Sent and heard stay what the fates say.
         ensures comes { Stays ComesOf self.old self.new }

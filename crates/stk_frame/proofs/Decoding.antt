@@ -7,7 +7,7 @@ use Rattle.byteorder.specs.Numbers.{big_number-reads_back}
 use Rattle.stk_frame.specs.declared.command.Command.{Command}
 use Rattle.stk_frame.specs.declared.command.Command.TheVariants.{SignOn, SetParameter, GetParameter, LoadAddress, EnterProgmode, LeaveProgmode, ChipErase, ProgramFlash, ReadFlash, ProgramEeprom, ReadEeprom, ProgramFuse, ReadFuse, ProgramLock, ReadLock, ReadSignature, ReadOsccal, SpiMulti}
 use Rattle.stk_frame.specs.Commands.{body}
-use Rattle.stk_frame.specs.Decoding.{FieldsFit, command_of, with_fields, sign_on, set_parameter, get_parameter, load_address, enter_progmode, leave_progmode, chip_erase, program_block, read_block, instruction, read_byte, spi_multi}
+use Rattle.stk_frame.specs.Decoding.{FieldsFit, command_of, with_fields, sign_on_of, set_parameter_of, get_parameter_of, load_address_of, enter_progmode_of, leave_progmode_of, chip_erase_of, program_block_of, read_block_of, instruction, read_byte_of, spi_multi_of}
 use Rattle.stk_frame.proofs.Cut.{chosen, refused}
 
 -- a list of four
@@ -75,51 +75,51 @@ four_back a b c d e f g h =
 four_fits : (a b c d : ℕ) → a < 256 → b < 256 → c < 256 → d < 256 → big_number 4 (a ∷ b ∷ c ∷ d ∷ []) < 4294967296
 four_fits a b c d e f g h = omega arith
 
-sign_on_sound : (fields : List ℕ) → Sound 0x01 fields (sign_on fields)
+sign_on_sound : (fields : List ℕ) → Sound 0x01 fields (sign_on_of fields)
 sign_on_sound [] = record { says = (refl, tt) }
 sign_on_sound (a ∷ more) = none_sound 0x01 (a ∷ more)
 
-set_parameter_sound : (fields : List ℕ) → Sound 0x02 fields (set_parameter fields)
+set_parameter_sound : (fields : List ℕ) → Sound 0x02 fields (set_parameter_of fields)
 set_parameter_sound (a ∷ b ∷ []) = record { says = (refl, tt) }
 set_parameter_sound _ = record { says = tt }
 
-get_parameter_sound : (fields : List ℕ) → Sound 0x03 fields (get_parameter fields)
+get_parameter_sound : (fields : List ℕ) → Sound 0x03 fields (get_parameter_of fields)
 get_parameter_sound (a ∷ []) = record { says = (refl, tt) }
 get_parameter_sound _ = record { says = tt }
 
-load_address_sound : (fields : List ℕ) → Below fields → Sound 0x06 fields (load_address fields)
+load_address_sound : (fields : List ℕ) → Below fields → Sound 0x06 fields (load_address_of fields)
 load_address_sound (a ∷ b ∷ c ∷ d ∷ []) below =
     record { says = (ap (λ bytes. 0x06 ∷ bytes) (four_back a b c d (below 0) (below 1) (below 2) (below 3)), four_fits a b c d (below 0) (below 1) (below 2) (below 3)) }
 load_address_sound _ below = record { says = tt }
 
-enter_progmode_sound : (fields : List ℕ) → Sound 0x10 fields (option_map EnterProgmode (enter_progmode fields))
+enter_progmode_sound : (fields : List ℕ) → Sound 0x10 fields (option_map EnterProgmode (enter_progmode_of fields))
 enter_progmode_sound (t ∷ s ∷ m ∷ l ∷ y ∷ v ∷ i ∷ a ∷ b ∷ c ∷ d ∷ []) = record { says = (refl, refl) }
 enter_progmode_sound _ = record { says = tt }
 
-leave_progmode_sound : (fields : List ℕ) → Sound 0x11 fields (leave_progmode fields)
+leave_progmode_sound : (fields : List ℕ) → Sound 0x11 fields (leave_progmode_of fields)
 leave_progmode_sound (a ∷ b ∷ []) = record { says = (refl, tt) }
 leave_progmode_sound _ = record { says = tt }
 
-chip_erase_sound : (fields : List ℕ) → Sound 0x12 fields (chip_erase fields)
+chip_erase_sound : (fields : List ℕ) → Sound 0x12 fields (chip_erase_of fields)
 chip_erase_sound (e ∷ p ∷ a ∷ b ∷ c ∷ d ∷ []) = record { says = (refl, refl) }
 chip_erase_sound _ = record { says = tt }
 
-program_flash_sound : (fields : List ℕ) → Below fields → Sound 0x13 fields (option_map ProgramFlash (program_block fields))
+program_flash_sound : (fields : List ℕ) → Below fields → Sound 0x13 fields (option_map ProgramFlash (program_block_of fields))
 program_flash_sound (h ∷ l ∷ m ∷ d ∷ x ∷ y ∷ z ∷ p ∷ q ∷ bytes) below =
     record { says = (ap (λ count. 0x13 ∷ (count ++ m ∷ d ∷ x ∷ y ∷ z ∷ p ∷ q ∷ bytes)) (pair_back h l (below 0) (below 1)), pair_fits h l (below 0) (below 1)) }
 program_flash_sound _ below = record { says = tt }
 
-read_flash_sound : (fields : List ℕ) → Below fields → Sound 0x14 fields (option_map ReadFlash (read_block fields))
+read_flash_sound : (fields : List ℕ) → Below fields → Sound 0x14 fields (option_map ReadFlash (read_block_of fields))
 read_flash_sound (h ∷ l ∷ x ∷ []) below =
     record { says = (ap (λ count. 0x14 ∷ (count ++ x ∷ [])) (pair_back h l (below 0) (below 1)), pair_fits h l (below 0) (below 1)) }
 read_flash_sound _ below = record { says = tt }
 
-program_eeprom_sound : (fields : List ℕ) → Below fields → Sound 0x15 fields (option_map ProgramEeprom (program_block fields))
+program_eeprom_sound : (fields : List ℕ) → Below fields → Sound 0x15 fields (option_map ProgramEeprom (program_block_of fields))
 program_eeprom_sound (h ∷ l ∷ m ∷ d ∷ x ∷ y ∷ z ∷ p ∷ q ∷ bytes) below =
     record { says = (ap (λ count. 0x15 ∷ (count ++ m ∷ d ∷ x ∷ y ∷ z ∷ p ∷ q ∷ bytes)) (pair_back h l (below 0) (below 1)), pair_fits h l (below 0) (below 1)) }
 program_eeprom_sound _ below = record { says = tt }
 
-read_eeprom_sound : (fields : List ℕ) → Below fields → Sound 0x16 fields (option_map ReadEeprom (read_block fields))
+read_eeprom_sound : (fields : List ℕ) → Below fields → Sound 0x16 fields (option_map ReadEeprom (read_block_of fields))
 read_eeprom_sound (h ∷ l ∷ x ∷ []) below =
     record { says = (ap (λ count. 0x16 ∷ (count ++ x ∷ [])) (pair_back h l (below 0) (below 1)), pair_fits h l (below 0) (below 1)) }
 read_eeprom_sound _ below = record { says = tt }
@@ -128,7 +128,7 @@ program_fuse_sound : (fields : List ℕ) → Sound 0x17 fields (option_map Progr
 program_fuse_sound (a ∷ b ∷ c ∷ d ∷ []) = record { says = (refl, refl) }
 program_fuse_sound _ = record { says = tt }
 
-read_fuse_sound : (fields : List ℕ) → Sound 0x18 fields (option_map ReadFuse (read_byte fields))
+read_fuse_sound : (fields : List ℕ) → Sound 0x18 fields (option_map ReadFuse (read_byte_of fields))
 read_fuse_sound (r ∷ a ∷ b ∷ c ∷ d ∷ []) = record { says = (refl, refl) }
 read_fuse_sound _ = record { says = tt }
 
@@ -136,19 +136,19 @@ program_lock_sound : (fields : List ℕ) → Sound 0x19 fields (option_map Progr
 program_lock_sound (a ∷ b ∷ c ∷ d ∷ []) = record { says = (refl, refl) }
 program_lock_sound _ = record { says = tt }
 
-read_lock_sound : (fields : List ℕ) → Sound 0x1A fields (option_map ReadLock (read_byte fields))
+read_lock_sound : (fields : List ℕ) → Sound 0x1A fields (option_map ReadLock (read_byte_of fields))
 read_lock_sound (r ∷ a ∷ b ∷ c ∷ d ∷ []) = record { says = (refl, refl) }
 read_lock_sound _ = record { says = tt }
 
-read_signature_sound : (fields : List ℕ) → Sound 0x1B fields (option_map ReadSignature (read_byte fields))
+read_signature_sound : (fields : List ℕ) → Sound 0x1B fields (option_map ReadSignature (read_byte_of fields))
 read_signature_sound (r ∷ a ∷ b ∷ c ∷ d ∷ []) = record { says = (refl, refl) }
 read_signature_sound _ = record { says = tt }
 
-read_osccal_sound : (fields : List ℕ) → Sound 0x1C fields (option_map ReadOsccal (read_byte fields))
+read_osccal_sound : (fields : List ℕ) → Sound 0x1C fields (option_map ReadOsccal (read_byte_of fields))
 read_osccal_sound (r ∷ a ∷ b ∷ c ∷ d ∷ []) = record { says = (refl, refl) }
 read_osccal_sound _ = record { says = tt }
 
-spi_multi_sound : (fields : List ℕ) → Sound 0x1D fields (spi_multi fields)
+spi_multi_sound : (fields : List ℕ) → Sound 0x1D fields (spi_multi_of fields)
 spi_multi_sound (a ∷ b ∷ c ∷ bytes) = record { says = (refl, tt) }
 spi_multi_sound _ = record { says = tt }
 

@@ -7,7 +7,7 @@ use Rattle.stk_frame.specs.Frame.{frame}
 use Rattle.stk_frame.specs.Cut.{cut, rest, is_good}
 use Rattle.stk_frame.specs.Commands.{body, judge}
 use Rattle.stk_frame.specs.Decoding.{command_of}
-use Rattle.stk_frame.specs.HostCommands.{enter, leave, erase, program_page, program_eeprom, program_fuse, read_signature}
+use Rattle.stk_frame.specs.HostCommands.{enter, leave, erase, program_page, program_eeprom_block, program_fuse, read_signature}
 use Rattle.std.specs.Prelude.{filter, map}
 use Rattle.stk_frame.specs.Cut.{seq_of, body_of}
 
@@ -77,7 +77,7 @@ get_parameter_frame = refl
 pub page_body : body (program_page (0x11 ∷ 0x22 ∷ [])) ≡ 0x13 ∷ 0x00 ∷ 0x02 ∷ 0xC1 ∷ 0x0A ∷ 0x40 ∷ 0x4C ∷ 0x20 ∷ 0xFF ∷ 0xFF ∷ 0x11 ∷ 0x22 ∷ []
 page_body = refl
 
-pub run_body : body (program_eeprom (0x11 ∷ [])) ≡ 0x15 ∷ 0x00 ∷ 0x01 ∷ 0xC1 ∷ 0x0A ∷ 0xC1 ∷ 0xC2 ∷ 0xA0 ∷ 0xFF ∷ 0xFF ∷ 0x11 ∷ []
+pub run_body : body (program_eeprom_block (0x11 ∷ [])) ≡ 0x15 ∷ 0x00 ∷ 0x01 ∷ 0xC1 ∷ 0x0A ∷ 0xC1 ∷ 0xC2 ∷ 0xA0 ∷ 0xFF ∷ 0xFF ∷ 0x11 ∷ []
 run_body = refl
 
 -- bodies read

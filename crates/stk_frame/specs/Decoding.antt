@@ -10,24 +10,24 @@ use Rattle.stk_frame.specs.declared.command.ReadByte.{ReadByte}
 use Rattle.stk_frame.specs.declared.protocol.TheConstants.{CMD_CHIP_ERASE_ISP, CMD_ENTER_PROGMODE_ISP, CMD_GET_PARAMETER, CMD_LEAVE_PROGMODE_ISP, CMD_LOAD_ADDRESS, CMD_PROGRAM_EEPROM_ISP, CMD_PROGRAM_FLASH_ISP, CMD_PROGRAM_FUSE_ISP, CMD_PROGRAM_LOCK_ISP, CMD_READ_EEPROM_ISP, CMD_READ_FLASH_ISP, CMD_READ_FUSE_ISP, CMD_READ_LOCK_ISP, CMD_READ_OSCCAL_ISP, CMD_READ_SIGNATURE_ISP, CMD_SET_PARAMETER, CMD_SIGN_ON, CMD_SPI_MULTI}
 
 -- The fields of each command, from their bytes; None where these are too few or too many.
-abbrev pub sign_on : List ℕ → Option Command
-sign_on [] = Some SignOn
-sign_on _ = None
+abbrev pub sign_on_of : List ℕ → Option Command
+sign_on_of [] = Some SignOn
+sign_on_of _ = None
 
-abbrev pub set_parameter : List ℕ → Option Command
-set_parameter (number ∷ value ∷ []) = Some (SetParameter number value)
-set_parameter _ = None
+abbrev pub set_parameter_of : List ℕ → Option Command
+set_parameter_of (number ∷ value ∷ []) = Some (SetParameter number value)
+set_parameter_of _ = None
 
-abbrev pub get_parameter : List ℕ → Option Command
-get_parameter (number ∷ []) = Some (GetParameter number)
-get_parameter _ = None
+abbrev pub get_parameter_of : List ℕ → Option Command
+get_parameter_of (number ∷ []) = Some (GetParameter number)
+get_parameter_of _ = None
 
-abbrev pub load_address : List ℕ → Option Command
-load_address (a ∷ b ∷ c ∷ d ∷ []) = Some (LoadAddress (big_number 4 (a ∷ b ∷ c ∷ d ∷ [])))
-load_address _ = None
+abbrev pub load_address_of : List ℕ → Option Command
+load_address_of (a ∷ b ∷ c ∷ d ∷ []) = Some (LoadAddress (big_number 4 (a ∷ b ∷ c ∷ d ∷ [])))
+load_address_of _ = None
 
-abbrev pub enter_progmode : List ℕ → Option EnterFields
-enter_progmode (timeout ∷ stab_delay ∷ command_delay ∷ synch_loops ∷ byte_delay ∷ poll_value ∷ poll_index ∷ a ∷ b ∷ c
+abbrev pub enter_progmode_of : List ℕ → Option EnterFields
+enter_progmode_of (timeout ∷ stab_delay ∷ command_delay ∷ synch_loops ∷ byte_delay ∷ poll_value ∷ poll_index ∷ a ∷ b ∷ c
     ∷ d ∷ []) =
     Some (record {
       timeout = timeout;
@@ -39,19 +39,19 @@ enter_progmode (timeout ∷ stab_delay ∷ command_delay ∷ synch_loops ∷ byt
       poll_index = poll_index;
       instruction = a ∷ b ∷ c ∷ d ∷ [];
     })
-enter_progmode _ = None
+enter_progmode_of _ = None
 
-abbrev pub leave_progmode : List ℕ → Option Command
-leave_progmode (pre_delay ∷ post_delay ∷ []) = Some (LeaveProgmode pre_delay post_delay)
-leave_progmode _ = None
+abbrev pub leave_progmode_of : List ℕ → Option Command
+leave_progmode_of (pre_delay ∷ post_delay ∷ []) = Some (LeaveProgmode pre_delay post_delay)
+leave_progmode_of _ = None
 
-abbrev pub chip_erase : List ℕ → Option Command
-chip_erase (erase_delay ∷ poll_method ∷ a ∷ b ∷ c ∷ d ∷ []) =
+abbrev pub chip_erase_of : List ℕ → Option Command
+chip_erase_of (erase_delay ∷ poll_method ∷ a ∷ b ∷ c ∷ d ∷ []) =
     Some (ChipErase erase_delay poll_method (a ∷ b ∷ c ∷ d ∷ []))
-chip_erase _ = None
+chip_erase_of _ = None
 
-abbrev pub program_block : List ℕ → Option ProgramBlock
-program_block (high ∷ low ∷ mode ∷ delay ∷ cmd1 ∷ cmd2 ∷ cmd3 ∷ poll1 ∷ poll2 ∷ bytes) =
+abbrev pub program_block_of : List ℕ → Option ProgramBlock
+program_block_of (high ∷ low ∷ mode ∷ delay ∷ cmd1 ∷ cmd2 ∷ cmd3 ∷ poll1 ∷ poll2 ∷ bytes) =
     Some (record {
       count = big_number 2 (high ∷ low ∷ []);
       mode = mode;
@@ -63,47 +63,47 @@ program_block (high ∷ low ∷ mode ∷ delay ∷ cmd1 ∷ cmd2 ∷ cmd3 ∷ po
       poll2 = poll2;
       bytes = bytes;
     })
-program_block _ = None
+program_block_of _ = None
 
-abbrev pub read_block : List ℕ → Option ReadBlock
-read_block (high ∷ low ∷ cmd1 ∷ []) = Some (record { count = big_number 2 (high ∷ low ∷ []); cmd1 = cmd1 })
-read_block _ = None
+abbrev pub read_block_of : List ℕ → Option ReadBlock
+read_block_of (high ∷ low ∷ cmd1 ∷ []) = Some (record { count = big_number 2 (high ∷ low ∷ []); cmd1 = cmd1 })
+read_block_of _ = None
 
 abbrev pub instruction : List ℕ → Option (List ℕ)
 instruction (a ∷ b ∷ c ∷ d ∷ []) = Some (a ∷ b ∷ c ∷ d ∷ [])
 instruction _ = None
 
-abbrev pub read_byte : List ℕ → Option ReadByte
-read_byte (return_address ∷ a ∷ b ∷ c ∷ d ∷ []) =
+abbrev pub read_byte_of : List ℕ → Option ReadByte
+read_byte_of (return_address ∷ a ∷ b ∷ c ∷ d ∷ []) =
     Some (record { return_address = return_address; instruction = a ∷ b ∷ c ∷ d ∷ [] })
-read_byte _ = None
+read_byte_of _ = None
 
-abbrev pub spi_multi : List ℕ → Option Command
-spi_multi (send_count ∷ receive_count ∷ receive_start ∷ bytes) =
+abbrev pub spi_multi_of : List ℕ → Option Command
+spi_multi_of (send_count ∷ receive_count ∷ receive_start ∷ bytes) =
     Some (SpiMulti send_count receive_count receive_start bytes)
-spi_multi _ = None
+spi_multi_of _ = None
 
 -- the command of this byte that has these fields
 abbrev pub with_fields : ℕ → List ℕ → Option Command
 with_fields code bytes =
-    if code == CMD_SIGN_ON then sign_on bytes
-    else if code == CMD_SET_PARAMETER then set_parameter bytes
-    else if code == CMD_GET_PARAMETER then get_parameter bytes
-    else if code == CMD_LOAD_ADDRESS then load_address bytes
-    else if code == CMD_ENTER_PROGMODE_ISP then option_map EnterProgmode (enter_progmode bytes)
-    else if code == CMD_LEAVE_PROGMODE_ISP then leave_progmode bytes
-    else if code == CMD_CHIP_ERASE_ISP then chip_erase bytes
-    else if code == CMD_PROGRAM_FLASH_ISP then option_map ProgramFlash (program_block bytes)
-    else if code == CMD_READ_FLASH_ISP then option_map ReadFlash (read_block bytes)
-    else if code == CMD_PROGRAM_EEPROM_ISP then option_map ProgramEeprom (program_block bytes)
-    else if code == CMD_READ_EEPROM_ISP then option_map ReadEeprom (read_block bytes)
+    if code == CMD_SIGN_ON then sign_on_of bytes
+    else if code == CMD_SET_PARAMETER then set_parameter_of bytes
+    else if code == CMD_GET_PARAMETER then get_parameter_of bytes
+    else if code == CMD_LOAD_ADDRESS then load_address_of bytes
+    else if code == CMD_ENTER_PROGMODE_ISP then option_map EnterProgmode (enter_progmode_of bytes)
+    else if code == CMD_LEAVE_PROGMODE_ISP then leave_progmode_of bytes
+    else if code == CMD_CHIP_ERASE_ISP then chip_erase_of bytes
+    else if code == CMD_PROGRAM_FLASH_ISP then option_map ProgramFlash (program_block_of bytes)
+    else if code == CMD_READ_FLASH_ISP then option_map ReadFlash (read_block_of bytes)
+    else if code == CMD_PROGRAM_EEPROM_ISP then option_map ProgramEeprom (program_block_of bytes)
+    else if code == CMD_READ_EEPROM_ISP then option_map ReadEeprom (read_block_of bytes)
     else if code == CMD_PROGRAM_FUSE_ISP then option_map ProgramFuse (instruction bytes)
-    else if code == CMD_READ_FUSE_ISP then option_map ReadFuse (read_byte bytes)
+    else if code == CMD_READ_FUSE_ISP then option_map ReadFuse (read_byte_of bytes)
     else if code == CMD_PROGRAM_LOCK_ISP then option_map ProgramLock (instruction bytes)
-    else if code == CMD_READ_LOCK_ISP then option_map ReadLock (read_byte bytes)
-    else if code == CMD_READ_SIGNATURE_ISP then option_map ReadSignature (read_byte bytes)
-    else if code == CMD_READ_OSCCAL_ISP then option_map ReadOsccal (read_byte bytes)
-    else if code == CMD_SPI_MULTI then spi_multi bytes
+    else if code == CMD_READ_LOCK_ISP then option_map ReadLock (read_byte_of bytes)
+    else if code == CMD_READ_SIGNATURE_ISP then option_map ReadSignature (read_byte_of bytes)
+    else if code == CMD_READ_OSCCAL_ISP then option_map ReadOsccal (read_byte_of bytes)
+    else if code == CMD_SPI_MULTI then spi_multi_of bytes
     else None
 
 -- the command whose body these bytes are

@@ -44,14 +44,14 @@ programming cmd1 cmd2 cmd3 bytes =
 abbrev pub program_page : List ℕ → Command
 program_page bytes = ProgramFlash (programming 0x40 0x4C 0x20 bytes)
 
-abbrev pub read_flash : ℕ → Command
-read_flash count = ReadFlash (record { count = count; cmd1 = 0x20 })
+abbrev pub read_flash_block : ℕ → Command
+read_flash_block count = ReadFlash (record { count = count; cmd1 = 0x20 })
 
-abbrev pub program_eeprom : List ℕ → Command
-program_eeprom bytes = ProgramEeprom (programming 0xC1 0xC2 0xA0 bytes)
+abbrev pub program_eeprom_block : List ℕ → Command
+program_eeprom_block bytes = ProgramEeprom (programming 0xC1 0xC2 0xA0 bytes)
 
-abbrev pub read_eeprom : ℕ → Command
-read_eeprom count = ReadEeprom (record { count = count; cmd1 = 0xA0 })
+abbrev pub read_eeprom_block : ℕ → Command
+read_eeprom_block count = ReadEeprom (record { count = count; cmd1 = 0xA0 })
 
 -- the second byte of the instruction that writes a fuse
 abbrev pub write_address : Fuse → ℕ

@@ -1,7 +1,7 @@
 //! Commands, from their bodies.
 ghost use Rattle.std.specs.Prelude.{◌≡◌, ◌↔◌, Some, IfSome};
 ghost use Rattle.stk_frame.specs.Commands.{body};
-ghost use Rattle.stk_frame.specs.Decoding.{FieldsFit, command_of, with_fields, sign_on, set_parameter, get_parameter, load_address, enter_progmode, leave_progmode, chip_erase, program_block, read_block, instruction, read_byte, spi_multi};
+ghost use Rattle.stk_frame.specs.Decoding.{FieldsFit, command_of, with_fields, sign_on_of, set_parameter_of, get_parameter_of, load_address_of, enter_progmode_of, leave_progmode_of, chip_erase_of, program_block_of, read_block_of, instruction, read_byte_of, spi_multi_of};
 
 use crate::command::{Command, EnterProgmode, ProgramBlock, ReadBlock, ReadByte};
 use crate::data::Data;
@@ -16,7 +16,7 @@ use byteorder::{BigEndian, ByteOrder};
 
 /// SIGN_ON, from its fields.
 fn sign_on(fields: &[u8]) -> Option<Command<'_>>
-    ensures { result ≡ sign_on fields.now }
+    ensures { result ≡ sign_on_of fields.now }
 {
     match fields {
         [] => Some(Command::SignOn),
@@ -26,7 +26,7 @@ fn sign_on(fields: &[u8]) -> Option<Command<'_>>
 
 /// SET_PARAMETER, from its fields.
 fn set_parameter(fields: &[u8]) -> Option<Command<'_>>
-    ensures { result ≡ set_parameter fields.now }
+    ensures { result ≡ set_parameter_of fields.now }
 {
     match fields {
         [number, value] => Some(Command::SetParameter {
@@ -39,7 +39,7 @@ fn set_parameter(fields: &[u8]) -> Option<Command<'_>>
 
 /// GET_PARAMETER, from its fields.
 fn get_parameter(fields: &[u8]) -> Option<Command<'_>>
-    ensures { result ≡ get_parameter fields.now }
+    ensures { result ≡ get_parameter_of fields.now }
 {
     match fields {
         [number] => Some(Command::GetParameter { number: *number }),
@@ -49,7 +49,7 @@ fn get_parameter(fields: &[u8]) -> Option<Command<'_>>
 
 /// LOAD_ADDRESS, from its fields.
 fn load_address(fields: &[u8]) -> Option<Command<'_>>
-    ensures { result ≡ load_address fields.now }
+    ensures { result ≡ load_address_of fields.now }
 {
     match fields {
         [a, b, c, d] => Some(Command::LoadAddress {
@@ -61,7 +61,7 @@ fn load_address(fields: &[u8]) -> Option<Command<'_>>
 
 /// The fields of ENTER_PROGMODE_ISP.
 fn enter_progmode(fields: &[u8]) -> Option<EnterProgmode>
-    ensures { result ≡ enter_progmode fields.now }
+    ensures { result ≡ enter_progmode_of fields.now }
 {
     match fields {
         [
@@ -92,7 +92,7 @@ fn enter_progmode(fields: &[u8]) -> Option<EnterProgmode>
 
 /// LEAVE_PROGMODE_ISP, from its fields.
 fn leave_progmode(fields: &[u8]) -> Option<Command<'_>>
-    ensures { result ≡ leave_progmode fields.now }
+    ensures { result ≡ leave_progmode_of fields.now }
 {
     match fields {
         [pre_delay, post_delay] => Some(Command::LeaveProgmode {
@@ -105,7 +105,7 @@ fn leave_progmode(fields: &[u8]) -> Option<Command<'_>>
 
 /// CHIP_ERASE_ISP, from its fields.
 fn chip_erase(fields: &[u8]) -> Option<Command<'_>>
-    ensures { result ≡ chip_erase fields.now }
+    ensures { result ≡ chip_erase_of fields.now }
 {
     match fields {
         [erase_delay, poll_method, a, b, c, d] => Some(Command::ChipErase {
@@ -119,7 +119,7 @@ fn chip_erase(fields: &[u8]) -> Option<Command<'_>>
 
 /// The fields of a command that programs a block, and the bytes behind them.
 fn program_block(fields: &[u8]) -> Option<ProgramBlock<'_>>
-    ensures { result ≡ program_block fields.now }
+    ensures { result ≡ program_block_of fields.now }
 {
     match fields {
         [
@@ -150,7 +150,7 @@ fn program_block(fields: &[u8]) -> Option<ProgramBlock<'_>>
 
 /// The fields of a command that reads a block.
 fn read_block(fields: &[u8]) -> Option<ReadBlock>
-    ensures { result ≡ read_block fields.now }
+    ensures { result ≡ read_block_of fields.now }
 {
     match fields {
         [high, low, cmd1] => Some(ReadBlock {
@@ -173,7 +173,7 @@ fn instruction(fields: &[u8]) -> Option<[u8; 4]>
 
 /// The fields of a command that reads one byte.
 fn read_byte(fields: &[u8]) -> Option<ReadByte>
-    ensures { result ≡ read_byte fields.now }
+    ensures { result ≡ read_byte_of fields.now }
 {
     match fields {
         [return_address, a, b, c, d] => Some(ReadByte {
@@ -186,7 +186,7 @@ fn read_byte(fields: &[u8]) -> Option<ReadByte>
 
 /// SPI_MULTI, from its fields.
 fn spi_multi(fields: &[u8]) -> Option<Command<'_>>
-    ensures { result ≡ spi_multi fields.now }
+    ensures { result ≡ spi_multi_of fields.now }
 {
     match fields {
         [send_count, receive_count, receive_start, bytes @ ..] => Some(Command::SpiMulti {

@@ -1,6 +1,6 @@
 //! Frames, as they are sent.
 ghost use Rattle.std.specs.Prelude.{◌≡◌, ◌<◌, ◌≤◌, length};
-ghost use Rattle.stk_frame.specs.Frame.{frame, xor_all, header, sealed};
+ghost use Rattle.stk_frame.specs.Frame.{frame, xor_all, header, with_xor_checksum};
 
 use crate::protocol::{LARGEST_BODY, LARGEST_FRAME, MESSAGE_START, TOKEN};
 use arrayvec::ArrayVec;
@@ -34,7 +34,7 @@ pub(crate) fn begin(seq: u8, size: u16, out: &mut ArrayVec<u8, LARGEST_FRAME>)
 /// Puts the byte behind those of `out` that makes the XOR of all 0.
 pub(crate) fn seal(out: &mut ArrayVec<u8, LARGEST_FRAME>)
     requires { length out.old.items < LARGEST_FRAME }
-    ensures { out.new.items ≡ sealed out.old.items }
+    ensures { out.new.items ≡ with_xor_checksum out.old.items }
 {
     let xor = xor_of(out.as_slice());
     out.push(xor);

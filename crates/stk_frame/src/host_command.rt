@@ -2,7 +2,7 @@
 ghost use Rattle.std.specs.Prelude.{◌≡◌, ◌≤◌, ◌∷◌, [], ◌++◌, length};
 ghost use Rattle.byteorder.specs.Endian.{big_bytes};
 ghost use Rattle.stk_frame.specs.Commands.{body};
-ghost use Rattle.stk_frame.specs.HostCommands.{enter, leave, erase, programming, program_page, read_flash, program_eeprom, read_eeprom, write_address, read_instruction, program_fuse, read_fuse, program_lock, read_lock, read_signature, read_calibration};
+ghost use Rattle.stk_frame.specs.HostCommands.{enter, leave, erase, programming, program_page, read_flash_block, program_eeprom_block, read_eeprom_block, write_address, read_instruction, program_fuse, read_fuse, program_lock, read_lock, read_signature, read_calibration};
 
 use crate::command::{Command, EnterProgmode, ProgramBlock, ReadBlock, ReadByte};
 use crate::data::Data;
@@ -115,7 +115,7 @@ impl<'a> Command<'a> {
 
     /// Reads so many bytes of flash from the address that was loaded on.
     pub fn read_flash(count: u16) -> Command<'a>
-        ensures value { result ≡ read_flash count }
+        ensures value { result ≡ read_flash_block count }
         ensures bytes { body result ≡ CMD_READ_FLASH_ISP ∷ (big_bytes 2 count ++ 0x20 ∷ []) }
     {
         Command::ReadFlash(ReadBlock { count, cmd1: 0x20 })
@@ -124,7 +124,7 @@ impl<'a> Command<'a> {
     /// Programs a run of EEPROM bytes, at the address that was loaded.
     pub fn program_eeprom(bytes: &'a [u8]) -> Command<'a>
         requires { length bytes.now ≤ 265 }
-        ensures value { result ≡ program_eeprom bytes.now }
+        ensures value { result ≡ program_eeprom_block bytes.now }
         ensures bytes { body result ≡ CMD_PROGRAM_EEPROM_ISP ∷ (big_bytes 2 (length bytes.now) ++ 0xC1 ∷ 0x0A
             ∷ 0xC1 ∷ 0xC2 ∷ 0xA0 ∷ 0xFF ∷ 0xFF ∷ bytes.now) }
     {
@@ -133,7 +133,7 @@ impl<'a> Command<'a> {
 
     /// Reads so many bytes of EEPROM from the address that was loaded on.
     pub fn read_eeprom(count: u16) -> Command<'a>
-        ensures value { result ≡ read_eeprom count }
+        ensures value { result ≡ read_eeprom_block count }
         ensures bytes { body result ≡ CMD_READ_EEPROM_ISP ∷ (big_bytes 2 count ++ 0xA0 ∷ []) }
     {
         Command::ReadEeprom(ReadBlock { count, cmd1: 0xA0 })

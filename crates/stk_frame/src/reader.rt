@@ -1,7 +1,7 @@
 //! A reader of frames from bytes in pieces.
 ghost use Rattle.std.specs.Prelude.{List, ℕ, ◌≡◌, [], ◌++◌, ◌<◌, ◌≤◌, length, take, true, false, MatchOption};
 ghost use Rattle.stk_frame.specs.Cut.{piece_size, is_header, body_size, seq_of, body_of};
-ghost use Rattle.stk_frame.specs.Reader.{Fed, HoldsFrame, IsHeld, FeedsLike, found, Tells};
+ghost use Rattle.stk_frame.specs.Reader.{Fed, HoldsFrame, IsHeld, FeedsLike, frames_of_event, TellsEvent};
 
 use crate::frame::xor_of;
 use crate::protocol::{LARGEST_BODY, LARGEST_FRAME, MESSAGE_START, TOKEN};
@@ -113,8 +113,8 @@ fn end_piece(held: &mut ArrayVec<u8, LARGEST_FRAME>) -> Event
     requires { IsHeld held.old.items }
     ensures held { IsHeld held.new.items }
     ensures fed { (part bytes : List ℕ) → length part < piece_size part → held.old.items ≡ part ++ bytes
-        → Fed part bytes held.new.items (found result held.new.items) }
-    ensures tells { Tells result held.new.items }
+        → Fed part bytes held.new.items (frames_of_event result held.new.items) }
+    ensures tells { TellsEvent result held.new.items }
 {
     if held.len() < size_of_piece(held.as_slice()) {
         return Event::More;
@@ -173,8 +173,8 @@ impl FrameReader {
         requires { 0 < length bytes.now }
         ensures within { result.0 ≤ length bytes.now }
         ensures progress { 0 < result.0 }
-        ensures fed { Fed self.old (take result.0 bytes.now) self.new (found result.1 self.new) }
-        ensures tells { Tells result.1 self.new }
+        ensures fed { Fed self.old (take result.0 bytes.now) self.new (frames_of_event result.1 self.new) }
+        ensures tells { TellsEvent result.1 self.new }
     {
         drop_whole(&mut self.held);
         if self.held.is_empty() {
@@ -192,8 +192,8 @@ impl FrameReader {
         ensures within { result.0 ≤ length piece.now }
         ensures all { result.1 ≡ Event.More → result.0 ≡ length piece.now }
         ensures progress { 0 < length piece.now → 0 < result.0 }
-        ensures fed { Fed self.old (take result.0 piece.now) self.new (found result.1 self.new) }
-        ensures tells { Tells result.1 self.new }
+        ensures fed { Fed self.old (take result.0 piece.now) self.new (frames_of_event result.1 self.new) }
+        ensures tells { TellsEvent result.1 self.new }
     {
         let mut used = 0;
         while used < piece.len() {

@@ -16,10 +16,10 @@ use Rattle.stk_host.specs.Tape.{Tape, Reading, answer, on_tape}
 use Rattle.stk_host.specs.Talk.{heard}
 use Rattle.stk_host.specs.Dialog.{Dialog, Done, Say, Ask, ◌>>=◌, lifted, Event, Frame, Said, Played, played, by_answer, next, frames_in}
 use Rattle.stk_host.specs.Play.{IsBegun, IsFront, NoPart}
-use Rattle.stk_host.specs.Steps.{exchange, Reply, Data, Again, Stop, replied, with_data, attempt, Outcome, settled, tries, step, if_done, play}
+use Rattle.stk_host.specs.Steps.{exchange, Reply, Data, Again, Stop, reading_reply, with_data, attempt, Outcome, end_or_again, tries, step, if_done, play}
 use Rattle.stk_host.specs.WriteSteps.{write_steps}
 use Rattle.stk_host.specs.ReadSteps.{signature_steps}
-use Rattle.stk_host.specs.Operations.{beginning, signature_judged, opening, ended, closing, judged_by, operation, done, writing}
+use Rattle.stk_host.specs.Operations.{handshake, signature_judged, opening, without_bytes, closing, judged_by, operation, no_result, writing}
 use Rattle.stk_host.specs.Bound.{AsksAtMost, SendsAtMost, commands_in, opening_steps, closing_steps, IsBoundedBy}
 
 -- questions
@@ -114,9 +114,9 @@ attempt_most : (commands : List Command) (before : List ℕ) → AsksAtMost (len
 unfolding attempt exchange
 attempt_most [] before = tt
 attempt_most (command ∷ commands) before = λ reading.
-    most_reply (length commands) (λ bytes. attempt commands (before ++ bytes)) (replied command reading) (λ bytes. attempt_most commands (before ++ bytes))
+    most_reply (length commands) (λ bytes. attempt commands (before ++ bytes)) (reading_reply command reading) (λ bytes. attempt_most commands (before ++ bytes))
 
-most_settled : (n : ℕ) (again : StepFault → Dialog ⊥ Outcome) (reply : Reply) → ((fault : StepFault) → AsksAtMost n (again fault)) → AsksAtMost n (settled again reply)
+most_settled : (n : ℕ) (again : StepFault → Dialog ⊥ Outcome) (reply : Reply) → ((fault : StepFault) → AsksAtMost n (again fault)) → AsksAtMost n (end_or_again again reply)
 most_settled n again (Data bytes) f = tt
 most_settled n again (Again fault) f = f fault
 most_settled n again (Stop fault) f = tt
@@ -126,8 +126,8 @@ unfolding tries
 tries_most zero commands fault = tt
 tries_most (suc more) commands fault =
     let e : length commands + more * length commands ≡ suc more * length commands = omega (arith, suc-mul more (length commands)) in
-    subst (λ z. AsksAtMost z (attempt commands [] >>= settled (tries more commands))) e
-    (asks_bind (length commands) (more * length commands) (attempt commands []) (settled (tries more commands)) (attempt_most commands [])
+    subst (λ z. AsksAtMost z (attempt commands [] >>= end_or_again (tries more commands))) e
+    (asks_bind (length commands) (more * length commands) (attempt commands []) (end_or_again (tries more commands)) (attempt_most commands [])
     (λ reply. most_settled (more * length commands) (tries more commands) reply (λ again. tries_most more commands again)))
 
 pub step_most : (commands : List Command) → AsksAtMost (4 * length commands) (step commands)
@@ -165,24 +165,24 @@ pub operation_most : {A : Type 0} (steps : List (List Command)) (judge : List �
 unfolding operation
 operation_most steps judge = judged_most (4 * commands_in steps) (play steps []) (judged_by judge) (play_most steps [])
 
-beginning_most : AsksAtMost (4 * commands_in opening_steps) beginning
-unfolding beginning
+beginning_most : AsksAtMost (4 * commands_in opening_steps) handshake
+unfolding handshake
 beginning_most =
     then_most (SignOn ∷ []) ((enter ∷ []) ∷ signature_steps) (λ name. step (enter ∷ []) >>= if_done (λ nothing. play signature_steps []))
     (λ name. then_most (enter ∷ []) signature_steps (λ nothing. play signature_steps []) (λ nothing. play_most signature_steps []))
 
 pub opening_most : (signature : List ℕ) (force : Bool) → AsksAtMost (4 * commands_in opening_steps) (opening signature force)
 unfolding opening
-opening_most signature force = judged_most (4 * commands_in opening_steps) beginning (signature_judged signature force) beginning_most
+opening_most signature force = judged_most (4 * commands_in opening_steps) handshake (signature_judged signature force) beginning_most
 
 pub closing_most : AsksAtMost (4 * commands_in closing_steps) closing
 unfolding closing
-closing_most = judged_most (4 * commands_in closing_steps) (step (leave ∷ [])) ended (step_most (leave ∷ []))
+closing_most = judged_most (4 * commands_in closing_steps) (step (leave ∷ [])) without_bytes (step_most (leave ∷ []))
 
 -- a memory that can't be written is asked nothing
 pub writing_most : (part : Part) (mem : Mem) (image : List (Option ℕ)) → AsksAtMost (4 * commands_in (write_steps part mem image)) (writing part mem image)
 writing_most part mem image = by_kind (is_writable mem)
   where
-    by_kind : (b : Bool) → AsksAtMost (4 * commands_in (write_steps part mem image)) (if b then operation (write_steps part mem image) done else Done (Err (ReadOnly mem)))
-    by_kind true = operation_most (write_steps part mem image) done
+    by_kind : (b : Bool) → AsksAtMost (4 * commands_in (write_steps part mem image)) (if b then operation (write_steps part mem image) no_result else Done (Err (ReadOnly mem)))
+    by_kind true = operation_most (write_steps part mem image) no_result
     by_kind false = tt

@@ -6,7 +6,7 @@ use Rattle.stk_host.specs.declared.link.Item.TheVariants.{Silence}
 use Rattle.stk_host.specs.Tape.{on_tape, answer}
 use Rattle.stk_host.specs.Talk.{Talk, LinkView, Sent, Got, sent, heard}
 use Rattle.stk_host.specs.Dialog.{Dialog, Event, Frame, played, bytes_sent}
-use Rattle.stk_host.specs.Play.{InTurn, BreaksSending, BreaksListening, Progress, FailsOver}
+use Rattle.stk_host.specs.Play.{InTurn, BreaksSending, BreaksListening, Position, FailsOver}
 use Rattle.stk_host.specs.Steps.{exchange, attempt, tries}
 use Rattle.stk_host.specs.Operations.{closing}
 use Rattle.stk_host.specs.Calls.{EndsCall}
@@ -47,13 +47,13 @@ abbrev showing : Talk → LinkView
 showing talk = record { talk = Some talk; failures = 0 }
 
 -- nor does a call over it
-pub never_either : {R : Type 0} (dialog : Dialog ⊥ R) (before : Progress) (talk : Talk) → FailsOver broken.Send dialog before (showing []) (showing talk) → FailsOver broken.Recv dialog before (showing []) (showing talk) → ⊥
+pub never_either : {R : Type 0} (dialog : Dialog ⊥ R) (before : Position) (talk : Talk) → FailsOver broken.Send dialog before (showing []) (showing talk) → FailsOver broken.Recv dialog before (showing []) (showing talk) → ⊥
 never_either dialog before talk f g =
     never_both
     (subst (λ t. BreaksSending dialog before.next before.unread t f.shown) (grown talk f.during f.grows) f.breaks)
     (subst (λ t. BreaksListening dialog before.next before.unread t g.shown) (grown talk g.during g.grows) g.breaks)
 
-abbrev sixth : Progress
+abbrev sixth : Position
 sixth = record { next = 6; unread = [] }
 
 abbrev leaving : List ℕ
@@ -70,7 +70,7 @@ unheard = record {
 }
 
 -- which is no failure to send it
-pub not_unsent : (after : Progress) → EndsCall closing sixth (showing []) (showing (Sent leaving ∷ [])) (Err SendFailed) after → ⊥
+pub not_unsent : (after : Position) → EndsCall closing sixth (showing []) (showing (Sent leaving ∷ [])) (Err SendFailed) after → ⊥
 not_unsent after f = never_either closing sixth (Sent leaving ∷ []) f unheard
 
 -- two bytes of it were sent
@@ -94,7 +94,7 @@ unsent = record {
 }
 
 -- which is no failure to hear its answer
-pub not_unheard : (after : Progress) → EndsCall closing sixth (showing []) (showing (Sent (0x1B ∷ 0x06 ∷ []) ∷ [])) (Err RecvFailed) after → ⊥
+pub not_unheard : (after : Position) → EndsCall closing sixth (showing []) (showing (Sent (0x1B ∷ 0x06 ∷ []) ∷ [])) (Err RecvFailed) after → ⊥
 not_unheard after f = never_either closing sixth (Sent (0x1B ∷ 0x06 ∷ []) ∷ []) unsent f
 
 -- nothing was sent at all, and nothing heard
@@ -107,7 +107,7 @@ unsent_at_all = record {
   breaks = record { whole = []; part = []; unsent = leaving; later = []; shown_is = refl; events_are = refl; not_whole = omega arith; all_sent = refl; in_turn = tt };
 }
 
-pub not_unasked : (after : Progress) → EndsCall closing sixth (showing []) (showing []) (Err RecvFailed) after → ⊥
+pub not_unasked : (after : Position) → EndsCall closing sixth (showing []) (showing []) (Err RecvFailed) after → ⊥
 not_unasked after f = never_either closing sixth [] unsent_at_all f
 
 -- who listens before the frame is sent whole isn't in turn

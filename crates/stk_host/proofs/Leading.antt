@@ -8,7 +8,7 @@ use Rattle.stk_host.specs.Tape.{Tape, Reading, on_tape, answer}
 use Rattle.stk_host.specs.Talk.{Talk, Sent, Got, sent, heard}
 use Rattle.stk_host.specs.Dialog.{Dialog, Done, Say, Ask, ◌>>=◌, Event, Frame, Said, Played, played, behind, by_answer, next, bytes_sent}
 use Rattle.stk_host.specs.Play.{IsDue, TurnsFrom, InTurn, Plays, Breaks, BreaksSending, BreaksListening, BreaksBy, IsFront, IsBegun}
-use Rattle.stk_host.specs.Reach.{Leads, IsQuiet, WaitsFrom}
+use Rattle.stk_host.specs.Reach.{TalkLeads, IsQuiet, WaitsFrom}
 use Rattle.stk_host.proofs.Talks.{sent_append, heard_append, heard_both, heard_quiet, sent_waiting}
 
 -- plays
@@ -85,7 +85,7 @@ turns_behind dialog inner m n tape inner_tape before due talk f =
     (subst (λ t. TurnsFrom inner n t [] talk) (sym (append-nil inner_tape)) f)))
 
 -- what is due behind a talk
-due_behind : {E R : Type 0} {a b : Dialog E R} {m n : ℕ} {u v : List ℕ} {talk : Talk} {events : List (Event E)} (f : Leads a m u talk events b n v) (x : Tape) (bytes : List ℕ)
+due_behind : {E R : Type 0} {a b : Dialog E R} {m n : ℕ} {u v : List ℕ} {talk : Talk} {events : List (Event E)} (f : TalkLeads a m u talk events b n v) (x : Tape) (bytes : List ℕ)
     → IsDue b n (on_tape v ++ x) bytes → IsDue a m ((on_tape u ++ heard talk) ++ x) (sent talk ++ bytes)
 due_behind {a = a} {b = b} {m = m} {n = n} {u = u} {v = v} {talk = talk} {events = events} f x bytes due =
     let e : played a m ((on_tape u ++ heard talk) ++ x) ≡ behind events (played b n (on_tape v ++ x)) =
@@ -140,11 +140,11 @@ turns_asking body answered seq u x y quiet is waits =
 
 -- leading
 
-pub leads_here : {E R : Type 0} (dialog : Dialog E R) (seq : ℕ) (u : List ℕ) → Leads dialog seq u [] [] dialog seq u
+pub leads_here : {E R : Type 0} (dialog : Dialog E R) (seq : ℕ) (u : List ℕ) → TalkLeads dialog seq u [] [] dialog seq u
 leads_here dialog seq u = record { goes_on = λ more. refl; all_sent = refl; in_turn = tt }
 
 pub leads_on : {E R : Type 0} {a b c : Dialog E R} {l m n : ℕ} {u v w : List ℕ} {x y : Talk} {xs ys : List (Event E)}
-    → Leads a l u x xs b m v → Leads b m v y ys c n w → Leads a l u (x ++ y) (xs ++ ys) c n w
+    → TalkLeads a l u x xs b m v → TalkLeads b m v y ys c n w → TalkLeads a l u (x ++ y) (xs ++ ys) c n w
 leads_on {a = a} {b = b} {c = c} {l = l} {m = m} {n = n} {u = u} {v = v} {w = w} {x = x} {y = y} {xs = xs} {ys = ys} f g = record {
   goes_on = λ more.
       ap (played a l) (heard_both (on_tape u) x y more)
@@ -157,7 +157,7 @@ leads_on {a = a} {b = b} {c = c} {l = l} {m = m} {n = n} {u = u} {v = v} {w = w}
 }
 
 pub leads_bind : {E A B : Type 0} {a b : Dialog E A} {m n : ℕ} {u v : List ℕ} {talk : Talk} {events : List (Event E)} (go_on : A → Dialog E B)
-    → Leads a m u talk events b n v → Leads (a >>= go_on) m u talk events (b >>= go_on) n v
+    → TalkLeads a m u talk events b n v → TalkLeads (a >>= go_on) m u talk events (b >>= go_on) n v
 leads_bind {a = a} {b = b} {m = m} {n = n} {u = u} {v = v} {talk = talk} {events = events} go_on f = record {
   goes_on = λ more.
       played_bind a go_on m (on_tape u ++ (heard talk ++ more))
@@ -169,14 +169,14 @@ leads_bind {a = a} {b = b} {m = m} {n = n} {u = u} {v = v} {talk = talk} {events
 }
 
 -- something is said beside the line
-pub leads_say : {E R : Type 0} (e : E) (dialog : Dialog E R) (seq : ℕ) (u : List ℕ) → Leads (Say e dialog) seq u [] (Said e ∷ []) dialog seq u
+pub leads_say : {E R : Type 0} (e : E) (dialog : Dialog E R) (seq : ℕ) (u : List ℕ) → TalkLeads (Say e dialog) seq u [] (Said e ∷ []) dialog seq u
 leads_say e dialog seq u = record { goes_on = λ more. refl; all_sent = refl; in_turn = tt }
 
 -- a command is sent and its answer read
 pub leads_ask : {E R : Type 0} (body : List ℕ) (answered : Reading → Dialog E R) (seq : ℕ) (u v : List ℕ) (x y : Talk) (reading : Reading)
     → IsQuiet x → sent x ≡ frame seq body → WaitsFrom seq (on_tape u) y
     → ((more : Tape) → answer seq (on_tape u ++ (heard y ++ more)) ≡ Some (reading, on_tape v ++ more))
-    → Leads (Ask body answered) seq u (x ++ y) (Frame (frame seq body) ∷ []) (answered reading) (next seq) v
+    → TalkLeads (Ask body answered) seq u (x ++ y) (Frame (frame seq body) ∷ []) (answered reading) (next seq) v
 leads_ask body answered seq u v x y reading quiet is waits answers = record {
   goes_on = λ more.
       ap (played (Ask body answered) seq) (heard_both (on_tape u) x y more ∙ ap (λ t. on_tape u ++ (t ++ (heard y ++ more))) (heard_quiet x quiet))
@@ -187,7 +187,7 @@ leads_ask body answered seq u v x y reading quiet is waits answers = record {
 
 -- a result was reached
 pub plays_from : {E R : Type 0} {a : Dialog E R} {m n : ℕ} {u v : List ℕ} {talk : Talk} {events : List (Event E)} {result : R}
-    → Leads a m u talk events (Done result) n v → Plays a m u talk events result n v
+    → TalkLeads a m u talk events (Done result) n v → Plays a m u talk events result n v
 plays_from {n = n} {v = v} {events = events} {result = result} f = record {
   plays = λ more. f.goes_on more ∙ ap (λ es. record { events = es; outcome = Some (result, n, on_tape v ++ more) }) (append-nil events);
   all_sent = f.all_sent;
@@ -195,7 +195,7 @@ plays_from {n = n} {v = v} {events = events} {result = result} f = record {
 }
 
 pub leads_from : {E R : Type 0} {a : Dialog E R} {m n : ℕ} {u v : List ℕ} {talk : Talk} {events : List (Event E)} {result : R}
-    → Plays a m u talk events result n v → Leads a m u talk events (Done result) n v
+    → Plays a m u talk events result n v → TalkLeads a m u talk events (Done result) n v
 leads_from {n = n} {v = v} {events = events} {result = result} f = record {
   goes_on = λ more. f.plays more ∙ ap (λ es. record { events = es; outcome = Some (result, n, on_tape v ++ more) }) (sym (append-nil events));
   all_sent = f.all_sent;
@@ -233,7 +233,7 @@ front_behind SaidPart before f = record {
 }
 
 pub breaks_on : {E R : Type 0} (SaidPart : E → E → Type 0) {a b : Dialog E R} {m n : ℕ} {u v : List ℕ} {x y : Talk} {events shown : List (Event E)}
-    → Leads a m u x events b n v → Breaks SaidPart b n v y shown → Breaks SaidPart a m u (x ++ y) (events ++ shown)
+    → TalkLeads a m u x events b n v → Breaks SaidPart b n v y shown → Breaks SaidPart a m u (x ++ y) (events ++ shown)
 breaks_on SaidPart {a = a} {b = b} {m = m} {n = n} {u = u} {v = v} {x = x} {y = y} {events = events} {shown = shown} f g = record {
   front =
       subst (λ p. IsFront SaidPart (events ++ shown) p.events)
@@ -266,21 +266,21 @@ breaks_here SaidPart dialog seq u = record {
 -- breaking off as the link fails
 
 -- what is played over a talk that leads on, and what is played from there
-led : {E R : Type 0} {a b : Dialog E R} {m n : ℕ} {u v : List ℕ} {x : Talk} {events : List (Event E)} → Leads a m u x events b n v → (y : Talk)
+led : {E R : Type 0} {a b : Dialog E R} {m n : ℕ} {u v : List ℕ} {x : Talk} {events : List (Event E)} → TalkLeads a m u x events b n v → (y : Talk)
     → played a m (on_tape u ++ heard (x ++ y)) ≡ behind events (played b n (on_tape v ++ heard y))
 led {a = a} {m = m} {u = u} {x = x} f y = ap (λ t. played a m (on_tape u ++ t)) (heard_append x y) ∙ f.goes_on (heard y)
 
-led_turns : {E R : Type 0} {a b : Dialog E R} {m n : ℕ} {u v : List ℕ} {x : Talk} {events : List (Event E)} (f : Leads a m u x events b n v) (y : Talk) → InTurn b n v y → InTurn a m u (x ++ y)
+led_turns : {E R : Type 0} {a b : Dialog E R} {m n : ℕ} {u v : List ℕ} {x : Talk} {events : List (Event E)} (f : TalkLeads a m u x events b n v) (y : Talk) → InTurn b n v y → InTurn a m u (x ++ y)
 led_turns {a = a} {b = b} {m = m} {n = n} {u = u} {v = v} {x = x} f y in_turn =
     turns_append a m (on_tape u) [] x y f.in_turn (turns_behind a b m n (on_tape u ++ heard x) (on_tape v) (sent x) (due_behind f) y in_turn)
 
-led_bytes : {E R : Type 0} {a b : Dialog E R} {m n : ℕ} {u v : List ℕ} {x : Talk} {events : List (Event E)} (f : Leads a m u x events b n v) (y : Talk) (shown : List (Event E))
+led_bytes : {E R : Type 0} {a b : Dialog E R} {m n : ℕ} {u v : List ℕ} {x : Talk} {events : List (Event E)} (f : TalkLeads a m u x events b n v) (y : Talk) (shown : List (Event E))
     → bytes_sent shown ≡ sent y → bytes_sent (events ++ shown) ≡ sent (x ++ y)
 led_bytes {x = x} {events = events} f y shown is =
     bytes_append events shown ∙ (ap (λ bs. bs ++ bytes_sent shown) f.all_sent ∙ (ap (λ bs. sent x ++ bs) is ∙ sym (sent_append x y)))
 
 pub by_on : {E R : Type 0} (by : Broken) {a b : Dialog E R} {m n : ℕ} {u v : List ℕ} {x : Talk} {events : List (Event E)} (y : Talk) (shown : List (Event E))
-    → Leads a m u x events b n v → BreaksBy by b n v y shown → BreaksBy by a m u (x ++ y) (events ++ shown)
+    → TalkLeads a m u x events b n v → BreaksBy by b n v y shown → BreaksBy by a m u (x ++ y) (events ++ shown)
 by_on broken.Send {events = events} y shown f g = record {
   whole = events ++ g.whole;
   part = g.part;

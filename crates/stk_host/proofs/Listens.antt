@@ -4,7 +4,7 @@ use Rattle.std.proofs.lemmas.List.{append-nil, length-map}
 use Rattle.stk_frame.specs.declared.reader.Event.{Event}
 use Rattle.stk_frame.specs.declared.reader.Event.TheVariants as event
 use Rattle.stk_frame.specs.Cut.{cut, rest, body_of}
-use Rattle.stk_frame.specs.Reader.{Fed, HoldsFrame, Stands, found}
+use Rattle.stk_frame.specs.Reader.{Fed, HoldsFrame, Stands, frames_of_event}
 use Rattle.stk_frame.proofs.Feeding.{rest_whole}
 use Rattle.stk_host.specs.declared.link.Heard.{Heard}
 use Rattle.stk_host.specs.declared.link.Heard.TheVariants as heard
@@ -126,7 +126,7 @@ heard_end {seq = seq} {u = u} {o = o} q what new l none few is piece =
 
 -- the unread bytes that a turn of reading took
 abbrev pub ReadOn : List ℕ → List ℕ → ℕ → List ℕ → List ℕ → Event → Type 0
-ReadOn left new_left n held new what = (used : List ℕ) × (length used ≡ n) × (left ≡ used ++ new_left) × Fed held used new (found what new)
+ReadOn left new_left n held new what = (used : List ℕ) × (length used ≡ n) × (left ≡ used ++ new_left) × Fed held used new (frames_of_event what new)
 
 -- bytes that bring no answer
 reads : {seq : ℕ} {u : List ℕ} {o : LinkView} {held : List ℕ} {count : ℕ} {p : LinkView} (used left new : List ℕ) (found : List (List ℕ))
@@ -144,10 +144,10 @@ reads {seq = seq} used left new found l fed other = record {
 }
 
 pub reads_on : {seq : ℕ} {u : List ℕ} {o : LinkView} {held : List ℕ} {count : ℕ} {left : List ℕ} {p : LinkView} (n : ℕ) (new_left new : List ℕ) (what : Event)
-    → Listening seq u o held count left p → ReadOn left new_left n held new what → first_answer seq (found what new) ≡ None → Listening seq u o new (count + n) new_left p
+    → Listening seq u o held count left p → ReadOn left new_left n held new what → first_answer seq (frames_of_event what new) ≡ None → Listening seq u o new (count + n) new_left p
 reads_on {seq = seq} {u = u} {o = o} {held = held} {count = count} {p = p} n new_left new what l read other =
     subst (λ m. Listening seq u o new (count + m) new_left p) read.1
-    (reads read.0 new_left new (found what new) (subst (λ bs. Listening seq u o held count bs p) read.2 l) read.3 other)
+    (reads read.0 new_left new (frames_of_event what new) (subst (λ bs. Listening seq u o held count bs p) read.2 l) read.3 other)
 
 -- a listening whose reading is known
 gives : {seq : ℕ} {u : List ℕ} {o : LinkView} {held : List ℕ} {count : ℕ} {left : List ℕ} {p : LinkView} (x rest_left : List ℕ) (reading : Reading)
@@ -181,7 +181,7 @@ pub finds : {seq : ℕ} {u : List ℕ} {o : LinkView} {held : List ℕ} {count :
     → Hears seq u o p (Answered (body_of new)) new_left
 finds {seq = seq} {u = u} {o = o} {held = held} {count = count} {p = p} n new_left new what l read is few =
     finds_in read.0 new_left new (subst (λ bs. Listening seq u o held count bs p) read.2 l)
-    (subst (λ e. Fed held read.0 new (found e new)) is.0 read.3) is.1 is.2 (omega (arith, read.1))
+    (subst (λ e. Fed held read.0 new (frames_of_event e new)) is.0 read.3) is.1 is.2 (omega (arith, read.1))
 
 pub babbles : {seq : ℕ} {u : List ℕ} {o : LinkView} {held : List ℕ} {count : ℕ} {left : List ℕ} {p : LinkView} → Listening seq u o held count left p → count ≡ limit → Hears seq u o p Babbled left
 babbles {seq = seq} {left = left} l full =

@@ -5,7 +5,7 @@ use Rattle.avr_part.specs.declared.mem.Mem.TheVariants.{Flash, Eeprom, Lfuse, Si
 use Rattle.avr_part.specs.BuiltIn.{m328p, m2560}
 use Rattle.stk_frame.specs.Frame.{frame}
 use Rattle.stk_frame.specs.Commands.{body}
-use Rattle.stk_frame.specs.HostCommands.{program_page, program_eeprom, read_eeprom}
+use Rattle.stk_frame.specs.HostCommands.{program_page, program_eeprom_block, read_eeprom_block}
 use Rattle.stk_host.specs.declared.fault.HostFault.TheVariants.{Differs, Refused, ReadOnly}
 use Rattle.stk_host.specs.Tape.{answer, on_tape}
 use Rattle.stk_host.specs.Dialog.{Done, Frame, played}
@@ -36,19 +36,19 @@ writes_no_page = refl
 
 -- a gap ends a run, and so does a page
 pub writes_runs : write_steps (record m328p { eeprom_size = 12 }) Eeprom (Some 0x11 ∷ None ∷ Some 0x33 ∷ Some 0x44 ∷ Some 0x55 ∷ [])
-    ≡ (load_eeprom 0 ∷ program_eeprom (0x11 ∷ []) ∷ []) ∷ (load_eeprom 2 ∷ program_eeprom (0x33 ∷ 0x44 ∷ []) ∷ []) ∷ (load_eeprom 4 ∷ program_eeprom (0x55 ∷ []) ∷ []) ∷ []
+    ≡ (load_eeprom 0 ∷ program_eeprom_block (0x11 ∷ []) ∷ []) ∷ (load_eeprom 2 ∷ program_eeprom_block (0x33 ∷ 0x44 ∷ []) ∷ []) ∷ (load_eeprom 4 ∷ program_eeprom_block (0x55 ∷ []) ∷ []) ∷ []
 writes_runs = refl
 
-pub writes_a_run : frame 7 (body (program_eeprom (0x11 ∷ []))) ≡ 0x1B ∷ 0x07 ∷ 0x00 ∷ 0x0B ∷ 0x0E ∷ 0x15 ∷ 0x00 ∷ 0x01 ∷ 0xC1 ∷ 0x0A ∷ 0xC1 ∷ 0xC2 ∷ 0xA0 ∷ 0xFF ∷ 0xFF ∷ 0x11 ∷ 0x74 ∷ []
+pub writes_a_run : frame 7 (body (program_eeprom_block (0x11 ∷ []))) ≡ 0x1B ∷ 0x07 ∷ 0x00 ∷ 0x0B ∷ 0x0E ∷ 0x15 ∷ 0x00 ∷ 0x01 ∷ 0xC1 ∷ 0x0A ∷ 0xC1 ∷ 0xC2 ∷ 0xA0 ∷ 0xFF ∷ 0xFF ∷ 0x11 ∷ 0x74 ∷ []
 writes_a_run = refl
 
 -- four blocks of EEPROM
 pub reads_blocks : read_steps m328p Eeprom
-    ≡ (load_eeprom 0 ∷ read_eeprom 256 ∷ []) ∷ (load_eeprom 256 ∷ read_eeprom 256 ∷ []) ∷ (load_eeprom 512 ∷ read_eeprom 256 ∷ []) ∷ (load_eeprom 768 ∷ read_eeprom 256 ∷ []) ∷ []
+    ≡ (load_eeprom 0 ∷ read_eeprom_block 256 ∷ []) ∷ (load_eeprom 256 ∷ read_eeprom_block 256 ∷ []) ∷ (load_eeprom 512 ∷ read_eeprom_block 256 ∷ []) ∷ (load_eeprom 768 ∷ read_eeprom_block 256 ∷ []) ∷ []
 reads_blocks = refl
 
 -- the last block is shorter
-pub reads_the_rest : read_steps (record m328p { eeprom_size = 260 }) Eeprom ≡ (load_eeprom 0 ∷ read_eeprom 256 ∷ []) ∷ (load_eeprom 256 ∷ read_eeprom 4 ∷ []) ∷ []
+pub reads_the_rest : read_steps (record m328p { eeprom_size = 260 }) Eeprom ≡ (load_eeprom 0 ∷ read_eeprom_block 256 ∷ []) ∷ (load_eeprom 256 ∷ read_eeprom_block 4 ∷ []) ∷ []
 reads_the_rest = refl
 
 -- the signature can't be written

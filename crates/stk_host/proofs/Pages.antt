@@ -6,17 +6,17 @@ use Rattle.std.proofs.lemmas.List.{length-drop, length-take, get_or-drop, get_or
 use Rattle.std.proofs.lemmas.List.Folds.{list_any_at}
 use Rattle.std.proofs.Math.Nat.{mul-le-mul_right, mod-eq_of_lt, mul-mod_left, zero-mod}
 use Rattle.std.specs.List.{list_any}
-use Rattle.avr_image.specs.Image.{byte_at, filled, first_from, run_end}
-use Rattle.avr_image.specs.Walk.{IsNextHeld, IsRun}
+use Rattle.avr_image.specs.Image.{byte_at, filled_bytes, first_from, run_end}
+use Rattle.avr_image.specs.Walk.{IsNextHeld, IsByteRun}
 use Rattle.avr_image.proofs.Shown.{byte_at-past}
 use Rattle.avr_image.proofs.Walking.{next_held, none_held, run_ends}
 use Rattle.avr_part.specs.declared.mem.Mem.{Mem}
 use Rattle.avr_part.specs.Part.{Part, IsPart, size_of}
 use Rattle.stk_frame.specs.declared.command.Command.{Command}
-use Rattle.stk_frame.specs.HostCommands.{program_eeprom, read_signature}
+use Rattle.stk_frame.specs.HostCommands.{program_eeprom_block, read_signature}
 use Rattle.stk_host.specs.Places.{each_from, load_eeprom}
-use Rattle.stk_host.specs.ReadSteps.{load_block, read_block, block_size, block_steps, signature_step}
-use Rattle.stk_host.specs.WriteSteps.{is_used, page_step, page_steps, page_end, begins_run, run_step, run_steps}
+use Rattle.stk_host.specs.ReadSteps.{load_block_address, read_block, block_size, block_steps, signature_step}
+use Rattle.stk_host.specs.WriteSteps.{is_used, page_step, page_steps, page_end, begins_run, run_step, run_steps_at}
 
 -- no place has steps
 pub no_steps : (steps_at : ℕ → List (List Command)) (place count : ℕ) → ((i : ℕ) → place ≤ i → i < place + count → steps_at i ≡ []) → each_from steps_at place count ≡ []
@@ -141,17 +141,17 @@ not_begun page image addr inside before = elim (cases_Bool (addr % page == 0)) [
   ]
 ]
 
-no_run : (part : Part) (image : List (Option ℕ)) (addr : ℕ) → begins_run part.eeprom_page image addr ≡ false → run_steps part image addr ≡ []
+no_run : (part : Part) (image : List (Option ℕ)) (addr : ℕ) → begins_run part.eeprom_page image addr ≡ false → run_steps_at part image addr ≡ []
 no_run part image addr is = rw is refl
 
-one_run : (part : Part) (image : List (Option ℕ)) (addr : ℕ) → begins_run part.eeprom_page image addr ≡ true → run_steps part image addr ≡ run_step part image addr ∷ []
+one_run : (part : Part) (image : List (Option ℕ)) (addr : ℕ) → begins_run part.eeprom_page image addr ≡ true → run_steps_at part image addr ≡ run_step part image addr ∷ []
 one_run part image addr is = rw is refl
 
 -- the run of the next byte that is held
 pub record IsNextRun (part : Part) (image : List (Option ℕ)) (next start end : ℕ) : Type 0 where
   pub longer : next < end
   pub within : end ≤ part.eeprom_size
-  pub steps : each_from (run_steps part image) next (part.eeprom_size - next) ≡ run_step part image start ∷ each_from (run_steps part image) end (part.eeprom_size - end)
+  pub steps : each_from (run_steps_at part image) next (part.eeprom_size - next) ≡ run_step part image start ∷ each_from (run_steps_at part image) end (part.eeprom_size - end)
   pub border : (end % part.eeprom_page ≡ 0) ⊎ (byte_at image end ≡ None)
 
 -- places without steps are passed over
@@ -205,7 +205,7 @@ starts_run page image next start border held = elim (cases_lt next start) [
 ]
 
 pub next_run : (part : Part) (image : List (Option ℕ)) (next start end : ℕ) → 0 < part.eeprom_page → length image ≤ part.eeprom_size
-    → (next % part.eeprom_page ≡ 0) ⊎ (byte_at image next ≡ None) → IsNextHeld image next start → IsRun image start (page_end part.eeprom_page start) end
+    → (next % part.eeprom_page ≡ 0) ⊎ (byte_at image next ≡ None) → IsNextHeld image next start → IsByteRun image start (page_end part.eeprom_page start) end
     → end ≡ run_end image start (page_end part.eeprom_page start) → IsNextRun part image next start end
 next_run part image next start end some fits border held run is =
     let here : part.eeprom_page * (start / part.eeprom_page) + start % part.eeprom_page ≡ start = omega arith in
@@ -223,10 +223,10 @@ next_run part image next start end some fits border held run is =
     record {
       longer = omega (arith, longer, held.after);
       within = within;
-      steps = next_steps (run_steps part image) next part.eeprom_size start held.after (omega (arith, held.within, fits)) (λ i a l. no_run part image i (rw (held.gap i a l) refl))
-          ∙ ap (λ (ss : List (List Command)). ss ++ each_from (run_steps part image) (start + 1) (part.eeprom_size - (start + 1))) (one_run part image start (starts_run part.eeprom_page image next start border held))
+      steps = next_steps (run_steps_at part image) next part.eeprom_size start held.after (omega (arith, held.within, fits)) (λ i a l. no_run part image i (rw (held.gap i a l) refl))
+          ∙ ap (λ (ss : List (List Command)). ss ++ each_from (run_steps_at part image) (start + 1) (part.eeprom_size - (start + 1))) (one_run part image start (starts_run part.eeprom_page image next start border held))
           ∙ ap (λ (ss : List (List Command)). run_step part image start ∷ ss)
-          (skip_to (run_steps part image) (start + 1) part.eeprom_size end (omega (arith, longer)) within
+          (skip_to (run_steps_at part image) (start + 1) part.eeprom_size end (omega (arith, longer)) within
           (λ i a l. no_run part image i (not_begun part.eeprom_page image i
           (inside_page part.eeprom_page (start / part.eeprom_page) i some (omega (arith, here, a)) (omega (arith, l, run.bound, top)))
           (run.held (i - 1) (omega (arith, a)) (omega (arith, l, a))))));
@@ -238,14 +238,14 @@ next_run part image next start end some fits border held run is =
       ];
     }
 
-pub last_run : (part : Part) (image : List (Option ℕ)) (next count : ℕ) → ((k : ℕ) → next ≤ k → byte_at image k ≡ None) → each_from (run_steps part image) next count ≡ []
-last_run part image next count none = no_steps (run_steps part image) next count (λ i a l. no_run part image i (rw (none i a) refl))
+pub last_run : (part : Part) (image : List (Option ℕ)) (next count : ℕ) → ((k : ℕ) → next ≤ k → byte_at image k ≡ None) → each_from (run_steps_at part image) next count ≡ []
+last_run part image next count none = no_steps (run_steps_at part image) next count (λ i a l. no_run part image i (rw (none i a) refl))
 
 -- the block with a number below theirs
 pub next_block : (steps_at : ℕ → List (List Command)) (place end : ℕ) → place < end → each_from steps_at place (end - place) ≡ steps_at place ++ each_from steps_at (place + 1) (end - (place + 1))
 next_block steps_at place end before = next_steps steps_at place end place (omega arith) before (λ i a l. absurd (omega (arith, a, l)))
 
-pub next_block_is : (part : Part) (mem : Mem) (place end size count : ℕ) (load read : Command) → place < end → load ≡ load_block part mem (place * 256) → read ≡ read_block mem count → count ≡ block_size size (place * 256) → size ≡ size_of mem part
+pub next_block_is : (part : Part) (mem : Mem) (place end size count : ℕ) (load read : Command) → place < end → load ≡ load_block_address part mem (place * 256) → read ≡ read_block mem count → count ≡ block_size size (place * 256) → size ≡ size_of mem part
     → each_from (block_steps part mem) place (end - place) ≡ (load ∷ read ∷ []) ∷ each_from (block_steps part mem) (place + 1) (end - (place + 1))
 next_block_is part mem place end size count load read before load_is read_is count_is size_is =
     rw (load_is, read_is, count_is, size_is) (next_block (block_steps part mem) place end before)
@@ -287,8 +287,8 @@ pub record WalksToRun (part : Part) (image : List (Option ℕ)) (next start end 
   pub within : end ≤ part.eeprom_size
   pub order : start ≤ end
   pub short : end - start ≤ 256
-  pub steps : each_from (run_steps part image) next (part.eeprom_size - next)
-      ≡ (load_eeprom start ∷ program_eeprom (filled image start (end - start)) ∷ []) ∷ each_from (run_steps part image) end (part.eeprom_size - end)
+  pub steps : each_from (run_steps_at part image) next (part.eeprom_size - next)
+      ≡ (load_eeprom start ∷ program_eeprom_block (filled_bytes image start (end - start)) ∷ []) ∷ each_from (run_steps_at part image) end (part.eeprom_size - end)
   pub border : (end % part.eeprom_page ≡ 0) ⊎ (byte_at image end ≡ None)
 
 pub walks_to_run : (part : Part) (image : List (Option ℕ)) (next start end size : ℕ) → IsPart part → size ≡ part.eeprom_page → length image ≤ part.eeprom_size → (next % part.eeprom_page ≡ 0) ⊎ (byte_at image next ≡ None)
@@ -300,18 +300,18 @@ walks_to_run part image next start end size sound size_is fits border first end_
     let rest : start % part.eeprom_page < part.eeprom_page = omega arith in
     let is : end ≡ run_end image start (page_end part.eeprom_page start) = end_is ∙ ap (λ (s : ℕ). run_end image start (start - start % s + s)) size_is in
     let whole : start ≤ page_end part.eeprom_page start = omega (arith, here, rest) in
-    let run = subst (IsRun image start (page_end part.eeprom_page start)) (sym is) (run_ends image start (page_end part.eeprom_page start) whole) in
+    let run = subst (IsByteRun image start (page_end part.eeprom_page start)) (sym is) (run_ends image start (page_end part.eeprom_page start) whole) in
     let found = next_run part image next start end some fits border (next_held image next start first) run is in
     record {
       longer = found.longer;
       within = found.within;
       order = run.after;
       short = omega (arith, run.bound, most, here);
-      steps = found.steps ∙ ap (λ (e : ℕ). (load_eeprom start ∷ program_eeprom (filled image start (e - start)) ∷ []) ∷ each_from (run_steps part image) end (part.eeprom_size - end)) (sym is);
+      steps = found.steps ∙ ap (λ (e : ℕ). (load_eeprom start ∷ program_eeprom_block (filled_bytes image start (e - start)) ∷ []) ∷ each_from (run_steps_at part image) end (part.eeprom_size - end)) (sym is);
       border = found.border;
     }
 
-pub walked_runs : (part : Part) (image : List (Option ℕ)) (next count : ℕ) → first_from image next ≡ None → each_from (run_steps part image) next count ≡ []
+pub walked_runs : (part : Part) (image : List (Option ℕ)) (next count : ℕ) → first_from image next ≡ None → each_from (run_steps_at part image) next count ≡ []
 walked_runs part image next count none = last_run part image next count (none_held image next none)
 
 pub zero_border : (page : ℕ) → 0 % page ≡ 0

@@ -3,7 +3,7 @@ use Rattle.std.proofs.Common.{◌≡◌, ℕ, ◌+◌, ◌-◌, ◌<◌, ◌≤�
 use Rattle.std.proofs.lemmas.List.{append-nil, drop-take, drop-drop, take-append-drop, length-take, length-drop, take_all}
 use Rattle.std.proofs.Math.Seq.{take-add}
 use Rattle.std.specs.Prelude.{slice_range}
-use Rattle.stk_host.specs.Talk.{Talk, LinkView, Sent, sent, Grows, HasRisen, Counts}
+use Rattle.stk_host.specs.Talk.{Talk, LinkView, Sent, sent, Grows, HasRisen, LinkCounts}
 use Rattle.stk_host.specs.Reach.{Says, SaysPart}
 use Rattle.stk_host.proofs.Talks.{sent_append, grows_on, quiet_append}
 
@@ -39,7 +39,7 @@ part_of bytes n o q few says = record {
 }
 
 -- a link that has failed since some earlier time, when its count was the same
-pub fails_since : {A E : Type 0} (a c : LinkView) (count : ℕ) (error : E) → count ≡ a.failures → count ≤ c.failures → HasRisen count c.failures → Counts {A = A} a c (Err error)
+pub fails_since : {A E : Type 0} (a c : LinkView) (count : ℕ) (error : E) → count ≡ a.failures → count ≤ c.failures → HasRisen count c.failures → LinkCounts {A = A} a c (Err error)
 fails_since a c count error same counted failed = record {
   counted = omega (arith, same, counted);
   sound = tt;

@@ -9,7 +9,7 @@ use Rattle.std.specs.Prelude.{filter, nat_le as leb}
 use Rattle.stk_frame.specs.Cut.{cut, rest, is_good, is_frame, body_of}
 use Rattle.stk_frame.proofs.Cut.{cut_append, cut_joined, chosen, refused}
 use Rattle.stk_host.specs.declared.link.Item.TheVariants.{Byte, Silence, End}
-use Rattle.stk_host.specs.Tape.{Tape, on_tape, bytes_in, answer, read_to, stopped, first_answer, is_answer, further, limit, Answered, Silent, Ended, Babbled}
+use Rattle.stk_host.specs.Tape.{Tape, on_tape, bytes_in, answer, read_to, silence_or_end, first_answer, is_answer, further, limit, Answered, Silent, Ended, Babbled}
 
 -- bytes on a tape
 pub on_tape_append : (x y : List ℕ) → on_tape (x ++ y) ≡ on_tape x ++ on_tape y
@@ -36,14 +36,14 @@ unfolding answer
 answer_by seq tape bytes is = ap (λ bs. read_to (first_answer seq (cut bs)) bs tape) is
 
 -- no answer yet, and more may come
-stopped_at : (seq : ℕ) (x : List ℕ) (tape : Tape) → first_answer seq (cut x) ≡ None → length x < limit → bytes_in tape ≡ [] → answer seq (on_tape x ++ tape) ≡ stopped tape
+stopped_at : (seq : ℕ) (x : List ℕ) (tape : Tape) → first_answer seq (cut x) ≡ None → length x < limit → bytes_in tape ≡ [] → answer seq (on_tape x ++ tape) ≡ silence_or_end tape
 stopped_at seq x tape none few no_bytes =
     let bytes : take limit (bytes_in (on_tape x ++ tape)) ≡ x =
     ap (take limit) (bytes_in_tape x tape ∙ (ap (λ bs. x ++ bs) no_bytes ∙ append-nil x)) ∙ take_all limit x (omega arith) in
     answer_by seq (on_tape x ++ tape) x bytes
     ∙ (ap (λ o. read_to o x (on_tape x ++ tape)) none
     ∙ (refused (leb limit (length x)) _ _ (lt-leb limit (length x) few)
-    ∙ ap stopped (drop_tape x tape)))
+    ∙ ap silence_or_end (drop_tape x tape)))
 
 pub answer_silent : (seq : ℕ) (x : List ℕ) (more : Tape) → first_answer seq (cut x) ≡ None → length x < limit → answer seq (on_tape x ++ Silence ∷ more) ≡ Some (Silent, more)
 answer_silent seq x more none few = stopped_at seq x (Silence ∷ more) none few refl

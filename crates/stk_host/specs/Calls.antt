@@ -24,15 +24,15 @@ use Rattle.stk_host.specs.Tape as tape
 use Rattle.stk_host.specs.Tape.{on_tape}
 use Rattle.stk_host.specs.Steps as steps
 use Rattle.stk_host.specs.Steps.{play}
-use Rattle.stk_host.specs.Operations.{host_fault, signature_judged, compared}
+use Rattle.stk_host.specs.Operations.{host_fault, signature_judged, comparison}
 use Rattle.stk_host.specs.Talk.{LinkView, Got, Grows, HasFailed}
 use Rattle.stk_host.specs.Dialog.{Dialog}
-use Rattle.stk_host.specs.Play.{Progress, PlaysOver, FailsOver}
+use Rattle.stk_host.specs.Play.{Position, PlaysOver, FailsOver}
 use Rattle.stk_host.specs.Reach.{Reaches}
-use Rattle.stk_host.specs.State.{HostState, left_by}
+use Rattle.stk_host.specs.State.{HostState, lasting_fault}
 
 -- of what was heard at most one piece is left
-abbrev pub HasFewUnread : Progress → Type 0
+abbrev pub HasFewUnread : Position → Type 0
 HasFewUnread progress = length progress.unread ≤ LARGEST_FRAME
 
 -- what was heard; bytes are unread now
@@ -61,13 +61,13 @@ reply_of (said.Again fault) bytes = steps.Again fault
 reply_of (said.Stop fault) bytes = steps.Stop fault
 
 -- How steps end that stop: they were played up to a fault, or their play broke off where the link failed.
-abbrev pub StopsSteps : Dialog ⊥ steps.Outcome → Progress → LinkView → LinkView → Stop → Progress → Type 0
+abbrev pub StopsSteps : Dialog ⊥ steps.Outcome → Position → LinkView → LinkView → Stop → Position → Type 0
 StopsSteps dialog before old new (Fault fault) after = PlaysOver dialog before old new (Err fault) after
 StopsSteps dialog before old new (Link broken) after = FailsOver broken dialog before old new
 
 -- How steps end that were asked to give these data: they were played whole, or they stop.
-abbrev pub EndsSteps : {A : Type 0} → Dialog ⊥ steps.Outcome → Progress → LinkView → LinkView → (A → List ℕ)
-    → Result A Stop → Progress → Type 0
+abbrev pub EndsSteps : {A : Type 0} → Dialog ⊥ steps.Outcome → Position → LinkView → LinkView → (A → List ℕ)
+    → Result A Stop → Position → Type 0
 EndsSteps dialog before old new bytes (Ok a) after = PlaysOver dialog before old new (Ok (bytes a)) after
 EndsSteps dialog before old new bytes (Err stop) after = StopsSteps dialog before old new stop after
 
@@ -84,7 +84,7 @@ abbrev pub without_step : List ℕ → Playing
 without_step before steps = play steps before
 
 -- How a step ends that others follow: they are left to play, behind all data so far; or with it all of them stop.
-abbrev pub EndsInnerStep : Playing → Playing → Progress → LinkView → LinkView → Result (Unit {0}) Stop → Progress
+abbrev pub EndsInnerStep : Playing → Playing → Position → LinkView → LinkView → Result (Unit {0}) Stop → Position
     → Type 0
 EndsInnerStep whole rest before old new (Ok done) after =
     (steps : List (List Command)) → Reaches (whole steps) before old (rest steps) after new
@@ -97,10 +97,10 @@ data_count Name = 0
 data_count (Bytes n) = n
 data_count (Closed n) = n
 
-abbrev pub IsCounted : Shape → Type 0
-IsCounted Name = ⊥
-IsCounted (Bytes n) = Unit {0}
-IsCounted (Closed n) = Unit {0}
+abbrev pub IsSizedShape : Shape → Type 0
+IsSizedShape Name = ⊥
+IsSizedShape (Bytes n) = Unit {0}
+IsSizedShape (Closed n) = Unit {0}
 
 -- the count of failures rose where the link is said to have failed, and is what it was where it isn't
 abbrev pub FailsByLink : {A : Type 0} → LinkView → LinkView → Result A Stop → Type 0
@@ -114,23 +114,23 @@ CountsLink old new result = (old.failures ≤ new.failures) × FailsByLink old n
 
 -- How a call of a host ends: after a fault of the link its dialog broke off, in a frame that wasn't sent whole or where
 -- it listened; else it was played whole.
-abbrev pub EndsCall : {A : Type 0} → Dialog ⊥ (Result A HostFault) → Progress → LinkView → LinkView
-    → Result A HostFault → Progress → Type 0
+abbrev pub EndsCall : {A : Type 0} → Dialog ⊥ (Result A HostFault) → Position → LinkView → LinkView
+    → Result A HostFault → Position → Type 0
 EndsCall dialog before old new (Ok a) after = PlaysOver dialog before old new (Ok a) after
 EndsCall dialog before old new (Err SendFailed) after = FailsOver broken.Send dialog before old new
 EndsCall dialog before old new (Err RecvFailed) after = FailsOver broken.Recv dialog before old new
 EndsCall dialog before old new (Err fault) after = PlaysOver dialog before old new (Err fault) after
 
 -- How a call ends that takes its memory first: where that was refused nothing was said or heard.
-abbrev pub EndsOrLacks : {A : Type 0} → Dialog ⊥ (Result A HostFault) → Progress → LinkView → LinkView
-    → Result A HostFault → Progress → Type 0
+abbrev pub EndsOrLacks : {A : Type 0} → Dialog ⊥ (Result A HostFault) → Position → LinkView → LinkView
+    → Result A HostFault → Position → Type 0
 EndsOrLacks dialog before old new (Err Memory) after = (new ≡ old) × (after ≡ before)
 EndsOrLacks dialog before old new result after = EndsCall dialog before old new result after
 
 -- what a vector was given, or the fault in place of it
-abbrev pub given : {A : Type 0} → A → Result (Unit {0}) HostFault → Result A HostFault
-given a (Ok done) = Ok a
-given a (Err fault) = Err fault
+abbrev pub given_or_fault : {A : Type 0} → A → Result (Unit {0}) HostFault → Result A HostFault
+given_or_fault a (Ok done) = Ok a
+given_or_fault a (Err fault) = Err fault
 
 -- the link failed
 abbrev pub IsBroken : {A : Type 0} → Result A HostFault → Type 0
@@ -156,12 +156,12 @@ pub record BringsNoData (command : Command) : Type 0 where
   pub quiet : shape command ≡ Bytes 0
 
 -- A call of a host that says and hears what ends so.
-pub record CallsBy {A : Type 0} (Ends : Progress → LinkView → LinkView → Result A HostFault → Progress → Type 0)
+pub record CallsBy {A : Type 0} (Ends : Position → LinkView → LinkView → Result A HostFault → Position → Type 0)
     (old new : HostState) (before after : LinkView) (result : Result A HostFault) : Type 0 where
   -- After the link's end or a fault of it the same fault is answered, and the host stays as it is.
   pub stays : (fault : HostFault) → old.broken ≡ Some fault → (result ≡ Err fault) × (new ≡ old) × (after ≡ before)
   pub played : old.broken ≡ None → Ends old.progress before after result new.progress
-  pub lasts : old.broken ≡ None → new.broken ≡ left_by result
+  pub lasts : old.broken ≡ None → new.broken ≡ lasting_fault result
   pub part : new.part ≡ old.part
   -- A fault of the link is told where the link has failed, and only there.
   pub failed : old.broken ≡ None → IsBroken result → HasFailed before after
@@ -194,27 +194,27 @@ host_fault_number Memory = 10
 host_fault_number RecvFailed = 11
 
 -- a stop, as the host tells it
-abbrev pub told : Stop → HostFault
-told (Fault fault) = host_fault fault
-told (Link broken.Send) = SendFailed
-told (Link broken.Recv) = RecvFailed
+abbrev pub fault_of_stop : Stop → HostFault
+fault_of_stop (Fault fault) = host_fault fault
+fault_of_stop (Link broken.Send) = SendFailed
+fault_of_stop (Link broken.Recv) = RecvFailed
 
 -- what opening a session comes to
-abbrev pub opened : List ℕ → Bool → Result (List ℕ) Stop → Result (List ℕ) HostFault
-opened wanted force (Ok found) = signature_judged wanted force (Ok found)
-opened wanted force (Err stop) = Err (told stop)
+abbrev pub opening_result : List ℕ → Bool → Result (List ℕ) Stop → Result (List ℕ) HostFault
+opening_result wanted force (Ok found) = signature_judged wanted force (Ok found)
+opening_result wanted force (Err stop) = Err (fault_of_stop stop)
 
 -- what closing it comes to
-abbrev pub closed : Result (Unit {0}) Stop → Result (Unit {0}) HostFault
-closed (Ok done) = Ok done
-closed (Err stop) = Err (told stop)
+abbrev pub closing_result : Result (Unit {0}) Stop → Result (Unit {0}) HostFault
+closing_result (Ok done) = Ok done
+closing_result (Err stop) = Err (fault_of_stop stop)
 
 -- what a vector holds after a call: nothing after a fault
-abbrev pub kept : Result (Unit {0}) HostFault → List ℕ → List ℕ
-kept (Ok done) bytes = bytes
-kept (Err fault) bytes = []
+abbrev pub vector_after : Result (Unit {0}) HostFault → List ℕ → List ℕ
+vector_after (Ok done) bytes = bytes
+vector_after (Err fault) bytes = []
 
 -- what reading a memory comes to, where it is compared with an image
-abbrev pub verified : Mem → List (Option ℕ) → List ℕ → Result (Unit {0}) Stop → Result (Unit {0}) HostFault
-verified mem image bytes (Ok done) = compared mem image bytes
-verified mem image bytes (Err stop) = Err (told stop)
+abbrev pub verifying_result : Mem → List (Option ℕ) → List ℕ → Result (Unit {0}) Stop → Result (Unit {0}) HostFault
+verifying_result mem image bytes (Ok done) = comparison mem image bytes
+verifying_result mem image bytes (Err stop) = Err (fault_of_stop stop)

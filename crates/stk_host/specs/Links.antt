@@ -73,8 +73,8 @@ abbrev pub total_failures : ℕ → ℕ → ℕ
 total_failures inner own = min (inner + own) (2 ^ 64 - 1)
 
 -- what passed is what passed over the link below
-abbrev pub failing_view : {L : Type 0} → (L → LinkView) → FailingState L → LinkView
-failing_view view link = record {
+abbrev pub failing_link_view : {L : Type 0} → (L → LinkView) → FailingState L → LinkView
+failing_link_view view link = record {
   talk = (view link.inner).talk;
   failures = total_failures (view link.inner).failures link.failed;
 }

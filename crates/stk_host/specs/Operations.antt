@@ -25,8 +25,8 @@ host_fault (of_step.Refused command status) = Refused command status
 host_fault (of_step.BadAnswer command) = BadAnswer command
 
 -- to sign on, enter programming mode and read the signature
-unfoldable pub beginning : Dialog ⊥ Outcome
-beginning =
+unfoldable pub handshake : Dialog ⊥ Outcome
+handshake =
     step (SignOn ∷ []) >>= if_done (λ name. step (enter ∷ []) >>= if_done (λ nothing. play signature_steps []))
 
 -- the signature found is the part's, or is taken all the same
@@ -37,16 +37,16 @@ signature_judged wanted force (Err fault) = Err (host_fault fault)
 
 -- to open a session with a part of this signature
 unfoldable pub opening : List ℕ → Bool → Dialog ⊥ (Result (List ℕ) HostFault)
-opening wanted force = beginning >>= λ outcome. Done (signature_judged wanted force outcome)
+opening wanted force = handshake >>= λ outcome. Done (signature_judged wanted force outcome)
 
 -- a step without data
-abbrev pub ended : Outcome → Result ⊤ HostFault
-ended (Ok bytes) = Ok tt
-ended (Err fault) = Err (host_fault fault)
+abbrev pub without_bytes : Outcome → Result ⊤ HostFault
+without_bytes (Ok bytes) = Ok tt
+without_bytes (Err fault) = Err (host_fault fault)
 
 -- to leave programming mode
 unfoldable pub closing : Dialog ⊥ (Result ⊤ HostFault)
-closing = step (leave ∷ []) >>= λ outcome. Done (ended outcome)
+closing = step (leave ∷ []) >>= λ outcome. Done (without_bytes outcome)
 
 -- what the steps of an operation come to: what its data are judged to be, or the fault of a step
 abbrev pub judged_by : {A : Type 0} → (List ℕ → Result A HostFault) → Outcome → Result A HostFault
@@ -59,17 +59,17 @@ unfoldable pub operation : {A : Type 0} → List (List Command) → (List ℕ �
 operation steps judge = play steps [] >>= λ outcome. Done (judged_by judge outcome)
 
 -- nothing is read
-abbrev pub done : List ℕ → Result ⊤ HostFault
-done bytes = Ok tt
+abbrev pub no_result : List ℕ → Result ⊤ HostFault
+no_result bytes = Ok tt
 
 -- to erase the chip
 abbrev pub erasing : Dialog ⊥ (Result ⊤ HostFault)
-erasing = operation ((erase ∷ []) ∷ []) done
+erasing = operation ((erase ∷ []) ∷ []) no_result
 
 -- to write an image to a memory, if it can be written
 abbrev pub writing : Part → Mem → List (Option ℕ) → Dialog ⊥ (Result ⊤ HostFault)
 writing part mem image =
-    if is_writable mem then operation (write_steps part mem image) done else Done (Err (ReadOnly mem))
+    if is_writable mem then operation (write_steps part mem image) no_result else Done (Err (ReadOnly mem))
 
 -- to read a whole memory
 abbrev pub reading : Part → Mem → Dialog ⊥ (Result (List ℕ) HostFault)
@@ -96,9 +96,9 @@ differs mem None = Ok tt
 differs mem (Some d) = Err (Differs mem d.addr d.want d.found)
 
 -- what the bytes of a memory are found to be
-abbrev pub compared : Mem → List (Option ℕ) → List ℕ → Result ⊤ HostFault
-compared mem image bytes = differs mem (difference_from 0 image bytes)
+abbrev pub comparison : Mem → List (Option ℕ) → List ℕ → Result ⊤ HostFault
+comparison mem image bytes = differs mem (difference_from 0 image bytes)
 
 -- to compare a memory with an image
 abbrev pub verifying : Part → Mem → List (Option ℕ) → Dialog ⊥ (Result ⊤ HostFault)
-verifying part mem image = operation (read_steps part mem) (compared mem image)
+verifying part mem image = operation (read_steps part mem) (comparison mem image)

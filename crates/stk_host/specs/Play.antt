@@ -95,20 +95,20 @@ abbrev pub NoPart : ⊥ → ⊥ → Type 0
 NoPart part whole = ⊥
 
 -- how far a conversation is: the next sequence number, and the bytes that were heard and not read yet
-pub record Progress : Type 0 where
+pub record Position : Type 0 where
   pub next : ℕ
   pub unread : List ℕ
 
 -- a call that played a dialog whole, over a link that showed this before and after it
-pub record PlaysOver {R : Type 0} (dialog : Dialog ⊥ R) (before : Progress) (old new : LinkView) (result : R)
-    (after : Progress) : Type 0 where
+pub record PlaysOver {R : Type 0} (dialog : Dialog ⊥ R) (before : Position) (old new : LinkView) (result : R)
+    (after : Position) : Type 0 where
   pub during : Talk
   pub events : List (Event ⊥)
   pub grows : Grows old.talk during new.talk
   pub plays : Plays dialog before.next before.unread during events result after.next after.unread
 
 -- a call that broke off as the link failed at this
-pub record FailsOver {R : Type 0} (broken : Broken) (dialog : Dialog ⊥ R) (before : Progress)
+pub record FailsOver {R : Type 0} (broken : Broken) (dialog : Dialog ⊥ R) (before : Position)
     (old new : LinkView) : Type 0 where
   pub during : Talk
   pub shown : List (Event ⊥)

@@ -2,13 +2,13 @@
 -- host.)
 use Rattle.std.specs.Prelude.{ℕ, List, [], ◌∷◌, ◌++◌, ◌+◌, ◌≡◌, ◌<◌, ◌≤◌, length, Option, Some, None, Result, OnOk, OnErr}
 use Rattle.stk_host.specs.Tape.{Tape, Reading, on_tape, answer, limit}
-use Rattle.stk_host.specs.Talk.{Talk, LinkView, Sent, Got, sent, heard, Grows, Counts}
+use Rattle.stk_host.specs.Talk.{Talk, LinkView, Sent, Got, sent, heard, Grows, LinkCounts}
 use Rattle.stk_host.specs.Dialog.{Dialog, Event, played, behind, bytes_sent}
-use Rattle.stk_host.specs.Play.{InTurn, Progress}
+use Rattle.stk_host.specs.Play.{InTurn, Position}
 
 -- A talk leads from one dialog to what is left of it: whatever follows on the tape, the one plays as the other does
 -- from there, behind these events.
-pub record Leads {E R : Type 0} (dialog : Dialog E R) (seq : ℕ) (unread : List ℕ) (talk : Talk)
+pub record TalkLeads {E R : Type 0} (dialog : Dialog E R) (seq : ℕ) (unread : List ℕ) (talk : Talk)
     (events : List (Event E)) (rest : Dialog E R) (next : ℕ) (left : List ℕ) : Type 0 where
   pub goes_on : (more : Tape) → played dialog seq (on_tape unread ++ (heard talk ++ more))
       ≡ behind events (played rest next (on_tape left ++ more))
@@ -16,12 +16,12 @@ pub record Leads {E R : Type 0} (dialog : Dialog E R) (seq : ℕ) (unread : List
   pub in_turn : InTurn dialog seq unread talk
 
 -- a call has come so far, over a link that showed this before and after it
-pub record Reaches {R : Type 0} (dialog : Dialog ⊥ R) (before : Progress) (old : LinkView)
-    (rest : Dialog ⊥ R) (after : Progress) (new : LinkView) : Type 0 where
+pub record Reaches {R : Type 0} (dialog : Dialog ⊥ R) (before : Position) (old : LinkView)
+    (rest : Dialog ⊥ R) (after : Position) (new : LinkView) : Type 0 where
   pub during : Talk
   pub events : List (Event ⊥)
   pub grows : Grows old.talk during new.talk
-  pub leads : Leads dialog before.next before.unread during events rest after.next after.unread
+  pub leads : TalkLeads dialog before.next before.unread during events rest after.next after.unread
 
 -- nothing was heard
 abbrev pub IsQuiet : Talk → Type 0
@@ -48,7 +48,7 @@ pub record SaysPart (bytes : List ℕ) (old new : Option Talk) : Type 0 where
 pub record SendsAll {E : Type 0} (bytes : List ℕ) (old new : LinkView) (result : Result (Unit {0}) E) : Type 0 where
   pub ok : OnOk result (Says bytes old.talk new.talk)
   pub err : OnErr result (SaysPart bytes old.talk new.talk)
-  pub counts : Counts old new result
+  pub counts : LinkCounts old new result
 
 -- at each piece heard there was no answer yet, and nothing was sent
 abbrev pub WaitsFrom : ℕ → Tape → Talk → Type 0

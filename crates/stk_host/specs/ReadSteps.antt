@@ -5,7 +5,7 @@ use Rattle.avr_part.specs.declared.mem.Mem.TheVariants.{Flash, Eeprom, Lfuse, Hf
 use Rattle.avr_part.specs.Part.{Part, size_of}
 use Rattle.stk_frame.specs.declared.command.Command.{Command}
 use Rattle.stk_frame.specs.declared.host_command.Fuse.TheVariants.{Low, High, Extended}
-use Rattle.stk_frame.specs.HostCommands.{read_flash, read_eeprom, read_fuse, read_lock, read_signature, read_calibration}
+use Rattle.stk_frame.specs.HostCommands.{read_flash_block, read_eeprom_block, read_fuse, read_lock, read_signature, read_calibration}
 use Rattle.stk_host.specs.Places.{each_from, load_flash, load_eeprom}
 
 -- a memory is read in blocks of 256 bytes, the last of which may be shorter
@@ -16,18 +16,19 @@ abbrev pub block_size : ℕ → ℕ → ℕ
 block_size size start = min 256 (size - start)
 
 -- flash is read by commands of its own
-abbrev pub load_block : Part → Mem → ℕ → Command
-load_block part Flash start = load_flash part start
-load_block part mem start = load_eeprom start
+abbrev pub load_block_address : Part → Mem → ℕ → Command
+load_block_address part Flash start = load_flash part start
+load_block_address part mem start = load_eeprom start
 
 abbrev pub read_block : Mem → ℕ → Command
-read_block Flash count = read_flash count
-read_block mem count = read_eeprom count
+read_block Flash count = read_flash_block count
+read_block mem count = read_eeprom_block count
 
 -- the step that reads the block with this number
 abbrev pub block_steps : Part → Mem → ℕ → List (List Command)
 block_steps part mem number =
-    (load_block part mem (number * 256) ∷ read_block mem (block_size (size_of mem part) (number * 256)) ∷ []) ∷ []
+    (load_block_address part mem (number * 256) ∷ read_block mem (block_size (size_of mem part) (number * 256)) ∷ [])
+    ∷ []
 
 -- the step that reads the signature's byte of this place
 abbrev pub signature_step : ℕ → List (List Command)

@@ -7,17 +7,17 @@ use Rattle.stk_frame.specs.Cut.{body_of}
 use Rattle.stk_frame.specs.Commands.{judge}
 use Rattle.stk_host.specs.declared.fault.HostFault.{HostFault}
 use Rattle.stk_host.specs.declared.fault.HostFault.TheVariants.{LinkEnded, SendFailed, RecvFailed}
-use Rattle.stk_host.specs.Play.{Progress}
+use Rattle.stk_host.specs.Play.{Position}
 
 -- a conversation: how far it is, and the last frame or what is held of it
-pub record State : Type 0 where
-  pub progress : Progress
+pub record ConversationState : Type 0 where
+  pub progress : Position
   pub held : List ℕ
 
 -- a host: its part, its conversation, and the fault that every further call answers
 pub record HostState : Type 0 where
   pub part : Part
-  pub progress : Progress
+  pub progress : Position
   pub broken : Option HostFault
 
 abbrev pub data_in : Result (List ℕ) FrameFault → List ℕ
@@ -29,9 +29,9 @@ abbrev pub data_held : Command → List ℕ → List ℕ
 data_held command held = data_in (judge command (body_of held))
 
 -- the fault that a call leaves for all later ones
-abbrev pub left_by : {A : Type 0} → Result A HostFault → Option HostFault
-left_by (Ok a) = None
-left_by (Err LinkEnded) = Some LinkEnded
-left_by (Err SendFailed) = Some SendFailed
-left_by (Err RecvFailed) = Some RecvFailed
-left_by (Err fault) = None
+abbrev pub lasting_fault : {A : Type 0} → Result A HostFault → Option HostFault
+lasting_fault (Ok a) = None
+lasting_fault (Err LinkEnded) = Some LinkEnded
+lasting_fault (Err SendFailed) = Some SendFailed
+lasting_fault (Err RecvFailed) = Some RecvFailed
+lasting_fault (Err fault) = None

@@ -17,22 +17,22 @@ pub data Reply : Type 0 where
   Again : StepFault → Reply
   Stop : StepFault → Reply
 
-abbrev pub judged : Command → Result (List ℕ) FrameFault → Reply
-judged command (Ok bytes) = Data bytes
-judged command (Err CheckSum) = Again (Refused (code command) STATUS_CKSUM_ERROR)
-judged command (Err (Status status)) = Stop (Refused (code command) status)
-judged command (Err WrongCommand) = Stop (BadAnswer (code command))
-judged command (Err WrongLength) = Stop (BadAnswer (code command))
+abbrev pub answer_reply : Command → Result (List ℕ) FrameFault → Reply
+answer_reply command (Ok bytes) = Data bytes
+answer_reply command (Err CheckSum) = Again (Refused (code command) STATUS_CKSUM_ERROR)
+answer_reply command (Err (Status status)) = Stop (Refused (code command) status)
+answer_reply command (Err WrongCommand) = Stop (BadAnswer (code command))
+answer_reply command (Err WrongLength) = Stop (BadAnswer (code command))
 
-abbrev pub replied : Command → Reading → Reply
-replied command (Answered bytes) = judged command (judge command bytes)
-replied command Silent = Again NoAnswer
-replied command Babbled = Again Babble
-replied command Ended = Stop LinkEnded
+abbrev pub reading_reply : Command → Reading → Reply
+reading_reply command (Answered bytes) = answer_reply command (judge command bytes)
+reading_reply command Silent = Again NoAnswer
+reading_reply command Babbled = Again Babble
+reading_reply command Ended = Stop LinkEnded
 
 -- one command, and what its answer comes to
 unfoldable pub exchange : Command → Dialog ⊥ Reply
-exchange command = Ask (body command) (λ reading. Done (replied command reading))
+exchange command = Ask (body command) (λ reading. Done (reading_reply command reading))
 
 -- goes on with the data, or has come to its end
 abbrev pub with_data : (List ℕ → Dialog ⊥ Reply) → Reply → Dialog ⊥ Reply
@@ -52,15 +52,15 @@ abbrev pub Outcome : Type 0
 Outcome = Result (List ℕ) StepFault
 
 -- ends the step, or tries again
-abbrev pub settled : (StepFault → Dialog ⊥ Outcome) → Reply → Dialog ⊥ Outcome
-settled again (Data bytes) = Done (Ok bytes)
-settled again (Again fault) = again fault
-settled again (Stop fault) = Done (Err fault)
+abbrev pub end_or_again : (StepFault → Dialog ⊥ Outcome) → Reply → Dialog ⊥ Outcome
+end_or_again again (Data bytes) = Done (Ok bytes)
+end_or_again again (Again fault) = again fault
+end_or_again again (Stop fault) = Done (Err fault)
 
 -- so many attempts, after one that ended with a fault
 unfoldable pub tries : ℕ → List Command → StepFault → Dialog ⊥ Outcome
 tries zero commands fault = Done (Err fault)
-tries (suc more) commands fault = attempt commands [] >>= settled (tries more commands)
+tries (suc more) commands fault = attempt commands [] >>= end_or_again (tries more commands)
 
 -- a step has at most four attempts
 abbrev pub step : List Command → Dialog ⊥ Outcome

@@ -1,13 +1,13 @@
 -- The steps that write an image to a memory.
 use Rattle.std.specs.Prelude.{ℕ, Bool, ◌+◌, ◌-◌, ◌*◌, ◌/◌, ◌%◌, List, [], ◌∷◌, take, drop, ◌==◌, ◌&&◌, ◌||◌, not, Option, Some, None, is_some, if◌then◌else◌}
 use Rattle.std.specs.List.{list_any}
-use Rattle.avr_image.specs.Image.{byte_at, filled, run_end}
+use Rattle.avr_image.specs.Image.{byte_at, filled_bytes, run_end}
 use Rattle.avr_part.specs.declared.mem.Mem.{Mem}
 use Rattle.avr_part.specs.declared.mem.Mem.TheVariants.{Flash, Eeprom, Lfuse, Hfuse, Efuse, Lock, Signature, Calibration}
 use Rattle.avr_part.specs.Part.{Part}
 use Rattle.stk_frame.specs.declared.command.Command.{Command}
 use Rattle.stk_frame.specs.declared.host_command.Fuse.TheVariants.{Low, High, Extended}
-use Rattle.stk_frame.specs.HostCommands.{program_page, program_eeprom, program_fuse, program_lock}
+use Rattle.stk_frame.specs.HostCommands.{program_page, program_eeprom_block, program_fuse, program_lock}
 use Rattle.stk_host.specs.Places.{each_from, load_flash, load_eeprom}
 
 -- the image holds a byte in the page that begins here
@@ -16,7 +16,7 @@ is_used page image start = list_any is_some (take page (drop start image))
 
 -- to program the whole page of flash that begins here, FF in gaps
 abbrev pub page_step : Part → List (Option ℕ) → ℕ → List Command
-page_step part image start = load_flash part start ∷ program_page (filled image start part.flash_page) ∷ []
+page_step part image start = load_flash part start ∷ program_page (filled_bytes image start part.flash_page) ∷ []
 
 -- the step of the page with this number, if the image holds a byte in it
 abbrev pub page_steps : Part → List (Option ℕ) → ℕ → List (List Command)
@@ -37,12 +37,13 @@ begins_run page image addr =
 -- to program the longest run of bytes inside one page that begins here
 abbrev pub run_step : Part → List (Option ℕ) → ℕ → List Command
 run_step part image addr =
-    load_eeprom addr ∷ program_eeprom (filled image addr (run_end image addr (page_end part.eeprom_page addr) - addr))
+    load_eeprom addr ∷ program_eeprom_block
+    (filled_bytes image addr (run_end image addr (page_end part.eeprom_page addr) - addr))
     ∷ []
 
 -- the step of the run that begins at this address, if one does
-abbrev pub run_steps : Part → List (Option ℕ) → ℕ → List (List Command)
-run_steps part image addr = if begins_run part.eeprom_page image addr then run_step part image addr ∷ [] else []
+abbrev pub run_steps_at : Part → List (Option ℕ) → ℕ → List (List Command)
+run_steps_at part image addr = if begins_run part.eeprom_page image addr then run_step part image addr ∷ [] else []
 
 -- the step of a memory of one byte, if the image holds it
 abbrev pub byte_steps : (ℕ → Command) → Option ℕ → List (List Command)
@@ -52,7 +53,7 @@ byte_steps program (Some byte) = (program byte ∷ []) ∷ []
 -- pages of flash and runs of EEPROM come in rising order
 abbrev pub write_steps : Part → Mem → List (Option ℕ) → List (List Command)
 write_steps part Flash image = each_from (page_steps part image) 0 (part.flash_size / part.flash_page)
-write_steps part Eeprom image = each_from (run_steps part image) 0 part.eeprom_size
+write_steps part Eeprom image = each_from (run_steps_at part image) 0 part.eeprom_size
 write_steps part Lfuse image = byte_steps (program_fuse Low) (byte_at image 0)
 write_steps part Hfuse image = byte_steps (program_fuse High) (byte_at image 0)
 write_steps part Efuse image = byte_steps (program_fuse Extended) (byte_at image 0)

@@ -1,6 +1,6 @@
 //! The comparison of a memory with an image.
 ghost use Rattle.std.specs.Prelude.{◌≡◌, ◌+◌, ◌≤◌, ◌^◌, length, map, Some};
-ghost use Rattle.stk_host.specs.Operations.{compared, differs, difference_from};
+ghost use Rattle.stk_host.specs.Operations.{comparison, differs, difference_from};
 
 use crate::fault::HostFault;
 use avr_image::Image;
@@ -24,7 +24,7 @@ fn compare_run(mem: Mem, addr: u32, run: &[u8], bytes: &[u8]) -> Result<(), Host
 /// Compares the bytes of a memory with the image, from the lowest address up.
 pub(crate) fn compare(mem: Mem, image: &Image, bytes: &[u8]) -> Result<(), HostFault>
     requires { length image.now ≤ length bytes.now }
-    ensures { result ≡ compared mem image.now bytes.now }
+    ensures { result ≡ comparison mem image.now bytes.now }
 {
     // The memory may go on behind the image.
     let found = &bytes[..image.size() as usize];

@@ -2,10 +2,10 @@
 ghost use Rattle.std.specs.Prelude.{◌≡◌, ◌<◌, ◌≤◌, ◌++◌, ◌∷◌, [], length, IfOk, IfErr, IsOkAnd, OnOk, OnErr, All};
 ghost use Rattle.stk_frame.specs.Frame.{frame};
 ghost use Rattle.stk_frame.specs.Commands.{body, judge, shape, SizedBy};
-ghost use Rattle.stk_host.specs.Talk.{Counts, Stays};
+ghost use Rattle.stk_host.specs.Talk.{LinkCounts, Stays};
 ghost use Rattle.stk_host.specs.Play.{PlaysOver, FailsOver};
 ghost use Rattle.stk_host.specs.Reach.{SendsAll};
-ghost use Rattle.stk_host.specs.Steps.{exchange, attempt, step, judged, replied};
+ghost use Rattle.stk_host.specs.Steps.{exchange, attempt, step, answer_reply, reading_reply};
 ghost use Rattle.stk_host.specs.State.{data_in, data_held};
 ghost use Rattle.stk_host.specs.Calls.{HoldsAnswer, reading_of, reply_of, EndsSteps, CountsLink, HasFewUnread, FitsFrame, BringsNoData};
 
@@ -41,9 +41,9 @@ pub(crate) struct Conversation {
 }
 
 impl Model for Conversation {
-    ghost use Rattle.stk_host.specs.State.{State};
+    ghost use Rattle.stk_host.specs.State.{ConversationState};
 
-    ghost Value = { State };
+    ghost Value = { ConversationState };
 
     ghost view = { λ conversation. record {
       progress = record { next = conversation.next; unread = conversation.unread };
@@ -68,7 +68,7 @@ fn send_command<L: Link>(link: &mut L, seq: u8, command: &Command<'_>) -> Result
 
 fn judge_body(command: &Command<'_>, body: &[u8]) -> Reply
     ensures reply { reply_of result (data_in (judge command.now body.now))
-        ≡ judged command.now (judge command.now body.now) }
+        ≡ answer_reply command.now (judge command.now body.now) }
     ensures sized { result ≡ Reply.Data → SizedBy (shape command.now) (data_in (judge command.now body.now)) }
 {
     match Answer::read(command, body) {
@@ -87,7 +87,7 @@ fn judge_body(command: &Command<'_>, body: &[u8]) -> Reply
 /// What this end of listening comes to.
 fn reply_to(reader: &FrameReader, reading: Reading, command: &Command<'_>) -> Reply
     ensures reply { reply_of result (data_held command.now reader.now)
-        ≡ replied command.now (reading_of reading reader.now) }
+        ≡ reading_reply command.now (reading_of reading reader.now) }
     ensures sized { result ≡ Reply.Data → SizedBy (shape command.now) (data_held command.now reader.now) }
 {
     match reading {
@@ -133,7 +133,7 @@ impl Conversation {
             → data_held command.now self.new.held ≡ [] }
         ensures err { IfErr result
             (λ broken. FailsOver broken (exchange command.now) self.old.progress (L.view link.old) (L.view link.new)) }
-        ensures counts { Counts (L.view link.old) (L.view link.new) result }
+        ensures counts { LinkCounts (L.view link.old) (L.view link.new) result }
         ensures comes { Stays L.comes_of link.old link.new }
         ensures bound { HasFewUnread self.new.progress }
     {
@@ -164,7 +164,7 @@ impl Conversation {
             self.old.progress (L.view link.old) (L.view link.new)) }
         ensures sized { IsOkAnd result (λ reply. reply ≡ Reply.Data)
             → SizedBy (shape last.now) (data_held last.now self.new.held) }
-        ensures counts { Counts (L.view link.old) (L.view link.new) result }
+        ensures counts { LinkCounts (L.view link.old) (L.view link.new) result }
         ensures comes { Stays L.comes_of link.old link.new }
         ensures bound { HasFewUnread self.new.progress }
     {

@@ -1,7 +1,7 @@
 //! A link that fails once, at a call that is chosen: for tests of what stands on links.
 ghost use Rattle.std.specs.Prelude.{◌≡◌, ◌==◌, ◌≢◌, ◌<◌, ◌≤◌, ◌+◌, ◌-◌, ◌^◌, ◌∷◌, [], ℕ, length, take, min, Err, IfOk, OnOk, OnErr};
 ghost use Rattle.stk_host.specs.declared.link.LinkFault.TheVariants.{Failed};
-ghost use Rattle.stk_host.specs.Links.{failing_view};
+ghost use Rattle.stk_host.specs.Links.{failing_link_view};
 ghost use Rattle.stk_host.specs.Talk.{HasFailed, HasRisen, Sends, Receives, Stays, FitsBuffer};
 
 use crate::link::{Heard, Link, LinkFault};
@@ -73,14 +73,14 @@ impl<L> FailingLink<L> {
 }
 
 impl<L: Link + Drop> Link for FailingLink<L> {
-    ghost view = { failing_view L.view };
+    ghost view = { failing_link_view L.view };
 
     ghost Start = { L.Start };
 
     ghost comes_of = { λ start link. L.comes_of start link.inner };
 
     fn send(&mut self, bytes: &[u8]) -> Result<usize, LinkFault>
-        ensures sends { Sends bytes.now (failing_view L.view self.old) (failing_view L.view self.new) result }
+        ensures sends { Sends bytes.now (failing_link_view L.view self.old) (failing_link_view L.view self.new) result }
         ensures comes { Stays L.comes_of self.old.inner self.new.inner }
         ensures due { self.new.due ≡ self.old.due - 1 }
         ensures cut { self.new.cut ≡ self.old.cut }
@@ -100,7 +100,8 @@ impl<L: Link + Drop> Link for FailingLink<L> {
 
     fn recv(&mut self, buffer: &mut [u8]) -> Result<Heard, LinkFault>
         requires { 0 < length buffer.old }
-        ensures receives { Receives buffer.new (failing_view L.view self.old) (failing_view L.view self.new) result }
+        ensures receives { Receives buffer.new (failing_link_view L.view self.old) (failing_link_view L.view self.new)
+            result }
         ensures comes { Stays L.comes_of self.old.inner self.new.inner }
         ensures due { self.new.due ≡ self.old.due - 1 }
         ensures cut { self.new.cut ≡ self.old.cut }

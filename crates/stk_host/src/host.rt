@@ -4,8 +4,8 @@ ghost use Rattle.avr_part.specs.Part.{size_of};
 ghost use Rattle.stk_host.specs.declared.fault.HostFault.{HostFault};
 ghost use Rattle.stk_host.specs.Talk.{Stays};
 ghost use Rattle.stk_host.specs.Operations.{opening, closing, erasing, writing, reading, verifying};
-ghost use Rattle.stk_host.specs.State.{left_by};
-ghost use Rattle.stk_host.specs.Calls.{Calls, CallsOrLacks, told, opened, closed, given, kept, verified};
+ghost use Rattle.stk_host.specs.State.{lasting_fault};
+ghost use Rattle.stk_host.specs.Calls.{Calls, CallsOrLacks, fault_of_stop, opening_result, closing_result, given_or_fault, vector_after, verifying_result};
 
 use crate::comparing::compare;
 use crate::conversation::Conversation;
@@ -67,7 +67,7 @@ impl Model for Host {
 }
 
 fn fault_of(stop: Stop) -> HostFault
-    ensures { result ≡ told stop }
+    ensures { result ≡ fault_of_stop stop }
 {
     match stop {
         Stop::Fault(StepFault::NoAnswer) => HostFault::NoAnswer,
@@ -86,7 +86,7 @@ fn judge_signature(
     force: bool,
     begun: Result<[u8; 3], Stop>,
 ) -> Result<[u8; 3], HostFault>
-    ensures { result ≡ opened wanted force begun }
+    ensures { result ≡ opening_result wanted force begun }
 {
     let found = begun.map_err(fault_of)?;
     if force || found == wanted {
@@ -97,14 +97,14 @@ fn judge_signature(
 }
 
 fn judge_end(ended: Result<(), Stop>) -> Result<(), HostFault>
-    ensures { result ≡ closed ended }
+    ensures { result ≡ closing_result ended }
 {
     ended.map_err(fault_of)
 }
 
 /// Keeps what was read, or nothing after a fault.
 fn keep(outcome: &Result<(), HostFault>, out: &mut Vec<u8>)
-    ensures { out.new.items ≡ kept outcome.now out.old.items }
+    ensures { out.new.items ≡ vector_after outcome.now out.old.items }
 {
     if outcome.is_err() {
         out.clear();
@@ -119,7 +119,7 @@ fn judge_comparison(
     found: &[u8],
 ) -> Result<(), HostFault>
     requires { OnOk taken (length image.now ≤ length found.now) }
-    ensures { result ≡ verified mem image.now found.now taken }
+    ensures { result ≡ verifying_result mem image.now found.now taken }
 {
     taken.map_err(fault_of)?;
     compare(mem, image, found)
@@ -127,7 +127,7 @@ fn judge_comparison(
 
 /// The fault that a call leaves for all later ones.
 fn lasting<T>(outcome: &Result<T, HostFault>) -> Option<HostFault>
-    ensures { result ≡ left_by outcome.now }
+    ensures { result ≡ lasting_fault outcome.now }
 {
     match outcome {
         Err(HostFault::LinkEnded) => Some(HostFault::LinkEnded),
@@ -219,7 +219,7 @@ impl Host {
     ) -> Result<(), HostFault>
         // Where memory was refused nothing was sent or heard.
         ensures calls { CallsOrLacks (reading self.old.part mem) self.old self.new (L.view link.old) (L.view link.new)
-            (given out.new.items result) }
+            (given_or_fault out.new.items result) }
         ensures empty { OnErr result (out.new.items ≡ []) }
         ensures sized { OnOk result (length out.new.items ≡ size_of mem self.old.part) }
         ensures short { length out.new.items < 2 ^ 32 }

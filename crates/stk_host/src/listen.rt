@@ -1,9 +1,9 @@
 //! Listening for an answer.
 ghost use Rattle.std.specs.Prelude.{◌≡◌, ◌<◌, ◌≤◌, ◌++◌, ℕ, List, length, IfOk, OnOk, OnErr, true, false, None};
 ghost use Rattle.stk_frame.specs.declared.protocol.TheConstants.{LARGEST_FRAME};
-ghost use Rattle.stk_frame.specs.Reader.{Fed, found, Tells, HoldsFrame};
+ghost use Rattle.stk_frame.specs.Reader.{Fed, frames_of_event, TellsEvent, HoldsFrame};
 ghost use Rattle.stk_host.specs.Tape.{is_answer, first_answer};
-ghost use Rattle.stk_host.specs.Talk.{Counts, Stays};
+ghost use Rattle.stk_host.specs.Talk.{LinkCounts, Stays};
 ghost use Rattle.stk_host.specs.Reach.{Hears, HearsNone};
 ghost use Rattle.stk_host.specs.Calls.{reading_of, HoldsAnswer};
 
@@ -31,8 +31,8 @@ fn read_on(reader: &mut FrameReader, unread: &mut Unread, most: usize) -> (usize
     ensures within { result.0 ≤ most }
     ensures progress { 0 < result.0 }
     ensures fed { (used : List ℕ) × (length used ≡ result.0) × (unread.old ≡ used ++ unread.new)
-        × Fed reader.old used reader.new (found result.1 reader.new) }
-    ensures tells { Tells result.1 reader.new }
+        × Fed reader.old used reader.new (frames_of_event result.1 reader.new) }
+    ensures tells { TellsEvent result.1 reader.new }
     ensures fits { length unread.new ≤ LARGEST_FRAME }
 {
     let (used, event) = reader.feed(unread.front(most));
@@ -42,9 +42,9 @@ fn read_on(reader: &mut FrameReader, unread: &mut Unread, most: usize) -> (usize
 
 /// Whether the event tells of the answer to the frame of this sequence.
 fn is_answer(reader: &FrameReader, event: Event, seq: u8) -> bool
-    requires { Tells event reader.now }
+    requires { TellsEvent event reader.now }
     ensures yes { result ≡ true → (event ≡ Event.Frame) × HoldsFrame reader.now × (is_answer seq reader.now ≡ true) }
-    ensures no { result ≡ false → first_answer seq (found event reader.now) ≡ None }
+    ensures no { result ≡ false → first_answer seq (frames_of_event event reader.now) ≡ None }
 {
     match event {
         Event::Frame => reader.seq() == seq,
@@ -66,7 +66,7 @@ pub(crate) fn listen<L: Link>(
     ensures fits { length unread.new ≤ LARGEST_FRAME }
     ensures holds { IfOk result (λ reading. HoldsAnswer reading reader.new) }
     ensures err { OnErr result (HearsNone seq unread.old (L.view link.old) (L.view link.new)) }
-    ensures counts { Counts (L.view link.old) (L.view link.new) result }
+    ensures counts { LinkCounts (L.view link.old) (L.view link.new) result }
     ensures comes { Stays L.comes_of link.old link.new }
 {
     reader.reset();

@@ -32,9 +32,9 @@ impl Model for Log {
 
     ghost Value = { LogState };
 
-    ghost use Rattle.stk_host.specs.Log.{state_in, Adds};
+    ghost use Rattle.stk_host.specs.Log.{log_state, Adds};
 
-    ghost view = { state_in };
+    ghost view = { log_state };
 
     ghost invariant = { Adds };
 }

@@ -2,7 +2,7 @@
 ghost use Rattle.std.specs.Prelude.{◌≡◌, ◌≤◌, ◌∷◌, [], length};
 ghost use Rattle.stk_frame.specs.HostCommands.{leave, read_signature};
 ghost use Rattle.stk_host.specs.Steps.{step};
-ghost use Rattle.stk_host.specs.Operations.{beginning};
+ghost use Rattle.stk_host.specs.Operations.{handshake};
 ghost use Rattle.stk_host.specs.Calls.{EndsSteps, CountsLink, HasFewUnread};
 ghost use Rattle.stk_host.specs.Talk.{Stays};
 
@@ -30,7 +30,7 @@ fn signature_byte<L: Link>(
 
 /// Signs on, enters programming mode and reads the signature, byte 0 first.
 pub(crate) fn begin<L: Link>(conversation: &mut Conversation, link: &mut L) -> Result<[u8; 3], Stop>
-    ensures played { EndsSteps beginning conversation.old.progress (L.view link.old) (L.view link.new) (λ found. found)
+    ensures played { EndsSteps handshake conversation.old.progress (L.view link.old) (L.view link.new) (λ found. found)
         result conversation.new.progress }
     ensures counted { CountsLink (L.view link.old) (L.view link.new) result }
     ensures comes { Stays L.comes_of link.old link.new }

@@ -3,9 +3,9 @@ ghost use Rattle.std.specs.Prelude.{◌≡◌, ◌+◌, ◌<◌, ◌≤◌, ◌^
 ghost use Rattle.avr_part.specs.Part as parts;
 ghost use Rattle.stk_frame.specs.Commands.{shape};
 ghost use Rattle.stk_host.specs.Places.{each_from};
-ghost use Rattle.stk_host.specs.ReadSteps.{block_count, block_size, load_block, read_block, block_steps, signature_steps, read_steps};
+ghost use Rattle.stk_host.specs.ReadSteps.{block_count, block_size, load_block_address, read_block, block_steps, signature_steps, read_steps};
 ghost use Rattle.stk_host.specs.Steps.{play};
-ghost use Rattle.stk_host.specs.Calls.{EndsSteps, CountsLink, HasFewUnread, FitsFrame, BringsNoData, IsCounted, data_count};
+ghost use Rattle.stk_host.specs.Calls.{EndsSteps, CountsLink, HasFewUnread, FitsFrame, BringsNoData, IsSizedShape, data_count};
 ghost use Rattle.stk_host.specs.Talk.{Stays};
 
 use crate::conversation::Conversation;
@@ -22,7 +22,7 @@ const BLOCK: u32 = 256;
 /// Loads the address of a byte of flash or EEPROM.
 fn load_block<'a>(part: &Part, mem: Mem, start: u32) -> Command<'a>
     requires { start < 2 ^ 20 }
-    ensures value { result ≡ load_block part.now mem start }
+    ensures value { result ≡ load_block_address part.now mem start }
     ensures quiet { BringsNoData result }
 {
     match mem {
@@ -35,7 +35,7 @@ fn load_block<'a>(part: &Part, mem: Mem, start: u32) -> Command<'a>
 fn read_block<'a>(mem: Mem, count: u16) -> Command<'a>
     ensures value { result ≡ read_block mem count }
     ensures fits { FitsFrame result }
-    ensures counted { IsCounted (shape result) }
+    ensures counted { IsSizedShape (shape result) }
     ensures size { data_count (shape result) ≡ count }
 {
     match mem {
@@ -116,7 +116,7 @@ fn read_byte<L: Link>(
     out: &mut Vec<u8>,
 ) -> Result<(), Stop>
     requires fits { FitsFrame command.now }
-    requires counted { IsCounted (shape command.now) }
+    requires counted { IsSizedShape (shape command.now) }
     requires one { data_count (shape command.now) ≡ 1 }
     requires empty { out.old.items ≡ [] }
     requires room { 1 ≤ vec_capacity out.old }

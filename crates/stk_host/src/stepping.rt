@@ -1,7 +1,7 @@
 //! A step among the steps of an operation.
 ghost use Rattle.std.specs.Prelude.{◌≡◌, ◌+◌, ◌≤◌, ◌++◌, ◌∷◌, [], length, All, OnOk, vec_capacity};
 ghost use Rattle.stk_frame.specs.Commands.{shape};
-ghost use Rattle.stk_host.specs.Calls.{with_step, without_step, EndsInnerStep, CountsLink, HasFewUnread, FitsFrame, BringsNoData, IsCounted, data_count};
+ghost use Rattle.stk_host.specs.Calls.{with_step, without_step, EndsInnerStep, CountsLink, HasFewUnread, FitsFrame, BringsNoData, IsSizedShape, data_count};
 ghost use Rattle.stk_host.specs.Talk.{Stays};
 
 use crate::conversation::Conversation;
@@ -27,7 +27,7 @@ pub(crate) fn play_step<L: Link>(
 ) -> Result<(), Stop>
     requires quiet { All BringsNoData first.now }
     requires fits { FitsFrame last.now }
-    requires counted { IsCounted (shape last.now) }
+    requires counted { IsSizedShape (shape last.now) }
     requires no_data { data_count (shape last.now) ≡ 0 }
     ensures played { EndsInnerStep (with_step (first.now ++ last.now ∷ []) []) (without_step [])
         conversation.old.progress (L.view link.old) (L.view link.new) result conversation.new.progress }
@@ -48,7 +48,7 @@ pub(crate) fn read_step<L: Link>(
 ) -> Result<(), Stop>
     requires quiet { All BringsNoData first.now }
     requires fits { FitsFrame last.now }
-    requires counted { IsCounted (shape last.now) }
+    requires counted { IsSizedShape (shape last.now) }
     requires room { length out.old.items + data_count (shape last.now) ≤ vec_capacity out.old }
     ensures played { EndsInnerStep (with_step (first.now ++ last.now ∷ []) out.old.items) (without_step out.new.items)
         conversation.old.progress (L.view link.old) (L.view link.new) result conversation.new.progress }

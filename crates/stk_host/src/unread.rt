@@ -1,6 +1,6 @@
 //! The bytes that were heard and not read yet.
 ghost use Rattle.std.specs.Prelude.{◌≡◌, ◌<◌, ◌≤◌, ◌↔◌, IsTrue, ℕ, length, take, drop, [], ◌∷◌, ◌++◌, IfOk, OnOk, OnErr};
-ghost use Rattle.stk_host.specs.Talk.{Grows, Counts, Stays};
+ghost use Rattle.stk_host.specs.Talk.{Grows, LinkCounts, Stays};
 ghost use Rattle.stk_host.specs.Calls.{HearsPiece};
 
 use crate::link::{Heard, Link, LinkFault};
@@ -77,7 +77,7 @@ impl Unread {
         ensures fits { length self.new ≤ LARGEST_FRAME }
         ensures ok { IfOk result (λ heard. HearsPiece heard self.new (L.view link.old) (L.view link.new)) }
         ensures err { OnErr result (Grows (L.view link.old).talk [] (L.view link.new).talk) }
-        ensures counts { Counts (L.view link.old) (L.view link.new) result }
+        ensures counts { LinkCounts (L.view link.old) (L.view link.new) result }
         ensures comes { Stays L.comes_of link.old link.new }
     {
         self.start = 0;

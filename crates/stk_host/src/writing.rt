@@ -1,6 +1,6 @@
 //! The steps that write an image to a memory.
 ghost use Rattle.std.specs.Prelude.{◌≡◌, ◌<◌, ◌≤◌, ◌-◌, ◌^◌, ◌∷◌, [], length};
-ghost use Rattle.avr_image.specs.Image.{byte_at, filled};
+ghost use Rattle.avr_image.specs.Image.{byte_at, filled_bytes};
 ghost use Rattle.avr_part.specs.Part.{size_of};
 ghost use Rattle.stk_frame.specs.HostCommands as host;
 ghost use Rattle.stk_host.specs.Places as places;
@@ -79,7 +79,8 @@ fn program_run<L: Link>(
     requires order { start ≤ end }
     requires fits { end - start ≤ 256 }
     ensures played { EndsInnerStep
-        (with_step (places.load_eeprom start ∷ host.program_eeprom (filled image.now start (end - start)) ∷ []) [])
+        (with_step (places.load_eeprom start ∷ host.program_eeprom_block (filled_bytes image.now start (end - start))
+        ∷ []) [])
         (without_step []) conversation.old.progress (L.view link.old) (L.view link.new) result
         conversation.new.progress }
     ensures counted { CountsLink (L.view link.old) (L.view link.new) result }

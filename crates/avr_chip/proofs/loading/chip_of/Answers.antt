@@ -1,5 +1,5 @@
 use Rattle.avr_plan.proofs.Played.{goes_without_memory}
-use Rattle.avr_plan.specs.Stage.{settled}
+use Rattle.avr_plan.specs.Stage.{verdict_stage}
 use Rattle.avr_chip.proofs.Chips.{went_chip, chip_of_part, goes_wrong_length}
 use Rattle.avr_chip.specs.Loading.{chip_or_line}
 use Rattle.avr_chip.proofs.loading.chip_of.Goals as goal
@@ -21,6 +21,6 @@ returns-in-Err-BadChipFile-clause-goes g c =
 
 pub returns-in-Err : goal.returns-in-Err
 returns-in-Err g c = record {
-  goes = goes_without_memory (settled (chip_or_line c.args.part.now c.args.file.now c.args.bytes.now)) _ _ _ c.refuse_memory.ensures.status c.refuse_memory.ensures.told;
+  goes = goes_without_memory (verdict_stage (chip_or_line c.args.part.now c.args.file.now c.args.bytes.now)) _ _ _ c.refuse_memory.ensures.status c.refuse_memory.ensures.told;
   part = tt;
 }

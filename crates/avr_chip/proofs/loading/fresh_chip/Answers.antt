@@ -1,7 +1,7 @@
 use Rattle.std.proofs.Common.{Ok}
 use Rattle.avr_part.specs.State.{fresh_state}
 use Rattle.avr_plan.proofs.Played.{goes_without_memory}
-use Rattle.avr_plan.specs.Stage.{settled}
+use Rattle.avr_plan.specs.Stage.{verdict_stage}
 use Rattle.avr_chip.proofs.Chips.{went_fresh}
 use Rattle.avr_chip.proofs.loading.fresh_chip.Goals as goal
 
@@ -10,4 +10,4 @@ returns-in-Ok-clause-goes g c = let gives = c.in-Ok.ensures in went_fresh c.args
 
 pub returns-in-Err-clause-goes : goal.returns-in-Err-clause-goes
 returns-in-Err-clause-goes g c =
-    goes_without_memory (settled (Ok (fresh_state c.args.part.now))) _ _ _ c.refuse_memory.ensures.status c.refuse_memory.ensures.told
+    goes_without_memory (verdict_stage (Ok (fresh_state c.args.part.now))) _ _ _ c.refuse_memory.ensures.status c.refuse_memory.ensures.told

@@ -1,13 +1,13 @@
 use Rattle.std.proofs.Common.{◌≤◌, ◌+◌}
 use Rattle.avr_plan.specs.ImageReading.{Going}
-use Rattle.avr_plan.specs.Intake.{counted}
+use Rattle.avr_plan.specs.Intake.{fed_count}
 use Rattle.avr_plan.proofs.image_file.read_rest.Given as goal
 
 abbrev pub invariant-pieces : goal.invariant-pieces
 invariant-pieces g l = record {
   going : Going (g.D.Desk.view l.initial.desk) (g.D.Desk.view l.desk) l.initial.intake l.intake l.initial.left l.left;
   rises : (g.D.Desk.view l.initial.desk).failures ≤ (g.D.Desk.view l.desk).failures;
-  room : counted l.intake + l.left ≤ counted l.initial.intake + l.initial.left;
+  room : fed_count l.intake + l.left ≤ fed_count l.initial.intake + l.initial.left;
 }
 
 abbrev pub decreases-pieces : goal.decreases-pieces

@@ -1,7 +1,7 @@
 use Rattle.std.proofs.Common.{Ok}
 use Rattle.avr_plan.proofs.Played.{went_into, goes_no_further}
 use Rattle.avr_plan.specs.Planning.{update_image}
-use Rattle.avr_plan.specs.Stage.{settled}
+use Rattle.avr_plan.specs.Stage.{verdict_stage}
 use Rattle.avr_plan.specs.declared.task.Task.TheVariants.{Verify}
 use Rattle.avr_plan.proofs.planning.verify_task.Goals as goal
 
@@ -13,5 +13,5 @@ returns-in-Ok-clause-goes g c =
 pub returns-in-Err-clause-goes : goal.returns-in-Err-clause-goes
 returns-in-Err-clause-goes g c =
     let u = c.args.update.now in
-    goes_no_further (update_image c.args.switches c.args.part.now u) (λ image. settled (Ok (Verify u.memory image))) _ _ c.in-Err.status
+    goes_no_further (update_image c.args.switches c.args.part.now u) (λ image. verdict_stage (Ok (Verify u.memory image))) _ _ c.in-Err.status
     c.in-Err.ensures.goes

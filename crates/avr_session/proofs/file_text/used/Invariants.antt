@@ -1,10 +1,10 @@
 use Rattle.std.proofs.Common.{◌≡◌, ◌≤◌, take, length}
-use Rattle.avr_session.specs.FileText.{used}
+use Rattle.avr_session.specs.FileText.{used_length}
 use Rattle.avr_session.proofs.file_text.used.Given as goal
 
 abbrev pub invariant-blanks : goal.invariant-blanks
 invariant-blanks l = record {
-  same : used (take l.count l.bytes) ≡ used l.bytes;
+  same : used_length (take l.count l.bytes) ≡ used_length l.bytes;
   within : l.count ≤ length l.bytes;
 }
 

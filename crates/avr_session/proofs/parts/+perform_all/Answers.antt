@@ -1,7 +1,7 @@
 use Rattle.std.proofs.Common.{drop}
 use Rattle.std.specs.List.{list_any}
 use Rattle.std.proofs.lemmas.Result.{err_from_is_err_and}
-use Rattle.avr_session.specs.Session.{tasks_part, task_takes_memory}
+use Rattle.avr_session.specs.Session.{tasks_phase, task_takes_memory}
 use Rattle.avr_session.proofs.Foretelling.{task_foretells}
 use Rattle.avr_session.proofs.Performing.{nothing_performs, performs_then, performs_last, first_task, no_task, tasks_behind}
 use Rattle.avr_session.proofs.parts.+perform_all.Goals as goal
@@ -12,7 +12,7 @@ returns-in-empty-clause-performs g t c = rw (← no_task c.args.tasks.now c.in-e
 pub returns-in_err-fault-in-len1-up-clause-performs : goal.returns-in_err-fault-in-len1-up-clause-performs
 returns-in_err-fault-in-len1-up-clause-performs g t c =
     let p = err_from_is_err_and c.from_residual.result c.from_residual.ensures.1 in
-    let more = tasks_part c.args.plan.now.part c.args.plan.now.switches (drop 1 c.args.tasks.now) in
+    let more = tasks_phase c.args.plan.now.part c.args.plan.now.switches (drop 1 c.args.tasks.now) in
     rw (p.1, ← first_task c.args.tasks.now c.task-item.result c.in-len1-up.len_at_least c.task-item.is) (performs_last (task_takes_memory c.args.plan.now.switches c.task-item.result) (list_any (task_takes_memory c.args.plan.now.switches) (drop 1 c.args.tasks.now)) more _ (λ e. cc) c.in_err-fault-in-len1-up.ensures.performs)
 
 pub returns-in-Fine-clause-performs : goal.returns-in-Fine-clause-performs
@@ -21,5 +21,5 @@ returns-in-Fine-clause-performs g t c =
 
 pub returns-in_default-clause-performs : goal.returns-in_default-clause-performs
 returns-in_default-clause-performs g t c =
-    let more = tasks_part c.args.plan.now.part c.args.plan.now.switches (drop 1 c.args.tasks.now) in
+    let more = tasks_phase c.args.plan.now.part c.args.plan.now.switches (drop 1 c.args.tasks.now) in
     rw (← first_task c.args.tasks.now c.task-item.result c.in-len1-up.len_at_least c.task-item.is) (performs_last (task_takes_memory c.args.plan.now.switches c.task-item.result) (list_any (task_takes_memory c.args.plan.now.switches) (drop 1 c.args.tasks.now)) more _ (λ e. c.in_default.not-Fine cc) c.in_ok-fault-in-len1-up.ensures.performs)

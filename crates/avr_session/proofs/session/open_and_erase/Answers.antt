@@ -1,6 +1,6 @@
 use Rattle.std.proofs.Common.{false}
 use Rattle.std.proofs.lemmas.Result.{err_from_is_err_and}
-use Rattle.avr_session.specs.Session.{erasing_part}
+use Rattle.avr_session.specs.Session.{erasing_phase}
 use Rattle.avr_session.proofs.Foretelling.{opening_foretells}
 use Rattle.avr_session.proofs.Performing.{performs_then, performs_last}
 use Rattle.avr_session.proofs.session.open_and_erase.Goals as goal
@@ -8,7 +8,7 @@ use Rattle.avr_session.proofs.session.open_and_erase.Goals as goal
 pub returns-in_err-fault-clause-performs : goal.returns-in_err-fault-clause-performs
 returns-in_err-fault-clause-performs g c =
     let p = err_from_is_err_and c.from_residual.result c.from_residual.ensures.1 in
-    let more = erasing_part c.args.plan.now.part c.args.plan.now.switches c.args.plan.now.tasks in
+    let more = erasing_phase c.args.plan.now.part c.args.plan.now.switches c.args.plan.now.tasks in
     rw p.1 (performs_last false false more _ (λ e. cc) c.in_err-fault.ensures.performs)
 
 pub returns-in-Fine-clause-performs : goal.returns-in-Fine-clause-performs
@@ -16,5 +16,5 @@ returns-in-Fine-clause-performs g c = performs_then false false c.erase_if_due.r
 
 pub returns-in_default-clause-performs : goal.returns-in_default-clause-performs
 returns-in_default-clause-performs g c =
-    let more = erasing_part c.args.plan.now.part c.args.plan.now.switches c.args.plan.now.tasks in
+    let more = erasing_phase c.args.plan.now.part c.args.plan.now.switches c.args.plan.now.tasks in
     performs_last false false more _ (λ e. c.in_default.not-Fine cc) c.in_ok-fault.ensures.performs

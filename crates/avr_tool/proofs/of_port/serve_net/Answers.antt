@@ -1,6 +1,6 @@
 use Rattle.std.proofs.Common.{ap}
-use Rattle.avr_tool.specs.Ports.{name_of, chip_file_of}
+use Rattle.avr_tool.specs.Ports.{port_place, chip_file_of}
 use Rattle.avr_tool.proofs.of_port.serve_net.Goals as goal
 
 pub returns : goal.returns
-returns g c = record { serves = rw (ap name_of c.in-Served.is, ap chip_file_of c.in-Served.is, ← c.as_str.ensures, ← c.as_str-2.ensures) c.serve_net.ensures.serves }
+returns g c = record { serves = rw (ap port_place c.in-Served.is, ap chip_file_of c.in-Served.is, ← c.as_str.ensures, ← c.as_str-2.ensures) c.serve_net.ensures.serves }

@@ -5,11 +5,11 @@ use Rattle.stk_frame.specs.declared.command.Command.TheVariants.{SignOn}
 use Rattle.stk_frame.specs.HostCommands.{enter, read_signature}
 use Rattle.stk_host.specs.Talk.{LinkView}
 use Rattle.stk_host.specs.Dialog.{Dialog, ◌>>=◌}
-use Rattle.stk_host.specs.Play.{Progress, PlaysOver}
+use Rattle.stk_host.specs.Play.{Position, PlaysOver}
 use Rattle.stk_host.specs.Reach.{Reaches}
 use Rattle.stk_host.specs.Steps.{Outcome, if_done, step, play}
 use Rattle.stk_host.specs.ReadSteps.{signature_steps}
-use Rattle.stk_host.specs.Operations.{beginning}
+use Rattle.stk_host.specs.Operations.{handshake}
 use Rattle.stk_host.proofs.Reaching.{reaches_on}
 use Rattle.stk_host.proofs.Ends.{stops_on, stops_there, goes_on, play_on, play_stops, play_done}
 use Rattle.stk_host.proofs.opening.begin.Goals as goal
@@ -18,19 +18,19 @@ entering : Dialog ⊥ Outcome
 entering = step (enter ∷ []) >>= if_done (λ nothing. play signature_steps [])
 
 -- after SIGN_ON
-signed_on : {m n : Progress} {o p : LinkView} {name : List ℕ} → PlaysOver (step (SignOn ∷ [])) m o p (Ok name) n → Reaches beginning m o entering n p
-unfolding beginning entering
+signed_on : {m n : Position} {o p : LinkView} {name : List ℕ} → PlaysOver (step (SignOn ∷ [])) m o p (Ok name) n → Reaches handshake m o entering n p
+unfolding handshake entering
 signed_on {name = name} f = goes_on (λ name. step (enter ∷ []) >>= if_done (λ nothing. play signature_steps [])) name f
 
 -- after ENTER
-entered : {k m n : Progress} {r o p : LinkView} {nothing : List ℕ} {command : Command} → command ≡ enter → Reaches beginning k r entering m o → PlaysOver (step (command ∷ [])) m o p (Ok nothing) n
-    → Reaches beginning k r (play signature_steps []) n p
+entered : {k m n : Position} {r o p : LinkView} {nothing : List ℕ} {command : Command} → command ≡ enter → Reaches handshake k r entering m o → PlaysOver (step (command ∷ [])) m o p (Ok nothing) n
+    → Reaches handshake k r (play signature_steps []) n p
 unfolding entering
 entered {m = m} {n = n} {o = o} {p = p} {nothing = nothing} is f g =
     reaches_on f (goes_on (λ nothing. play signature_steps []) nothing (subst (λ x. PlaysOver (step (x ∷ [])) m o p (Ok nothing) n) is g))
 
 pub returns-in_err-step-clause-played : goal.returns-in_err-step-clause-played
-unfolding beginning
+unfolding handshake
 returns-in_err-step-clause-played g c =
     let p = err_from_is_err_and c.from_residual.result c.from_residual.ensures.1 in
     rw (p.1, p.2) (stops_there (step (SignOn ∷ [])) (λ name. step (enter ∷ []) >>= if_done (λ nothing. play signature_steps [])) _ _ _ _ _ c.in_err-step.ensures.played)

@@ -1,14 +1,14 @@
 use Rattle.std.proofs.Common.{refl, ◌∙◌, sym, arith, inl, []}
 use Rattle.std.proofs.lemmas.Result.{err_from_is_err_and}
 use Rattle.avr_image.proofs.Walking.{next_held}
-use Rattle.stk_host.specs.WriteSteps.{run_steps}
+use Rattle.stk_host.specs.WriteSteps.{run_steps_at}
 use Rattle.stk_host.proofs.Going.{begins_at, reaches_next, stops_next, plays_all}
 use Rattle.stk_host.proofs.Pages.{walks_to_run, walked_runs, zero_border}
 use Rattle.stk_host.proofs.writing.write_eeprom.Goals as goal
 
 pub loop-start-init : goal.loop-start-init
 loop-start-init g c = record {
-  reaches = begins_at (run_steps c.args.part.now c.args.image.now) c.args.part.now.eeprom_size [] _ _;
+  reaches = begins_at (run_steps_at c.args.part.now c.args.image.now) c.args.part.now.eeprom_size [] _ _;
   within = omega arith;
   border = inl (zero_border c.args.part.now.eeprom_page);
   counted = refl;

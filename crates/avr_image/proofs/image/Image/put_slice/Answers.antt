@@ -2,7 +2,7 @@ use Rattle.std.proofs.Common.{◌≡◌, ◌<◌, ◌+◌, ◌≤◌, ◌∙◌,
 use Rattle.std.proofs.lemmas.Bool.Decides.{nat_tests}
 use Rattle.std.specs.List.{enumerate_from}
 use Rattle.avr_image.specs.Image.{laid_over}
-use Rattle.avr_image.specs.Dense.{shown}
+use Rattle.avr_image.specs.Dense.{dense_image}
 use Rattle.avr_image.proofs.Shown.{sized, length_shown}
 use Rattle.avr_image.proofs.Laying.{shown-pasted, kept-pasted, length-pasted, fits_yes, fits_no}
 use Rattle.avr_image.proofs.image.Image.put_slice.Goals as goal
@@ -42,7 +42,7 @@ returns-clause-laid c =
     let some : 0 < length c.args.bytes.now = grind (arith, nat_tests, c.is_empty.ensures, c.if-is_empty.false) in
     let room : c.args.addr + length c.args.bytes.now ≤ length bytes =
     omega (arith, some, c.len-size.ensures, c.saturating_sub.ensures, c.if-bytes-saturating_sub.false) in
-    ap (shown c.mark_span.new.words.items) c.paste.ensures
+    ap (dense_image c.mark_span.new.words.items) c.paste.ensures
     ∙ shown-pasted words c.mark_span.new.words.items bytes c.args.bytes.now c.args.addr room c.mark_span.ensures.marked
     ∙ ap (λ (image : List (Option ℕ)). laid_over image (enumerate_from c.args.addr c.args.bytes.now)) c.self.view_is
 

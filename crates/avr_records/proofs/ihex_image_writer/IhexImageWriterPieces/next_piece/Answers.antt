@@ -2,7 +2,7 @@ use Rattle.std.proofs.Common.{◌≡◌, ◌∙◌, sym, ap, arith, ℕ, ◌+◌
 use Rattle.std.specs.Prelude.{if◌then◌else◌}
 use Rattle.std.proofs.lemmas.List.{append-nil}
 use Rattle.std.specs.List.{slice_range}
-use Rattle.avr_image.specs.Image.{first_from, filled}
+use Rattle.avr_image.specs.Image.{first_from, filled_bytes}
 use Rattle.avr_records.specs.Text.{ihex_record, ihex_row_size, two}
 use Rattle.avr_image.specs.Runs.{lead}
 use Rattle.avr_records.specs.Writing.{ihex_image_rest}
@@ -63,7 +63,7 @@ returns-clause-joined c =
     let there : place + (end - place) ≡ end = omega (arith, ends) in
     let piece : List ℕ = c.put_row.new.out.items in
     let part = row-part w.addr place (ihex_row_size place) end w.bytes.now w.image.now found ends c.self.invariant in
-    let row_is : ihex_record 0 (place % 65536) (filled w.image.now place (end - place)) ≡ piece =
+    let row_is : ihex_record 0 (place % 65536) (filled_bytes w.image.now place (end - place)) ≡ piece =
     ap (ihex_record 0 (place % 65536)) (sym part.part)
     ∙ ap (λ (a : ℕ). ihex_record 0 (a % 65536) (slice_range w.bytes.now place end)) (sym c.from-3.ensures)
     ∙ sym c.put_row.ensures.text in

@@ -1,6 +1,6 @@
 use Rattle.std.proofs.Common.{◌≡◌, ◌∙◌, sym, ap, arith, ℕ, ◌+◌, ◌-◌, Bool, false, List, ◌++◌, length, drop, min, Some}
 use Rattle.std.proofs.lemmas.List.{append-nil}
-use Rattle.avr_image.specs.Image.{first_from, filled}
+use Rattle.avr_image.specs.Image.{first_from, filled_bytes}
 use Rattle.avr_image.specs.Runs.{lead}
 use Rattle.avr_records.specs.Text.{srec_record, low_bytes}
 use Rattle.avr_records.specs.Writing.{srec_image_rest}
@@ -31,7 +31,7 @@ returns-clause-joined c =
     let there : place + (end - place) ≡ end = omega (arith, ends) in
     let piece : List ℕ = c.put_row.new.out.items in
     let part = row-part w.addr place 32 end w.bytes.now w.image.now found ends c.self.invariant.whole in
-    let row_is : srec_record (w.address_size - 1) (low_bytes w.address_size place ++ filled w.image.now place (end - place)) ≡ piece =
+    let row_is : srec_record (w.address_size - 1) (low_bytes w.address_size place ++ filled_bytes w.image.now place (end - place)) ≡ piece =
     ap (λ (row : List ℕ). srec_record (w.address_size - 1) (low_bytes w.address_size place ++ row)) (sym part.part)
     ∙ sym c.put_row.ensures.text in
     sym c.self.view_is

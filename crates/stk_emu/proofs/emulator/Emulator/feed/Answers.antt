@@ -1,5 +1,5 @@
 use Rattle.std.proofs.Common.{sym, ◌∙◌}
-use Rattle.stk_frame.specs.Reader.{found}
+use Rattle.stk_frame.specs.Reader.{frames_of_event}
 use Rattle.stk_emu.proofs.Answering.{found_frames, found_few, answer_ends, is_fed, emulated, none_found}
 use Rattle.stk_emu.proofs.emulator.Emulator.feed.Goals as goal
 
@@ -9,7 +9,7 @@ returns-clause-all c = λ e. c.feed-used.ensures.all (none_found c.feed-used.res
 pub returns-clause-one : goal.returns-clause-one
 returns-clause-one c =
     rw (← c.self.view_is) (record {
-      found = found c.feed-used.result.1 c.feed-used.new.self;
+      found = frames_of_event c.feed-used.result.1 c.feed-used.new.self;
       few = found_few c.feed-used.result.1 c.feed-used.new.self;
       are_frames = found_frames c.feed-used.result.1 c.feed-used.new.self c.feed-used.ensures.tells;
       fed = c.feed-used.ensures.fed;

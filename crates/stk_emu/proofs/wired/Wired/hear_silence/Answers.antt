@@ -1,7 +1,7 @@
 use Rattle.std.proofs.Common.{[], ◌∷◌, drop}
 use Rattle.stk_host.specs.declared.link.Item.TheVariants as item
 use Rattle.stk_emu.specs.Waiting.{tape_in}
-use Rattle.stk_emu.specs.WiredInside.{state_of}
+use Rattle.stk_emu.specs.WiredInside.{wired_state}
 use Rattle.stk_emu.proofs.Waits.{left_on}
 use Rattle.stk_emu.proofs.Keeping.{heard_state}
 use Rattle.stk_emu.proofs.wired.Wired.hear_silence.Goals as goal
@@ -9,6 +9,6 @@ use Rattle.stk_emu.proofs.wired.Wired.hear_silence.Goals as goal
 pub returns-clause-ok : goal.returns-clause-ok
 returns-clause-ok c =
     rw (← c.self.view_is) (
-    heard_state (state_of c.self.inside) c.hear.new.self.talk (tape_in (drop c.consume-self-inside.result c.consume-self-inside.new.waits.items)) (item.Silence ∷ [])
+    heard_state (wired_state c.self.inside) c.hear.new.self.talk (tape_in (drop c.consume-self-inside.result c.consume-self-inside.new.waits.items)) (item.Silence ∷ [])
     c.in_ok-hear.ensures.ok
     (left_on c.consume-self-inside.new.waits.items c.self.inside.waits.items c.self.inside.at c.consume-self-inside.result 1 c.consume-self-inside.ensures.left))

@@ -1,5 +1,5 @@
 use Rattle.std.proofs.Common.{sym, ap, ◌∙◌, arith, [], ◌∷◌, ◌++◌, take, length-append}
-use Rattle.stk_frame.specs.Reader.{found}
+use Rattle.stk_frame.specs.Reader.{frames_of_event}
 use Rattle.stk_host.specs.Talk as talk
 use Rattle.stk_emu.proofs.Answering.{found_frames}
 use Rattle.stk_emu.proofs.Waits.{grown}
@@ -16,7 +16,7 @@ returns-clause-talk c =
 pub returns-clause-passes : goal.returns-clause-passes
 returns-clause-passes c =
     rw (← c.self.view_is) (record {
-      found = found c.feed-used.result.1 c.feed-used.new.self;
+      found = frames_of_event c.feed-used.result.1 c.feed-used.new.self;
       are_frames = found_frames c.feed-used.result.1 c.feed-used.new.self c.feed-used.ensures.tells;
       fed = c.feed-used.ensures.fed;
       waits = grown c.self.inside.waits.items _ c.pass_event.new.out.items c.self.inside.at _ c.self.invariant.at
