@@ -20,7 +20,7 @@ use Rattle.stk_emu.specs.Wire as wire
 use Rattle.stk_emu.specs.Wire.{Wire, wire_after}
 use Rattle.stk_emu.specs.Wired.{WiredState, IsFresh}
 use Rattle.avr_emulated.specs.AnyLine.{Stopped, OverAnyLine}
-use Rattle.avr_tool.specs.Headline.{IsRun, StoppedPlanning, IsNew, over, RunsOverWire, RunsNowhere}
+use Rattle.avr_tool.specs.Headline.{IsRun, StoppedPlanning, IsNew, wire_and_desk, RunsOverWire, RunsNowhere}
 use Rattle.avr_tool.proofs.Joining.{ran_whole, ran_openings, refused_whole}
 
 -- a new wire keeps what its frames have brought, as there are none
@@ -42,12 +42,12 @@ is_fresh w new = record {
 module _ (settings : Settings) (old now : DeskView) (status : ℕ) where
   -- a plan that was made, and its session
   module _ (plan : Plan) (w v : WiredState) (between : DeskView) (made : Went (planned settings) old between (Made plan)) (follows : Follows between now) where
-    run_or_stop : RunsTo (session plan) (over w between) (over v now) (takes_memory plan) status
-        → ((r : IsRun settings (over w old) (over v now) status) × (r.openings ≡ made.passed)) ⊎ (Stopped plan w v between now × (status ≡ 1))
-    run_or_stop (inl whole) = inl (ran_whole settings plan (over w old) (over v now) between status made whole, ran_openings settings plan (over w old) (over v now) between status made whole)
+    run_or_stop : RunsTo (session plan) (wire_and_desk w between) (wire_and_desk v now) (takes_memory plan) status
+        → ((r : IsRun settings (wire_and_desk w old) (wire_and_desk v now) status) × (r.openings ≡ made.passed)) ⊎ (Stopped plan w v between now × (status ≡ 1))
+    run_or_stop (inl whole) = inl (ran_whole settings plan (wire_and_desk w old) (wire_and_desk v now) between status made whole, ran_openings settings plan (wire_and_desk w old) (wire_and_desk v now) between status made whole)
     run_or_stop (inr broke) = inr broke
 
-    pub runs_over_wire : RunsTo (session plan) (over w between) (over v now) (takes_memory plan) status
+    pub runs_over_wire : RunsTo (session plan) (wire_and_desk w between) (wire_and_desk v now) (takes_memory plan) status
         → (w.wire.programmer.chip.part ≡ plan.part → OverAnyLine plan w v between now status) → RunsOverWire settings w v old now status
     runs_over_wire runs line = record {
       plan = plan;
@@ -63,6 +63,6 @@ module _ (settings : Settings) (old now : DeskView) (status : ℕ) where
   runs_nowhere w none = record { runs = either none.1; untouched = refl; status_is = none.0 }
     where
       either : Went (planned settings) old now Refused ⊎ planning.StageBrokeOff (planned settings) old now
-          → IsRun settings (over w old) (over w now) status ⊎ StoppedPlanning settings (over w old) (over w now) status
-      either (inl went) = inl (subst (IsRun settings (over w old) (over w now)) (sym none.0) (refused_whole settings (over w old) (over w now) refl went))
+          → IsRun settings (wire_and_desk w old) (wire_and_desk w now) status ⊎ StoppedPlanning settings (wire_and_desk w old) (wire_and_desk w now) status
+      either (inl went) = inl (subst (IsRun settings (wire_and_desk w old) (wire_and_desk w now)) (sym none.0) (refused_whole settings (wire_and_desk w old) (wire_and_desk w now) refl went))
       either (inr broke) = inr (record { broke = broke; same = refl; status_is = none.0 })

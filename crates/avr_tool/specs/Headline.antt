@@ -136,8 +136,8 @@ pub record IsNew (w : WiredState) : Type 0 where
   pub lawful : AreLawful w.wire.fates
 
 -- a wire and a desk
-abbrev pub over : WiredState → DeskView → Devices
-over w desk = devices (wired_view w) desk
+abbrev pub wire_and_desk : WiredState → DeskView → Devices
+wire_and_desk w desk = devices (wired_view w) desk
 
 -- A plan was made of these openings; its session was run, or stopped; and if the chip is of the plan's part, that is
 -- what became of it. A failure of the desk that stopped it is one since before the run.
@@ -147,15 +147,16 @@ pub record RunsOverWire (settings : Settings) (before after : WiredState) (desk_
   pub between : DeskView
   pub made : Went (planned settings) desk_before between (Made plan)
   pub follows : Follows between desk_now
-  pub runs : ((r : IsRun settings (over before desk_before) (over after desk_now) status) × (r.openings ≡ made.passed))
+  pub runs : ((r : IsRun settings (wire_and_desk before desk_before) (wire_and_desk after desk_now) status)
+      × (r.openings ≡ made.passed))
       ⊎ (Stopped plan before after between desk_now × (status ≡ 1))
   pub line : before.wire.programmer.chip.part ≡ plan.part → OverAnyLine plan before after between desk_now status
 
 -- There is no plan: that was told, or planning stopped, and the wire is untouched.
 pub record RunsNowhere (settings : Settings) (before after : WiredState) (desk_before desk_now : DeskView)
     (status : ℕ) : Type 0 where
-  pub runs : IsRun settings (over before desk_before) (over after desk_now) status
-      ⊎ StoppedPlanning settings (over before desk_before) (over after desk_now) status
+  pub runs : IsRun settings (wire_and_desk before desk_before) (wire_and_desk after desk_now) status
+      ⊎ StoppedPlanning settings (wire_and_desk before desk_before) (wire_and_desk after desk_now) status
   pub untouched : after ≡ before
   pub status_is : status ≡ 1
 

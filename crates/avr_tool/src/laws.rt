@@ -19,7 +19,7 @@ ghost use Rattle.avr_session.specs.Run.{RunsSettings};
 ghost use Rattle.avr_session.specs.Runs.{Devices, devices};
 ghost use Rattle.avr_session.specs.Session.{session, is_erase_due};
 ghost use Rattle.avr_session.specs.Stopping.{IsSound, LacksMemory, keeping, talking};
-ghost use Rattle.avr_tool.specs.Headline.{IsRun, IsStopped, StoppedPlaying, IsFrontOfRun, OverAnyLink, over};
+ghost use Rattle.avr_tool.specs.Headline.{IsRun, IsStopped, StoppedPlaying, IsFrontOfRun, OverAnyLink, wire_and_desk};
 ghost use Rattle.avr_tool.specs.Worked.{worked_settings, worked_answers, frames_due, lines_due};
 ghost use Rattle.stk_emu.specs.Along.{along, said_along};
 ghost use Rattle.stk_emu.specs.Device.{device};
@@ -86,11 +86,13 @@ pub fn a_wrong_outcome_is_refused()
 /// 00 and on one of FF, has status 0 and, verified, leaves its images, whatever the chip was.
 pub fn a_sound_run_is_its_course()
     ensures course { (plan : Plan) (w v : WiredState) (d e : Record) (a b status : ℕ)
-        → AreFew w.wire.fates → IsSound (over w (keeping d a)) (over v (keeping e b)) → (LacksMemory e.messages → ⊥)
+        → AreFew w.wire.fates → IsSound (wire_and_desk w (keeping d a)) (wire_and_desk v (keeping e b))
+        → (LacksMemory e.messages → ⊥)
         → OverAnyLine plan w v (keeping d a) (keeping e b) status
         → IsCourse plan (memories w) (memories v) (keeping d a) (keeping e b) status }
     ensures images { (plan : Plan) (w v : WiredState) (d e : Record) (a b status : ℕ)
-        → AreFew w.wire.fates → IsSound (over w (keeping d a)) (over v (keeping e b)) → (LacksMemory e.messages → ⊥)
+        → AreFew w.wire.fates → IsSound (wire_and_desk w (keeping d a)) (wire_and_desk v (keeping e b))
+        → (LacksMemory e.messages → ⊥)
         → plan.switches.dry ≡ false → plan.switches.no_verify ≡ false
         → is_erase_due plan.switches plan.tasks ≡ true → AgreesAnyway plan
         → OverAnyLine plan w v (keeping d a) (keeping e b) status
