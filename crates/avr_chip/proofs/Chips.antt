@@ -1,5 +1,5 @@
 -- The chip of a file.
-use Rattle.std.proofs.Common.{◌≡◌, refl, sym, ap, arith, ℕ, ◌≤◌, ◌==◌, length, Bool, true, false, nat_le, inl, inr, Option, option_map, Result, Ok, Err, if◌then◌else◌}
+use Rattle.std.proofs.Common.{◌≡◌, refl, sym, ap, arith, ℕ, ◌==◌, length, Bool, true, false, nat_le, inl, inr, Result, Ok, Err, if◌then◌else◌}
 use Rattle.std.proofs.lemmas.Bool.Decides.{nat_tests}
 use Rattle.avr_desk.specs.Fault.{Follows}
 use Rattle.avr_desk.specs.Files.{IsWhole, with_read}

@@ -1,5 +1,5 @@
 -- What a writer whose bytes are known has taken.
-use Rattle.std.proofs.Common.{◌≡◌, ◌∙◌, refl, ap, sym, ℕ, [], ◌++◌, append-nil, take, drop, take-append-drop, Option, None, Some}
+use Rattle.std.proofs.Common.{◌≡◌, ◌∙◌, refl, ap, ℕ, ◌++◌, append-nil, take, drop, take-append-drop, Option, None, Some}
 use Rattle.std.specs.Io.KnownBytes.{Keeps, Appends}
 use Rattle.avr_desk.specs.Record.{Bytes}
 use Rattle.avr_desk.specs.Shown.{AppendsFront}

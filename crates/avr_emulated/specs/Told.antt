@@ -16,7 +16,7 @@ use Rattle.stk_host.specs.Operations.{comparison, host_fault}
 use Rattle.stk_host.specs.declared.fault.HostFault.{HostFault}
 use Rattle.stk_host.specs.declared.fault.StepFault.{StepFault}
 use Rattle.stk_emu.specs.Along.{fate_reading}
-use Rattle.stk_emu.specs.Device.{Device, device}
+use Rattle.stk_emu.specs.Device.{Device}
 use Rattle.stk_emu.specs.Effect.{Image, Item, Erase, Write, Memories, effect, effects, memory_in}
 use Rattle.stk_emu.specs.Wire.{first_fate, other_fates, after_fate, Wire, wire_behind}
 use Rattle.stk_emu.specs.declared.fate.Fate.{Fate}

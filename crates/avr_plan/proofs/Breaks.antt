@@ -1,5 +1,5 @@
 -- What is told where planning broke off, by what a desk shows.
-use Rattle.std.proofs.Common.{◌≡◌, ◌∙◌, sym, ap, subst, refl, ℕ, ◌+◌, ◌⊎◌, inl, inr, List, [], ◌∷◌, ◌++◌, drop, append-nil, append_assoc, Option, Some, option_map, Result, Ok, Err, true, false}
+use Rattle.std.proofs.Common.{◌≡◌, ◌∙◌, sym, ap, subst, refl, ℕ, ◌⊎◌, inl, inr, List, [], ◌∷◌, ◌++◌, drop, append-nil, append_assoc, Option, Some, option_map, Result, Ok, Err, true, false}
 use Rattle.std.proofs.lemmas.List.{append_cancel_left}
 use Rattle.avr_desk.specs.Fault.{HasFailed, HasRisen}
 use Rattle.avr_desk.specs.Record.{DeskView, Record, showing, all_openings, opening_of, after_err, written_on}

@@ -1,5 +1,5 @@
 -- The image of an update.
-use Rattle.std.proofs.Common.{◌≡◌, sym, ap, ℕ, ◌≤◌, List, Option, Ok, Err}
+use Rattle.std.proofs.Common.{◌≡◌, sym, ap, ℕ, List, Option, Ok, Err}
 use Rattle.avr_cli.specs.declared.chosen.Switches.{Switches}
 use Rattle.avr_cli.specs.declared.update.Format.{Format}
 use Rattle.avr_desk.specs.Fault.{Follows}

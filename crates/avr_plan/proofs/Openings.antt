@@ -1,5 +1,5 @@
 -- Stages that begin with the opening of a file.
-use Rattle.std.proofs.Common.{◌≡◌, refl, subst, ap, arith, ℕ, ◌≤◌, inr, List, [], ◌∷◌, Bool, true, false, nat_lt, ◌||◌, length, Option, None, option_map, Result, Err}
+use Rattle.std.proofs.Common.{◌≡◌, refl, subst, ap, arith, ℕ, inr, List, [], ◌∷◌, Bool, true, false, nat_lt, ◌||◌, length, Option, None, option_map, Result, Err}
 use Rattle.std.proofs.lemmas.Bool.Decides.{nat_tests}
 use Rattle.avr_desk.specs.Fault.{Follows, HasFailed}
 use Rattle.avr_desk.specs.Files.{FaultCounts, IsWhole, ReadsFile, with_read}
@@ -12,7 +12,7 @@ use Rattle.avr_desk.specs.declared.record.Reading.{Reading}
 use Rattle.avr_message.proofs.Saying.{kept_append}
 use Rattle.avr_message.proofs.Telling.{failure_told, follows_on, tells_since}
 use Rattle.avr_message.specs.Lines.{Bytes}
-use Rattle.avr_message.specs.Said.{Opens, Line, Tells, TellsFailure, after_all}
+use Rattle.avr_message.specs.Said.{Opens, Line, Tells, after_all}
 use Rattle.avr_plan.proofs.Played.{goes_on, goes_no_further}
 use Rattle.avr_plan.specs.ImageReading.{FileBreaks, IsCounted}
 use Rattle.avr_plan.specs.Lines.{file_fault_line, memory_line, not_opened_line, not_read_line}

@@ -1,5 +1,5 @@
 -- Stages of planning that were played, one after the other.
-use Rattle.std.proofs.Common.{◌≡◌, ◌∙◌, sym, subst, option_map, inl, inr, ap, List, [], ◌∷◌, ◌++◌, ℕ, ◌≤◌, take, drop, refl, arith, Option, Ok, Err, Result, append_assoc, append-nil}
+use Rattle.std.proofs.Common.{◌≡◌, ◌∙◌, sym, subst, inl, inr, ap, List, [], ◌∷◌, ◌++◌, ℕ, take, drop, refl, arith, Ok, Err, Result, append_assoc, append-nil}
 use Rattle.std.proofs.lemmas.List.{take-append-drop}
 use Rattle.avr_desk.specs.Record.{DeskView, Passes}
 use Rattle.avr_desk.specs.Fault.{HasFailed, Counts, Follows}

@@ -1,5 +1,5 @@
 -- The tasks of updates.
-use Rattle.std.proofs.Common.{◌≡◌, sym, subst, arith, ℕ, zero, suc, ◌+◌, ◌≤◌, All, drop, is_ok, is_err, List, [], ◌∷◌, ◌++◌, refl, true, false, if◌then◌else◌, Option, Result, Ok, Err}
+use Rattle.std.proofs.Common.{◌≡◌, sym, subst, arith, ℕ, zero, suc, ◌+◌, All, drop, is_ok, is_err, List, [], ◌∷◌, ◌++◌, refl, true, false, if◌then◌else◌, Option, Result, Ok, Err}
 use Rattle.avr_cli.specs.declared.chosen.Switches.{Switches}
 use Rattle.avr_cli.specs.declared.update.Format.{Format}
 use Rattle.avr_cli.specs.declared.update.Format.TheVariants.{Auto, Ihex, Srec, Raw, Immediate, Decimal, Hexadecimal, Octal, Binary}

@@ -27,7 +27,7 @@ use Rattle.avr_session.specs.declared.standing.Stopped.{Stopped}
 use Rattle.avr_session.specs.Concluding.{after_outcome, conclusion}
 use Rattle.avr_session.specs.Lines.{fault_line}
 use Rattle.avr_session.specs.Session.{says, standing, reported, fault_or}
-use Rattle.avr_session.specs.Runs.{Cause, OfSending, OfListening, OfMemory, Devices, devices, Terms, cause_line, HasCome, PrintStops, SaysOrStops, Reports, BrokeOff, Runs}
+use Rattle.avr_session.specs.Runs.{Cause, OfSending, OfListening, OfMemory, Devices, devices, Terms, cause_line, HasCome, PrintStops, SaysOrStops, Reports, Runs}
 use Rattle.avr_session.proofs.Reporting.{told_some}
 use Rattle.avr_session.proofs.Running.{came_lifted, came_said, came_on, ran_from, broke_lifted, broke_saying, broke_operation, broke_lacking, broken_cause, StopsReport, ToldBy}
 

@@ -15,7 +15,7 @@ use Rattle.stk_host.specs.Play.{Position}
 use Rattle.stk_host.specs.Talk.{LinkView}
 use Rattle.stk_host.specs.Calls.{IsBroken, given_or_fault}
 use Rattle.stk_host.specs.Dialog.{Dialog, Done, ◌>>=◌, sayings}
-use Rattle.avr_message.specs.Said.{Saying, Line, Tells}
+use Rattle.avr_message.specs.Said.{Saying, Tells}
 use Rattle.avr_plan.specs.Plan.{Plan}
 use Rattle.avr_plan.specs.declared.task.Task.{Task}
 use Rattle.avr_session.specs.declared.standing.Standing.{Standing}

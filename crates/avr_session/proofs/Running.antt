@@ -1,5 +1,5 @@
 -- How a call over a link and a desk goes on in its dialog.
-use Rattle.std.proofs.Common.{◌≡◌, ℕ, ◌≤◌, Bool, true, ◌||◌, arith, List, [], ◌∷◌, ◌++◌, append_assoc, append-nil, length, map, refl, sym, ap, ◌∙◌, subst, Option, None, option_map}
+use Rattle.std.proofs.Common.{◌≡◌, ℕ, ◌≤◌, Bool, true, ◌||◌, arith, List, [], ◌∷◌, ◌++◌, append_assoc, append-nil, length, map, refl, sym, ap, ◌∙◌, subst, Option, None}
 use Rattle.std.proofs.Math.Bool.{or_assoc}
 use Rattle.std.proofs.lemmas.List.Folds.{list_any-append}
 use Rattle.avr_desk.specs.Fault.{Follows}

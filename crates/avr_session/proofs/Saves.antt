@@ -1,5 +1,5 @@
 -- Files that are created and written.
-use Rattle.std.proofs.Common.{◌≡◌, ◌≤◌, ℕ, true, List, [], ◌∷◌, ◌++◌, map, bytes_eq, codes, Option, option_map, Result, Ok, Err, ◌∙◌, refl, arith, Some, None}
+use Rattle.std.proofs.Common.{◌≡◌, ℕ, true, List, [], ◌∷◌, map, bytes_eq, codes, Option, option_map, Result, Ok, Err, ◌∙◌, refl, arith, Some, None}
 use Rattle.std.proofs.lemmas.Slice.Eq.{bytes_eq-Decides}
 use Rattle.avr_desk.specs.Record.{Record, DeskView, Passes, after_create}
 use Rattle.avr_desk.specs.Fault.{Follows, HasFailed}
@@ -11,7 +11,7 @@ use Rattle.stk_host.specs.Dialog.{Said}
 use Rattle.avr_message.specs.Said.{Saying, Creates, Writes, Outs, Tells, after_all}
 use Rattle.avr_message.proofs.Saying.{kept_append, kept_none}
 use Rattle.avr_message.proofs.Telling.{failure_told, follows_on}
-use Rattle.avr_session.specs.Runs.{Cause, OfSending, OfListening, OfFile, OfPrinting, OfMemory, NotCreated, NotWritten, SaysFront, SaidSome, SaysOrStops, Reports, DeskStops, cause_line}
+use Rattle.avr_session.specs.Runs.{Cause, OfSending, OfListening, OfFile, OfPrinting, OfMemory, NotCreated, NotWritten, SaysFront, SaysOrStops, Reports, DeskStops, cause_line}
 use Rattle.avr_session.specs.Session.{saving_says}
 use Rattle.avr_session.specs.Saving.{SaveStops, WritesSome, WritesAll}
 use Rattle.avr_session.specs.declared.standing.Stopped.{Stopped}

@@ -1,5 +1,5 @@
 -- Bytes that go to a file or to standard output. (For contracts inside this crate.)
-use Rattle.std.specs.Prelude.{ℕ, ◌≡◌, List, ◌++◌, Result, Ok, Err, ⊤}
+use Rattle.std.specs.Prelude.{◌≡◌, ◌++◌, Result, Ok, Err, ⊤}
 use Rattle.avr_desk.specs.Record.{DeskView, Passes, after_err}
 use Rattle.avr_desk.specs.Stream.{SendsPart, after_sent}
 use Rattle.avr_desk.specs.declared.stream.Stream.{Stream}

@@ -1,5 +1,5 @@
 -- What the contract of a run says where no device failed.
-use Rattle.std.specs.Prelude.{ℕ, List, ◌++◌, ◌≡◌, Some}
+use Rattle.std.specs.Prelude.{ℕ, ◌++◌, ◌≡◌, Some}
 use Rattle.avr_desk.specs.Fault as desk
 use Rattle.avr_desk.specs.Record.{Record, DeskView, showing}
 use Rattle.stk_host.specs.Talk as link

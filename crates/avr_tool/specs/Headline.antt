@@ -8,7 +8,7 @@
 -- so no clause orders a line and a frame, but as events of the run. That a run succeeds is said only of a line on which
 -- few frames go wrong. Whether memory was refused nothing counts. Nothing is said of time, nor of a chip that loses its
 -- power in the middle of a write.
-use Rattle.std.specs.Prelude.{ℕ, ◌+◌, ◌*◌, ◌≡◌, ◌≤◌, ◌⊎◌, false, List, [], ◌∷◌, ◌++◌, map, length, Some, None}
+use Rattle.std.specs.Prelude.{ℕ, ◌*◌, ◌≡◌, ◌≤◌, ◌⊎◌, false, List, [], ◌∷◌, ◌++◌, map, length, Some, None}
 use Rattle.avr_cli.specs.declared.chosen.Settings.{Settings}
 use Rattle.avr_desk.specs.Fault.{Follows}
 use Rattle.avr_desk.specs.Record.{DeskView, Passes}
