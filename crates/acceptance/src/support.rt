@@ -2,7 +2,7 @@
 ghost use Rattle.std.specs.Prelude.{IfOk, OnOk};
 ghost use Rattle.stk_emu.specs.Wire.{AreLawful, IsLawfulFate};
 
-use avr_cli::{Settings, read_words, settings};
+use avr_cli::{Settings, read_settings, read_words};
 use avr_desk::{Bytes, Desk, MemDesk};
 use avr_part::{Chip, Mem, Parts};
 use avr_session::run;
@@ -45,7 +45,7 @@ pub(crate) fn settings_for(alloc: Global, words: &[&str]) -> Result<Settings, Fa
         all.push(String::from_str(alloc, *word)?)?;
     }
     let matches = read_words(alloc, all.as_slice())?;
-    Ok(settings(alloc, &matches)?)
+    Ok(read_settings(alloc, &matches)?)
 }
 
 /// A desk with these files, each a name and its bytes.

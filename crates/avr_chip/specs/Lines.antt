@@ -1,6 +1,6 @@
 -- The lines of the faults of a chip file. (Lines that are those of any file stand in avr_plan.)
 use Rattle.std.specs.Prelude.{ℕ, [], ◌∷◌, codes, decimal}
-use Rattle.avr_message.specs.Lines.{Bytes, error}
+use Rattle.avr_desk.specs.Lines.{Bytes, error}
 
 -- it has this many bytes, and a file of the part another number
 abbrev pub length_line : Bytes → ℕ → ℕ → Bytes

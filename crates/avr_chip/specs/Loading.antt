@@ -2,7 +2,7 @@
 use Rattle.std.specs.Prelude.{◌==◌, nat_le, length, Result, Ok, Err, if◌then◌else◌}
 use Rattle.avr_desk.specs.declared.record.Opening.{Opening}
 use Rattle.avr_desk.specs.declared.record.Opening.TheVariants.{Absent, Found}
-use Rattle.avr_message.specs.Lines.{Bytes}
+use Rattle.avr_desk.specs.Lines.{Bytes}
 use Rattle.avr_part.specs.ChipFile.{chip_file_size, state_in}
 use Rattle.avr_part.specs.Part.{Part}
 use Rattle.avr_part.specs.State.{ChipState, fresh_state}

@@ -1,11 +1,10 @@
 //! Why there is no chip, or no file of it, beside the lines that any file has. The status is 1.
 ghost use Rattle.std.specs.Prelude.{◌≡◌, ◌∷◌, []};
-ghost use Rattle.avr_message.specs.Lines.{error};
-ghost use Rattle.avr_message.specs.Said.{Tells};
+ghost use Rattle.avr_desk.specs.Lines.{error};
+ghost use Rattle.avr_desk.specs.Said.{Tells};
 ghost use Rattle.avr_chip.specs.Lines.{length_line};
 
-use avr_desk::Desk;
-use avr_message::Piece;
+use avr_desk::{Desk, Piece};
 use avr_plan::refuse;
 
 /// Tells what can't be done with a file.

@@ -6,7 +6,7 @@ use Rattle.std.specs.List.{list_all}
 use Rattle.std.specs.Char.{is_ascii_digit}
 use Rattle.avr_cli.specs.Split.{Bytes, colon}
 use Rattle.avr_cli.specs.Port.{is_address, port_number, port_of}
-use Rattle.avr_cli.specs.declared.chosen.Port.TheVariants.{Network}
+use Rattle.avr_cli.specs.declared.settings.Port.TheVariants.{Network}
 use Rattle.avr_cli.proofs.UpdateLaws.{not_empty}
 use Rattle.avr_cli.proofs.SplitLemmas.{HasNoColon, split_last-parts}
 

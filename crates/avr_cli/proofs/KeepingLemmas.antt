@@ -8,9 +8,9 @@ use Rattle.avr_cli.specs.Port.{port_given_of}
 use Rattle.avr_cli.specs.Settings.{◌>>=◌, Entries, GivesOrMemory, TellsAnyway, checked_programmer, checked_streams, is_told_anyway, run_settings, update_at, updates_from, updates_of}
 use Rattle.avr_cli.specs.Standard.{is_taken}
 use Rattle.avr_cli.specs.Update.{update_of}
-use Rattle.avr_cli.specs.declared.chosen.Port.{Port}
-use Rattle.avr_cli.specs.declared.chosen.Settings.{Settings}
-use Rattle.avr_cli.specs.declared.chosen.SettingsFault.{SettingsFault}
+use Rattle.avr_cli.specs.declared.settings.Port.{Port}
+use Rattle.avr_cli.specs.declared.settings.Settings.{Settings}
+use Rattle.avr_cli.specs.declared.settings.SettingsFault.{SettingsFault}
 use Rattle.avr_cli.specs.declared.update.Update.{Update}
 use Rattle.avr_cli.specs.declared.update.UpdateFault.{UpdateFault}
 

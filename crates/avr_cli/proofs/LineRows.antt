@@ -10,13 +10,13 @@ use Rattle.avr_part.specs.declared.mem.Mem.TheVariants.{Flash, Lfuse}
 use Rattle.avr_cli.specs.Command.{avrstk, asked_by}
 use Rattle.avr_cli.specs.Split.{Bytes}
 use Rattle.avr_cli.specs.Settings.{no_switches}
-use Rattle.avr_cli.specs.declared.chosen.Port.{Port}
-use Rattle.avr_cli.specs.declared.chosen.Port.TheVariants.{Stdio, Emulated, Network, Served}
-use Rattle.avr_cli.specs.declared.chosen.Settings.{Settings}
-use Rattle.avr_cli.specs.declared.chosen.Switches.{Switches}
-use Rattle.avr_cli.specs.declared.chosen.SettingsFault.{SettingsFault}
-use Rattle.avr_cli.specs.declared.chosen.SettingsFault.TheVariants.{NoPart, BadProgrammer, BadPort, NoChip, TooMany, BadUpdate}
-use Rattle.avr_cli.specs.declared.chosen.SettingsFault.TheVariants.{StandardTaken}
+use Rattle.avr_cli.specs.declared.settings.Port.{Port}
+use Rattle.avr_cli.specs.declared.settings.Port.TheVariants.{Stdio, Emulated, Network, Served}
+use Rattle.avr_cli.specs.declared.settings.Settings.{Settings}
+use Rattle.avr_cli.specs.declared.settings.Switches.{Switches}
+use Rattle.avr_cli.specs.declared.settings.SettingsFault.{SettingsFault}
+use Rattle.avr_cli.specs.declared.settings.SettingsFault.TheVariants.{NoPart, BadProgrammer, BadPort, NoChip, TooMany, BadUpdate}
+use Rattle.avr_cli.specs.declared.settings.SettingsFault.TheVariants.{StandardTaken}
 use Rattle.avr_cli.specs.declared.update.Op.TheVariants.{Read, Write}
 use Rattle.avr_cli.specs.declared.update.Format.TheVariants.{Auto, Ihex, Immediate}
 use Rattle.avr_cli.specs.declared.update.Update.{Update}

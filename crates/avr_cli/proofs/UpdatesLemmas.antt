@@ -4,7 +4,7 @@ use Rattle.avr_cli.specs.Split.{Bytes}
 use Rattle.avr_cli.specs.Settings.{◌>>=◌, updates_from, update_at}
 use Rattle.avr_cli.specs.Update.{update_of}
 use Rattle.avr_cli.specs.declared.update.Update.{Update}
-use Rattle.avr_cli.specs.declared.chosen.SettingsFault.{SettingsFault}
+use Rattle.avr_cli.specs.declared.settings.SettingsFault.{SettingsFault}
 
 -- these updates, and then those of the result
 abbrev pub onto : List Update → Result (List Update) SettingsFault → Result (List Update) SettingsFault

@@ -6,9 +6,9 @@ use Rattle.clap.specs.declared.builder.ArgAction.TheVariants.{SetTrue, Append, C
 use Rattle.clap.specs.declared.builder.value_parser.ValueParser.TheVariants.{Signed}
 use Rattle.avr_cli.specs.Split.{Bytes}
 use Rattle.avr_cli.specs.Settings.{Entries, settings_of}
-use Rattle.avr_cli.specs.declared.chosen.Switches.{Switches}
-use Rattle.avr_cli.specs.declared.chosen.Settings.{Settings}
-use Rattle.avr_cli.specs.declared.chosen.SettingsFault.{SettingsFault}
+use Rattle.avr_cli.specs.declared.settings.Switches.{Switches}
+use Rattle.avr_cli.specs.declared.settings.Settings.{Settings}
+use Rattle.avr_cli.specs.declared.settings.SettingsFault.{SettingsFault}
 
 -- an option of one letter, with a value; given again it has its last value
 abbrev pub value_rule : Bytes → ℕ → Rule

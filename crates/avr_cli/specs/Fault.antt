@@ -2,9 +2,9 @@
 use Rattle.std.specs.Prelude.{ℕ}
 use Rattle.avr_cli.specs.declared.update.UpdateFault.{UpdateFault}
 use Rattle.avr_cli.specs.declared.update.UpdateFault.TheVariants as update
-use Rattle.avr_cli.specs.declared.chosen.SettingsFault.{SettingsFault}
-use Rattle.avr_cli.specs.declared.chosen.SettingsFault.TheVariants.{NoPart, BadProgrammer, BadPort, NoChip, TooMany, BadUpdate}
-use Rattle.avr_cli.specs.declared.chosen.SettingsFault.TheVariants.{StandardTaken, Memory}
+use Rattle.avr_cli.specs.declared.settings.SettingsFault.{SettingsFault}
+use Rattle.avr_cli.specs.declared.settings.SettingsFault.TheVariants.{NoPart, BadProgrammer, BadPort, NoChip, TooMany, BadUpdate}
+use Rattle.avr_cli.specs.declared.settings.SettingsFault.TheVariants.{StandardTaken, Memory}
 
 abbrev pub update_fault_number : UpdateFault → ℕ
 update_fault_number update.BadMemory = 1

@@ -6,10 +6,10 @@ use Rattle.std.specs.Char.{is_ascii_digit}
 use Rattle.std.specs.Str.{bytes_eq}
 use Rattle.std.specs.Str.Parse.{digits_value}
 use Rattle.avr_cli.specs.Split.{Bytes, after_prefix, split_last}
-use Rattle.avr_cli.specs.declared.chosen.Port.{Port}
-use Rattle.avr_cli.specs.declared.chosen.Port.TheVariants.{Stdio, Emulated, Network, Served}
-use Rattle.avr_cli.specs.declared.chosen.SettingsFault.{SettingsFault}
-use Rattle.avr_cli.specs.declared.chosen.SettingsFault.TheVariants.{BadPort, NoChip}
+use Rattle.avr_cli.specs.declared.settings.Port.{Port}
+use Rattle.avr_cli.specs.declared.settings.Port.TheVariants.{Stdio, Emulated, Network, Served}
+use Rattle.avr_cli.specs.declared.settings.SettingsFault.{SettingsFault}
+use Rattle.avr_cli.specs.declared.settings.SettingsFault.TheVariants.{BadPort, NoChip}
 
 -- decimal digits and nothing else, of a value from 1 to 65535
 abbrev pub port_number : Bytes → Option ℕ

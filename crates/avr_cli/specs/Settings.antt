@@ -8,12 +8,12 @@ use Rattle.avr_cli.specs.Standard.{is_taken}
 use Rattle.avr_cli.specs.Update.{update_of}
 use Rattle.avr_cli.specs.declared.update.Update.{Update}
 use Rattle.avr_cli.specs.declared.update.UpdateFault.{UpdateFault}
-use Rattle.avr_cli.specs.declared.chosen.Port.{Port}
-use Rattle.avr_cli.specs.declared.chosen.Switches.{Switches}
-use Rattle.avr_cli.specs.declared.chosen.Settings.{Settings}
-use Rattle.avr_cli.specs.declared.chosen.SettingsFault.{SettingsFault}
-use Rattle.avr_cli.specs.declared.chosen.SettingsFault.TheVariants.{NoPart, BadProgrammer, BadPort, NoChip, TooMany, BadUpdate}
-use Rattle.avr_cli.specs.declared.chosen.SettingsFault.TheVariants.{StandardTaken, Memory}
+use Rattle.avr_cli.specs.declared.settings.Port.{Port}
+use Rattle.avr_cli.specs.declared.settings.Switches.{Switches}
+use Rattle.avr_cli.specs.declared.settings.Settings.{Settings}
+use Rattle.avr_cli.specs.declared.settings.SettingsFault.{SettingsFault}
+use Rattle.avr_cli.specs.declared.settings.SettingsFault.TheVariants.{NoPart, BadProgrammer, BadPort, NoChip, TooMany, BadUpdate}
+use Rattle.avr_cli.specs.declared.settings.SettingsFault.TheVariants.{StandardTaken, Memory}
 
 -- the texts that the command line gave, and its switches
 pub record Entries : Type 0 where

@@ -9,8 +9,8 @@ use Rattle.avr_cli.specs.declared.update.Op.{Op}
 use Rattle.avr_cli.specs.declared.update.Op.TheVariants.{Read}
 use Rattle.avr_cli.specs.declared.update.Format.{Format}
 use Rattle.avr_cli.specs.declared.update.Format.TheVariants.{Immediate}
-use Rattle.avr_cli.specs.declared.chosen.Port.{Port}
-use Rattle.avr_cli.specs.declared.chosen.Port.TheVariants.{Stdio, Emulated, Network, Served}
+use Rattle.avr_cli.specs.declared.settings.Port.{Port}
+use Rattle.avr_cli.specs.declared.settings.Port.TheVariants.{Stdio, Emulated, Network, Served}
 
 abbrev pub is_standard : Bytes → Bool
 is_standard name = bytes_eq name (codes "-")

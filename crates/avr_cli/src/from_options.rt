@@ -6,10 +6,10 @@ ghost use Rattle.avr_cli.specs.Settings.{GivesOrMemory, TellsAnyway, settings_of
 ghost use Rattle.avr_cli.specs.Settings.{run_settings, serve_settings, no_switches};
 ghost use Rattle.avr_cli.specs.Update.{update_of};
 
-use crate::chosen::{Settings, SettingsFault, Switches};
 use crate::options::{switches_of, text_of, texts_of};
 use crate::owned::{owned, owned_option};
 use crate::ports::{port_given, served};
+use crate::settings::{Settings, SettingsFault, Switches};
 use crate::standard::check_streams;
 use crate::update::{Update, UpdateFault};
 use crate::update_text::parse_update;
@@ -151,12 +151,12 @@ fn serve_settings(
 /// and no chip file.
 ///
 /// ```text
-/// let settings = settings(alloc, &matches)?;
+/// let settings = read_settings(alloc, &matches)?;
 /// assert!(rt; settings.part.as_str() == "m328p");
 /// assert!(rt; matches!(&settings.port, Port::Emulated(file) if file.as_str() == "chip.bin"));
 /// assert_eq!(rt; settings.updates.as_slice().len(), 1);
 /// ```
-pub fn settings(alloc: Global, matches: &ArgMatches<'_>) -> Result<Settings, SettingsFault>
+pub fn read_settings(alloc: Global, matches: &ArgMatches<'_>) -> Result<Settings, SettingsFault>
     ensures gives { GivesOrMemory (settings_of (entries_of (rows_of (found_of matches.now)))) result }
     ensures tells { TellsAnyway (settings_of (entries_of (rows_of (found_of matches.now)))) result }
 {

@@ -3,7 +3,7 @@ ghost use Rattle.std.specs.Prelude.{◌≡◌, ◌≢◌, ◌∷◌, ◌++◌, [
 ghost use Rattle.avr_cli.specs.Split.{Bytes, colon};
 ghost use Rattle.avr_cli.specs.Port.{port_number, port_of};
 ghost use Rattle.avr_cli.specs.Update.{format_of, update_of, update_text};
-ghost use Rattle.avr_cli.specs.declared.chosen.Port.{Port};
+ghost use Rattle.avr_cli.specs.declared.settings.Port.{Port};
 ghost use Rattle.avr_cli.specs.declared.update.Format.{Format};
 ghost use Rattle.avr_cli.specs.declared.update.Op.{Op};
 ghost use Rattle.avr_part.specs.declared.mem.Mem.{Mem};

@@ -4,7 +4,7 @@
 //! one idea: `clap` cuts the words into options, and what the options ask for is a function of
 //! their texts, which names the first fault.
 //!
-//! `let matches = read_words(alloc, &words)?;` and then `settings(alloc, &matches)` makes settings.
+//! `let matches = read_words(alloc, &words)?;` and then `read_settings(alloc, &matches)` makes settings.
 #![tactic(auto)]
 
 // the words
@@ -12,7 +12,7 @@ mod command;
 mod options;
 
 // what they may ask for
-mod chosen;
+mod settings;
 mod update;
 mod updates;
 
@@ -30,11 +30,11 @@ mod update_text;
 // laws of updates and addresses
 mod laws;
 
-pub use chosen::{Port, Settings, SettingsFault, Switches};
 pub use command::{make_command, read_words};
-pub use from_options::settings;
+pub use from_options::read_settings;
 pub use laws::{a_written_update_is_read, an_address_is_cut_at_its_last_colon};
 pub use ports::port_number;
+pub use settings::{Port, Settings, SettingsFault, Switches};
 pub use text::Text;
 pub use update::{Format, Op, Update, UpdateFault};
 pub use update_text::parse_update;

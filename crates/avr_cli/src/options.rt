@@ -3,7 +3,7 @@ ghost use Rattle.std.specs.Prelude.{◌≡◌, option_map, map};
 ghost use Rattle.clap.specs.Words.{found_of, rows_of, first_of, all_of};
 ghost use Rattle.avr_cli.specs.Command.{is_on, switches_of};
 
-use crate::chosen::Switches;
+use crate::settings::Switches;
 use clap::ArgMatches;
 
 /// The text of an option with one value, the last one given.

@@ -2,7 +2,7 @@
 ghost use Rattle.std.specs.Prelude.{Ok, option_map};
 ghost use Rattle.avr_cli.specs.Settings.{GivesOrMemory};
 
-use crate::chosen::SettingsFault;
+use crate::settings::SettingsFault;
 use crate::text::Text;
 use std::alloc::Global;
 

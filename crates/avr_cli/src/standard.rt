@@ -4,7 +4,7 @@ ghost use Rattle.std.specs.List.{list_any};
 ghost use Rattle.avr_cli.specs.Settings.{checked_streams};
 ghost use Rattle.avr_cli.specs.Standard.{is_standard, is_given_standard, uses_standard, uses_input, is_port_taken, is_taken};
 
-use crate::chosen::{Port, SettingsFault};
+use crate::settings::{Port, SettingsFault};
 use crate::update::{Format, Op, Update};
 
 /// Whether a file's name stands for standard input or output.

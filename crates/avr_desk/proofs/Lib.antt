@@ -4,3 +4,7 @@ pub mod NamedLemmas
 pub mod Streams
 pub mod Counting
 pub mod Rows
+pub mod Digits
+pub mod Pieces
+pub mod Saying
+pub mod Telling

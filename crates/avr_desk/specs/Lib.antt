@@ -7,3 +7,5 @@ pub mod Memory
 pub mod Failing
 pub mod Shown
 pub mod Standing
+pub mod Lines
+pub mod Said

@@ -4,7 +4,8 @@
 //! caller can say what was opened, created, printed and reported, over any desk that shows it.
 //!
 //! `read_file(alloc, &mut desk, "a.hex", 65_536)?` reads a file whole, `write_all(&mut desk,
-//! Stream::Messages, b"done\n")?` reports a line.
+//! Stream::Messages, b"done\n")?` writes bytes to a stream, and `print_error(&mut desk, &[Piece::Text("command "),
+//! Piece::Byte(0x10), Piece::Text(": bad answer")])?` prints the line `avrstk: error: command 10: bad answer`.
 #![tactic(auto)]
 
 // What a desk is, and what it keeps of a run.
@@ -17,6 +18,10 @@ mod record;
 mod files;
 mod stream;
 
+// The lines of messages.
+mod line;
+mod piece;
+
 // The desks.
 mod failing;
 mod kept;
@@ -28,7 +33,9 @@ pub use desk::Desk;
 pub use failing::FailingDesk;
 pub use fault::DeskFault;
 pub use files::{Contents, FileFault, read_file};
+pub use line::{print_error, print_information, print_warning};
 pub use mem_desk::MemDesk;
+pub use piece::Piece;
 pub use record::{Open, Opening, Reading, Writing};
 pub use stream::{Stream, write_all};
 pub use system::SystemDesk;

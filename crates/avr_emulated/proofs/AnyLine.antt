@@ -1,8 +1,8 @@
 -- A session from its opening to its end, over any line.
 use Rattle.std.proofs.Common.{◌≡◌, ℕ, List, [], ◌∷◌, ◌∙◌, arith, Ok, Err, Result}
 use Rattle.std.specs.Prelude.{All, ⊤}
-use Rattle.avr_cli.specs.declared.chosen.Switches.{Switches}
-use Rattle.avr_message.specs.Said.{Saying}
+use Rattle.avr_cli.specs.declared.settings.Switches.{Switches}
+use Rattle.avr_desk.specs.Said.{Saying}
 use Rattle.avr_part.specs.Part.{Part, IsPart}
 use Rattle.avr_plan.specs.Plan.{Plan, IsFitted}
 use Rattle.avr_plan.specs.declared.task.Task.{Task}

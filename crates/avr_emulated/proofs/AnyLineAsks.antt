@@ -1,8 +1,8 @@
 -- All that a session asks fits a frame.
 use Rattle.std.proofs.Common.{suc, ◌≤◌, List, [], ◌∷◌, length, arith, Bool, true, false, Ok, Err, Result}
 use Rattle.std.specs.Prelude.{All, if◌then◌else◌}
-use Rattle.avr_cli.specs.declared.chosen.Switches.{Switches}
-use Rattle.avr_message.specs.Said.{Saying}
+use Rattle.avr_cli.specs.declared.settings.Switches.{Switches}
+use Rattle.avr_desk.specs.Said.{Saying}
 use Rattle.avr_part.specs.Mem.{is_writable}
 use Rattle.avr_part.specs.declared.mem.Mem.{Mem}
 use Rattle.avr_part.specs.Part.{Part, IsPart, size_of}

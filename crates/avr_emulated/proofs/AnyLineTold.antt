@@ -1,6 +1,6 @@
 -- A call of the host, and what is said of it: where it stands on a line.
 use Rattle.std.proofs.Common.{◌≡◌, ℕ, List, [], ◌∷◌, refl, sym, ap, ◌∙◌, Ok, Err, Result}
-use Rattle.avr_message.specs.Said.{Saying}
+use Rattle.avr_desk.specs.Said.{Saying}
 use Rattle.stk_frame.specs.declared.command.Command.{Command}
 use Rattle.stk_host.specs.declared.fault.HostFault.{HostFault}
 use Rattle.stk_host.specs.Dialog.{Dialog, Done, Say, Ask, ◌>>=◌, lifted}

@@ -1,6 +1,6 @@
 -- Dialogs over a line on which few frames go wrong, by what they come to, what they say and where they leave the programmer.
 use Rattle.std.proofs.Common.{◌≡◌, ℕ, List, [], ◌∷◌, ◌++◌, refl, sym, ap, ap₂, ◌∙◌, subst}
-use Rattle.avr_message.specs.Said.{Saying}
+use Rattle.avr_desk.specs.Said.{Saying}
 use Rattle.stk_host.specs.Dialog.{Dialog, Done, Say, Ask, ◌>>=◌, lifted}
 use Rattle.stk_emu.specs.declared.fate.Fate.{Fate}
 use Rattle.stk_emu.specs.Programmer.{Programmer}

@@ -1,8 +1,8 @@
 -- A session asks at most four times the commands of its plan's steps.
 use Rattle.std.proofs.Common.{◌≡◌, ℕ, ◌+◌, ◌*◌, List, [], ◌∷◌, ◌++◌, append_assoc, ◌∙◌, subst, arith, Bool, true, false, Ok, Result}
 use Rattle.std.specs.Prelude.{if◌then◌else◌}
-use Rattle.avr_cli.specs.declared.chosen.Switches.{Switches}
-use Rattle.avr_message.specs.Said.{Saying, SaidPart}
+use Rattle.avr_cli.specs.declared.settings.Switches.{Switches}
+use Rattle.avr_desk.specs.Said.{Saying, SaidPart}
 use Rattle.avr_part.specs.declared.mem.Mem.{Mem}
 use Rattle.avr_part.specs.Part.{Part}
 use Rattle.avr_plan.specs.Plan.{Plan}

@@ -3,8 +3,8 @@ use Rattle.std.proofs.Common.{◌≡◌, ℕ, List, [], ◌∷◌, ◌++◌, len
 use Rattle.std.proofs.lemmas.List.{append-nil}
 use Rattle.std.proofs.lemmas.List.Elements.{All-head, All-tail}
 use Rattle.std.specs.Prelude.{if◌then◌else◌, ⊤, ◌≤◌}
-use Rattle.avr_cli.specs.declared.chosen.Switches.{Switches}
-use Rattle.avr_message.specs.Said.{Saying}
+use Rattle.avr_cli.specs.declared.settings.Switches.{Switches}
+use Rattle.avr_desk.specs.Said.{Saying}
 use Rattle.avr_part.specs.declared.mem.Mem.{Mem}
 use Rattle.avr_part.specs.Mem.{is_writable}
 use Rattle.avr_part.specs.Part.{Part, IsPart, size_of}

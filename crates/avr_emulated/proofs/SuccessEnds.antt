@@ -1,6 +1,6 @@
 -- Dialogs that succeed over a line of any fates, by what they come to, what they say and where they leave the programmer.
 use Rattle.std.proofs.Common.{◌≡◌, ℕ, List, [], ◌∷◌, ◌++◌, refl, sym, ap, ap₂, ◌∙◌, subst, Ok, Err, Result}
-use Rattle.avr_message.specs.Said.{Saying}
+use Rattle.avr_desk.specs.Said.{Saying}
 use Rattle.stk_host.specs.declared.fault.HostFault.{HostFault}
 use Rattle.stk_host.specs.Dialog.{Dialog, Done, Say, Ask, ◌>>=◌, lifted}
 use Rattle.stk_emu.specs.declared.fate.Fate.{Fate}

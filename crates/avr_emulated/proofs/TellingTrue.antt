@@ -5,8 +5,8 @@ use Rattle.std.specs.Prelude.{All, Contains, ⊤, codes, decimal, nat_lt, if◌t
 use Rattle.std.specs.Str.{bytes_eq}
 use Rattle.avr_cli.specs.declared.update.Format.{Format}
 use Rattle.avr_image.specs.Image.{byte_count}
-use Rattle.avr_message.specs.Lines.{Bytes, spaced_digits, information, warning}
-use Rattle.avr_message.specs.Said.{Saying, Line, Creates, Writes, Outs}
+use Rattle.avr_desk.specs.Lines.{Bytes, spaced_digits, information, warning}
+use Rattle.avr_desk.specs.Said.{Saying, Line, Creates, Writes, Outs}
 use Rattle.avr_part.specs.Mem.{is_writable, name_of}
 use Rattle.avr_part.specs.Part.{IsPart, size_of}
 use Rattle.avr_part.specs.declared.mem.Mem.{Mem}

@@ -1,7 +1,7 @@
 -- A session that was played over a wire, as it went along the line of its fates.
 use Rattle.std.proofs.Common.{◌≡◌, ◌*◌, ◌⊎◌, ℕ, [], ◌++◌, All, length, sym, ap, ◌∙◌, subst, inl, inr, true, false, Option, Some, option_map}
 use Rattle.std.proofs.lemmas.List.{append-nil}
-use Rattle.avr_message.specs.Said.{Saying, SaidPart, after_all}
+use Rattle.avr_desk.specs.Said.{Saying, SaidPart, after_all}
 use Rattle.avr_part.specs.Part.{IsPart}
 use Rattle.avr_part.specs.Sound.{IsSoundChip}
 use Rattle.avr_plan.specs.Plan.{Plan, IsFitted}

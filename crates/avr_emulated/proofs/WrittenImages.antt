@@ -3,7 +3,7 @@ use Rattle.std.proofs.Common.{◌≡◌, ℕ, zero, suc, ◌≤◌, ◌<◌, ari
 use Rattle.std.proofs.lemmas.Bool.{true≢false, eqb-true}
 use Rattle.std.proofs.lemmas.List.{length-replicate}
 use Rattle.std.specs.Prelude.{◌==◌, ◌||◌, if◌then◌else◌, All}
-use Rattle.avr_cli.specs.declared.chosen.Switches.{Switches}
+use Rattle.avr_cli.specs.declared.settings.Switches.{Switches}
 use Rattle.avr_image.specs.Image.{empty, byte_at, either, over}
 use Rattle.avr_part.specs.Part.{Part, size_of}
 use Rattle.avr_part.specs.declared.mem.Mem.{Mem}

@@ -2,7 +2,7 @@
 -- programmer, whatever the line loses, delays and spoils.
 use Rattle.std.specs.Prelude.{ℕ, ◌+◌, ◌*◌, ◌≡◌, ◌≤◌, ◌⊎◌, true, false, List, [], ◌∷◌, ◌++◌, map, length}
 use Rattle.avr_desk.specs.Record.{DeskView}
-use Rattle.avr_message.specs.Said.{Saying}
+use Rattle.avr_desk.specs.Said.{Saying}
 use Rattle.avr_plan.specs.Plan.{Plan}
 use Rattle.avr_session.specs.Runs.{devices, start, untold, BrokeOff}
 use Rattle.avr_session.specs.Session.{session, is_erase_due, takes_memory}

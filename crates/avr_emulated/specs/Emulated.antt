@@ -2,10 +2,10 @@
 use Rattle.std.specs.Prelude.{◌≡◌, ◌⊎◌, ℕ, List, [], ◌∷◌, All, Ok, Err}
 use Rattle.avr_chip.specs.Loading.{chip_stage}
 use Rattle.avr_chip.specs.Saving.{Saves}
-use Rattle.avr_cli.specs.declared.chosen.Settings.{Settings}
+use Rattle.avr_cli.specs.declared.settings.Settings.{Settings}
 use Rattle.avr_desk.specs.Fault.{Follows}
 use Rattle.avr_desk.specs.Record.{DeskView}
-use Rattle.avr_message.specs.Lines.{Bytes}
+use Rattle.avr_desk.specs.Lines.{Bytes}
 use Rattle.avr_part.specs.ChipFile.{chip_file}
 use Rattle.avr_part.specs.Sound.{IsSoundChip}
 use Rattle.avr_part.specs.State.{ChipState as Chip}

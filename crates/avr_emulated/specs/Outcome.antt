@@ -1,7 +1,7 @@
 -- What a run leaves in a chip, whatever the line did.
 use Rattle.std.specs.Prelude.{ℕ, suc, ◌≡◌, ◌≤◌, ◌-◌, List, take}
 use Rattle.avr_desk.specs.Record.{DeskView, Passes}
-use Rattle.avr_message.specs.Said.{after_all}
+use Rattle.avr_desk.specs.Said.{after_all}
 use Rattle.avr_plan.specs.Plan.{Plan}
 use Rattle.stk_emu.specs.declared.fate.Fate.{Fate}
 use Rattle.stk_emu.specs.Effect.{Item, Memories, effects}

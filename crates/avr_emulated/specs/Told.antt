@@ -2,8 +2,8 @@
 use Rattle.std.specs.Prelude.{ℕ, zero, suc, true, ◌≡◌, ◌⊎◌, List, [], ◌∷◌, ◌++◌, length, Contains, Err, ⊤, codes, decimal}
 use Rattle.avr_cli.specs.declared.update.Format.{Format}
 use Rattle.avr_image.specs.Image.{byte_count}
-use Rattle.avr_message.specs.Lines.{Bytes, spaced_digits, information, warning}
-use Rattle.avr_message.specs.Said.{Saying, Line, Creates, Writes, Outs}
+use Rattle.avr_desk.specs.Lines.{Bytes, spaced_digits, information, warning}
+use Rattle.avr_desk.specs.Said.{Saying, Line, Creates, Writes, Outs}
 use Rattle.avr_part.specs.Mem.{name_of}
 use Rattle.avr_part.specs.declared.mem.Mem.{Mem}
 use Rattle.avr_plan.specs.Plan.{Plan}

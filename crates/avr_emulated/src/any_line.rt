@@ -3,7 +3,7 @@
 
 ghost use Rattle.std.specs.Prelude.{◌≡◌, ◌*◌, ℕ, List, [], All, take};
 ghost use Rattle.avr_desk.specs.Record.{DeskView};
-ghost use Rattle.avr_message.specs.Said.{SaidPart};
+ghost use Rattle.avr_desk.specs.Said.{SaidPart};
 ghost use Rattle.avr_part.specs.Part.{IsPart};
 ghost use Rattle.avr_plan.specs.Plan.{Plan, IsFitted};
 ghost use Rattle.avr_session.specs.Runs.{devices};

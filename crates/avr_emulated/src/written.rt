@@ -2,7 +2,7 @@
 #![tactic(auto)]
 
 ghost use Rattle.std.specs.Prelude.{◌≡◌, ◌↔◌, ◌<◌, ℕ, false, List, All, length, map};
-ghost use Rattle.avr_cli.specs.declared.chosen.Switches.{Switches};
+ghost use Rattle.avr_cli.specs.declared.settings.Switches.{Switches};
 ghost use Rattle.avr_part.specs.Part.{Part, IsPart};
 ghost use Rattle.avr_part.specs.declared.mem.Mem.{Mem};
 ghost use Rattle.avr_part.specs.declared.mem.Mem.TheVariants.{Flash};

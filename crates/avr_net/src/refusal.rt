@@ -1,10 +1,9 @@
 //! A port that cannot be opened.
 ghost use Rattle.std.specs.Prelude.{◌≡◌};
-ghost use Rattle.avr_message.specs.Said.{Tells};
+ghost use Rattle.avr_desk.specs.Said.{Tells};
 ghost use Rattle.avr_net.specs.Lines.{unopened_line};
 
-use avr_desk::Desk;
-use avr_message::{Piece, print_error};
+use avr_desk::{Desk, Piece, print_error};
 
 /// The status of a run whose port cannot be opened.
 const UNOPENED: u8 = 1;

@@ -3,16 +3,16 @@
 use Rattle.std.proofs.Common.{◌≡◌, ◌∙◌, sym, ap, subst, arith, ℕ, ◌+◌, ◌<◌, ◌≤◌, ◌-◌, ◌^◌, ◌⊎◌, inl, inr, List, [], ◌∷◌, ◌++◌, take, get_or, append-nil, true, Option, Some, None, Ok, Err}
 use Rattle.std.specs.Prelude.{codes}
 use Rattle.avr_cli.specs.Settings.{no_switches}
-use Rattle.avr_cli.specs.declared.chosen.Port.TheVariants.{Stdio}
-use Rattle.avr_cli.specs.declared.chosen.Settings.{Settings}
+use Rattle.avr_cli.specs.declared.settings.Port.TheVariants.{Stdio}
+use Rattle.avr_cli.specs.declared.settings.Settings.{Settings}
 use Rattle.avr_cli.specs.declared.update.Format.TheVariants.{Ihex}
 use Rattle.avr_cli.specs.declared.update.Op.TheVariants as op
 use Rattle.avr_desk.specs.Fault.{HasRisen}
 use Rattle.avr_desk.specs.Record.{DeskView, Record, after_err, showing}
 use Rattle.avr_desk.specs.declared.record.Opening.TheVariants.{Found}
-use Rattle.avr_message.specs.Lines.{Bytes}
-use Rattle.avr_message.specs.Said.{Opens, Line, TellsLine, TellsFailure, after_all}
-use Rattle.avr_message.proofs.Telling.{risen_before}
+use Rattle.avr_desk.specs.Lines.{Bytes}
+use Rattle.avr_desk.specs.Said.{Opens, Line, TellsLine, TellsFailure, after_all}
+use Rattle.avr_desk.proofs.Telling.{risen_before}
 use Rattle.avr_part.specs.BuiltIn.{m328p}
 use Rattle.avr_part.specs.declared.mem.Mem.TheVariants.{Flash}
 use Rattle.avr_records.specs.declared.kind.Ending.{Ending}

@@ -8,10 +8,10 @@ use Rattle.avr_desk.specs.declared.record.Open.TheVariants.{Closed, ToRead, ToWr
 use Rattle.avr_desk.specs.declared.record.Opening.{Opening}
 use Rattle.avr_desk.specs.declared.record.Opening.TheVariants.{Absent, Found}
 use Rattle.avr_desk.specs.declared.record.Reading.{Reading}
-use Rattle.avr_message.specs.Lines.{Bytes}
-use Rattle.avr_message.specs.Said.{Saying, Opens, Line, Creates, Writes, Outs, TellsLine, TellsFailure, after, after_all}
-use Rattle.avr_message.proofs.Saying.{after_append}
-use Rattle.avr_message.proofs.Telling.{failed_before}
+use Rattle.avr_desk.specs.Lines.{Bytes}
+use Rattle.avr_desk.specs.Said.{Saying, Opens, Line, Creates, Writes, Outs, TellsLine, TellsFailure, after, after_all}
+use Rattle.avr_desk.proofs.Saying.{after_append}
+use Rattle.avr_desk.proofs.Telling.{failed_before}
 use Rattle.avr_plan.specs.Lines.{memory_line, not_opened_line}
 use Rattle.avr_plan.specs.Playing.{Went, Break, InLine, NotOpened, NotRead, NoMemory, NoMemoryFor, last_done, IsBreak, TellsBreak, StageBrokeOff, Goes, part_read}
 use Rattle.avr_plan.specs.Stage.{Stage, Made, Refused, StageResult, ◌>>=◌, content_stage, next_opening, file_stage}

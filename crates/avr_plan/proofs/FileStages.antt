@@ -7,8 +7,8 @@ use Rattle.avr_desk.specs.declared.files.FileFault.{FileFault}
 use Rattle.avr_desk.specs.declared.files.FileFault.TheVariants as file_fault
 use Rattle.avr_desk.specs.declared.record.Opening.TheVariants.{Absent, Found}
 use Rattle.avr_desk.specs.declared.record.Reading.{Reading}
-use Rattle.avr_message.specs.Lines.{Bytes}
-use Rattle.avr_message.specs.Said.{Tells}
+use Rattle.avr_desk.specs.Lines.{Bytes}
+use Rattle.avr_desk.specs.Said.{Tells}
 use Rattle.avr_plan.proofs.Openings.{goes_opened, goes_judged, goes_broken}
 use Rattle.avr_plan.proofs.Played.{goes_refused}
 use Rattle.avr_plan.specs.ImageReading.{FileBreaks, IsCounted}

@@ -11,7 +11,7 @@ use Rattle.avr_desk.specs.Record.{DeskView, Record, Passes, after_open, after_re
 use Rattle.avr_desk.specs.declared.record.Open.{Open}
 use Rattle.avr_desk.specs.declared.record.Open.TheVariants.{Closed, ToRead, ToWrite}
 use Rattle.avr_desk.specs.declared.files.FileFault.TheVariants.{Absent, NotOpened, NotRead, Memory}
-use Rattle.avr_message.specs.Lines.{Bytes}
+use Rattle.avr_desk.specs.Lines.{Bytes}
 use Rattle.avr_records.specs.Detect.{kind_of_file}
 use Rattle.avr_records.specs.declared.kind.Found.{Found}
 use Rattle.avr_plan.specs.ImageFile.{Given, whole_file, long_file, file_within, kind_of}

@@ -1,8 +1,8 @@
 -- Planning only reads and tells, stage by stage.
 use Rattle.std.proofs.Common.{ℕ, List, [], ◌∷◌, ◌++◌, Bool, true, false, Ok, Err, Result, Option, Some, None}
 use Rattle.std.specs.Prelude.{if◌then◌else◌}
-use Rattle.avr_cli.specs.declared.chosen.Settings.{Settings}
-use Rattle.avr_cli.specs.declared.chosen.Switches.{Switches}
+use Rattle.avr_cli.specs.declared.settings.Settings.{Settings}
+use Rattle.avr_cli.specs.declared.settings.Switches.{Switches}
 use Rattle.avr_cli.specs.declared.update.Format.{Format}
 use Rattle.avr_cli.specs.declared.update.Format.TheVariants as format
 use Rattle.avr_cli.specs.declared.update.Op.{Op}
@@ -11,8 +11,8 @@ use Rattle.avr_cli.specs.declared.update.Update.{Update}
 use Rattle.avr_desk.specs.declared.record.Opening.{Opening}
 use Rattle.avr_desk.specs.declared.record.Opening.TheVariants.{Absent, Found}
 use Rattle.avr_image.specs.Values.{values}
-use Rattle.avr_message.specs.Lines.{Bytes}
-use Rattle.avr_message.specs.Said.{Saying, Opens, Line, Creates, Writes, Outs}
+use Rattle.avr_desk.specs.Lines.{Bytes}
+use Rattle.avr_desk.specs.Said.{Saying, Opens, Line, Creates, Writes, Outs}
 use Rattle.avr_part.specs.BuiltIn.{part_of_id}
 use Rattle.avr_part.specs.Mem.{is_writable}
 use Rattle.avr_part.specs.Part.{Part, size_of}

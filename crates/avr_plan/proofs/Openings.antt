@@ -9,10 +9,10 @@ use Rattle.avr_desk.specs.declared.files.FileFault.TheVariants as file_fault
 use Rattle.avr_desk.specs.declared.record.Opening.{Opening}
 use Rattle.avr_desk.specs.declared.record.Opening.TheVariants.{Found}
 use Rattle.avr_desk.specs.declared.record.Reading.{Reading}
-use Rattle.avr_message.proofs.Saying.{kept_append}
-use Rattle.avr_message.proofs.Telling.{failure_told, follows_on, tells_since}
-use Rattle.avr_message.specs.Lines.{Bytes}
-use Rattle.avr_message.specs.Said.{Opens, Line, Tells, after_all}
+use Rattle.avr_desk.proofs.Saying.{kept_append}
+use Rattle.avr_desk.proofs.Telling.{failure_told, follows_on, tells_since}
+use Rattle.avr_desk.specs.Lines.{Bytes}
+use Rattle.avr_desk.specs.Said.{Opens, Line, Tells, after_all}
 use Rattle.avr_plan.proofs.Played.{goes_on, goes_no_further}
 use Rattle.avr_plan.specs.ImageReading.{FileBreaks, IsCounted}
 use Rattle.avr_plan.specs.Lines.{file_fault_line, memory_line, not_opened_line, not_read_line}

@@ -4,8 +4,8 @@ use Rattle.std.proofs.lemmas.Bool.Decides.{nat_tests}
 use Rattle.avr_desk.specs.Fault.{Follows}
 use Rattle.avr_desk.specs.Files.{IsWhole, with_read}
 use Rattle.avr_desk.specs.Record.{DeskView, Passes}
-use Rattle.avr_message.specs.Lines.{Bytes}
-use Rattle.avr_message.specs.Said.{Tells}
+use Rattle.avr_desk.specs.Lines.{Bytes}
+use Rattle.avr_desk.specs.Said.{Tells}
 use Rattle.avr_part.specs.Part.{Part}
 use Rattle.avr_part.specs.PartFile.{GivesOrMemory, parts_of}
 use Rattle.avr_part.specs.declared.fault.PartFault.{PartFault}

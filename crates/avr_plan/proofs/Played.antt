@@ -8,9 +8,9 @@ use Rattle.avr_desk.specs.declared.fault.DeskFault.TheVariants.{NotFound, Failed
 use Rattle.avr_desk.specs.Stream.{SendsPart}
 use Rattle.avr_desk.specs.declared.stream.Stream.TheVariants.{Messages}
 use Rattle.avr_desk.specs.declared.record.Opening.{Opening}
-use Rattle.avr_message.specs.Said.{Saying, Line, Opens, TellsLine, Tells, after_all}
-use Rattle.avr_message.proofs.Saying.{kept_none, kept_append}
-use Rattle.avr_message.proofs.Telling.{follows_on, failed_later, tells_since, failure_in}
+use Rattle.avr_desk.specs.Said.{Saying, Line, Opens, TellsLine, Tells, after_all}
+use Rattle.avr_desk.proofs.Saying.{kept_none, kept_append}
+use Rattle.avr_desk.proofs.Telling.{follows_on, failed_later, tells_since, failure_in}
 use Rattle.avr_plan.specs.Lines.{memory_line, not_opened_line, not_read_line}
 use Rattle.avr_plan.specs.Playing.{Went, Break, InLine, NotOpened, NotRead, NoMemory, NoMemoryFor, last_done, IsNextSaying, IsBreak, TellsBreak, Rest, StageBrokeOff, Goes}
 use Rattle.avr_plan.specs.Stage.{Stage, Answer, Made, Refused, Unread, StageResult, behind_sayings, going_on, ◌>>=◌, verdict_stage, saying_stage, next_opening}

@@ -1,12 +1,12 @@
 -- The tasks of updates.
 use Rattle.std.proofs.Common.{◌≡◌, sym, subst, arith, ℕ, zero, suc, ◌+◌, All, drop, is_ok, is_err, List, [], ◌∷◌, ◌++◌, refl, true, false, if◌then◌else◌, Option, Result, Ok, Err}
-use Rattle.avr_cli.specs.declared.chosen.Switches.{Switches}
+use Rattle.avr_cli.specs.declared.settings.Switches.{Switches}
 use Rattle.avr_cli.specs.declared.update.Format.{Format}
 use Rattle.avr_cli.specs.declared.update.Format.TheVariants.{Auto, Ihex, Srec, Raw, Immediate, Decimal, Hexadecimal, Octal, Binary}
 use Rattle.avr_cli.specs.declared.update.Update.{Update}
 use Rattle.avr_desk.specs.Record.{DeskView}
-use Rattle.avr_message.specs.Lines.{Bytes}
-use Rattle.avr_message.specs.Said.{Tells}
+use Rattle.avr_desk.specs.Lines.{Bytes}
+use Rattle.avr_desk.specs.Said.{Tells}
 use Rattle.avr_part.specs.Mem.{is_writable}
 use Rattle.avr_part.specs.Part.{Part}
 use Rattle.avr_part.specs.declared.mem.Mem.{Mem}

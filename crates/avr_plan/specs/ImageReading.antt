@@ -6,7 +6,7 @@ use Rattle.avr_desk.specs.Files.{after_reading, with_read, IsWhole}
 use Rattle.avr_desk.specs.Record.{DeskView, Passes, with_absent}
 use Rattle.avr_desk.specs.declared.files.FileFault.{FileFault}
 use Rattle.avr_desk.specs.declared.files.FileFault.TheVariants.{Absent, NotOpened, NotRead, Memory}
-use Rattle.avr_message.specs.Lines.{Bytes}
+use Rattle.avr_desk.specs.Lines.{Bytes}
 use Rattle.avr_records.specs.declared.kind.Ending.{Ending}
 use Rattle.avr_records.specs.declared.kind.Found.{Found}
 use Rattle.avr_plan.specs.ImageFile.{Given, file_within, image_within}

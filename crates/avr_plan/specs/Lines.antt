@@ -5,7 +5,7 @@ use Rattle.avr_desk.specs.declared.files.FileFault.{FileFault}
 use Rattle.avr_desk.specs.declared.files.FileFault.TheVariants as file_fault
 use Rattle.avr_image.specs.declared.fault.ImageFault.{ImageFault}
 use Rattle.avr_image.specs.declared.fault.ImageFault.TheVariants as image_fault
-use Rattle.avr_message.specs.Lines.{Bytes, digits, warning, error}
+use Rattle.avr_desk.specs.Lines.{Bytes, digits, warning, error}
 use Rattle.avr_part.specs.Fault.{field_name}
 use Rattle.avr_part.specs.Mem.{name_of}
 use Rattle.avr_part.specs.declared.fault.PartFault.{PartFault}

@@ -1,7 +1,7 @@
 -- What only reads and tells: files are opened to be read, and lines are printed; nothing is created, written or put
 -- out.
 use Rattle.std.specs.Prelude.{List, [], ◌∷◌}
-use Rattle.avr_message.specs.Said.{Saying, Opens, Line, Creates, Writes, Outs}
+use Rattle.avr_desk.specs.Said.{Saying, Opens, Line, Creates, Writes, Outs}
 
 abbrev pub OnlyReads : List Saying → Type 0
 OnlyReads [] = Unit {0}

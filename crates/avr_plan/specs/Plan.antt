@@ -1,6 +1,6 @@
 -- What a run is to do, once everything that it needs was read and judged.
 use Rattle.std.specs.Prelude.{◌≡◌, true, List, length}
-use Rattle.avr_cli.specs.declared.chosen.Switches.{Switches}
+use Rattle.avr_cli.specs.declared.settings.Switches.{Switches}
 use Rattle.avr_part.specs.Mem.{is_writable}
 use Rattle.avr_part.specs.Part.{Part, size_of}
 use Rattle.avr_plan.specs.declared.task.Task.{Task}

@@ -5,8 +5,8 @@ use Rattle.avr_desk.specs.Record.{DeskView, Passes}
 use Rattle.avr_desk.specs.declared.record.Opening.{Opening}
 use Rattle.avr_desk.specs.declared.record.Opening.TheVariants.{Found}
 use Rattle.avr_desk.specs.declared.record.Reading.{Reading}
-use Rattle.avr_message.specs.Lines.{Bytes}
-use Rattle.avr_message.specs.Said.{Saying, Opens, Line, IsPrefixOf, TellsLine, TellsFailure, after_all}
+use Rattle.avr_desk.specs.Lines.{Bytes}
+use Rattle.avr_desk.specs.Said.{Saying, Opens, Line, IsPrefixOf, TellsLine, TellsFailure, after_all}
 use Rattle.avr_plan.specs.Lines.{memory_line, not_opened_line, not_read_line}
 use Rattle.avr_plan.specs.Stage.{Stage, Answer, Made, Refused, StageResult, next_opening}
 

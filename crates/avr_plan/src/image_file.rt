@@ -2,7 +2,7 @@
 ghost use Rattle.std.specs.Prelude.{◌≡◌, ◌+◌, ◌<◌, ◌≤◌, ◌^◌, ℕ, IfErr, length};
 ghost use Rattle.avr_desk.specs.Fault.{Follows};
 ghost use Rattle.avr_desk.specs.Record.{DeskView};
-ghost use Rattle.avr_message.specs.Lines.{Bytes};
+ghost use Rattle.avr_desk.specs.Lines.{Bytes};
 ghost use Rattle.avr_records.specs.declared.kind.Found.{Found as AnyFound};
 ghost use Rattle.avr_plan.specs.Faults.{read_fault_number};
 ghost use Rattle.avr_plan.specs.ImageFile.{kind_of, whole_file};

@@ -1,6 +1,6 @@
 //! The plan of a run: everything that it needs is read and judged, before any frame is sent.
 ghost use Rattle.std.specs.Prelude.{[], All, IfOk};
-ghost use Rattle.avr_cli.specs.declared.chosen.Switches.{Switches as AnySwitches};
+ghost use Rattle.avr_cli.specs.declared.settings.Switches.{Switches as AnySwitches};
 ghost use Rattle.avr_part.specs.Part.{Part as PartData};
 ghost use Rattle.avr_plan.specs.Plan.{IsFitted};
 ghost use Rattle.avr_plan.specs.Planning.{task_stage, op_stage, write_stage, tasks_stage, planned};

@@ -2,15 +2,14 @@
 ghost use Rattle.std.specs.Prelude.{◌≡◌, ◌∷◌, [], codes, decimal, map};
 ghost use Rattle.avr_part.specs.Fault.{field_name};
 ghost use Rattle.avr_part.specs.Mem.{name_of};
-ghost use Rattle.avr_message.specs.Lines.{error, text_of};
-ghost use Rattle.avr_message.specs.Said.{Tells};
+ghost use Rattle.avr_desk.specs.Lines.{error, text_of};
+ghost use Rattle.avr_desk.specs.Said.{Tells};
 ghost use Rattle.avr_plan.specs.Lines.{memory_line, not_opened_line, file_fault_line, too_long_line, part_file_line, no_part_line, record_line, record_fault_line, record_range_line, range_line, raw_fault_line, bad_file_line, read_fault_line, values_line, read_only_line};
 
 use crate::bad_file::BadFile;
 use crate::image_file::{LIMIT, ReadFault};
-use avr_desk::{Desk, FileFault};
+use avr_desk::{Desk, FileFault, Piece, print_error};
 use avr_image::ImageFault;
-use avr_message::{Piece, print_error};
 use avr_part::{Field, Mem, PartFault};
 use avr_records::RecordFault;
 

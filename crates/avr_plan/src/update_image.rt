@@ -1,6 +1,6 @@
 //! The image of an update, in a file or in the words of the command.
 ghost use Rattle.std.specs.Prelude.{◌≡◌, length, IfOk};
-ghost use Rattle.avr_cli.specs.declared.chosen.Switches.{Switches as AnySwitches};
+ghost use Rattle.avr_cli.specs.declared.settings.Switches.{Switches as AnySwitches};
 ghost use Rattle.avr_part.specs.Part.{size_of};
 ghost use Rattle.avr_plan.specs.Planning.{is_warned, warning_says, file_image_stage, image_stage, update_image as update_image_stage};
 ghost use Rattle.avr_plan.specs.Playing.{Goes};
@@ -9,9 +9,8 @@ ghost use Rattle.avr_plan.specs.Stage.{saying_stage};
 use crate::image_file::{ReadFault, read_image};
 use crate::refusal::{refuse_image, refuse_values};
 use avr_cli::{Format, Switches, Update};
-use avr_desk::Desk;
+use avr_desk::{Desk, Piece, print_warning};
 use avr_image::{Image, parse_immediate};
-use avr_message::{Piece, print_warning};
 use avr_part::{Mem, Part};
 use avr_records::Ending;
 use std::alloc::Global;

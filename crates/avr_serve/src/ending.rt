@@ -1,15 +1,14 @@
 //! How serving ended is told, and the chip is saved.
 ghost use Rattle.std.specs.Prelude.{◌≡◌, ◌∷◌, []};
 ghost use Rattle.avr_desk.specs.Fault.{Follows};
-ghost use Rattle.avr_message.specs.Lines.{error};
-ghost use Rattle.avr_message.specs.Said.{Tells};
+ghost use Rattle.avr_desk.specs.Lines.{error};
+ghost use Rattle.avr_desk.specs.Said.{Tells};
 ghost use Rattle.avr_part.specs.ChipFile.{chip_file};
 ghost use Rattle.avr_serve.specs.ServedRun.{TellsEnd, SavesAfterServing, status_of_end};
 
 use crate::serving::Served;
 use avr_chip::save_chip;
-use avr_desk::Desk;
-use avr_message::{Piece, print_error};
+use avr_desk::{Desk, Piece, print_error};
 use avr_part::Chip;
 use std::alloc::Global;
 

@@ -5,7 +5,7 @@ use Rattle.std.proofs.lemmas.List.Folds.{list_any-append}
 use Rattle.std.proofs.lemmas.Slice.Eq.{starts_is}
 use Rattle.std.specs.Cmp.{unsigned_Decides}
 use Rattle.avr_desk.specs.Record.{DeskView}
-use Rattle.avr_cli.specs.declared.chosen.Switches.{Switches}
+use Rattle.avr_cli.specs.declared.settings.Switches.{Switches}
 use Rattle.avr_cli.specs.declared.update.Format.{Format}
 use Rattle.avr_image.specs.Image.{byte_count}
 use Rattle.avr_part.specs.Part.{Part}
@@ -21,13 +21,13 @@ use Rattle.stk_host.specs.Play.{Position}
 use Rattle.stk_host.specs.Talk.{heard}
 use Rattle.stk_host.specs.Dialog.{Dialog, Done, Say, Ask, ◌>>=◌, lifted, Event, Frame, Said, Played, played, by_answer, next, sayings}
 use Rattle.stk_host.specs.Operations.{opening, erasing, writing, reading, verifying}
-use Rattle.avr_message.specs.Lines.{Bytes, information, warning, error}
-use Rattle.avr_message.specs.Said.{Saying, Line, Creates, Writes, Outs, IsPrefixOf}
+use Rattle.avr_desk.specs.Lines.{Bytes, information, warning, error}
+use Rattle.avr_desk.specs.Said.{Saying, Line, Creates, Writes, Outs, IsPrefixOf}
 use Rattle.avr_session.specs.declared.standing.Standing.{Standing}
 use Rattle.avr_session.specs.declared.standing.Standing.TheVariants.{Fine, Faulty, Over}
 use Rattle.avr_session.specs.FileText.{file_text}
 use Rattle.avr_session.specs.Lines.{informs, warns, other_signature, fault_line}
-use Rattle.avr_session.specs.Parts.{is_told}
+use Rattle.avr_session.specs.Phases.{is_told}
 use Rattle.avr_session.specs.Runs.{Devices, Cause, OfSending, OfListening, OfFile, OfPrinting, OfMemory, NotCreated, NotWritten, is_error, tells_fault, Ran, AtFrame, StopsAt, SaysFront}
 use Rattle.avr_session.specs.Session.{says, standing, reported, unless_fault, fault_or, opening_says, warns_of_signature, signature_says, bytes_say, saving_says, kept_of, erased_says, written_says, verified_says, read_says, left_out_erase, left_out_write, opening_phase, chip_erasing_phase, is_erase_due, erasing_phase, verifying_phase, writing_phase, reading_back_phase, write_task_phase, reading_phase, task_phase, tasks_phase, beginning, working}
 use Rattle.avr_session.proofs.Places.{sayings_by}

@@ -22,7 +22,7 @@ use Rattle.stk_host.specs.declared.fault.Broken.TheVariants.{Send, Recv}
 use Rattle.stk_host.specs.Play.{Position, PlaysOver, FailsOver}
 use Rattle.stk_host.specs.Calls.{EndsCall, EndsOrLacks, IsBroken}
 use Rattle.stk_host.proofs.Leading.{continued, played_bind}
-use Rattle.avr_message.specs.Said.{Saying, Tells}
+use Rattle.avr_desk.specs.Said.{Saying, Tells}
 use Rattle.avr_session.specs.declared.standing.Stopped.{Stopped}
 use Rattle.avr_session.specs.Concluding.{after_outcome, conclusion}
 use Rattle.avr_session.specs.Lines.{fault_line}

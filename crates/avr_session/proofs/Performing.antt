@@ -3,7 +3,7 @@ use Rattle.std.proofs.Common.{◌≡◌, ℕ, Bool, true, false, ◌||◌, ◌++
 use Rattle.std.proofs.lemmas.Grind.{common_steps}
 use Rattle.avr_desk.specs.Fault.{Follows}
 use Rattle.avr_desk.specs.Record.{DeskView}
-use Rattle.avr_cli.specs.declared.chosen.Switches.{Switches}
+use Rattle.avr_cli.specs.declared.settings.Switches.{Switches}
 use Rattle.avr_cli.specs.declared.update.Format.{Format}
 use Rattle.avr_part.specs.Part.{Part}
 use Rattle.avr_part.specs.declared.mem.Mem.{Mem}
@@ -15,7 +15,7 @@ use Rattle.stk_host.specs.Play.{Position}
 use Rattle.stk_host.specs.Talk.{LinkView}
 use Rattle.stk_host.specs.Calls.{IsBroken, given_or_fault}
 use Rattle.stk_host.specs.Dialog.{Dialog, Done, ◌>>=◌, sayings}
-use Rattle.avr_message.specs.Said.{Saying, Tells}
+use Rattle.avr_desk.specs.Said.{Saying, Tells}
 use Rattle.avr_plan.specs.Plan.{Plan}
 use Rattle.avr_plan.specs.declared.task.Task.{Task}
 use Rattle.avr_session.specs.declared.standing.Standing.{Standing}
@@ -25,10 +25,10 @@ use Rattle.avr_session.specs.Concluding.{HostServes, after_outcome, conclusion, 
 use Rattle.avr_session.specs.Lines.{fault_line}
 use Rattle.avr_session.specs.Session.{says, standing, reported, unless_fault, fault_or, read_says, opening_says, playing, session, status_of, takes_memory}
 use Rattle.avr_session.specs.Runs.{Cause, OfSending, OfListening, OfFile, OfPrinting, OfMemory, cause_line, tells_fault, Devices, devices, start, Terms, untold, TellsCause, StopsBehind, DeskStops, PrintStops, ReadStops, Reports, BrokeOff, Ran, Runs, RunsTo}
-use Rattle.avr_session.specs.Parts.{is_told, PerformsBehind, Performs, LeavesOut}
+use Rattle.avr_session.specs.Phases.{is_told, PerformsBehind, Performs, LeavesOut}
 use Rattle.avr_session.proofs.Reporting.{told_some, kept_nothing}
-use Rattle.avr_message.proofs.Saying.{kept_none}
-use Rattle.avr_message.proofs.Telling.{follows_on}
+use Rattle.avr_desk.proofs.Saying.{kept_none}
+use Rattle.avr_desk.proofs.Telling.{follows_on}
 use Rattle.avr_session.proofs.Running.{came_here, came_said, came_part, ran_from, ran_on, stops_in, stops_since, broke_after, broke_part, broke_saying, StopsReport, ToldBy}
 use Rattle.avr_session.proofs.Foretelling.{Foretells, foretold, front_tells_none, read_none}
 use Rattle.avr_session.proofs.Operations.{IsStop, IsMemory, cause_of, Ended, lacks_where, only_broken, operation_runs, stop_is, told_of}

@@ -6,9 +6,9 @@ use Rattle.avr_desk.specs.Stream.{SendsPart}
 use Rattle.avr_desk.specs.declared.stream.Stream.TheVariants.{File, Output, Messages}
 use Rattle.stk_host.specs.Dialog.{Event, Said, sayings}
 use Rattle.stk_host.specs.Play as play
-use Rattle.avr_message.specs.Lines.{Bytes}
-use Rattle.avr_message.specs.Said.{Saying, Line, Creates, Writes, Outs, SaidPart, after_all}
-use Rattle.avr_message.proofs.Saying.{kept_append}
+use Rattle.avr_desk.specs.Lines.{Bytes}
+use Rattle.avr_desk.specs.Said.{Saying, Line, Creates, Writes, Outs, SaidPart, after_all}
+use Rattle.avr_desk.proofs.Saying.{kept_append}
 use Rattle.avr_session.specs.Runs.{Cause, OfSending, OfListening, OfFile, OfPrinting, OfMemory, NotCreated, NotWritten, AtFrame, StopsAt, Listens, IsOfDesk, SaysFront}
 
 -- ---- events

@@ -6,9 +6,9 @@ use Rattle.avr_desk.specs.Fault.{Counts, Follows, HasFailed}
 use Rattle.avr_desk.specs.declared.fault.DeskFault.{DeskFault}
 use Rattle.avr_desk.specs.declared.fault.DeskFault.TheVariants.{NotFound, Failed}
 use Rattle.stk_host.specs.Dialog.{sayings}
-use Rattle.avr_message.specs.Said.{Saying, Line, IsPrefixOf, IsPrinted, Tells, after_all}
-use Rattle.avr_message.proofs.Saying.{kept_append, kept_none}
-use Rattle.avr_message.proofs.Telling.{failed_later, failure_in, failure_told, follows_on}
+use Rattle.avr_desk.specs.Said.{Saying, Line, IsPrefixOf, IsPrinted, Tells, after_all}
+use Rattle.avr_desk.proofs.Saying.{kept_append, kept_none}
+use Rattle.avr_desk.proofs.Telling.{failed_later, failure_in, failure_told, follows_on}
 use Rattle.avr_session.specs.Runs.{cause_line, Cause, OfSending, OfListening, OfFile, OfPrinting, OfMemory, FileTrouble, SaysFront, SaidSome, SaysOrStops, Reports, PrintStops, FileStops, DeskStops}
 use Rattle.avr_session.specs.declared.standing.Stopped.{Stopped}
 use Rattle.avr_session.specs.Concluding.{stopped_of}

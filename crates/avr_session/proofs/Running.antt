@@ -15,9 +15,9 @@ use Rattle.stk_host.proofs.Talks.{grows_none, grows_on}
 use Rattle.stk_host.proofs.Leading.{continued, played_bind, leads_here, leads_on, leads_bind, leads_say, leads_from, plays_from, breaks_on, breaks_bind}
 use Rattle.stk_host.proofs.Lifting.{raised, plays_lifted, by_lifted, sayings_raised}
 use Rattle.stk_host.proofs.Talks.{heard_append}
-use Rattle.avr_message.specs.Said.{Saying, SaidPart, after_all}
-use Rattle.avr_message.proofs.Saying.{kept_on, kept_none, after_append}
-use Rattle.avr_message.proofs.Telling.{risen_later, failed_later, follows_on}
+use Rattle.avr_desk.specs.Said.{Saying, SaidPart, after_all}
+use Rattle.avr_desk.proofs.Saying.{kept_on, kept_none, after_append}
+use Rattle.avr_desk.proofs.Telling.{risen_later, failed_later, follows_on}
 use Rattle.avr_session.specs.Session.{says}
 use Rattle.avr_session.specs.Runs.{Devices, devices, Cause, OfSending, OfListening, OfFile, OfPrinting, OfMemory, is_error, tells_fault, HasCome, TellsCause, Listens, Terms, StopsBehind, SaysFront, Ran, BrokeOff, SaidSome}
 use Rattle.avr_session.proofs.Places.{place_more, place_behind, place_part, desk_says, desk_listens, sayings_said, map_append}

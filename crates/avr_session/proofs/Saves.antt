@@ -8,9 +8,9 @@ use Rattle.avr_desk.specs.declared.stream.Stream.{Stream}
 use Rattle.avr_desk.specs.declared.stream.Stream.TheVariants.{File, Output}
 use Rattle.avr_desk.specs.declared.fault.DeskFault.{DeskFault}
 use Rattle.stk_host.specs.Dialog.{Said}
-use Rattle.avr_message.specs.Said.{Saying, Creates, Writes, Outs, Tells, after_all}
-use Rattle.avr_message.proofs.Saying.{kept_append, kept_none}
-use Rattle.avr_message.proofs.Telling.{failure_told, follows_on}
+use Rattle.avr_desk.specs.Said.{Saying, Creates, Writes, Outs, Tells, after_all}
+use Rattle.avr_desk.proofs.Saying.{kept_append, kept_none}
+use Rattle.avr_desk.proofs.Telling.{failure_told, follows_on}
 use Rattle.avr_session.specs.Runs.{Cause, OfSending, OfListening, OfFile, OfPrinting, OfMemory, NotCreated, NotWritten, SaysFront, SaysOrStops, Reports, DeskStops, cause_line}
 use Rattle.avr_session.specs.Session.{saving_says}
 use Rattle.avr_session.specs.Saving.{SaveStops, WritesSome, WritesAll}

@@ -1,10 +1,10 @@
 -- The message of a fault of the settings.
 use Rattle.std.specs.Prelude.{ℕ, List, [], ◌∷◌, Option, Some, None, codes, decimal}
-use Rattle.avr_cli.specs.declared.chosen.SettingsFault.{SettingsFault}
-use Rattle.avr_cli.specs.declared.chosen.SettingsFault.TheVariants.{NoPart, BadProgrammer, BadPort, NoChip, TooMany, BadUpdate, StandardTaken, Memory}
+use Rattle.avr_cli.specs.declared.settings.SettingsFault.{SettingsFault}
+use Rattle.avr_cli.specs.declared.settings.SettingsFault.TheVariants.{NoPart, BadProgrammer, BadPort, NoChip, TooMany, BadUpdate, StandardTaken, Memory}
 use Rattle.avr_cli.specs.declared.update.UpdateFault.{UpdateFault}
 use Rattle.avr_cli.specs.declared.update.UpdateFault.TheVariants as update
-use Rattle.avr_message.specs.Lines.{Bytes, error}
+use Rattle.avr_desk.specs.Lines.{Bytes, error}
 
 abbrev pub update_pieces : ℕ → UpdateFault → List Bytes
 update_pieces n update.BadMemory = codes "update " ∷ decimal n ∷ codes ": no such memory" ∷ []

@@ -9,8 +9,8 @@ use Rattle.stk_host.specs.Tape.{on_tape}
 use Rattle.stk_host.specs.Talk.{Talk, LinkView, heard, Grows}
 use Rattle.stk_host.specs.Dialog.{Dialog, Event, Frame, Said, played, sayings}
 use Rattle.stk_host.specs.Play.{Position, Plays, Breaks}
-use Rattle.avr_message.specs.Lines.{Bytes, error}
-use Rattle.avr_message.specs.Said.{Saying, Line, Creates, Writes, Outs, SaidPart, IsPrefixOf, TellsLine, TellsFailure, after_all}
+use Rattle.avr_desk.specs.Lines.{Bytes, error}
+use Rattle.avr_desk.specs.Said.{Saying, Line, Creates, Writes, Outs, SaidPart, IsPrefixOf, TellsLine, TellsFailure, after_all}
 use Rattle.avr_session.specs.declared.standing.Stopped.{Stopped}
 
 -- what a link and a desk show

@@ -2,11 +2,11 @@
 use Rattle.std.specs.Prelude.{ℕ, Bool, true, false, ◌&&◌, ◌||◌, not, List, [], ◌∷◌, ◌++◌, length, Option, Result, Ok, Err, ⊤, codes, decimal, if◌then◌else◌}
 use Rattle.std.specs.List.{list_any}
 use Rattle.std.specs.Str.{bytes_eq}
-use Rattle.avr_cli.specs.declared.chosen.Switches.{Switches}
+use Rattle.avr_cli.specs.declared.settings.Switches.{Switches}
 use Rattle.avr_cli.specs.declared.update.Format.{Format}
 use Rattle.avr_image.specs.Image.{byte_count}
-use Rattle.avr_message.specs.Lines.{Bytes, spaced_digits}
-use Rattle.avr_message.specs.Said.{Saying, Line, Creates, Writes, Outs}
+use Rattle.avr_desk.specs.Lines.{Bytes, spaced_digits}
+use Rattle.avr_desk.specs.Said.{Saying, Line, Creates, Writes, Outs}
 use Rattle.avr_part.specs.Mem.{name_of}
 use Rattle.avr_part.specs.Part.{Part}
 use Rattle.avr_part.specs.declared.mem.Mem.{Mem}

@@ -6,8 +6,8 @@ use Rattle.stk_host.specs.Talk as link
 use Rattle.stk_host.specs.Talk.{Talk, LinkView}
 use Rattle.stk_host.specs.Dialog.{Dialog}
 use Rattle.stk_host.specs.Play.{Position}
-use Rattle.avr_message.specs.Lines.{Bytes}
-use Rattle.avr_message.specs.Said.{Saying}
+use Rattle.avr_desk.specs.Lines.{Bytes}
+use Rattle.avr_desk.specs.Said.{Saying}
 use Rattle.avr_session.specs.Runs.{Devices, OfMemory, cause_line, start, Ran}
 
 -- what a desk shows that keeps this, and has failed so often

@@ -1,13 +1,12 @@
 //! The message of a fault of the settings.
 ghost use Rattle.std.specs.Prelude.{◌≡◌, ◌∷◌, [], codes, decimal, IfErr};
 ghost use Rattle.avr_desk.specs.Fault.{Counts};
-ghost use Rattle.avr_message.specs.Lines.{error};
-ghost use Rattle.avr_message.specs.Said.{IsPrinted, Tells};
+ghost use Rattle.avr_desk.specs.Lines.{error};
+ghost use Rattle.avr_desk.specs.Said.{IsPrinted, Tells};
 ghost use Rattle.avr_session.specs.Refusal.{update_pieces, port_pieces, refusal_line};
 
 use avr_cli::{SettingsFault, Text, UpdateFault};
-use avr_desk::{Desk, DeskFault};
-use avr_message::{Piece, print_error};
+use avr_desk::{Desk, DeskFault, Piece, print_error};
 
 /// The status of a run that was refused.
 const REFUSED: u8 = 1;

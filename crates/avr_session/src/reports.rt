@@ -1,8 +1,8 @@
 //! What a session reports.
 ghost use Rattle.std.specs.Prelude.{◌≡◌, ◌∷◌, ◌≤◌, [], map, codes, Ok, Err};
 ghost use Rattle.byteorder.specs.Endian.{big_bytes};
-ghost use Rattle.avr_message.specs.Lines.{text_of, digits, error};
-ghost use Rattle.avr_message.specs.Said.{Line};
+ghost use Rattle.avr_desk.specs.Lines.{text_of, digits, error};
+ghost use Rattle.avr_desk.specs.Said.{Line};
 ghost use Rattle.avr_part.specs.Mem.{name_of};
 ghost use Rattle.avr_session.specs.Lines.{informs, warns, other_signature, fault_line};
 ghost use Rattle.avr_session.specs.Concluding.{stopped_of};
@@ -10,8 +10,7 @@ ghost use Rattle.avr_session.specs.Runs.{Reports, PrintStops};
 ghost use Rattle.avr_session.specs.Session.{fault_or, bytes_say, signature_says, warns_of_signature, opening_says};
 
 use crate::standing::Stopped;
-use avr_desk::{Desk, DeskFault};
-use avr_message::{Piece, print_error, print_information, print_warning};
+use avr_desk::{Desk, DeskFault, Piece, print_error, print_information, print_warning};
 use avr_part::{Mem, Part};
 use stk_host::HostFault;
 

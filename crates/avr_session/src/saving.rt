@@ -1,8 +1,8 @@
 //! What was read of a memory becomes a file.
 ghost use Rattle.std.specs.Prelude.{◌≡◌, ◌∷◌, ◌≤◌, ◌<◌, ◌^◌, [], length};
 ghost use Rattle.avr_desk.specs.Fault.{Follows};
-ghost use Rattle.avr_message.specs.Lines.{error};
-ghost use Rattle.avr_message.specs.Said.{Creates, Writes, Tells};
+ghost use Rattle.avr_desk.specs.Lines.{error};
+ghost use Rattle.avr_desk.specs.Said.{Creates, Writes, Tells};
 ghost use Rattle.avr_session.specs.FileText.{file_text};
 ghost use Rattle.avr_session.specs.Runs.{Reports, DeskStops, ReadStops};
 ghost use Rattle.avr_session.specs.Saving.{SaveStops, WritesAll};
@@ -13,8 +13,7 @@ use crate::file_text::{trimmed, write_text};
 use crate::reports::{report_bytes, tell_fault};
 use crate::standing::Stopped;
 use avr_cli::{Format, Switches};
-use avr_desk::{Desk, Stream};
-use avr_message::{Piece, print_error};
+use avr_desk::{Desk, Piece, Stream, print_error};
 use avr_part::Mem;
 use avr_plan::Plan;
 use stk_host::HostFault;

@@ -3,12 +3,12 @@ ghost use Rattle.std.specs.Prelude.{◌≡◌, ◌∷◌, [], None, Ok, codes, t
 ghost use Rattle.avr_desk.specs.Fault.{Follows};
 ghost use Rattle.avr_session.specs.declared.standing.Standing.TheVariants.{Fine, Faulty};
 ghost use Rattle.avr_session.specs.Concluding.{HostServes};
-ghost use Rattle.avr_session.specs.Parts.{is_told, Performs, PerformsBehind};
+ghost use Rattle.avr_session.specs.Phases.{is_told, Performs, PerformsBehind};
 ghost use Rattle.avr_session.specs.Runs.{devices, RunsTo};
 ghost use Rattle.avr_session.specs.Session.{beginning, working, ending, playing, session, takes_memory};
 ghost use Rattle.stk_host.specs.Talk.{Stays};
 
-use crate::parts::{erase_if_due, open_session, perform_all};
+use crate::phases::{erase_if_due, open_session, perform_all};
 use crate::reports::report_closing;
 use crate::standing::{Standing, Stopped, conclude, status_of};
 use avr_desk::Desk;

@@ -1,7 +1,7 @@
 -- A session over any link that behaves as a line with fates does.
 use Rattle.std.proofs.Common.{◌≡◌, ◌*◌, ℕ, List, [], ◌++◌, All, length, sym, ap, ◌∙◌, subst, Some}
 use Rattle.std.proofs.lemmas.List.{append-nil}
-use Rattle.avr_message.specs.Said.{Saying}
+use Rattle.avr_desk.specs.Said.{Saying}
 use Rattle.avr_part.specs.Part.{IsPart}
 use Rattle.avr_part.specs.Sound.{IsSoundChip}
 use Rattle.avr_part.specs.State as chips

@@ -1,6 +1,6 @@
 -- A run over a wire to the emulated programmer, by the page's words.
 use Rattle.std.proofs.Common.{◌≡◌, ◌⊎◌, ℕ, [], ◌++◌, refl, sym, ap, ◌∙◌, subst, inl, inr, Err}
-use Rattle.avr_cli.specs.declared.chosen.Settings.{Settings}
+use Rattle.avr_cli.specs.declared.settings.Settings.{Settings}
 use Rattle.avr_desk.specs.Fault.{Follows}
 use Rattle.avr_desk.specs.Record.{DeskView}
 use Rattle.avr_plan.specs.Plan.{Plan}

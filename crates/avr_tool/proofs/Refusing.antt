@@ -2,7 +2,7 @@
 use Rattle.std.proofs.Common.{◌≡◌, ◌<◌, ◌*◌, ℕ, List, [], ◌++◌, map, ap, sym, ◌∙◌, subst, refl, arith, Option, option_map, Some}
 use Rattle.avr_desk.specs.Record.{DeskView, Passes}
 use Rattle.avr_desk.specs.declared.record.Opening.{Opening}
-use Rattle.avr_message.specs.Said.{after_all}
+use Rattle.avr_desk.specs.Said.{after_all}
 use Rattle.avr_plan.specs.Plan.{Plan}
 use Rattle.avr_session.specs.Runs.{devices}
 use Rattle.avr_session.specs.Session.{session}

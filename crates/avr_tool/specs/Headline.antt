@@ -9,11 +9,11 @@
 -- few frames go wrong. Whether memory was refused nothing counts. Nothing is said of time, nor of a chip that loses its
 -- power in the middle of a write.
 use Rattle.std.specs.Prelude.{ℕ, ◌*◌, ◌≡◌, ◌≤◌, ◌⊎◌, false, List, [], ◌∷◌, ◌++◌, map, length, Some, None}
-use Rattle.avr_cli.specs.declared.chosen.Settings.{Settings}
+use Rattle.avr_cli.specs.declared.settings.Settings.{Settings}
 use Rattle.avr_desk.specs.Fault.{Follows}
 use Rattle.avr_desk.specs.Record.{DeskView, Passes}
 use Rattle.avr_desk.specs.declared.record.Opening.{Opening}
-use Rattle.avr_message.specs.Said.{Saying, SaidPart, after_all}
+use Rattle.avr_desk.specs.Said.{Saying, SaidPart, after_all}
 use Rattle.avr_plan.specs.Plan.{Plan}
 use Rattle.avr_plan.specs.Planning.{planned}
 use Rattle.avr_plan.specs.Playing as planning

@@ -1,7 +1,7 @@
 -- What a port of the settings says.
 use Rattle.std.specs.Prelude.{ℕ, List, []}
-use Rattle.avr_cli.specs.declared.chosen.Port.{Port}
-use Rattle.avr_cli.specs.declared.chosen.Port.TheVariants.{Emulated, Network, Served}
+use Rattle.avr_cli.specs.declared.settings.Port.{Port}
+use Rattle.avr_cli.specs.declared.settings.Port.TheVariants.{Emulated, Network, Served}
 
 -- the emulator; a connection; a service
 abbrev pub IsEmulated : Port → Type 0

@@ -1,9 +1,9 @@
 -- A worked run: `-p m328p` over a programmer that answers each frame at once.
 use Rattle.std.specs.Prelude.{ℕ, List, [], ◌∷◌, ◌++◌, None, false, codes}
-use Rattle.avr_cli.specs.declared.chosen.Settings.{Settings}
-use Rattle.avr_cli.specs.declared.chosen.Port.TheVariants.{Stdio}
-use Rattle.avr_message.specs.Lines.{spaced_digits}
-use Rattle.avr_message.specs.Said.{Saying}
+use Rattle.avr_cli.specs.declared.settings.Settings.{Settings}
+use Rattle.avr_cli.specs.declared.settings.Port.TheVariants.{Stdio}
+use Rattle.avr_desk.specs.Lines.{spaced_digits}
+use Rattle.avr_desk.specs.Said.{Saying}
 use Rattle.avr_session.specs.Lines.{informs}
 use Rattle.stk_host.specs.Tape.{Tape, on_tape}
 

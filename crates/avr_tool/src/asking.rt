@@ -2,7 +2,7 @@
 ghost use Rattle.std.specs.Prelude.{map, string_bytes};
 ghost use Rattle.avr_tool.specs.Asked.{Asks};
 
-use avr_cli::{Settings, read_words, settings};
+use avr_cli::{Settings, read_settings, read_words};
 use avr_desk::Desk;
 use avr_session::refuse;
 use clap::Error;
@@ -25,7 +25,7 @@ pub fn asked<D: Desk>(alloc: Global, words: &[String], desk: &mut D) -> Result<S
         Ok(matches) => matches,
         Err(error) => return Err(NotAsked::Words(error)),
     };
-    match settings(alloc, &matches) {
+    match read_settings(alloc, &matches) {
         Ok(settings) => Ok(settings),
         Err(fault) => Err(NotAsked::Refused(refuse(&fault, desk))),
     }

@@ -1,7 +1,7 @@
 //! Laws of runs. No code.
 
 ghost use Rattle.std.specs.Prelude.{◌≡◌, ◌<◌, ◌*◌, ◌⊎◌, ℕ, true, false, List, [], All, Some, map};
-ghost use Rattle.avr_cli.specs.declared.chosen.Settings.{Settings as AnySettings};
+ghost use Rattle.avr_cli.specs.declared.settings.Settings.{Settings as AnySettings};
 ghost use Rattle.avr_desk.specs.Record.{DeskView, Passes, Record};
 ghost use Rattle.avr_emulated.specs.Again.{AgreesAnyway, AreKeeping};
 ghost use Rattle.avr_emulated.specs.AnyLine.{Stopped, OverAnyLine, Weight, weighed, bodies_in, memories, frames_over};
@@ -10,7 +10,7 @@ ghost use Rattle.avr_emulated.specs.Course.{course};
 ghost use Rattle.avr_emulated.specs.Items.{items};
 ghost use Rattle.avr_emulated.specs.Outcome.{IsCourse, IsDone};
 ghost use Rattle.avr_emulated.specs.Written.{IsWritten};
-ghost use Rattle.avr_message.specs.Said.{Saying, after_all};
+ghost use Rattle.avr_desk.specs.Said.{Saying, after_all};
 ghost use Rattle.avr_part.specs.Part.{IsPart};
 ghost use Rattle.avr_part.specs.Sound.{IsSoundChip};
 ghost use Rattle.avr_part.specs.State.{ChipState as Chip};

@@ -5,7 +5,7 @@
 //! those that need a port take it from the settings, so that no caller can pass another.
 //!
 //! ```text
-//! let settings = settings(alloc, &read_words(alloc, &words)?)?;
+//! let settings = read_settings(alloc, &read_words(alloc, &words)?)?;
 //! let status = match &settings.port {
 //!     Port::Stdio => run(alloc, &settings, &mut desk, &mut link),
 //!     Port::Emulated(_) => run_emu(alloc, &settings, &mut desk),
@@ -28,7 +28,7 @@ mod laws;
 pub use asking::{NotAsked, asked};
 pub use avr_cli::{
     Format, Op, Port, Settings, SettingsFault, Switches, Text, Update, UpdateFault, Updates,
-    make_command, parse_update, port_number, read_words, settings,
+    make_command, parse_update, port_number, read_settings, read_words,
 };
 pub use avr_session::refuse;
 pub use laws::{

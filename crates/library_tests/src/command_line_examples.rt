@@ -1,7 +1,7 @@
 //! The examples of the documentation.
 use avr_cli::{
     Format, Op, Port, SettingsFault, Text, UpdateFault, Updates, make_command, parse_update,
-    port_number, read_words, settings,
+    port_number, read_settings, read_words,
 };
 use avr_part::Mem;
 use std::test::Fail;
@@ -15,7 +15,7 @@ fn words_make_settings(rt: HostRuntime) -> Result<(), Fail> {
     }
     let matches = read_words(alloc, words.as_slice())?;
     assert!(rt; matches.get_str("part") == Some("m328p"));
-    let settings = settings(alloc, &matches)?;
+    let settings = read_settings(alloc, &matches)?;
     assert!(rt; settings.part.as_str() == "m328p");
     assert!(rt; matches!(&settings.port, Port::Emulated(file) if file.as_str() == "chip.bin"));
     assert_eq!(rt; settings.updates.as_slice().len(), 1);

@@ -1,7 +1,7 @@
 //! What no contract says: that command lines are read, and what is printed of them.
 use avr_cli::{
-    Format, Op, Port, Settings, SettingsFault, make_command, parse_update, port_number, read_words,
-    settings,
+    Format, Op, Port, Settings, SettingsFault, make_command, parse_update, port_number,
+    read_settings, read_words,
 };
 use avr_part::{Mem, Parts};
 use clap::Error;
@@ -22,7 +22,7 @@ fn words(alloc: Global, line: &str) -> Result<Vec<String>, Fail> {
 fn asked(alloc: Global, line: &str) -> Result<Result<Settings, SettingsFault>, Fail> {
     let words = words(alloc, line)?;
     let matches = read_words(alloc, words.as_slice())?;
-    Ok(settings(alloc, &matches))
+    Ok(read_settings(alloc, &matches))
 }
 
 /// The error by which `clap` refuses a command line.

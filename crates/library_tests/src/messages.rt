@@ -1,6 +1,5 @@
 //! Lines byte for byte: the examples of the documentation, and each piece.
-use avr_desk::{Bytes, MemDesk};
-use avr_message::{Piece, print_error, print_information, print_warning};
+use avr_desk::{Bytes, MemDesk, Piece, print_error, print_information, print_warning};
 use std::alloc::Global;
 use std::test::Fail;
 

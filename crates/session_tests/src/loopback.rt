@@ -1,7 +1,7 @@
 //! Whole runs over one connection, with the tool at one end of it and the emulator at the other, in one thread.
 ghost use Rattle.std.specs.Prelude.{None};
 
-use avr_cli::{Settings, read_words, settings};
+use avr_cli::{Settings, read_settings, read_words};
 use avr_desk::{Bytes, MemDesk};
 use avr_net::{accept, listen};
 use avr_part::{Chip, Mem, Parts};
@@ -64,7 +64,7 @@ fn settings_for(alloc: Global, updates: &[&str]) -> Result<Settings, Fail> {
         words.push(String::from_str(alloc, *update)?)?;
     }
     let matches = read_words(alloc, words.as_slice())?;
-    Ok(settings(alloc, &matches)?)
+    Ok(read_settings(alloc, &matches)?)
 }
 
 /// A run that is over.

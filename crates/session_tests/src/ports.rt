@@ -1,5 +1,5 @@
 //! Both ends of a port of this machine, in one thread.
-use avr_cli::{Settings, read_words, settings};
+use avr_cli::{Settings, read_settings, read_words};
 use avr_desk::{Bytes, MemDesk};
 use avr_net::{accept, listen, run_net, serve_net, serve_on};
 use avr_part::{Chip, Parts};
@@ -17,7 +17,7 @@ fn settings_for(alloc: Global, part: &str) -> Result<Settings, Fail> {
         words.push(String::from_str(alloc, word)?)?;
     }
     let matches = read_words(alloc, words.as_slice())?;
-    Ok(settings(alloc, &matches)?)
+    Ok(read_settings(alloc, &matches)?)
 }
 
 /// A run that is over.

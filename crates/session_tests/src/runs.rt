@@ -1,6 +1,6 @@
 //! Worked runs: what is sent, what is printed, and the status. The frames are those of the STK500 protocol, version 2
 //! (AVR068), written out by hand.
-use avr_cli::{Settings, read_words, settings};
+use avr_cli::{Settings, read_settings, read_words};
 use avr_desk::{Bytes, Desk, FailingDesk, MemDesk};
 use avr_session::run;
 use std::alloc::Global;
@@ -36,7 +36,7 @@ fn settings_for(alloc: Global, part: &str) -> Result<Settings, Fail> {
         words.push(String::from_str(alloc, word)?)?;
     }
     let matches = read_words(alloc, words.as_slice())?;
-    Ok(settings(alloc, &matches)?)
+    Ok(read_settings(alloc, &matches)?)
 }
 
 /// The items of a tape: bytes as pairs of digits, and silences.

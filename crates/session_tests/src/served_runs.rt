@@ -1,5 +1,5 @@
 //! From settings to status: how serving ends, what is told of it, and the chip file.
-use avr_cli::{Settings, read_words, settings};
+use avr_cli::{Settings, read_settings, read_words};
 use avr_desk::{Bytes, MemDesk};
 use avr_serve::{serve, serve_for};
 use std::alloc::{AllocError, Global};
@@ -32,7 +32,7 @@ fn settings_to_serve(alloc: Global) -> Result<Settings, Fail> {
         words.push(String::from_str(alloc, word)?)?;
     }
     let matches = read_words(alloc, words.as_slice())?;
-    Ok(settings(alloc, &matches)?)
+    Ok(read_settings(alloc, &matches)?)
 }
 
 /// Serves at this desk and over this link, for so many reads. It says nothing of them, nor does [`served`]: a test

@@ -7,7 +7,7 @@ use Rattle.stk_emu.specs.declared.wired.Wired.TheInside.{Inside}
 abbrev pub wired_state : Inside → WiredState
 wired_state w = record {
   held = w.reader;
-  wire = w.line;
+  wire = w.wire;
   waits = tape_in (drop w.at w.waits.items);
   talk = w.log.talk;
   failures = w.failures;

@@ -10,8 +10,8 @@ ghost use Rattle.stk_emu.specs.Wire.{AreLawful, fresh_wire};
 ghost use Rattle.stk_emu.specs.Wired.{Start, wired_view, ComesOf, IsFresh, PassesBytes, IsNext, after_hearing};
 
 use crate::fate::Fate;
-use crate::line::Line;
 use crate::segment::{ROOM, Segment, take_bytes};
+use crate::wire::Wire;
 use avr_part::Chip;
 use std::alloc::{AllocError, Global};
 use std::marker::Model;
@@ -26,7 +26,7 @@ use stk_host::{Heard, Link, LinkFault, Log};
 #[derive(Drop)]
 pub struct Wired {
     reader: FrameReader,
-    line: Line,
+    wire: Wire,
     waits: Vec<Option<u8>>,
     at: usize,
     /// What the frame that is passed brings; kept, so that its room is made once.
@@ -98,7 +98,7 @@ impl Wired {
     {
         Wired {
             reader: FrameReader::new(),
-            line: Line::new(chip, fates),
+            wire: Wire::new(chip, fates),
             waits: Vec::new(alloc),
             at: 0,
             brought: Segment::new(),
@@ -111,7 +111,7 @@ impl Wired {
     pub fn chip(&self) -> &Chip
         ensures { result.now ≡ self.now.wire.programmer.chip }
     {
-        self.line.chip()
+        self.wire.chip()
     }
 
     /// The bytes sent.
@@ -143,7 +143,7 @@ impl Wired {
         make_room(&mut self.waits, &mut self.log, bytes.len())?;
         let (used, event) = self.reader.feed(bytes);
         self.brought.clear();
-        self.line.pass_event(&self.reader, event, &mut self.brought);
+        self.wire.pass_event(&self.reader, event, &mut self.brought);
         keep(
             &mut self.waits,
             &mut self.log,

@@ -1,4 +1,4 @@
-use Rattle.avr_message.proofs.Telling.{tells_line}
+use Rattle.avr_desk.proofs.Telling.{tells_line}
 use Rattle.avr_net.specs.Lines.{unopened_line}
 use Rattle.avr_net.proofs.refusal.refuse_unopened.Goals as goal
 

@@ -1,4 +1,4 @@
-use Rattle.avr_message.proofs.Telling.{tells_line}
+use Rattle.avr_desk.proofs.Telling.{tells_line}
 use Rattle.avr_session.proofs.refusal.refuse.Goals as goal
 
 pub returns-clause-told : goal.returns-clause-told

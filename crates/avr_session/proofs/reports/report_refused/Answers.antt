@@ -1,7 +1,7 @@
 use Rattle.std.proofs.lemmas.Result.{err_from_is_err_and}
 use Rattle.std.proofs.Common.{[], ◌∷◌}
 use Rattle.stk_host.specs.declared.fault.HostFault.TheVariants.{WrongSignature}
-use Rattle.avr_message.specs.Said.{Line}
+use Rattle.avr_desk.specs.Said.{Line}
 use Rattle.avr_session.specs.Lines.{fault_line}
 use Rattle.avr_session.specs.Runs.{PrintStops}
 use Rattle.avr_session.specs.Session.{signature_says}

@@ -1,10 +1,10 @@
 use Rattle.std.proofs.Common.{[], ◌∷◌, refl}
-use Rattle.avr_message.specs.Said.{Writes}
+use Rattle.avr_desk.specs.Said.{Writes}
 use Rattle.avr_session.specs.FileText.{file_text}
 use Rattle.avr_session.specs.Runs.{NotCreated, cause_line}
 use Rattle.avr_session.specs.Saving.{SaveStops}
 use Rattle.avr_session.proofs.Reporting.{file_stops}
-use Rattle.avr_message.proofs.Telling.{failed_by, follows_on}
+use Rattle.avr_desk.proofs.Telling.{failed_by, follows_on}
 use Rattle.avr_session.proofs.Saves.{not_created, created_then}
 use Rattle.avr_session.proofs.saving.create_file.Goals as goal
 

@@ -1,5 +1,5 @@
 use Rattle.avr_session.specs.Runs.{cause_line}
-use Rattle.avr_message.proofs.Telling.{failed_by}
+use Rattle.avr_desk.proofs.Telling.{failed_by}
 use Rattle.avr_session.proofs.Saves.{writes_some}
 use Rattle.avr_session.proofs.saving.write_file.Goals as goal
 

@@ -21,7 +21,7 @@ returns-clause-passes c =
       fed = c.feed-used.ensures.fed;
       waits = grown c.self.inside.waits.items _ c.pass_event.new.out.items c.self.inside.at _ c.self.invariant.at
           (c.keep.ensures.waits ∙ ap (λ w. w ++ c.pass_event.new.out.items) c.in_ok-make_room.ensures.waits) c.pass_event.ensures.items;
-      wire = c.pass_event.ensures.line;
+      wire = c.pass_event.ensures.wire;
       talk = returns-clause-talk c ∙ ap (λ w. w.talk ++ talk.Sent (take c.feed-used.result.0 c.args.bytes.now) ∷ []) (sym c.self.view_is);
     })
 

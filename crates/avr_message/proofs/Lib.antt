@@ -1,4 +1,0 @@
-pub mod Digits
-pub mod Pieces
-pub mod Saying
-pub mod Telling

@@ -1,5 +1,0 @@
-use Rattle.avr_session.proofs.Performing.{nothing_performs}
-use Rattle.avr_session.proofs.parts.read_back.Goals as goal
-
-pub returns-then-switches-clause-performs : goal.returns-then-switches-clause-performs
-returns-then-switches-clause-performs g c = rw (rw c.switches.ensures at c.if-switches.true) (nothing_performs _ _ _ c.requires.sound)

@@ -1,0 +1,38 @@
+-- How a part of a session ends. (For contracts inside this crate.)
+use Rattle.std.specs.Prelude.{Bool, true, false, ◌≡◌, ◌≤◌, List, Result, ⊤}
+use Rattle.avr_desk.specs.Fault.{Follows}
+use Rattle.avr_desk.specs.Record.{DeskView}
+use Rattle.stk_host.specs.Dialog.{Dialog}
+use Rattle.stk_host.specs.State.{HostState}
+use Rattle.avr_desk.specs.Said.{Saying}
+use Rattle.avr_session.specs.declared.standing.Standing.{Standing}
+use Rattle.avr_session.specs.declared.standing.Standing.TheVariants.{Fine}
+use Rattle.avr_session.specs.declared.standing.Stopped.{Stopped}
+use Rattle.avr_session.specs.Concluding.{HostServes, fine_if_said}
+use Rattle.avr_session.specs.Runs.{Devices, Terms, untold, PrintStops, Reports, Runs}
+
+-- whether a fault was told, by how a session stands
+abbrev pub is_told : Standing → Bool
+is_told Fine = false
+is_told standing = true
+
+-- A part of a session was played on these terms by a host, over devices that showed this before and after it.
+pub record PerformsBehind (terms : Terms) (dialog : Dialog Saying Standing) (host_old host_new : HostState)
+    (old new : Devices) (result : Result Standing Stopped) : Type 0 where
+  pub runs : Runs dialog host_old.progress old new terms result host_new.progress
+  pub serves : HostServes result host_new.broken
+  pub part : host_new.part ≡ host_old.part
+  pub link : old.link.failures ≤ new.link.failures
+  pub desk : Follows old.desk new.desk
+
+-- the same where no fault was told before it
+abbrev pub Performs : Bool → Dialog Saying Standing → HostState → HostState → Devices → Devices
+    → Result Standing Stopped → Type 0
+Performs takes dialog host_old host_new old new result =
+    PerformsBehind (untold takes) dialog host_old host_new old new result
+
+-- something was said in place of a part of a session
+pub record LeavesOut (sayings : List Saying) (old new : DeskView) (result : Result Standing Stopped) : Type 0 where
+  pub told : Result ⊤ Stopped
+  pub reports : Reports PrintStops old new sayings told
+  pub result_is : result ≡ fine_if_said told

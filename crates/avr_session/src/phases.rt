@@ -1,0 +1,336 @@
+//! The parts of a session: each is an operation of the host and its report.
+ghost use Rattle.std.specs.Prelude.{◌≡◌, ◌∷◌, ◌≤◌, ◌||◌, [], None, codes, length, All, true, false, not};
+ghost use Rattle.std.specs.List.{list_any};
+ghost use Rattle.avr_part.specs.Part.{size_of};
+ghost use Rattle.avr_plan.specs.Plan.{IsFitted};
+ghost use Rattle.avr_session.specs.Lines.{warns};
+ghost use Rattle.avr_session.specs.Runs.{devices, Reports, PrintStops};
+ghost use Rattle.avr_session.specs.Phases.{Performs, LeavesOut};
+ghost use Rattle.avr_session.specs.Session.{opening_phase, chip_erasing_phase, left_out_erase, erasing_phase, verifying_phase, writing_phase, reading_back_phase, reading_phase, left_out_write, write_task_phase, task_phase, tasks_phase, writes_flash, is_erase_due, task_takes_memory};
+ghost use Rattle.stk_host.specs.Talk.{Stays};
+
+use crate::reports::{report_bytes, report_done, report_erased, report_opening, warn};
+use crate::saving::{Target, report_read};
+use crate::standing::{Standing, Stopped, conclude, fine_if_said};
+use avr_cli::Switches;
+use avr_desk::{Desk, Piece};
+use avr_image::Image;
+use avr_part::Mem;
+use avr_plan::{Plan, Task};
+use std::alloc::Global;
+use stk_host::{Host, Link};
+
+/// Opens a session.
+pub(crate) fn open_session<D: Desk, L: Link>(
+    host: &mut Host,
+    desk: &mut D,
+    link: &mut L,
+    plan: &Plan,
+) -> Result<Standing, Stopped>
+    requires sound { host.old.broken ≡ None }
+    requires part { host.old.part ≡ plan.now.part }
+    ensures performs { Performs false (opening_phase plan.now.part plan.now.switches) host.old host.new
+        (devices (L.view link.old) (D.view desk.old)) (devices (L.view link.new) (D.view desk.new)) result }
+    ensures comes { Stays L.comes_of link.old link.new }
+{
+    let switches = plan.switches();
+    let opened = host.open(link, switches.force);
+    let reported = report_opening(desk, switches.quiet, plan.part(), &opened);
+    conclude(&opened, reported)
+}
+
+/// Erases the chip.
+fn erase_chip<D: Desk, L: Link>(
+    host: &mut Host,
+    desk: &mut D,
+    link: &mut L,
+    plan: &Plan,
+) -> Result<Standing, Stopped>
+    requires sound { host.old.broken ≡ None }
+    ensures performs { Performs false (chip_erasing_phase plan.now.part plan.now.switches) host.old host.new
+        (devices (L.view link.old) (D.view desk.old)) (devices (L.view link.new) (D.view desk.new)) result }
+    ensures comes { Stays L.comes_of link.old link.new }
+{
+    let erased = host.erase(link);
+    let reported = report_erased(desk, plan.switches().quiet, plan.part(), &erased);
+    conclude(&erased, reported)
+}
+
+/// Warns that an erase that was asked for is left out.
+fn warn_of_no_erase<D: Desk>(desk: &mut D, quiet: u8) -> Result<(), Stopped>
+    ensures { Reports PrintStops (D.view desk.old) (D.view desk.new)
+        (warns quiet (codes "chip not erased because of -n" ∷ [])) result }
+{
+    warn(desk, quiet, &[Piece::Text("chip not erased because of -n")])
+}
+
+/// Leaves out an erase, with a warning if one was asked for.
+fn leave_out_erase<D: Desk>(desk: &mut D, switches: Switches) -> Result<Standing, Stopped>
+    ensures { LeavesOut (left_out_erase switches) (D.view desk.old) (D.view desk.new) result }
+{
+    if switches.erase {
+        let warned = warn_of_no_erase(desk, switches.quiet);
+        return fine_if_said(warned);
+    }
+    Ok(Standing::Fine)
+}
+
+/// Whether the task writes flash.
+fn writes_flash(task: &Task) -> bool
+    ensures { result ≡ writes_flash task.now }
+{
+    matches!(task, Task::Write(Mem::Flash, _))
+}
+
+/// Whether some task writes flash.
+fn any_writes_flash(tasks: &[Task]) -> bool
+    ensures { result ≡ list_any writes_flash tasks.now }
+{
+    tasks.iter().any(|task| writes_flash(task))
+}
+
+/// Whether an erase is asked for, or due because flash is written.
+fn is_erase_due(switches: Switches, tasks: &[Task]) -> bool
+    ensures { result ≡ is_erase_due switches tasks.now }
+{
+    switches.erase || (any_writes_flash(tasks) && !switches.keep_flash)
+}
+
+/// Erases the chip where that is due.
+pub(crate) fn erase_if_due<D: Desk, L: Link>(
+    host: &mut Host,
+    desk: &mut D,
+    link: &mut L,
+    plan: &Plan,
+) -> Result<Standing, Stopped>
+    requires sound { host.old.broken ≡ None }
+    ensures performs { Performs false (erasing_phase plan.now.part plan.now.switches plan.now.tasks) host.old host.new
+        (devices (L.view link.old) (D.view desk.old)) (devices (L.view link.new) (D.view desk.new)) result }
+    ensures comes { Stays L.comes_of link.old link.new }
+{
+    let switches = plan.switches();
+    if switches.dry {
+        return leave_out_erase(desk, switches);
+    }
+    if is_erase_due(switches, plan.tasks()) {
+        return erase_chip(host, desk, link, plan);
+    }
+    Ok(Standing::Fine)
+}
+
+/// Compares a memory with an image.
+fn verify<D: Desk, L: Link>(
+    alloc: Global,
+    host: &mut Host,
+    desk: &mut D,
+    link: &mut L,
+    plan: &Plan,
+    mem: Mem,
+    image: &Image,
+) -> Result<Standing, Stopped>
+    requires sound { host.old.broken ≡ None }
+    requires part { host.old.part ≡ plan.now.part }
+    requires fits { length image.now ≤ size_of mem plan.now.part }
+    ensures performs { Performs true (verifying_phase plan.now.part plan.now.switches mem image.now) host.old host.new
+        (devices (L.view link.old) (D.view desk.old)) (devices (L.view link.new) (D.view desk.new)) result }
+    ensures comes { Stays L.comes_of link.old link.new }
+{
+    let verified = host.verify(alloc, link, mem, image);
+    let count = image.len();
+    let reported = report_done(
+        desk,
+        plan.switches().quiet,
+        plan.part(),
+        mem,
+        count,
+        " bytes verified",
+        &verified,
+    );
+    conclude(&verified, reported)
+}
+
+/// Writes an image.
+fn write<D: Desk, L: Link>(
+    host: &mut Host,
+    desk: &mut D,
+    link: &mut L,
+    plan: &Plan,
+    mem: Mem,
+    image: &Image,
+) -> Result<Standing, Stopped>
+    requires sound { host.old.broken ≡ None }
+    requires part { host.old.part ≡ plan.now.part }
+    requires fits { length image.now ≤ size_of mem plan.now.part }
+    ensures performs { Performs false (writing_phase plan.now.part plan.now.switches mem image.now) host.old host.new
+        (devices (L.view link.old) (D.view desk.old)) (devices (L.view link.new) (D.view desk.new)) result }
+    ensures comes { Stays L.comes_of link.old link.new }
+{
+    let written = host.write(link, mem, image);
+    let count = image.len();
+    let reported = report_done(
+        desk,
+        plan.switches().quiet,
+        plan.part(),
+        mem,
+        count,
+        " bytes written",
+        &written,
+    );
+    conclude(&written, reported)
+}
+
+/// Reads back what was written, unless that isn't wanted.
+fn read_back<D: Desk, L: Link>(
+    alloc: Global,
+    host: &mut Host,
+    desk: &mut D,
+    link: &mut L,
+    plan: &Plan,
+    mem: Mem,
+    image: &Image,
+) -> Result<Standing, Stopped>
+    requires sound { host.old.broken ≡ None }
+    requires part { host.old.part ≡ plan.now.part }
+    requires fits { length image.now ≤ size_of mem plan.now.part }
+    ensures performs { Performs (not plan.now.switches.no_verify)
+        (reading_back_phase plan.now.part plan.now.switches mem image.now) host.old host.new
+        (devices (L.view link.old) (D.view desk.old)) (devices (L.view link.new) (D.view desk.new)) result }
+    ensures comes { Stays L.comes_of link.old link.new }
+{
+    if plan.switches().no_verify {
+        return Ok(Standing::Fine);
+    }
+    verify(alloc, host, desk, link, plan, mem, image)
+}
+
+/// Leaves out a write, and says so.
+fn leave_out_write<D: Desk>(
+    desk: &mut D,
+    plan: &Plan,
+    mem: Mem,
+    image: &Image,
+) -> Result<Standing, Stopped>
+    ensures { LeavesOut (left_out_write plan.now.switches mem image.now) (D.view desk.old) (D.view desk.new) result }
+{
+    let said = report_bytes(
+        desk,
+        plan.switches().quiet,
+        mem,
+        image.len(),
+        " bytes not written",
+    );
+    fine_if_said(said)
+}
+
+/// Writes an image and reads it back.
+fn write_and_verify<D: Desk, L: Link>(
+    alloc: Global,
+    host: &mut Host,
+    desk: &mut D,
+    link: &mut L,
+    plan: &Plan,
+    mem: Mem,
+    image: &Image,
+) -> Result<Standing, Stopped>
+    requires sound { host.old.broken ≡ None }
+    requires part { host.old.part ≡ plan.now.part }
+    requires fits { length image.now ≤ size_of mem plan.now.part }
+    ensures performs { Performs (not (plan.now.switches.dry || plan.now.switches.no_verify))
+        (write_task_phase plan.now.part plan.now.switches mem image.now) host.old host.new
+        (devices (L.view link.old) (D.view desk.old)) (devices (L.view link.new) (D.view desk.new)) result }
+    ensures comes { Stays L.comes_of link.old link.new }
+{
+    if plan.switches().dry {
+        return leave_out_write(desk, plan, mem, image);
+    }
+    match write(host, desk, link, plan, mem, image)? {
+        Standing::Fine => read_back(alloc, host, desk, link, plan, mem, image),
+        fault => Ok(fault),
+    }
+}
+
+/// Reads a memory into a file.
+fn read<D: Desk, L: Link>(
+    alloc: Global,
+    host: &mut Host,
+    desk: &mut D,
+    link: &mut L,
+    plan: &Plan,
+    mem: Mem,
+    target: Target<'_>,
+) -> Result<Standing, Stopped>
+    requires sound { host.old.broken ≡ None }
+    requires part { host.old.part ≡ plan.now.part }
+    ensures performs { Performs true
+        (reading_phase plan.now.part plan.now.switches mem target.entry.format target.entry.file.now)
+        host.old host.new
+        (devices (L.view link.old) (D.view desk.old)) (devices (L.view link.new) (D.view desk.new)) result }
+    ensures comes { Stays L.comes_of link.old link.new }
+{
+    let mut bytes = Vec::new(alloc);
+    let outcome = host.read(link, mem, &mut bytes);
+    let reported = report_read(desk, plan, mem, target, bytes.as_slice(), &outcome);
+    conclude(&outcome, reported)
+}
+
+/// Does what one update asks for.
+fn perform<D: Desk, L: Link>(
+    alloc: Global,
+    host: &mut Host,
+    desk: &mut D,
+    link: &mut L,
+    plan: &Plan,
+    task: &Task,
+) -> Result<Standing, Stopped>
+    requires sound { host.old.broken ≡ None }
+    requires part { host.old.part ≡ plan.now.part }
+    requires fits { IsFitted plan.now.part task.now }
+    ensures performs { Performs (task_takes_memory plan.now.switches task.now)
+        (task_phase plan.now.part plan.now.switches task.now) host.old host.new
+        (devices (L.view link.old) (D.view desk.old)) (devices (L.view link.new) (D.view desk.new)) result }
+    ensures comes { Stays L.comes_of link.old link.new }
+{
+    match task {
+        Task::Write(mem, image) => write_and_verify(alloc, host, desk, link, plan, *mem, image),
+        Task::Verify(mem, image) => verify(alloc, host, desk, link, plan, *mem, image),
+        Task::Read {
+            memory,
+            format,
+            file,
+        } => {
+            let target = Target {
+                file: file.as_str(),
+                format: *format,
+            };
+            read(alloc, host, desk, link, plan, *memory, target)
+        }
+    }
+}
+
+/// Does what the updates ask for, in their order and up to the first fault.
+pub(crate) fn perform_all<D: Desk, L: Link>(
+    alloc: Global,
+    host: &mut Host,
+    desk: &mut D,
+    link: &mut L,
+    plan: &Plan,
+    tasks: &[Task],
+) -> Result<Standing, Stopped>
+    requires sound { host.old.broken ≡ None }
+    requires part { host.old.part ≡ plan.now.part }
+    requires fits { All (IsFitted plan.now.part) tasks.now }
+    ensures performs { Performs (list_any (task_takes_memory plan.now.switches) tasks.now)
+        (tasks_phase plan.now.part plan.now.switches tasks.now) host.old host.new
+        (devices (L.view link.old) (D.view desk.old)) (devices (L.view link.new) (D.view desk.new)) result }
+    ensures comes { Stays L.comes_of link.old link.new }
+{
+    match tasks {
+        [] => Ok(Standing::Fine),
+        [task, more @ ..] => {
+            match perform(alloc, host, desk, link, plan, task)? {
+                Standing::Fine => perform_all(alloc, host, desk, link, plan, more),
+                fault => Ok(fault),
+            }
+        }
+    }
+}

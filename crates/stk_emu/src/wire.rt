@@ -1,0 +1,197 @@
+//! The wire, frame by frame.
+
+ghost use Rattle.std.specs.Prelude.{◌≡◌, ◌≤◌, ◌++◌, [], length, if◌then◌else◌};
+ghost use Rattle.stk_frame.specs.Frame.{frame};
+ghost use Rattle.stk_frame.specs.Cut.{is_good, seq_of};
+ghost use Rattle.stk_frame.specs.Reader.{HoldsFrame, TellsEvent, frames_of_event};
+ghost use Rattle.stk_host.specs.Tape.{on_tape};
+ghost use Rattle.stk_emu.specs.Programmer.{fresh_programmer, restarted_programmer};
+ghost use Rattle.stk_emu.specs.Device.{device, refusal, answer_frame, after_frame};
+ghost use Rattle.stk_emu.specs.Lawful.{none_late};
+ghost use Rattle.stk_emu.specs.Waiting.{tape_in};
+ghost use Rattle.stk_emu.specs.Wire.{AreLawful, IsLawfulFate, fresh_wire, segment, wire_behind, tape_of, wire_after, is_held, let_go, late_of, after_fate, back};
+
+use crate::emulator::{Frame, answer, refuse};
+use crate::fate::Fate;
+use crate::late::Late;
+use crate::programmer::Programmer;
+use crate::segment::{Segment, put_bytes, put_silence};
+use avr_part::Chip;
+use std::marker::Model;
+use stk_frame::{Event, FrameReader};
+
+/// The programmer at the end of a wire, and what is still to happen on it.
+#[derive(Drop)]
+pub(crate) struct Wire {
+    programmer: Programmer,
+    fates: Vec<Fate>,
+    next: usize,
+    late: Late,
+}
+
+impl Model for Wire {
+    ghost use Rattle.std.specs.Prelude.{drop};
+    ghost use Rattle.stk_emu.specs.Programmer.{Programmer as State};
+    ghost use Rattle.stk_emu.specs.Wire.{Wire, AreLawful};
+
+    ghost Value = { Wire State };
+
+    ghost view = { λ wire. record {
+      programmer = wire.programmer;
+      fates = drop wire.next wire.fates.items;
+      late = wire.late;
+    } };
+
+    ghost invariant = { λ wire. AreLawful wire.fates.items };
+}
+
+/// Whether the answers that wait go on waiting.
+fn is_held(fate: &Fate) -> bool
+    ensures { result ≡ is_held fate.now }
+{
+    match fate {
+        Fate::HeldAnswer => true,
+        Fate::Good
+        | Fate::LostCommand
+        | Fate::LostAnswer
+        | Fate::LateAnswer
+        | Fate::Reset
+        | Fate::CommandRefused
+        | Fate::AnswerSpoiled(_) => false,
+    }
+}
+
+/// Brings the answers that wait, unless they go on waiting: `out`, which is empty, becomes these.
+fn bring_late(fate: &Fate, late: &mut Late, out: &mut Segment)
+    requires { out.old.items ≡ [] }
+    ensures items { tape_in out.new.items ≡ on_tape (let_go fate.now late.old) }
+    ensures len { length out.new.items ≤ 843 }
+    ensures late { late.new ≡ (if is_held fate.now then late.old else none_late) }
+{
+    if !is_held(fate) {
+        late.put(out);
+        late.clear();
+    }
+}
+
+/// Passes the frame that the reader holds, with this fate: `out` becomes what it brings, behind the answers that wait.
+fn pass_with(
+    fate: &Fate,
+    programmer: &mut Programmer,
+    late: &mut Late,
+    reader: &FrameReader,
+    good: bool,
+    out: &mut Segment,
+)
+    requires empty { out.old.items ≡ [] }
+    requires lawful { IsLawfulFate fate.now }
+    requires holds { HoldsFrame reader.now }
+    requires tells { is_good reader.now ≡ good }
+    ensures items { tape_in out.new.items ≡ on_tape (let_go fate.now late.old)
+        ++ back fate.now (answer_frame device reader.now programmer.old) (frame (seq_of reader.now) refusal) }
+    ensures programmer { programmer.new ≡ after_fate fate.now (after_frame device reader.now programmer.old)
+        programmer.old (restarted_programmer programmer.old) }
+    ensures late { late.new ≡ late_of fate.now (answer_frame device reader.now programmer.old) late.old }
+{
+    let mut frame = Frame::new();
+    bring_late(fate, late, out);
+    match fate {
+        Fate::Good => {
+            answer(reader, good, programmer, &mut frame);
+            put_bytes(out, frame.as_slice());
+        }
+        Fate::LostCommand => put_silence(out),
+        Fate::LostAnswer => {
+            answer(reader, good, programmer, &mut frame);
+            put_silence(out);
+        }
+        Fate::LateAnswer | Fate::HeldAnswer => {
+            answer(reader, good, programmer, &mut frame);
+            late.hold(frame);
+            put_silence(out);
+        }
+        Fate::Reset => {
+            programmer.restart();
+            put_silence(out);
+        }
+        Fate::CommandRefused => {
+            refuse(reader, &mut frame);
+            put_bytes(out, frame.as_slice());
+        }
+        Fate::AnswerSpoiled(noise) => {
+            answer(reader, good, programmer, &mut frame);
+            put_bytes(out, noise.as_slice());
+            put_silence(out);
+        }
+    }
+}
+
+impl Wire {
+    /// A programmer with this chip, out of programming mode, and what will happen to each frame; after these fates all
+    /// are good.
+    pub fn new(chip: Chip, fates: Vec<Fate>) -> Wire
+        requires { AreLawful fates.items }
+        ensures { result ≡ fresh_wire (fresh_programmer chip) fates.items }
+    {
+        Wire {
+            programmer: Programmer::new(chip),
+            fates,
+            next: 0,
+            late: Late::new(),
+        }
+    }
+
+    pub fn chip(&self) -> &Chip
+        ensures { result.now ≡ self.now.programmer.chip }
+    {
+        self.programmer.chip()
+    }
+
+    /// Passes the frame that the reader holds: `out` becomes what it brings.
+    fn pass(&mut self, reader: &FrameReader, good: bool, out: &mut Segment)
+        requires empty { out.old.items ≡ [] }
+        requires holds { HoldsFrame reader.now }
+        requires tells { is_good reader.now ≡ good }
+        ensures items { tape_in out.new.items ≡ segment device reader.now self.old }
+        ensures wire { self.new ≡ wire_behind device reader.now self.old }
+    {
+        match self.fates.get(self.next) {
+            Some(fate) => {
+                pass_with(
+                    fate,
+                    &mut self.programmer,
+                    &mut self.late,
+                    reader,
+                    good,
+                    out,
+                );
+                self.next += 1;
+            }
+            None => {
+                let fate = Fate::Good;
+                pass_with(
+                    &fate,
+                    &mut self.programmer,
+                    &mut self.late,
+                    reader,
+                    good,
+                    out,
+                );
+            }
+        }
+    }
+
+    /// Passes the frame of which the event tells, if it tells of one.
+    pub fn pass_event(&mut self, reader: &FrameReader, event: Event, out: &mut Segment)
+        requires empty { out.old.items ≡ [] }
+        requires tells { TellsEvent event reader.now }
+        ensures items { tape_in out.new.items ≡ tape_of device (frames_of_event event reader.now) self.old }
+        ensures wire { self.new ≡ wire_after device (frames_of_event event reader.now) self.old }
+    {
+        match event {
+            Event::More => {}
+            Event::Frame => self.pass(reader, true, out),
+            Event::Spoiled => self.pass(reader, false, out),
+        }
+    }
+}
