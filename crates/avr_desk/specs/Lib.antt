@@ -1,3 +1,4 @@
+-- the meaning: what contracts of public calls cite
 pub mod Fault
 pub mod Record
 pub mod Stream
@@ -6,6 +7,7 @@ pub mod Named
 pub mod Memory
 pub mod Failing
 pub mod Shown
-pub mod Standing
 pub mod Lines
 pub mod Said
+-- inside: how things are kept, and what inner functions promise one another
+pub mod Standing

@@ -1,11 +1,13 @@
+-- the meaning: what contracts of public calls cite
 pub mod Image
-pub mod Present
 pub mod Walk
-pub mod Dense
 pub mod Fault
 pub mod Raw
 pub mod Values
-pub mod Placing
 pub mod Lists
 pub mod ByAddress
 pub mod Runs
+-- inside: how things are kept, and what inner functions promise one another
+pub mod Present
+pub mod Dense
+pub mod Placing

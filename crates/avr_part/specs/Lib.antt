@@ -1,3 +1,4 @@
+-- the meaning: what contracts of public calls cite
 pub mod Mem
 pub mod Part
 pub mod BuiltIn
@@ -8,6 +9,7 @@ pub mod Memory
 pub mod State
 pub mod Block
 pub mod Sound
-pub mod Chip
 pub mod ChipFile
 pub mod Laws
+-- inside: how things are kept, and what inner functions promise one another
+pub mod Chip

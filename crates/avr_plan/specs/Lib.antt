@@ -1,10 +1,12 @@
+-- the meaning: what contracts of public calls cite
 pub mod Faults
 pub mod Lines
 pub mod ImageFile
 pub mod ImageReading
-pub mod Intake
 pub mod Plan
 pub mod Stage
 pub mod Planning
 pub mod Playing
 pub mod OnlyReading
+-- inside: how things are kept, and what inner functions promise one another
+pub mod Intake

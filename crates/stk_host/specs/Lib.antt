@@ -1,3 +1,4 @@
+-- the meaning: what contracts of public calls cite
 pub mod Tape
 pub mod Talk
 pub mod Dialog
@@ -12,4 +13,5 @@ pub mod Reach
 pub mod Calls
 pub mod State
 pub mod Links
+-- inside: how things are kept, and what inner functions promise one another
 pub mod Log
