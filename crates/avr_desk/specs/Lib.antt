@@ -9,3 +9,5 @@ pub mod Shown
 pub mod Standing
 pub mod Lines
 pub mod Said
+pub mod Stage
+pub mod Playing

@@ -4,7 +4,5 @@ pub mod ImageFile
 pub mod ImageReading
 pub mod Intake
 pub mod Plan
-pub mod Stage
 pub mod Planning
-pub mod Playing
 pub mod OnlyReading
