@@ -6,7 +6,7 @@ use Rattle.avr_desk.specs.Files.{IsWhole, with_read}
 use Rattle.avr_desk.specs.Record.{DeskView, Passes}
 use Rattle.avr_desk.specs.declared.record.Opening.TheVariants.{Found}
 use Rattle.avr_desk.specs.declared.record.Reading.{Reading}
-use Rattle.avr_desk.specs.Lines.{Bytes}
+use Rattle.avr_desk.specs.Lines.{Bytes, too_long_line}
 use Rattle.avr_desk.specs.Said.{Tells}
 use Rattle.avr_part.specs.ChipFile.{chip_file_size, chip_in, state_in}
 use Rattle.avr_part.specs.Part.{Part}
@@ -14,11 +14,10 @@ use Rattle.avr_part.specs.PartFile.{GivesOrMemory}
 use Rattle.avr_part.specs.State.{ChipState, fresh_state}
 use Rattle.avr_part.specs.declared.fault.PartFault.{PartFault}
 use Rattle.avr_part.specs.declared.fault.PartFault.TheVariants.{BadChipFile}
-use Rattle.avr_plan.proofs.Openings.{goes_opened, goes_judged}
-use Rattle.avr_plan.proofs.Played.{went_settled, goes_unsettled}
-use Rattle.avr_plan.specs.Lines.{too_long_line}
-use Rattle.avr_plan.specs.Playing.{Goes, Went}
-use Rattle.avr_plan.specs.Stage.{Made, verdict_stage}
+use Rattle.avr_desk.proofs.Openings.{goes_opened, goes_judged}
+use Rattle.avr_desk.proofs.Played.{went_settled, goes_unsettled}
+use Rattle.avr_desk.specs.Playing.{Goes, Went}
+use Rattle.avr_desk.specs.Stage.{Made, verdict_stage}
 use Rattle.avr_chip.specs.Lines.{length_line}
 use Rattle.avr_chip.specs.Loading.{chip_or_line, judged_chip, chip_given, chip_stage}
 

@@ -11,10 +11,8 @@ use Rattle.avr_desk.specs.declared.fault.DeskFault.TheVariants.{NotFound, Failed
 use Rattle.avr_desk.specs.declared.stream.Stream.TheVariants.{File}
 use Rattle.avr_desk.proofs.Saying.{kept_append}
 use Rattle.avr_desk.proofs.Telling.{failed_later, failure_told, follows_on}
-use Rattle.avr_desk.specs.Lines.{Bytes}
+use Rattle.avr_desk.specs.Lines.{Bytes, memory_line, not_created_line, not_written_line}
 use Rattle.avr_desk.specs.Said.{Creates, Writes, Line, Tells}
-use Rattle.avr_plan.specs.Lines.{memory_line}
-use Rattle.avr_chip.specs.Lines.{not_created_line, not_written_line}
 use Rattle.avr_chip.specs.Saving.{NoMemory, NotCreated, NotWritten, Saves}
 
 -- memory was refused for the bytes

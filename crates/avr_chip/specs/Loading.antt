@@ -2,12 +2,11 @@
 use Rattle.std.specs.Prelude.{◌==◌, nat_le, length, Result, Ok, Err, if◌then◌else◌}
 use Rattle.avr_desk.specs.declared.record.Opening.{Opening}
 use Rattle.avr_desk.specs.declared.record.Opening.TheVariants.{Absent, Found}
-use Rattle.avr_desk.specs.Lines.{Bytes}
+use Rattle.avr_desk.specs.Lines.{Bytes, too_long_line}
 use Rattle.avr_part.specs.ChipFile.{chip_file_size, state_in}
 use Rattle.avr_part.specs.Part.{Part}
 use Rattle.avr_part.specs.State.{ChipState, fresh_state}
-use Rattle.avr_plan.specs.Lines.{too_long_line}
-use Rattle.avr_plan.specs.Stage.{Stage, ◌>>=◌, verdict_stage, open_stage, content_stage}
+use Rattle.avr_desk.specs.Stage.{Stage, ◌>>=◌, verdict_stage, open_stage, content_stage}
 use Rattle.avr_chip.specs.Lines.{length_line}
 
 -- the chip of these bytes; another length than the part's is refused

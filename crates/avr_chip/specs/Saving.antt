@@ -1,10 +1,8 @@
 -- A chip file that is saved: what was done at the desk, and what stood in the way.
 use Rattle.std.specs.Prelude.{◌≡◌, ℕ, List, [], ◌∷◌, ◌++◌, Result, Ok, Err, ⊤}
 use Rattle.avr_desk.specs.Record.{DeskView, Passes}
-use Rattle.avr_desk.specs.Lines.{Bytes}
+use Rattle.avr_desk.specs.Lines.{Bytes, memory_line, not_created_line, not_written_line}
 use Rattle.avr_desk.specs.Said.{Saying, Line, Creates, Writes, IsPrefixOf, TellsLine, TellsFailure, after_all}
-use Rattle.avr_plan.specs.Lines.{memory_line}
-use Rattle.avr_chip.specs.Lines.{not_created_line, not_written_line}
 
 -- What stood in the way: memory was refused for the bytes; the file could not be created; or not be written behind
 -- these bytes.

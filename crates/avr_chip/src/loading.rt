@@ -1,12 +1,12 @@
 //! A chip is loaded from its file.
 ghost use Rattle.std.specs.Prelude.{◌≡◌, ◌≤◌, IfOk, Ok, length};
 ghost use Rattle.avr_desk.specs.Fault.{Follows};
+ghost use Rattle.avr_desk.specs.Files.{FileBreaks, IsCounted};
 ghost use Rattle.avr_desk.specs.Record.{DeskView};
 ghost use Rattle.avr_part.specs.ChipFile.{chip_file_size};
 ghost use Rattle.avr_part.specs.State.{fresh_state};
-ghost use Rattle.avr_plan.specs.ImageReading.{FileBreaks, IsCounted};
-ghost use Rattle.avr_plan.specs.Playing.{Goes};
-ghost use Rattle.avr_plan.specs.Stage.{verdict_stage};
+ghost use Rattle.avr_desk.specs.Playing.{Goes};
+ghost use Rattle.avr_desk.specs.Stage.{verdict_stage};
 ghost use Rattle.avr_chip.specs.Loading.{chip_or_line, chip_stage};
 
 use crate::refusal::refuse_length;

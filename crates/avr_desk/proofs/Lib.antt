@@ -8,3 +8,7 @@ pub mod Digits
 pub mod Pieces
 pub mod Saying
 pub mod Telling
+pub mod Played
+pub mod Openings
+pub mod FileStages
+pub mod Breaks

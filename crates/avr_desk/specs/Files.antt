@@ -36,6 +36,20 @@ ReadsOpen old new (Err Absent) = ⊥
 ReadsOpen old new (Err NotOpened) = ⊥
 ReadsOpen old new (Err fault) = (bytes : Bytes) × Passes (after_reading bytes false) old new
 
+-- How the reading of a file breaks off that is not kept whole: with no such file that is noted; where it could not be
+-- opened nothing passed; where it could not be read on it gave some bytes, and where memory was refused perhaps all.
+abbrev pub FileBreaks : Bytes → DeskView → DeskView → FileFault → Type 0
+FileBreaks name old new Absent = Passes (with_absent name) old new
+FileBreaks name old new NotOpened = new.kept ≡ old.kept
+FileBreaks name old new NotRead = (bytes : Bytes) × Passes (with_read name bytes false) old new
+FileBreaks name old new Memory = (bytes : Bytes) × (ended : Bool) × Passes (with_read name bytes ended) old new
+
+-- what the count of failures says of such a fault
+abbrev pub IsCounted : DeskView → DeskView → FileFault → Type 0
+IsCounted old new NotOpened = HasFailed old new
+IsCounted old new NotRead = HasFailed old new
+IsCounted old new fault = Unit {0}
+
 -- the end was seen within the limit, or more bytes came than it allows, by one piece at most
 abbrev pub IsWhole : ℕ → Contents → Type 0
 IsWhole limit c =

@@ -9,5 +9,7 @@ pub mod Failing
 pub mod Shown
 pub mod Lines
 pub mod Said
+pub mod Stage
+pub mod Playing
 -- inside: how things are kept, and what inner functions promise one another
 pub mod Standing

@@ -4,6 +4,8 @@ use Rattle.std.specs.List.{concat}
 use Rattle.std.specs.Char.{to_ascii_uppercase}
 use Rattle.byteorder.specs.Endian.{big_bytes}
 use Rattle.hex.specs.Hex.{encode_lower}
+use Rattle.avr_desk.specs.declared.files.FileFault.{FileFault}
+use Rattle.avr_desk.specs.declared.files.FileFault.TheVariants.{Absent, NotOpened, NotRead, Memory}
 use Rattle.avr_desk.specs.declared.piece.Piece.{Piece}
 use Rattle.avr_desk.specs.declared.piece.Piece.TheVariants.{Text, Byte, Signature, Address, Number}
 
@@ -39,3 +41,53 @@ warning pieces = line (codes "avrstk: warning: ") pieces
 
 abbrev pub error : List Bytes → Bytes
 error pieces = line (codes "avrstk: error: ") pieces
+
+-- ---- what is told of any file, and of memory that was refused
+
+abbrev pub memory_pieces : List Bytes
+memory_pieces = codes "out of memory" ∷ []
+
+abbrev pub not_opened_pieces : Bytes → List Bytes
+not_opened_pieces file = file ∷ codes ": cannot be opened" ∷ []
+
+abbrev pub not_read_pieces : Bytes → List Bytes
+not_read_pieces file = file ∷ codes ": cannot be read" ∷ []
+
+-- why a file was not read
+abbrev pub file_pieces : Bytes → FileFault → List Bytes
+file_pieces file Absent = not_opened_pieces file
+file_pieces file NotOpened = not_opened_pieces file
+file_pieces file NotRead = not_read_pieces file
+file_pieces file Memory = memory_pieces
+
+-- a file has more bytes than the limit
+abbrev pub too_long_pieces : Bytes → ℕ → List Bytes
+too_long_pieces file limit = file ∷ codes ": longer than " ∷ decimal limit ∷ codes " bytes" ∷ []
+
+abbrev pub not_created_pieces : Bytes → List Bytes
+not_created_pieces file = file ∷ codes ": cannot be created" ∷ []
+
+abbrev pub not_written_pieces : Bytes → List Bytes
+not_written_pieces file = file ∷ codes ": cannot be written" ∷ []
+
+-- their lines
+abbrev pub memory_line : Bytes
+memory_line = error memory_pieces
+
+abbrev pub not_opened_line : Bytes → Bytes
+not_opened_line file = error (not_opened_pieces file)
+
+abbrev pub not_read_line : Bytes → Bytes
+not_read_line file = error (not_read_pieces file)
+
+abbrev pub file_fault_line : Bytes → FileFault → Bytes
+file_fault_line file fault = error (file_pieces file fault)
+
+abbrev pub too_long_line : Bytes → ℕ → Bytes
+too_long_line file limit = error (too_long_pieces file limit)
+
+abbrev pub not_created_line : Bytes → Bytes
+not_created_line file = error (not_created_pieces file)
+
+abbrev pub not_written_line : Bytes → Bytes
+not_written_line file = error (not_written_pieces file)

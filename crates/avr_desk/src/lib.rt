@@ -20,6 +20,7 @@ mod stream;
 
 // The lines of messages.
 mod line;
+mod message;
 mod piece;
 
 // The desks.
@@ -35,6 +36,10 @@ pub use fault::DeskFault;
 pub use files::{Contents, FileFault, read_file};
 pub use line::{print_error, print_information, print_warning};
 pub use mem_desk::MemDesk;
+pub use message::{
+    Message, file_message, memory_message, not_created_message, not_written_message, refuse,
+    too_long_message,
+};
 pub use piece::Piece;
 pub use record::{Open, Opening, Reading, Writing};
 pub use stream::{Stream, write_all};

@@ -11,8 +11,8 @@ use Rattle.avr_part.specs.Sound.{IsSoundChip}
 use Rattle.avr_part.specs.State.{ChipState as Chip}
 use Rattle.avr_plan.specs.Plan.{Plan, IsFitted}
 use Rattle.avr_plan.specs.Planning.{planned}
-use Rattle.avr_plan.specs.Playing.{Goes, Went}
-use Rattle.avr_plan.specs.Stage.{Made}
+use Rattle.avr_desk.specs.Playing.{Goes, Went}
+use Rattle.avr_desk.specs.Stage.{Made}
 use Rattle.stk_host.specs.Talk.{Stays, sent}
 use Rattle.stk_emu.specs.Programmer.{fresh_programmer}
 use Rattle.stk_emu.specs.Wire.{fresh_wire}

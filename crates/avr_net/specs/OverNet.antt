@@ -6,8 +6,8 @@ use Rattle.avr_desk.specs.Lines.{Bytes}
 use Rattle.avr_desk.specs.Said.{Tells}
 use Rattle.avr_plan.specs.Plan.{Plan}
 use Rattle.avr_plan.specs.Planning.{planned}
-use Rattle.avr_plan.specs.Playing.{Goes, Went}
-use Rattle.avr_plan.specs.Stage.{Made}
+use Rattle.avr_desk.specs.Playing.{Goes, Went}
+use Rattle.avr_desk.specs.Stage.{Made}
 use Rattle.avr_session.specs.Runs.{devices, RunsTo}
 use Rattle.avr_session.specs.Session.{session, takes_memory}
 use Rattle.stk_host.specs.Talk.{LinkView}

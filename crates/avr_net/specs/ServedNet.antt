@@ -6,8 +6,8 @@ use Rattle.avr_desk.specs.Record.{DeskView}
 use Rattle.avr_desk.specs.Lines.{Bytes}
 use Rattle.avr_desk.specs.Said.{Tells}
 use Rattle.avr_part.specs.State as chips
-use Rattle.avr_plan.specs.Playing.{Goes, Went}
-use Rattle.avr_plan.specs.Stage.{Made}
+use Rattle.avr_desk.specs.Playing.{Goes, Went}
+use Rattle.avr_desk.specs.Stage.{Made}
 use Rattle.avr_serve.specs.ServedRun.{sides, ServesChip, settings_chip}
 use Rattle.avr_net.specs.Lines.{unopened_line}
 use Rattle.avr_net.specs.OverNet.{connection}

@@ -10,19 +10,18 @@ use Rattle.avr_cli.specs.declared.update.Op.TheVariants as op
 use Rattle.avr_desk.specs.Fault.{HasRisen}
 use Rattle.avr_desk.specs.Record.{DeskView, Record, after_err, showing}
 use Rattle.avr_desk.specs.declared.record.Opening.TheVariants.{Found}
-use Rattle.avr_desk.specs.Lines.{Bytes}
+use Rattle.avr_desk.specs.Lines.{Bytes, memory_line, not_opened_line}
 use Rattle.avr_desk.specs.Said.{Opens, Line, TellsLine, TellsFailure, after_all}
 use Rattle.avr_desk.proofs.Telling.{risen_before}
 use Rattle.avr_part.specs.BuiltIn.{m328p}
 use Rattle.avr_part.specs.declared.mem.Mem.TheVariants.{Flash}
 use Rattle.avr_records.specs.declared.kind.Ending.{Ending}
-use Rattle.avr_plan.specs.Lines.{memory_line, not_opened_line}
 use Rattle.avr_plan.specs.Planning.{planned, file_image_stage, judged_image, warning_says}
-use Rattle.avr_plan.specs.Playing.{Goes}
-use Rattle.avr_plan.specs.Stage.{Stage, verdict_stage, saying_stage, file_stage, ◌>>=◌}
+use Rattle.avr_desk.specs.Playing.{Goes}
+use Rattle.avr_desk.specs.Stage.{Stage, verdict_stage, saying_stage, file_stage, ◌>>=◌}
 use Rattle.avr_plan.specs.declared.task.Task.{Task}
 use Rattle.avr_plan.specs.declared.task.Task.TheVariants.{Write}
-use Rattle.avr_plan.proofs.Breaks.{Begins, begins_then, begins_file, unopened, opened_is_told}
+use Rattle.avr_desk.proofs.Breaks.{Begins, begins_then, begins_file, unopened, opened_is_told}
 
 abbrev file : Bytes
 file = codes "x.hex"

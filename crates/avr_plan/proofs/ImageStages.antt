@@ -7,13 +7,13 @@ use Rattle.avr_desk.specs.Record.{DeskView}
 use Rattle.avr_desk.specs.Lines.{Bytes}
 use Rattle.avr_desk.specs.Said.{Tells}
 use Rattle.avr_records.specs.declared.kind.Ending.{Ending}
-use Rattle.avr_plan.proofs.FileStages.{goes_whole, went_whole, goes_file_fault}
-use Rattle.avr_plan.proofs.Played.{goes_on, goes_no_further, goes_unsettled, went_went, went_nowhere, went_settled}
+use Rattle.avr_desk.proofs.FileStages.{goes_whole, went_whole, goes_file_fault}
+use Rattle.avr_desk.proofs.Played.{goes_on, goes_no_further, goes_unsettled, went_went, went_nowhere, went_settled}
 use Rattle.avr_plan.specs.ImageReading.{ReadsImage, ImageIsRead, IsCountedRead}
-use Rattle.avr_plan.specs.Lines.{bad_file_line, read_fault_line}
+use Rattle.avr_plan.specs.Lines.{bad_file_line, image_line}
 use Rattle.avr_plan.specs.Planning.{file_image_stage, judged_image, image_or_line, warning_says}
-use Rattle.avr_plan.specs.Playing.{Goes, Went}
-use Rattle.avr_plan.specs.Stage.{Stage, Made, ◌>>=◌, verdict_stage, saying_stage, file_stage}
+use Rattle.avr_desk.specs.Playing.{Goes, Went}
+use Rattle.avr_desk.specs.Stage.{Stage, Made, ◌>>=◌, verdict_stage, saying_stage, file_stage}
 use Rattle.avr_plan.specs.declared.bad_file.BadFile.{BadFile}
 use Rattle.avr_plan.specs.declared.image_file.ReadFault.{ReadFault}
 use Rattle.avr_plan.specs.declared.image_file.ReadFault.TheVariants as fault_of
@@ -78,7 +78,7 @@ goes_unread switches file format size old new status goes =
 pub goes_without_image : (switches : Switches) (file : Bytes) (format : Format) (size : ℕ) (old mid new : DeskView)
     (fault : ReadFault) (status : ℕ)
     → ImageIsRead 4194304 format size file old mid (Err fault) → Follows old mid → IsCountedRead old mid fault → status ≡ 1
-    → Tells mid new (read_fault_line file fault) → Goes (file_image_stage switches file format size) old new (Err status)
+    → Tells mid new (image_line file fault) → Goes (file_image_stage switches file format size) old new (Err status)
 goes_without_image switches file format size old mid new (fault_of.File fault) status reads rose counted one told =
     goes_unread switches file format size old new status
     (goes_file_fault file 4194304 (judged_image file format size) fault old mid new status reads rose counted one told)

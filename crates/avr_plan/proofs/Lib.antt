@@ -1,9 +1,6 @@
 pub mod FirstFaults
 pub mod Intaking
 pub mod ImageReadings
-pub mod Played
-pub mod Openings
-pub mod FileStages
 pub mod ImageStages
 pub mod Sizes
 pub mod PartStages
@@ -11,5 +8,4 @@ pub mod ValueStages
 pub mod TaskStages
 pub mod Plans
 pub mod OnlyReading
-pub mod Breaks
 pub mod BreakRows

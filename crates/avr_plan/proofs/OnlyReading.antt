@@ -21,7 +21,7 @@ use Rattle.avr_plan.specs.Lines.{no_end_line, read_only_line}
 use Rattle.avr_plan.specs.OnlyReading.{OnlyReads}
 use Rattle.avr_plan.specs.Plan.{Plan}
 use Rattle.avr_plan.specs.Planning.{judged_parts, parts_stage, part_or_line, part_stage, is_warned, warning_says, judged_image, file_image_stage, values_or_line, image_stage, update_image, write_stage, op_stage, task_stage, tasks_stage, planned}
-use Rattle.avr_plan.specs.Stage.{Stage, Answer, Made, Refused, Unread, going_on, ◌>>=◌, saying_stage, verdict_stage, unread_stage, open_stage, is_whole, content_stage, file_stage}
+use Rattle.avr_desk.specs.Stage.{Stage, Answer, Made, Refused, Unread, going_on, ◌>>=◌, saying_stage, verdict_stage, unread_stage, open_stage, is_whole, content_stage, file_stage}
 use Rattle.avr_plan.specs.declared.task.Task.{Task}
 use Rattle.avr_plan.specs.declared.task.Task.TheVariants.{Write, Verify, Read}
 

@@ -4,18 +4,18 @@ use Rattle.std.proofs.lemmas.Bool.Decides.{nat_tests}
 use Rattle.avr_desk.specs.Fault.{Follows}
 use Rattle.avr_desk.specs.Files.{IsWhole, with_read}
 use Rattle.avr_desk.specs.Record.{DeskView, Passes}
-use Rattle.avr_desk.specs.Lines.{Bytes}
+use Rattle.avr_desk.specs.Lines.{Bytes, too_long_line}
 use Rattle.avr_desk.specs.Said.{Tells}
 use Rattle.avr_part.specs.Part.{Part}
 use Rattle.avr_part.specs.PartFile.{GivesOrMemory, parts_of}
 use Rattle.avr_part.specs.declared.fault.PartFault.{PartFault}
 use Rattle.avr_part.specs.declared.fault.PartFault.TheVariants.{Memory}
-use Rattle.avr_plan.proofs.FileStages.{goes_whole, went_whole}
-use Rattle.avr_plan.proofs.Played.{went_settled, goes_unsettled, goes_without_memory}
-use Rattle.avr_plan.specs.Lines.{part_file_line, too_long_line}
+use Rattle.avr_desk.proofs.FileStages.{goes_whole, went_whole}
+use Rattle.avr_desk.proofs.Played.{went_settled, goes_unsettled, goes_without_memory}
+use Rattle.avr_plan.specs.Lines.{part_file_line}
 use Rattle.avr_plan.specs.Planning.{judged_parts, parts_or_line}
-use Rattle.avr_plan.specs.Playing.{Goes, Went}
-use Rattle.avr_plan.specs.Stage.{Made, verdict_stage, file_stage}
+use Rattle.avr_desk.specs.Playing.{Goes, Went}
+use Rattle.avr_desk.specs.Stage.{Made, verdict_stage, file_stage}
 
 -- the judgment of a file within the limit
 judged-within : (file bytes : Bytes) → IsWhole 65536 (record { bytes = bytes; ended = true })

@@ -5,11 +5,11 @@ use Rattle.avr_cli.specs.declared.update.Update.{Update}
 use Rattle.avr_desk.specs.Record.{DeskView}
 use Rattle.avr_desk.specs.Lines.{Bytes}
 use Rattle.avr_part.specs.Part.{Part}
-use Rattle.avr_plan.proofs.Played.{goes_on, goes_no_further, went_went, went_into}
+use Rattle.avr_desk.proofs.Played.{goes_on, goes_no_further, went_went, went_into}
 use Rattle.avr_plan.specs.Plan.{Plan}
 use Rattle.avr_plan.specs.Planning.{parts_stage, part_stage, tasks_stage, planned}
-use Rattle.avr_plan.specs.Playing.{Goes, Went}
-use Rattle.avr_plan.specs.Stage.{Stage, Made, ◌>>=◌, verdict_stage}
+use Rattle.avr_desk.specs.Playing.{Goes, Went}
+use Rattle.avr_desk.specs.Stage.{Stage, Made, ◌>>=◌, verdict_stage}
 use Rattle.avr_plan.specs.declared.task.Task.{Task}
 
 abbrev plan_of : Settings → Part → List Task → Plan

@@ -10,11 +10,11 @@ use Rattle.avr_image.specs.declared.fault.ImageFault.TheVariants.{Memory}
 use Rattle.avr_desk.specs.Lines.{Bytes}
 use Rattle.avr_desk.specs.Said.{Tells}
 use Rattle.avr_part.specs.declared.mem.Mem.{Mem}
-use Rattle.avr_plan.proofs.Played.{went_settled, goes_unsettled, goes_without_memory}
+use Rattle.avr_desk.proofs.Played.{went_settled, goes_unsettled, goes_without_memory}
 use Rattle.avr_plan.specs.Lines.{values_line}
 use Rattle.avr_plan.specs.Planning.{image_stage, values_or_line}
-use Rattle.avr_plan.specs.Playing.{Goes, Went}
-use Rattle.avr_plan.specs.Stage.{Made, verdict_stage}
+use Rattle.avr_desk.specs.Playing.{Goes, Went}
+use Rattle.avr_desk.specs.Stage.{Made, verdict_stage}
 
 abbrev Image : Type 0
 Image = List (Option ℕ)

@@ -1,9 +1,8 @@
 -- What passes at a desk as an image file is read.
 use Rattle.std.specs.Prelude.{◌≡◌, ◌≤◌, ◌+◌, ℕ, List, ◌++◌, length, Option, Bool, false, Result, Ok, Err, MatchBool}
 use Rattle.avr_cli.specs.declared.update.Format.{Format}
-use Rattle.avr_desk.specs.Fault.{HasFailed}
-use Rattle.avr_desk.specs.Files.{after_reading, with_read, IsWhole}
-use Rattle.avr_desk.specs.Record.{DeskView, Passes, with_absent}
+use Rattle.avr_desk.specs.Files.{after_reading, with_read, FileBreaks, IsCounted, IsWhole}
+use Rattle.avr_desk.specs.Record.{DeskView, Passes}
 use Rattle.avr_desk.specs.declared.files.FileFault.{FileFault}
 use Rattle.avr_desk.specs.declared.files.FileFault.TheVariants.{Absent, NotOpened, NotRead, Memory}
 use Rattle.avr_desk.specs.Lines.{Bytes}
@@ -25,12 +24,6 @@ abbrev pub IsGiven : Given → ImageOrFault → Type 0
 IsGiven given (Ok good) = Ok good ≡ given
 IsGiven given (Err (Image bad)) = Err bad ≡ given
 IsGiven given (Err (File fault)) = ⊥
-
--- what the count of failures says of a fault
-abbrev pub IsCounted : DeskView → DeskView → FileFault → Type 0
-IsCounted old new NotOpened = HasFailed old new
-IsCounted old new NotRead = HasFailed old new
-IsCounted old new fault = Unit {0}
 
 abbrev pub IsCountedRead : DeskView → DeskView → ReadFault → Type 0
 IsCountedRead old new (File fault) = IsCounted old new fault
@@ -92,14 +85,6 @@ pub record ReadsImage (limit : ℕ) (format : Format) (size : ℕ) (name : Bytes
   pub kept : Passes (with_read name bytes ended) old new
   pub whole : IsWhole limit (record { bytes = bytes; ended = ended })
   pub gives : given ≡ image_within limit format bytes size
-
--- with no such file that is noted; where it could not be opened nothing passed; where it could not be read on it gave
--- some bytes, and where memory was refused perhaps all
-abbrev pub FileBreaks : Bytes → DeskView → DeskView → FileFault → Type 0
-FileBreaks name old new Absent = Passes (with_absent name) old new
-FileBreaks name old new NotOpened = new.kept ≡ old.kept
-FileBreaks name old new NotRead = (bytes : Bytes) × Passes (with_read name bytes false) old new
-FileBreaks name old new Memory = (bytes : Bytes) × (ended : Bool) × Passes (with_read name bytes ended) old new
 
 abbrev pub ImageIsRead : ℕ → Format → ℕ → Bytes → DeskView → DeskView → ImageOrFault → Type 0
 ImageIsRead limit format size name old new (Ok good) = ReadsImage limit format size name old new (Ok good)

@@ -4,9 +4,7 @@ pub mod Lines
 pub mod ImageFile
 pub mod ImageReading
 pub mod Plan
-pub mod Stage
 pub mod Planning
-pub mod Playing
 pub mod OnlyReading
 -- inside: how things are kept, and what inner functions promise one another
 pub mod Intake

@@ -1,13 +1,12 @@
 -- The lines of a plan's warnings and refusals.
-use Rattle.std.specs.Prelude.{ℕ, [], ◌∷◌, codes, decimal}
+use Rattle.std.specs.Prelude.{ℕ, List, [], ◌∷◌, codes, decimal}
 use Rattle.byteorder.specs.Endian.{big_bytes}
-use Rattle.avr_desk.specs.declared.files.FileFault.{FileFault}
-use Rattle.avr_desk.specs.declared.files.FileFault.TheVariants as file_fault
 use Rattle.avr_image.specs.declared.fault.ImageFault.{ImageFault}
 use Rattle.avr_image.specs.declared.fault.ImageFault.TheVariants as image_fault
-use Rattle.avr_desk.specs.Lines.{Bytes, digits, warning, error}
+use Rattle.avr_desk.specs.Lines.{Bytes, digits, warning, error, file_pieces, memory_pieces, too_long_pieces}
 use Rattle.avr_part.specs.Fault.{field_name}
 use Rattle.avr_part.specs.Mem.{name_of}
+use Rattle.avr_part.specs.declared.fault.Field.{Field}
 use Rattle.avr_part.specs.declared.fault.PartFault.{PartFault}
 use Rattle.avr_part.specs.declared.fault.PartFault.TheVariants as part_fault
 use Rattle.avr_part.specs.declared.mem.Mem.{Mem}
@@ -18,93 +17,97 @@ use Rattle.avr_plan.specs.declared.bad_file.BadFile.TheVariants as bad_file
 use Rattle.avr_plan.specs.declared.image_file.ReadFault.{ReadFault}
 use Rattle.avr_plan.specs.declared.image_file.ReadFault.TheVariants as read_fault
 
--- ---- files
-
 abbrev pub no_end_line : Bytes → Bytes
 no_end_line file = warning (file ∷ codes ": no end record" ∷ [])
 
-abbrev pub memory_line : Bytes
-memory_line = error (codes "out of memory" ∷ [])
-
-abbrev pub not_opened_line : Bytes → Bytes
-not_opened_line file = error (file ∷ codes ": cannot be opened" ∷ [])
-
-abbrev pub not_read_line : Bytes → Bytes
-not_read_line file = error (file ∷ codes ": cannot be read" ∷ [])
-
-abbrev pub file_fault_line : Bytes → FileFault → Bytes
-file_fault_line file file_fault.Absent = not_opened_line file
-file_fault_line file file_fault.NotOpened = not_opened_line file
-file_fault_line file file_fault.NotRead = not_read_line file
-file_fault_line file file_fault.Memory = memory_line
-
-abbrev pub too_long_line : Bytes → ℕ → Bytes
-too_long_line file limit = error (file ∷ codes ": longer than " ∷ decimal limit ∷ codes " bytes" ∷ [])
-
 -- ---- parts
 
+-- what is wrong with a field of the file
+abbrev pub field_pieces : Bytes → Field → Bytes → List Bytes
+field_pieces file field text = file ∷ codes ": " ∷ field_name field ∷ text ∷ []
+
 -- (the last two come of no part file)
+abbrev pub part_file_pieces : Bytes → PartFault → List Bytes
+part_file_pieces file part_fault.NotToml = file ∷ codes ": not TOML" ∷ []
+part_file_pieces file (part_fault.Missing field) = field_pieces file field (codes " is missing")
+part_file_pieces file (part_fault.BadValue field) = field_pieces file field (codes " has a bad value")
+part_file_pieces file part_fault.BadSizes = file ∷ codes ": sizes do not fit" ∷ []
+part_file_pieces file fault = memory_pieces
+
 abbrev pub part_file_line : Bytes → PartFault → Bytes
-part_file_line file part_fault.NotToml = error (file ∷ codes ": not TOML" ∷ [])
-part_file_line file (part_fault.Missing field) = error (file ∷ codes ": " ∷ field_name field ∷ codes " is missing" ∷ [])
-part_file_line file (part_fault.BadValue field) =
-    error (file ∷ codes ": " ∷ field_name field ∷ codes " has a bad value" ∷ [])
-part_file_line file part_fault.BadSizes = error (file ∷ codes ": sizes do not fit" ∷ [])
-part_file_line file fault = memory_line
+part_file_line file fault = error (part_file_pieces file fault)
+
+abbrev pub no_part_pieces : Bytes → List Bytes
+no_part_pieces id = codes "no part " ∷ id ∷ []
 
 abbrev pub no_part_line : Bytes → Bytes
-no_part_line id = error (codes "no part " ∷ id ∷ [])
+no_part_line id = error (no_part_pieces id)
 
 -- ---- images
 
 -- in this line of the file
-abbrev pub record_line : Bytes → ℕ → Bytes → Bytes
-record_line file line text = error (file ∷ codes ": line " ∷ decimal line ∷ text ∷ [])
+abbrev pub in_line_pieces : Bytes → ℕ → Bytes → List Bytes
+in_line_pieces file line text = file ∷ codes ": line " ∷ decimal line ∷ text ∷ []
 
-abbrev pub record_range_line : Bytes → ℕ → ℕ → Bytes
-record_range_line file line address =
-    error (file ∷ codes ": line " ∷ decimal line ∷ codes ": address " ∷ digits (big_bytes 4 address)
-    ∷ codes " out of range" ∷ [])
+abbrev pub line_range_pieces : Bytes → ℕ → ℕ → List Bytes
+line_range_pieces file line address =
+    file ∷ codes ": line " ∷ decimal line ∷ codes ": address " ∷ digits (big_bytes 4 address)
+    ∷ codes " out of range" ∷ []
 
 -- (the last two come of no file)
-abbrev pub record_fault_line : Bytes → RecordFault → Bytes
-record_fault_line file (record_fault.BadMark line) = record_line file line (codes ": no record mark")
-record_fault_line file (record_fault.BadDigit line) = record_line file line (codes ": bad digit")
-record_fault_line file (record_fault.BadLength line) = record_line file line (codes ": bad length")
-record_fault_line file (record_fault.BadSum line) = record_line file line (codes ": bad checksum")
-record_fault_line file (record_fault.BadType line) = record_line file line (codes ": bad record type")
-record_fault_line file (record_fault.OutOfRange line address) = record_range_line file line address
-record_fault_line file (record_fault.LineTooLong line) = record_line file line (codes ": line too long")
-record_fault_line file (record_fault.BadCount line) = record_line file line (codes ": bad record count")
-record_fault_line file fault = memory_line
+abbrev pub record_pieces : Bytes → RecordFault → List Bytes
+record_pieces file (record_fault.BadMark line) = in_line_pieces file line (codes ": no record mark")
+record_pieces file (record_fault.BadDigit line) = in_line_pieces file line (codes ": bad digit")
+record_pieces file (record_fault.BadLength line) = in_line_pieces file line (codes ": bad length")
+record_pieces file (record_fault.BadSum line) = in_line_pieces file line (codes ": bad checksum")
+record_pieces file (record_fault.BadType line) = in_line_pieces file line (codes ": bad record type")
+record_pieces file (record_fault.OutOfRange line address) = line_range_pieces file line address
+record_pieces file (record_fault.LineTooLong line) = in_line_pieces file line (codes ": line too long")
+record_pieces file (record_fault.BadCount line) = in_line_pieces file line (codes ": bad record count")
+record_pieces file fault = memory_pieces
 
 -- what these bytes, of a file or the values for a memory, were to hold
-abbrev pub range_line : Bytes → ℕ → Bytes
-range_line name address = error (name ∷ codes ": address " ∷ digits (big_bytes 4 address) ∷ codes " out of range" ∷ [])
+abbrev pub range_pieces : Bytes → ℕ → List Bytes
+range_pieces name address = name ∷ codes ": address " ∷ digits (big_bytes 4 address) ∷ codes " out of range" ∷ []
 
 -- (raw bytes go past the memory, and nothing else is wrong with them)
-abbrev pub raw_fault_line : Bytes → ImageFault → Bytes
-raw_fault_line file (image_fault.OutOfRange address) = range_line file address
-raw_fault_line file fault = memory_line
+abbrev pub raw_pieces : Bytes → ImageFault → List Bytes
+raw_pieces file (image_fault.OutOfRange address) = range_pieces file address
+raw_pieces file fault = memory_pieces
+
+abbrev pub bad_file_pieces : Bytes → BadFile → List Bytes
+bad_file_pieces file (bad_file.Record fault) = record_pieces file fault
+bad_file_pieces file (bad_file.Raw fault) = raw_pieces file fault
+bad_file_pieces file bad_file.Elf = file ∷ codes ": ELF is not read" ∷ []
+bad_file_pieces file bad_file.TooLong = too_long_pieces file 4194304
 
 abbrev pub bad_file_line : Bytes → BadFile → Bytes
-bad_file_line file (bad_file.Record fault) = record_fault_line file fault
-bad_file_line file (bad_file.Raw fault) = raw_fault_line file fault
-bad_file_line file bad_file.Elf = error (file ∷ codes ": ELF is not read" ∷ [])
-bad_file_line file bad_file.TooLong = too_long_line file 4194304
+bad_file_line file bad = error (bad_file_pieces file bad)
 
-abbrev pub read_fault_line : Bytes → ReadFault → Bytes
-read_fault_line file (read_fault.File fault) = file_fault_line file fault
-read_fault_line file (read_fault.Image bad) = bad_file_line file bad
+-- why no image came of a file
+abbrev pub image_pieces : Bytes → ReadFault → List Bytes
+image_pieces file (read_fault.File fault) = file_pieces file fault
+image_pieces file (read_fault.Image bad) = bad_file_pieces file bad
+
+abbrev pub image_line : Bytes → ReadFault → Bytes
+image_line file fault = error (image_pieces file fault)
+
+-- what is wrong with the value at this place
+abbrev pub value_pieces : Mem → ℕ → Bytes → List Bytes
+value_pieces memory place text = name_of memory ∷ codes ": value " ∷ decimal place ∷ text ∷ []
 
 -- (the last two come of no values)
+abbrev pub values_pieces : Mem → ImageFault → List Bytes
+values_pieces memory (image_fault.OutOfRange address) = range_pieces (name_of memory) address
+values_pieces memory (image_fault.BadNumber place) = value_pieces memory place (codes ": not a number")
+values_pieces memory (image_fault.TooLarge place) = value_pieces memory place (codes ": above 255")
+values_pieces memory fault = memory_pieces
+
 abbrev pub values_line : Mem → ImageFault → Bytes
-values_line memory (image_fault.OutOfRange address) = range_line (name_of memory) address
-values_line memory (image_fault.BadNumber place) =
-    error (name_of memory ∷ codes ": value " ∷ decimal place ∷ codes ": not a number" ∷ [])
-values_line memory (image_fault.TooLarge place) =
-    error (name_of memory ∷ codes ": value " ∷ decimal place ∷ codes ": above 255" ∷ [])
-values_line memory fault = memory_line
+values_line memory fault = error (values_pieces memory fault)
+
+abbrev pub read_only_pieces : Mem → List Bytes
+read_only_pieces memory = name_of memory ∷ codes " is read-only" ∷ []
 
 abbrev pub read_only_line : Mem → Bytes
-read_only_line memory = error (name_of memory ∷ codes " is read-only" ∷ [])
+read_only_line memory = error (read_only_pieces memory)

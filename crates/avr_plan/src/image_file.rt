@@ -6,7 +6,8 @@ ghost use Rattle.avr_desk.specs.Lines.{Bytes};
 ghost use Rattle.avr_records.specs.declared.kind.Found.{Found as AnyFound};
 ghost use Rattle.avr_plan.specs.Faults.{read_fault_number};
 ghost use Rattle.avr_plan.specs.ImageFile.{kind_of, whole_file};
-ghost use Rattle.avr_plan.specs.ImageReading.{IsGiven, FrontIsRead, RestIsRead, OpenIsRead, ImageIsRead, IsCounted, IsCountedRead};
+ghost use Rattle.avr_desk.specs.Files.{IsCounted};
+ghost use Rattle.avr_plan.specs.ImageReading.{IsGiven, FrontIsRead, RestIsRead, OpenIsRead, ImageIsRead, IsCountedRead};
 ghost use Rattle.avr_plan.specs.Intake.{Takes, fed_count};
 
 use crate::bad_file::BadFile;

@@ -4,12 +4,11 @@ ghost use Rattle.avr_cli.specs.declared.settings.Settings.{Settings};
 ghost use Rattle.avr_desk.specs.Fault.{HasRisen};
 ghost use Rattle.avr_desk.specs.Record.{Record, showing};
 ghost use Rattle.avr_desk.specs.declared.record.Opening.{Opening};
-ghost use Rattle.avr_desk.specs.Lines.{Bytes};
-ghost use Rattle.avr_plan.specs.Lines.{memory_line};
+ghost use Rattle.avr_desk.specs.Lines.{Bytes, memory_line};
 ghost use Rattle.avr_plan.specs.OnlyReading.{OnlyReads};
 ghost use Rattle.avr_plan.specs.Planning.{planned};
-ghost use Rattle.avr_plan.specs.Playing.{Goes, Went};
-ghost use Rattle.avr_plan.specs.Stage.{Refused};
+ghost use Rattle.avr_desk.specs.Playing.{Goes, Went};
+ghost use Rattle.avr_desk.specs.Stage.{Refused};
 
 /// Whatever files give, planning opens files to be read and prints lines: nothing is created, written or put out. (That
 /// it sends nothing is so by its type: a stage knows of no line.)

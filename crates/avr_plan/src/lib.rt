@@ -25,8 +25,8 @@ mod planned;
 mod task;
 mod tasks;
 // the plan, and why there is none
+mod messages;
 mod planning;
-mod refusal;
 // laws
 mod laws;
 
@@ -36,5 +36,4 @@ pub use laws::{a_plan_only_reads_and_warns, a_sound_plan_is_refused_aloud};
 pub use part_choice::{chosen_part, given_parts};
 pub use planned::Plan;
 pub use planning::plan;
-pub use refusal::{refuse, refuse_file, refuse_memory, refuse_too_long};
 pub use task::Task;

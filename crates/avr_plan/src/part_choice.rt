@@ -1,11 +1,11 @@
 //! The part: the part file is read and judged, and the part looked up.
 ghost use Rattle.std.specs.Prelude.{Some};
 ghost use Rattle.avr_plan.specs.Planning.{parts_stage, part_stage};
-ghost use Rattle.avr_plan.specs.Playing.{Goes};
+ghost use Rattle.avr_desk.specs.Playing.{Goes};
 
-use crate::refusal::{refuse_file, refuse_part, refuse_part_file, refuse_too_long};
+use crate::messages::{no_part_message, part_file_message};
 use avr_cli::Text;
-use avr_desk::{Desk, FileFault, read_file};
+use avr_desk::{Desk, FileFault, file_message, read_file, refuse, too_long_message};
 use avr_part::{Part, PartFault, Parts, parse_parts};
 use std::alloc::Global;
 
@@ -18,14 +18,14 @@ fn file_parts<D: Desk>(alloc: Global, desk: &mut D, file: &str) -> Result<Parts,
 {
     let contents = match read_file(alloc, desk, file, LIMIT) {
         Ok(contents) => contents,
-        Err(fault) => return Err(refuse_file(desk, file, fault)),
+        Err(fault) => return Err(refuse(desk, &file_message(file, fault))),
     };
     if !contents.ended {
-        return Err(refuse_too_long(desk, file, LIMIT as u32));
+        return Err(refuse(desk, &too_long_message(file, LIMIT as u32)));
     }
     match parse_parts(alloc, contents.bytes.as_slice()) {
         Ok(parts) => Ok(parts),
-        Err(fault) => Err(refuse_part_file(desk, file, fault)),
+        Err(fault) => Err(refuse(desk, &part_file_message(file, fault))),
     }
 }
 
@@ -56,6 +56,6 @@ pub fn chosen_part<D: Desk>(desk: &mut D, parts: &Parts, id: &str) -> Result<Par
 {
     match parts.find(id) {
         Ok(part) => Ok(part),
-        Err(_) => Err(refuse_part(desk, id)),
+        Err(_) => Err(refuse(desk, &no_part_message(id))),
     }
 }

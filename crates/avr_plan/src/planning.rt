@@ -4,16 +4,16 @@ ghost use Rattle.avr_cli.specs.declared.settings.Switches.{Switches as AnySwitch
 ghost use Rattle.avr_part.specs.Part.{Part as PartData};
 ghost use Rattle.avr_plan.specs.Plan.{IsFitted};
 ghost use Rattle.avr_plan.specs.Planning.{task_stage, op_stage, write_stage, tasks_stage, planned};
-ghost use Rattle.avr_plan.specs.Playing.{Goes};
+ghost use Rattle.avr_desk.specs.Playing.{Goes};
 
+use crate::messages::read_only_message;
 use crate::part_choice::{chosen_part, given_parts};
 use crate::planned::Plan;
-use crate::refusal::{refuse_memory, refuse_write};
 use crate::task::Task;
 use crate::tasks::Tasks;
 use crate::update_image::update_image;
 use avr_cli::{Op, Settings, Switches, Text, Update};
-use avr_desk::Desk;
+use avr_desk::{Desk, memory_message, refuse};
 use avr_part::Part;
 use std::alloc::Global;
 
@@ -30,7 +30,7 @@ fn write_task<D: Desk>(
     ensures fitted { IfOk result (IsFitted part.now) }
 {
     if !update.memory.writable() {
-        return Err(refuse_write(desk, update.memory));
+        return Err(refuse(desk, &read_only_message(update.memory)));
     }
     match update_image(alloc, desk, switches, part, update) {
         Ok(image) => Ok(Task::Write(update.memory, image)),
@@ -68,7 +68,7 @@ fn read_task<D: Desk>(alloc: Global, desk: &mut D, update: &Update) -> Result<Ta
             format: update.format,
             file,
         }),
-        Err(_) => Err(refuse_memory(desk)),
+        Err(_) => Err(refuse(desk, &memory_message())),
     }
 }
 
@@ -107,7 +107,7 @@ fn update_tasks<D: Desk>(
     for update in updates {
         let task = update_task(alloc, desk, switches, part, update)?;
         if tasks.push(task).is_err() {
-            return Err(refuse_memory(desk));
+            return Err(refuse(desk, &memory_message()));
         }
     }
     Ok(tasks)

@@ -3,13 +3,13 @@ ghost use Rattle.std.specs.Prelude.{◌≡◌, length, IfOk};
 ghost use Rattle.avr_cli.specs.declared.settings.Switches.{Switches as AnySwitches};
 ghost use Rattle.avr_part.specs.Part.{size_of};
 ghost use Rattle.avr_plan.specs.Planning.{is_warned, warning_says, file_image_stage, image_stage, update_image as update_image_stage};
-ghost use Rattle.avr_plan.specs.Playing.{Goes};
-ghost use Rattle.avr_plan.specs.Stage.{saying_stage};
+ghost use Rattle.avr_desk.specs.Playing.{Goes};
+ghost use Rattle.avr_desk.specs.Stage.{saying_stage};
 
 use crate::image_file::{ReadFault, read_image};
-use crate::refusal::{refuse_image, refuse_values};
+use crate::messages::{image_message, values_message};
 use avr_cli::{Format, Switches, Update};
-use avr_desk::{Desk, Piece, print_warning};
+use avr_desk::{Desk, Piece, print_warning, refuse};
 use avr_image::{Image, parse_immediate};
 use avr_part::{Mem, Part};
 use avr_records::Ending;
@@ -63,7 +63,7 @@ fn file_image<D: Desk>(
             Ok(()) => Ok(image),
             Err(status) => Err(status),
         },
-        Err(fault) => Err(refuse_image(desk, file, fault)),
+        Err(fault) => Err(refuse(desk, &image_message(file, fault))),
     }
 }
 
@@ -81,7 +81,7 @@ fn values_image<D: Desk>(
 {
     match parse_immediate(alloc, text, size) {
         Ok(image) => Ok(image),
-        Err(fault) => Err(refuse_values(desk, memory, fault)),
+        Err(fault) => Err(refuse(desk, &values_message(memory, fault))),
     }
 }
 

@@ -1,7 +1,7 @@
 //! Serving an emulated programmer, from settings to status.
 ghost use Rattle.std.specs.Prelude.{◌≤◌};
 ghost use Rattle.avr_desk.specs.Fault.{Follows};
-ghost use Rattle.avr_plan.specs.Playing.{Goes};
+ghost use Rattle.avr_desk.specs.Playing.{Goes};
 ghost use Rattle.avr_serve.specs.ServedRun.{sides, RunsServed, ServesChip, settings_part, settings_chip};
 
 use crate::ending::{save_served, tell_end};

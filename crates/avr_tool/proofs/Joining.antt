@@ -8,8 +8,8 @@ use Rattle.avr_desk.specs.Said.{Saying, SaidPart, after_all}
 use Rattle.avr_desk.proofs.Saying.{kept_append}
 use Rattle.avr_plan.specs.Plan.{Plan}
 use Rattle.avr_plan.specs.Planning.{planned}
-use Rattle.avr_plan.specs.Playing.{Went}
-use Rattle.avr_plan.specs.Stage.{Made, Refused}
+use Rattle.avr_desk.specs.Playing.{Went}
+use Rattle.avr_desk.specs.Stage.{Made, Refused}
 use Rattle.stk_host.specs.Dialog.{Event, Said, played, behind, bytes_sent, sayings}
 use Rattle.stk_host.specs.Talk.{LinkView, Talk, Sent, Got, heard, Grows}
 use Rattle.stk_host.specs.Tape.{Tape, on_tape}

@@ -5,9 +5,9 @@ use Rattle.avr_desk.specs.Fault.{Follows}
 use Rattle.avr_desk.specs.Record.{DeskView}
 use Rattle.avr_plan.specs.Plan.{Plan}
 use Rattle.avr_plan.specs.Planning.{planned}
-use Rattle.avr_plan.specs.Playing as planning
-use Rattle.avr_plan.specs.Playing.{Went, Goes}
-use Rattle.avr_plan.specs.Stage.{Made, Refused}
+use Rattle.avr_desk.specs.Playing as planning
+use Rattle.avr_desk.specs.Playing.{Went, Goes}
+use Rattle.avr_desk.specs.Stage.{Made, Refused}
 use Rattle.avr_session.specs.Runs.{RunsTo}
 use Rattle.avr_session.specs.Session.{session, takes_memory}
 use Rattle.stk_frame.specs.Cut.{frames}

@@ -16,10 +16,10 @@ use Rattle.avr_desk.specs.declared.record.Opening.{Opening}
 use Rattle.avr_desk.specs.Said.{Saying, SaidPart, after_all}
 use Rattle.avr_plan.specs.Plan.{Plan}
 use Rattle.avr_plan.specs.Planning.{planned}
-use Rattle.avr_plan.specs.Playing as planning
-use Rattle.avr_plan.specs.Playing.{Went}
-use Rattle.avr_plan.specs.Stage as stage
-use Rattle.avr_plan.specs.Stage.{Answer, Made, Refused, Unread}
+use Rattle.avr_desk.specs.Playing as planning
+use Rattle.avr_desk.specs.Playing.{Went}
+use Rattle.avr_desk.specs.Stage as stage
+use Rattle.avr_desk.specs.Stage.{Answer, Made, Refused, Unread}
 use Rattle.avr_session.specs.Runs.{Devices, devices, start, untold, BrokeOff}
 use Rattle.avr_session.specs.Session.{session, takes_memory}
 use Rattle.avr_emulated.specs.AnyLine.{Weight, weighed, bodies_in, Stopped, OverAnyLine}

@@ -1,7 +1,7 @@
 use Rattle.std.proofs.Common.{sym, ap}
 use Rattle.avr_plan.specs.Lines.{no_part_line}
 use Rattle.avr_plan.specs.Planning.{part_or_line}
-use Rattle.avr_plan.proofs.Played.{went_settled, goes_unsettled}
+use Rattle.avr_desk.proofs.Played.{went_settled, goes_unsettled}
 use Rattle.avr_plan.proofs.part_choice.chosen_part.Goals as goal
 
 pub returns-in-Ok : goal.returns-in-Ok
@@ -10,4 +10,4 @@ returns-in-Ok g c = went_settled _ c.in-Ok.part _ (ap (part_or_line c.args.id.no
 pub returns-in-Err : goal.returns-in-Err
 returns-in-Err g c =
     goes_unsettled _ (no_part_line c.args.id.now) _ _ _ (ap (part_or_line c.args.id.now) (sym c.in-Err.ensures.value))
-    c.refuse_part.ensures.status c.refuse_part.ensures.told
+    c.refuse.ensures.status (rw c.no_part_message.ensures at c.refuse.ensures.told)

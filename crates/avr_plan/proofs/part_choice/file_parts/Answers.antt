@@ -2,8 +2,8 @@ use Rattle.std.proofs.Common.{subst}
 use Rattle.avr_desk.specs.Lines.{Bytes}
 use Rattle.avr_part.specs.PartFile.{GivesOrMemory, parts_of}
 use Rattle.avr_plan.proofs.PartStages.{went_parts, goes_bad_parts, goes_long_parts}
-use Rattle.avr_plan.proofs.FileStages.{goes_file_fault}
-use Rattle.avr_plan.proofs.Openings.{breaks_as, counted_as}
+use Rattle.avr_desk.proofs.FileStages.{goes_file_fault}
+use Rattle.avr_desk.proofs.Openings.{breaks_as, counted_as}
 use Rattle.avr_plan.specs.Planning.{judged_parts}
 use Rattle.avr_plan.proofs.part_choice.file_parts.Goals as goal
 
@@ -11,14 +11,15 @@ pub returns-in-Err : goal.returns-in-Err
 returns-in-Err g c =
     goes_file_fault c.args.file.now 65536 (judged_parts c.args.file.now) c.in-Err.fault _ _ _ _
     (breaks_as _ _ _ c.in-Err.fault c.in-Err.ensures.kept)
-    c.in-Err.ensures.counts.0 (counted_as _ _ c.in-Err.fault c.in-Err.ensures.counts) c.refuse_file.ensures.status
-    c.refuse_file.ensures.told
+    c.in-Err.ensures.counts.0 (counted_as _ _ c.in-Err.fault c.in-Err.ensures.counts) c.refuse.ensures.status
+    (rw c.file_message.ensures at c.refuse.ensures.told)
 
 pub returns-then-not-contents : goal.returns-then-not-contents
 returns-then-not-contents g c =
     goes_long_parts c.args.file.now c.in-Ok.contents.bytes c.in-Ok.contents.ended _ _ _ _ c.in-Ok.ensures.kept c.in-Ok.ensures.whole
     c.if-not-contents.true
-    c.in-Ok.ensures.counts.0 c.refuse_too_long.ensures.status c.refuse_too_long.ensures.told
+    c.in-Ok.ensures.counts.0 c.refuse-then-not-contents.ensures.status
+    (rw c.too_long_message.ensures at c.refuse-then-not-contents.ensures.told)
 
 pub returns-in-Ok-parse_parts : goal.returns-in-Ok-parse_parts
 returns-in-Ok-parse_parts g c =
@@ -32,5 +33,5 @@ returns g c =
     let gives = subst (λ (b : Bytes). GivesOrMemory (parts_of b) c.parse_parts.result) c.as_slice.ensures c.parse_parts.ensures in
     goes_bad_parts c.args.file.now c.in-Ok.contents.bytes c.in-Ok.contents.ended _ _ _ _ c.in-Err-parse_parts.fault c.in-Ok.ensures.kept
     c.in-Ok.ensures.whole
-    c.if-not-contents.false c.in-Ok.ensures.counts.0 (rw c.in-Err-parse_parts.is at gives) c.refuse_part_file.ensures.status
-    c.refuse_part_file.ensures.told
+    c.if-not-contents.false c.in-Ok.ensures.counts.0 (rw c.in-Err-parse_parts.is at gives)
+    c.refuse-in-Err-parse_parts.ensures.status (rw c.part_file_message.ensures at c.refuse-in-Err-parse_parts.ensures.told)

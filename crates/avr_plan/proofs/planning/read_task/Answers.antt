@@ -1,7 +1,7 @@
 use Rattle.std.proofs.Common.{sym, ap, ◌∙◌, Ok}
 use Rattle.avr_desk.specs.Lines.{Bytes}
 use Rattle.avr_plan.specs.declared.task.Task.TheVariants.{Read}
-use Rattle.avr_plan.proofs.Played.{went_settled, goes_without_memory}
+use Rattle.avr_desk.proofs.Played.{went_settled, goes_without_memory}
 use Rattle.avr_plan.proofs.planning.read_task.Goals as goal
 
 pub returns-in-Ok-clause-goes : goal.returns-in-Ok-clause-goes
@@ -11,4 +11,4 @@ returns-in-Ok-clause-goes g c = λ switches part.
     (sym (c.in-Ok.ensures ∙ c.as_str.ensures)))
 
 pub returns-in-Err-clause-goes : goal.returns-in-Err-clause-goes
-returns-in-Err-clause-goes g c = λ switches part. goes_without_memory _ _ _ _ c.refuse_memory.ensures.status c.refuse_memory.ensures.told
+returns-in-Err-clause-goes g c = λ switches part. goes_without_memory _ _ _ _ c.refuse.ensures.status (rw c.memory_message.ensures at c.refuse.ensures.told)

@@ -3,11 +3,11 @@ use Rattle.std.proofs.lemmas.List.{drop_more, drop_all}
 use Rattle.std.proofs.lemmas.List.Elements.{All-append}
 use Rattle.std.proofs.lemmas.Result.{err_from_is_err_and}
 use Rattle.avr_cli.specs.declared.update.Update.{Update}
-use Rattle.avr_plan.proofs.Played.{went_nowhere, goes_without_memory}
+use Rattle.avr_desk.proofs.Played.{went_nowhere, goes_without_memory}
 use Rattle.avr_plan.proofs.TaskStages.{goes_with_next, goes_without_next, pushed, all_one}
 use Rattle.avr_plan.specs.Plan.{IsFitted}
 use Rattle.avr_plan.specs.Planning.{tasks_stage}
-use Rattle.avr_plan.specs.Playing.{Goes}
+use Rattle.avr_desk.specs.Playing.{Goes}
 use Rattle.avr_plan.specs.declared.task.Task.{Task}
 use Rattle.avr_plan.proofs.planning.update_tasks.Goals as goal
 
@@ -46,10 +46,10 @@ returns-then-is_err-clause-goes g c =
     let u = c.update-item.result in
     let part = c.args.part.now in
     let cut = drop_more us i u c.loop-update-test.true ∙ ap (λ (x : Update). x ∷ drop (i + 1) us) (sym c.update-item.is) in
-    c.loop-update.invariant.goes _ (Err c.refuse_memory.result)
-    (goes_with_next c.args.switches part c.loop-update.tasks us i u _ _ _ c.in_ok-task.task (Err c.refuse_memory.result) cut c.in_ok-task.ensures.goes
+    c.loop-update.invariant.goes _ (Err c.refuse.result)
+    (goes_with_next c.args.switches part c.loop-update.tasks us i u _ _ _ c.in_ok-task.task (Err c.refuse.result) cut c.in_ok-task.ensures.goes
     (goes_without_memory (tasks_stage c.args.switches part (c.loop-update.tasks ++ c.in_ok-task.task ∷ []) (drop (i + 1) us)) _ _ _
-    c.refuse_memory.ensures.status c.refuse_memory.ensures.told))
+    c.refuse.ensures.status (rw c.memory_message.ensures at c.refuse.ensures.told)))
 
 pub returns-clause-goes : goal.returns-clause-goes
 returns-clause-goes g c =

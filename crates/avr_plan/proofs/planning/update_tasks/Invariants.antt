@@ -2,7 +2,7 @@ use Rattle.std.proofs.Common.{ℕ, List, [], drop, Result, All}
 use Rattle.avr_desk.specs.Record.{DeskView}
 use Rattle.avr_plan.specs.Plan.{IsFitted}
 use Rattle.avr_plan.specs.Planning.{tasks_stage}
-use Rattle.avr_plan.specs.Playing.{Goes}
+use Rattle.avr_desk.specs.Playing.{Goes}
 use Rattle.avr_plan.specs.declared.task.Task.{Task}
 use Rattle.avr_plan.proofs.planning.update_tasks.Given as goal
 

@@ -1,15 +1,15 @@
 use Rattle.std.proofs.Common.{Ok, Err}
-use Rattle.avr_plan.proofs.Played.{went_into, goes_no_further}
+use Rattle.avr_desk.proofs.Played.{went_into, goes_no_further}
 use Rattle.avr_plan.proofs.TaskStages.{goes_writable, goes_read_only}
 use Rattle.avr_plan.specs.Planning.{update_image}
-use Rattle.avr_plan.specs.Stage.{verdict_stage}
+use Rattle.avr_desk.specs.Stage.{verdict_stage}
 use Rattle.avr_plan.specs.declared.task.Task.TheVariants.{Write}
 use Rattle.avr_plan.proofs.planning.write_task.Goals as goal
 
 pub returns-then-not-writable-clause-goes : goal.returns-then-not-writable-clause-goes
 returns-then-not-writable-clause-goes g c =
-    goes_read_only c.args.switches c.args.part.now c.args.update.now _ _ _ c.if-not-writable.ensures c.refuse_write.ensures.status
-    c.refuse_write.ensures.told
+    goes_read_only c.args.switches c.args.part.now c.args.update.now _ _ _ c.if-not-writable.ensures c.refuse.ensures.status
+    (rw c.read_only_message.ensures at c.refuse.ensures.told)
 
 pub returns-in-Err-clause-goes : goal.returns-in-Err-clause-goes
 returns-in-Err-clause-goes g c =

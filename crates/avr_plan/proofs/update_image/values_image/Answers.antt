@@ -11,5 +11,5 @@ returns-in-Ok-clause-sized g c =
 
 pub returns-in-Err-clause-goes : goal.returns-in-Err-clause-goes
 returns-in-Err-clause-goes g c = λ switches.
-    goes_bad_values switches c.args.memory c.args.size c.args.text.now _ _ _ c.in-Err.fault c.in-Err.ensures c.refuse_values.ensures.status
-    c.refuse_values.ensures.told
+    goes_bad_values switches c.args.memory c.args.size c.args.text.now _ _ _ c.in-Err.fault c.in-Err.ensures c.refuse.ensures.status
+    (rw c.values_message.ensures at c.refuse.ensures.told)

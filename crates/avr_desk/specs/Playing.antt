@@ -1,14 +1,13 @@
--- A stage of planning over a desk: played whole, or broken off by a fault of the desk or for want of memory.
+-- A stage over a desk: played whole, or broken off by a fault of the desk or for want of memory.
 use Rattle.std.specs.Prelude.{◌≡◌, ◌⊎◌, ℕ, List, [], ◌∷◌, ◌++◌, false, Result, Ok, Err}
 use Rattle.avr_desk.specs.Fault.{Follows, HasFailed}
 use Rattle.avr_desk.specs.Record.{DeskView, Passes}
 use Rattle.avr_desk.specs.declared.record.Opening.{Opening}
 use Rattle.avr_desk.specs.declared.record.Opening.TheVariants.{Found}
 use Rattle.avr_desk.specs.declared.record.Reading.{Reading}
-use Rattle.avr_desk.specs.Lines.{Bytes}
+use Rattle.avr_desk.specs.Lines.{Bytes, memory_line, not_opened_line, not_read_line}
 use Rattle.avr_desk.specs.Said.{Saying, Opens, Line, IsPrefixOf, TellsLine, TellsFailure, after_all}
-use Rattle.avr_plan.specs.Lines.{memory_line, not_opened_line, not_read_line}
-use Rattle.avr_plan.specs.Stage.{Stage, Answer, Made, Refused, StageResult, next_opening}
+use Rattle.avr_desk.specs.Stage.{Stage, Answer, Made, Refused, StageResult, next_opening}
 
 -- These openings passed, and what the desk was given to do is what the stage says of them, whatever later ones would
 -- give.

@@ -1,20 +1,18 @@
--- Files that a stage of planning reads and judges.
+-- Files that a stage reads and judges.
 use Rattle.std.proofs.Common.{◌≡◌, refl, ℕ, Bool, Result, Ok, Err}
 use Rattle.avr_desk.specs.Fault.{Follows}
-use Rattle.avr_desk.specs.Files.{IsWhole, with_read}
+use Rattle.avr_desk.specs.Files.{IsWhole, with_read, FileBreaks, IsCounted}
 use Rattle.avr_desk.specs.Record.{DeskView, Passes}
 use Rattle.avr_desk.specs.declared.files.FileFault.{FileFault}
 use Rattle.avr_desk.specs.declared.files.FileFault.TheVariants as file_fault
 use Rattle.avr_desk.specs.declared.record.Opening.TheVariants.{Absent, Found}
 use Rattle.avr_desk.specs.declared.record.Reading.{Reading}
-use Rattle.avr_desk.specs.Lines.{Bytes}
+use Rattle.avr_desk.specs.Lines.{Bytes, file_fault_line, not_opened_line}
 use Rattle.avr_desk.specs.Said.{Tells}
-use Rattle.avr_plan.proofs.Openings.{goes_opened, goes_judged, goes_broken}
-use Rattle.avr_plan.proofs.Played.{goes_refused}
-use Rattle.avr_plan.specs.ImageReading.{FileBreaks, IsCounted}
-use Rattle.avr_plan.specs.Lines.{file_fault_line, not_opened_line}
-use Rattle.avr_plan.specs.Playing.{Goes, Went}
-use Rattle.avr_plan.specs.Stage.{Made, verdict_stage, content_stage, file_stage}
+use Rattle.avr_desk.proofs.Openings.{goes_opened, goes_judged, goes_broken}
+use Rattle.avr_desk.proofs.Played.{goes_refused}
+use Rattle.avr_desk.specs.Playing.{Goes, Went}
+use Rattle.avr_desk.specs.Stage.{Made, verdict_stage, content_stage, file_stage}
 
 -- the judgment of what the file gave
 pub goes_whole : {A : Type 0} (name : Bytes) (limit : ℕ) (judge : Bytes → Result A Bytes) (bytes : Bytes) (ended : Bool)

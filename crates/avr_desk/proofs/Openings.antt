@@ -2,7 +2,7 @@
 use Rattle.std.proofs.Common.{◌≡◌, refl, subst, ap, arith, ℕ, inr, List, [], ◌∷◌, Bool, true, false, nat_lt, ◌||◌, length, Option, None, option_map, Result, Err}
 use Rattle.std.proofs.lemmas.Bool.Decides.{nat_tests}
 use Rattle.avr_desk.specs.Fault.{Follows, HasFailed}
-use Rattle.avr_desk.specs.Files.{FaultCounts, IsWhole, ReadsFile, with_read}
+use Rattle.avr_desk.specs.Files.{FaultCounts, IsWhole, ReadsFile, with_read, FileBreaks, IsCounted}
 use Rattle.avr_desk.specs.Record.{DeskView, Record, Passes, after_err, showing}
 use Rattle.avr_desk.specs.declared.files.FileFault.{FileFault}
 use Rattle.avr_desk.specs.declared.files.FileFault.TheVariants as file_fault
@@ -11,13 +11,11 @@ use Rattle.avr_desk.specs.declared.record.Opening.TheVariants.{Found}
 use Rattle.avr_desk.specs.declared.record.Reading.{Reading}
 use Rattle.avr_desk.proofs.Saying.{kept_append}
 use Rattle.avr_desk.proofs.Telling.{failure_told, follows_on, tells_since}
-use Rattle.avr_desk.specs.Lines.{Bytes}
+use Rattle.avr_desk.specs.Lines.{Bytes, file_fault_line, memory_line, not_opened_line, not_read_line}
 use Rattle.avr_desk.specs.Said.{Opens, Line, Tells, after_all}
-use Rattle.avr_plan.proofs.Played.{goes_on, goes_no_further}
-use Rattle.avr_plan.specs.ImageReading.{FileBreaks, IsCounted}
-use Rattle.avr_plan.specs.Lines.{file_fault_line, memory_line, not_opened_line, not_read_line}
-use Rattle.avr_plan.specs.Playing.{Break, NotOpened, NotRead, NoMemoryFor, last_done, IsBreak, TellsBreak, Goes, part_read}
-use Rattle.avr_plan.specs.Stage.{Stage, Made, StageResult, ◌>>=◌, verdict_stage, open_stage, under_name, content_stage, next_opening}
+use Rattle.avr_desk.proofs.Played.{goes_on, goes_no_further}
+use Rattle.avr_desk.specs.Playing.{Break, NotOpened, NotRead, NoMemoryFor, last_done, IsBreak, TellsBreak, Goes, part_read}
+use Rattle.avr_desk.specs.Stage.{Stage, Made, StageResult, ◌>>=◌, verdict_stage, open_stage, under_name, content_stage, next_opening}
 
 -- ---- the opening passed
 

@@ -1,4 +1,4 @@
--- What is told where planning broke off, by what a desk shows.
+-- What is told where a stage broke off, by what a desk shows.
 use Rattle.std.proofs.Common.{◌≡◌, ◌∙◌, sym, ap, subst, refl, ℕ, ◌⊎◌, inl, inr, List, [], ◌∷◌, ◌++◌, drop, append-nil, append_assoc, Option, Some, option_map, Result, Ok, Err, true, false}
 use Rattle.std.proofs.lemmas.List.{append_cancel_left}
 use Rattle.avr_desk.specs.Fault.{HasFailed, HasRisen}
@@ -8,14 +8,13 @@ use Rattle.avr_desk.specs.declared.record.Open.TheVariants.{Closed, ToRead, ToWr
 use Rattle.avr_desk.specs.declared.record.Opening.{Opening}
 use Rattle.avr_desk.specs.declared.record.Opening.TheVariants.{Absent, Found}
 use Rattle.avr_desk.specs.declared.record.Reading.{Reading}
-use Rattle.avr_desk.specs.Lines.{Bytes}
+use Rattle.avr_desk.specs.Lines.{Bytes, memory_line, not_opened_line}
 use Rattle.avr_desk.specs.Said.{Saying, Opens, Line, Creates, Writes, Outs, TellsLine, TellsFailure, after, after_all}
 use Rattle.avr_desk.proofs.Saying.{after_append}
 use Rattle.avr_desk.proofs.Telling.{failed_before}
-use Rattle.avr_plan.specs.Lines.{memory_line, not_opened_line}
-use Rattle.avr_plan.specs.Playing.{Went, Break, InLine, NotOpened, NotRead, NoMemory, NoMemoryFor, last_done, IsBreak, TellsBreak, StageBrokeOff, Goes, part_read}
-use Rattle.avr_plan.specs.Stage.{Stage, Made, Refused, StageResult, ◌>>=◌, content_stage, next_opening, file_stage}
-use Rattle.avr_plan.proofs.Played.{says_more}
+use Rattle.avr_desk.specs.Playing.{Went, Break, InLine, NotOpened, NotRead, NoMemory, NoMemoryFor, last_done, IsBreak, TellsBreak, StageBrokeOff, Goes, part_read}
+use Rattle.avr_desk.specs.Stage.{Stage, Made, Refused, StageResult, ◌>>=◌, content_stage, next_opening, file_stage}
+use Rattle.avr_desk.proofs.Played.{says_more}
 
 -- ---- where the desk did not fail
 

@@ -1,4 +1,4 @@
--- Stages of planning that were played, one after the other.
+-- Stages that were played, one after the other.
 use Rattle.std.proofs.Common.{◌≡◌, ◌∙◌, sym, subst, inl, inr, ap, List, [], ◌∷◌, ◌++◌, ℕ, take, drop, refl, arith, Ok, Err, Result, append_assoc, append-nil}
 use Rattle.std.proofs.lemmas.List.{take-append-drop}
 use Rattle.avr_desk.specs.Record.{DeskView, Passes}
@@ -11,9 +11,9 @@ use Rattle.avr_desk.specs.declared.record.Opening.{Opening}
 use Rattle.avr_desk.specs.Said.{Saying, Line, Opens, TellsLine, Tells, after_all}
 use Rattle.avr_desk.proofs.Saying.{kept_none, kept_append}
 use Rattle.avr_desk.proofs.Telling.{follows_on, failed_later, tells_since, failure_in}
-use Rattle.avr_plan.specs.Lines.{memory_line, not_opened_line, not_read_line}
-use Rattle.avr_plan.specs.Playing.{Went, Break, InLine, NotOpened, NotRead, NoMemory, NoMemoryFor, last_done, IsNextSaying, IsBreak, TellsBreak, Rest, StageBrokeOff, Goes}
-use Rattle.avr_plan.specs.Stage.{Stage, Answer, Made, Refused, Unread, StageResult, behind_sayings, going_on, ◌>>=◌, verdict_stage, saying_stage, next_opening}
+use Rattle.avr_desk.specs.Lines.{memory_line, not_opened_line, not_read_line}
+use Rattle.avr_desk.specs.Playing.{Went, Break, InLine, NotOpened, NotRead, NoMemory, NoMemoryFor, last_done, IsNextSaying, IsBreak, TellsBreak, Rest, StageBrokeOff, Goes}
+use Rattle.avr_desk.specs.Stage.{Stage, Answer, Made, Refused, Unread, StageResult, behind_sayings, going_on, ◌>>=◌, verdict_stage, saying_stage, next_opening}
 
 -- ---- counts
 

@@ -1,0 +1,126 @@
+//! Messages: the lines of faults, as values.
+ghost use Rattle.std.specs.Prelude.{◌≡◌, ◌≤◌, ◌∷◌, [], length, map};
+ghost use Rattle.avr_desk.specs.Lines.{text_of, error, file_pieces, memory_pieces, not_created_pieces, not_written_pieces, too_long_pieces};
+ghost use Rattle.avr_desk.specs.Said.{Tells};
+
+use crate::desk::Desk;
+use crate::files::FileFault;
+use crate::line::print_error;
+use crate::piece::Piece;
+use std::marker::Model;
+
+/// The most pieces of a message.
+const MOST: usize = 8;
+
+/// What a line says: at most eight pieces. Contracts see it as the list of their texts.
+#[derive(Debug, Drop)]
+pub struct Message<'a> {
+    pieces: [Piece<'a>; MOST],
+    count: usize,
+}
+
+impl<'a> Model for Message<'a> {
+    ghost use Rattle.std.specs.Prelude.{◌≤◌, ℕ, List, map, take};
+    ghost use Rattle.avr_desk.specs.Lines.{text_of};
+
+    ghost Value = { List (List ℕ) };
+
+    ghost view = { λ m. map text_of (take m.count m.pieces) };
+
+    ghost invariant = { λ m. m.count ≤ 8 };
+}
+
+impl<'a> Message<'a> {
+    /// The message of these pieces.
+    ///
+    /// ```text
+    /// let message = Message::new(&[Piece::Text("command "), Piece::Byte(0x10), Piece::Text(": bad answer")]);
+    /// refuse(&mut desk, &message)
+    /// ```
+    pub fn new(pieces: &[Piece<'a>]) -> Message<'a>
+        requires { length pieces.now ≤ 8 }
+        ensures { result ≡ map text_of pieces.now }
+    {
+        let mut held = [Piece::Text(""); MOST];
+        held[..pieces.len()].copy_from_slice(pieces);
+        Message {
+            pieces: held,
+            count: pieces.len(),
+        }
+    }
+
+    /// The message of one text.
+    pub fn text(text: &'a str) -> Message<'a>
+        ensures { result ≡ text.now ∷ [] }
+    {
+        Message::new(&[Piece::Text(text)])
+    }
+
+    /// The message of a name, of a file or of a memory, and what is told of it.
+    pub fn about(name: &'a str, text: &'a str) -> Message<'a>
+        ensures { result ≡ name.now ∷ text.now ∷ [] }
+    {
+        Message::new(&[Piece::Text(name), Piece::Text(text)])
+    }
+
+    /// Its pieces.
+    pub fn pieces(&self) -> &[Piece<'a>]
+        ensures { map text_of result.now ≡ self.now }
+    {
+        &self.pieces[..self.count]
+    }
+}
+
+/// Prints an error of this message, as far as the desk takes it, and answers the status of what is refused, 1.
+pub fn refuse<D: Desk>(desk: &mut D, message: &Message<'_>) -> u8
+    ensures status { result ≡ 1 }
+    ensures told { Tells (D.view desk.old) (D.view desk.new) (error message.now) }
+{
+    let _ = print_error(desk, message.pieces());
+    1
+}
+
+/// Memory was refused: `out of memory`.
+pub fn memory_message<'a>() -> Message<'a>
+    ensures { result ≡ memory_pieces }
+{
+    Message::text("out of memory")
+}
+
+/// Why a file was not read: `FILE: cannot be opened`, also where it is not there, `FILE: cannot be read` or `out of
+/// memory`.
+pub fn file_message<'a>(file: &'a str, fault: FileFault) -> Message<'a>
+    ensures { result ≡ file_pieces file.now fault }
+{
+    match fault {
+        FileFault::Absent | FileFault::NotOpened => Message::about(file, ": cannot be opened"),
+        FileFault::NotRead => Message::about(file, ": cannot be read"),
+        FileFault::Memory => memory_message(),
+    }
+}
+
+/// A file has more bytes than `limit`: `FILE: longer than 65536 bytes`.
+pub fn too_long_message<'a>(file: &'a str, limit: u32) -> Message<'a>
+    ensures { result ≡ too_long_pieces file.now limit }
+{
+    Message::new(&[
+        Piece::Text(file),
+        Piece::Text(": longer than "),
+        Piece::Number(limit),
+        Piece::Text(" bytes"),
+    ])
+}
+
+/// A file could not be created: `FILE: cannot be created`.
+pub fn not_created_message<'a>(file: &'a str) -> Message<'a>
+    ensures { result ≡ not_created_pieces file.now }
+{
+    Message::about(file, ": cannot be created")
+}
+
+/// A file that was created could not be written to its end: `FILE: cannot be written`.
+pub fn not_written_message<'a>(file: &'a str) -> Message<'a>
+    ensures { result ≡ not_written_pieces file.now }
+{
+    Message::about(file, ": cannot be written")
+}

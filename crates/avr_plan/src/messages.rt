@@ -1,0 +1,164 @@
+//! Why there is no plan: the messages of refusals.
+ghost use Rattle.std.specs.Prelude.{◌≡◌};
+ghost use Rattle.avr_plan.specs.Lines.{bad_file_pieces, field_pieces, image_pieces, in_line_pieces, line_range_pieces, no_part_pieces, part_file_pieces, range_pieces, raw_pieces, read_only_pieces, record_pieces, value_pieces, values_pieces};
+
+use crate::bad_file::BadFile;
+use crate::image_file::{LIMIT, ReadFault};
+use avr_desk::{Message, Piece, file_message, memory_message, too_long_message};
+use avr_image::ImageFault;
+use avr_part::{Field, Mem, PartFault};
+use avr_records::RecordFault;
+
+/// What is wrong with a field of a part file.
+fn field_message<'a>(file: &'a str, field: Field, wrong: &'a str) -> Message<'a>
+    ensures { result ≡ field_pieces file.now field wrong.now }
+{
+    Message::new(&[
+        Piece::Text(file),
+        Piece::Text(": "),
+        Piece::Text(field.name()),
+        Piece::Text(wrong),
+    ])
+}
+
+/// What is wrong with a part file.
+pub(crate) fn part_file_message<'a>(file: &'a str, fault: PartFault) -> Message<'a>
+    ensures { result ≡ part_file_pieces file.now fault }
+{
+    match fault {
+        PartFault::NotToml => Message::about(file, ": not TOML"),
+        PartFault::Missing(field) => field_message(file, field, " is missing"),
+        PartFault::BadValue(field) => field_message(file, field, " has a bad value"),
+        PartFault::BadSizes => Message::about(file, ": sizes do not fit"),
+        // the other faults come of no part file, but for the want of memory
+        _ => memory_message(),
+    }
+}
+
+/// There is no part of this id.
+pub(crate) fn no_part_message<'a>(id: &'a str) -> Message<'a>
+    ensures { result ≡ no_part_pieces id.now }
+{
+    Message::about("no part ", id)
+}
+
+/// What is wrong with a line of a file.
+fn in_line_message<'a>(file: &'a str, line: u32, wrong: &'a str) -> Message<'a>
+    ensures { result ≡ in_line_pieces file.now line wrong.now }
+{
+    Message::new(&[
+        Piece::Text(file),
+        Piece::Text(": line "),
+        Piece::Number(line),
+        Piece::Text(wrong),
+    ])
+}
+
+/// A line of a file goes past the memory.
+fn line_range_message<'a>(file: &'a str, line: u32, address: u32) -> Message<'a>
+    ensures { result ≡ line_range_pieces file.now line address }
+{
+    Message::new(&[
+        Piece::Text(file),
+        Piece::Text(": line "),
+        Piece::Number(line),
+        Piece::Text(": address "),
+        Piece::Address(address),
+        Piece::Text(" out of range"),
+    ])
+}
+
+/// What is wrong with a record file.
+fn record_message<'a>(file: &'a str, fault: RecordFault) -> Message<'a>
+    ensures { result ≡ record_pieces file.now fault }
+{
+    match fault {
+        RecordFault::BadMark(line) => in_line_message(file, line, ": no record mark"),
+        RecordFault::BadDigit(line) => in_line_message(file, line, ": bad digit"),
+        RecordFault::BadLength(line) => in_line_message(file, line, ": bad length"),
+        RecordFault::BadSum(line) => in_line_message(file, line, ": bad checksum"),
+        RecordFault::BadType(line) => in_line_message(file, line, ": bad record type"),
+        RecordFault::OutOfRange(line, address) => line_range_message(file, line, address),
+        RecordFault::LineTooLong(line) => in_line_message(file, line, ": line too long"),
+        RecordFault::BadCount(line) => in_line_message(file, line, ": bad record count"),
+        // no file has these
+        RecordFault::Failed | RecordFault::Memory => memory_message(),
+    }
+}
+
+/// An address lies outside a memory.
+fn range_message<'a>(name: &'a str, address: u32) -> Message<'a>
+    ensures { result ≡ range_pieces name.now address }
+{
+    Message::new(&[
+        Piece::Text(name),
+        Piece::Text(": address "),
+        Piece::Address(address),
+        Piece::Text(" out of range"),
+    ])
+}
+
+/// What is wrong with raw bytes.
+fn raw_message<'a>(file: &'a str, fault: ImageFault) -> Message<'a>
+    ensures { result ≡ raw_pieces file.now fault }
+{
+    match fault {
+        ImageFault::OutOfRange(address) => range_message(file, address),
+        // no raw file has the others
+        _ => memory_message(),
+    }
+}
+
+/// Why a file is no image.
+fn bad_file_message<'a>(file: &'a str, fault: BadFile) -> Message<'a>
+    ensures { result ≡ bad_file_pieces file.now fault }
+{
+    match fault {
+        BadFile::Record(fault) => record_message(file, fault),
+        BadFile::Raw(fault) => raw_message(file, fault),
+        BadFile::Elf => Message::about(file, ": ELF is not read"),
+        BadFile::TooLong => too_long_message(file, LIMIT as u32),
+    }
+}
+
+/// Why no image came of a file.
+pub(crate) fn image_message<'a>(file: &'a str, fault: ReadFault) -> Message<'a>
+    ensures { result ≡ image_pieces file.now fault }
+{
+    match fault {
+        ReadFault::File(fault) => file_message(file, fault),
+        ReadFault::Image(fault) => bad_file_message(file, fault),
+    }
+}
+
+/// What is wrong with the value at this place.
+fn value_message<'a>(memory: Mem, place: u32, wrong: &'a str) -> Message<'a>
+    ensures { result ≡ value_pieces memory place wrong.now }
+{
+    Message::new(&[
+        Piece::Text(memory.name()),
+        Piece::Text(": value "),
+        Piece::Number(place),
+        Piece::Text(wrong),
+    ])
+}
+
+/// What is wrong with the values for a memory.
+pub(crate) fn values_message(memory: Mem, fault: ImageFault) -> Message<'static>
+    ensures { result ≡ values_pieces memory fault }
+{
+    match fault {
+        ImageFault::OutOfRange(address) => range_message(memory.name(), address),
+        ImageFault::BadNumber(place) => value_message(memory, place, ": not a number"),
+        ImageFault::TooLarge(place) => value_message(memory, place, ": above 255"),
+        // no values have these, but for the want of memory
+        ImageFault::Failed | ImageFault::Memory => memory_message(),
+    }
+}
+
+/// A memory can't be written.
+pub(crate) fn read_only_message(memory: Mem) -> Message<'static>
+    ensures { result ≡ read_only_pieces memory }
+{
+    Message::about(memory.name(), " is read-only")
+}
