@@ -32,23 +32,23 @@ told_last before after said last told line whole ends kept =
 -- of a desk that did not fail a line was told whole
 whole_line : (line told : Bytes) (old new : DeskView) → (HasFailed old new → ⊥) → TellsLine line told old new → told ≡ line
 whole_line line told old new sound (inl whole) = whole
-whole_line line told old new sound (inr part) = absurd (sound part.1)
+whole_line line told old new sound (inr part) = absurd (sound part.1.0)
 
 -- and of the breaks only the want of memory is left
-broke_lacks : {A : Type 0} (stage : Stage A) (before after : Record) (k l : ℕ) → (HasRisen k l → ⊥) → (b : StageBrokeOff stage (showing (Some before) k) (showing (Some after) l))
+broke_lacks : {A : Type 0} (stage : Stage A) (before after : Record) (k l m n : ℕ) → (HasRisen k l → ⊥) → (b : StageBrokeOff stage (showing (Some before) k m) (showing (Some after) l n))
     → (front : Bytes) × (after.messages ≡ front ++ memory_line)
-broke_lacks stage before after k l sound b = by_break b.break b.told b.tells b.kept
+broke_lacks stage before after k l m n sound b = by_break b.break b.told b.tells b.kept
   where
     old : DeskView
-    old = showing (Some before) k
+    old = showing (Some before) k m
 
     new : DeskView
-    new = showing (Some after) l
+    new = showing (Some after) l n
 
     by_break : (break : Break) (told : Bytes) → TellsBreak break told old new
         → ◌≡◌ {A = Option Record} (Some after) (option_map (after_all (b.whole ++ last_done break told)) (Some before))
         → (front : Bytes) × (after.messages ≡ front ++ memory_line)
-    by_break (InLine line) told tells kept = absurd (sound tells.1)
+    by_break (InLine line) told tells kept = absurd (sound tells.1.0)
     by_break (NotOpened name) told tells kept = absurd (sound (failed_before old tells.between new tells.since tells.until tells.failed))
     by_break (NotRead name bytes) told tells kept = absurd (sound (failed_before old tells.between new tells.since tells.until tells.failed))
     by_break NoMemory told tells kept =
@@ -58,12 +58,12 @@ broke_lacks stage before after k l sound b = by_break b.break b.told b.tells b.k
         (λ r. refl) kept
 
 -- So a status other than that of a plan is the refusal that the stage says.
-pub sound_refusal : {A : Type 0} (stage : Stage A) (before after : Record) (k l status : ℕ) → (HasRisen k l → ⊥)
-    → ((front : Bytes) → after.messages ≡ front ++ memory_line → ⊥) → Goes stage (showing (Some before) k) (showing (Some after) l) (Err status)
-    → Went stage (showing (Some before) k) (showing (Some after) l) Refused
-sound_refusal stage before after k l status sound has_memory (one, inl went) = went
-sound_refusal stage before after k l status sound has_memory (one, inr broke) =
-    let lacks = broke_lacks stage before after k l sound broke in absurd (has_memory lacks.0 lacks.1)
+pub sound_refusal : {A : Type 0} (stage : Stage A) (before after : Record) (k l m n status : ℕ) → (HasRisen k l → ⊥)
+    → ((front : Bytes) → after.messages ≡ front ++ memory_line → ⊥) → Goes stage (showing (Some before) k m) (showing (Some after) l n) (Err status)
+    → Went stage (showing (Some before) k m) (showing (Some after) l n) Refused
+sound_refusal stage before after k l m n status sound has_memory (one, inl went) = went
+sound_refusal stage before after k l m n status sound has_memory (one, inr broke) =
+    let lacks = broke_lacks stage before after k l m n sound broke in absurd (has_memory lacks.0 lacks.1)
 
 -- ---- where the desk shows no file that was opened
 
@@ -142,12 +142,12 @@ only_told r told line kept =
 
 -- Of a stage that begins so, where the desk shows no opening: the file could not be opened, and that was told, or memory
 -- was refused, and that was.
-module _ {A : Type 0} (name told : Bytes) (stage : Stage A) (begins : Begins name stage) (r : Record) (k l : ℕ) where
+module _ {A : Type 0} (name told : Bytes) (stage : Stage A) (begins : Begins name stage) (r : Record) (k l m n : ℕ) where
   abbrev pub Old : DeskView
-  Old = showing (Some r) k
+  Old = showing (Some r) k m
 
   abbrev pub New : DeskView
-  New = showing (Some (after_err told r)) l
+  New = showing (Some (after_err told r)) l n
 
   abbrev pub Told : Type 0
   Told = TellsFailure (not_opened_line name) told Old New ⊎ TellsLine memory_line told Old New
@@ -187,7 +187,7 @@ module _ {A : Type 0} (name told : Bytes) (stage : Stage A) (begins : Begins nam
       let clash : [] ≡ next_opening name (passed ++ []) ∷ opened_in (whole ++ last_done break line) = none ∙ some in
       absurd (cc)
 
-  pub unopened : (status : ℕ) → Goes stage (showing (Some r) k) (showing (Some (after_err told r)) l) (Err status) → Told
+  pub unopened : (status : ℕ) → Goes stage (showing (Some r) k m) (showing (Some (after_err told r)) l n) (Err status) → Told
   unopened status (one, inl went) =
       let says : went.says ≡ Next went.passed = sym (ap (λ (p : StageResult A). p.says) (went.comes [])) ∙ (begins (went.passed ++ [])).1 in
       let none = same_openings (Line told ∷ []) went.says r went.kept in
@@ -200,12 +200,12 @@ module _ {A : Type 0} (name told : Bytes) (stage : Stage A) (begins : Begins nam
 -- ---- a file that was opened and is good
 
 -- it was read to its end, and this is what it comes to
-module _ {A : Type 0} (name : Bytes) (limit : ℕ) (judge : Bytes → Result A Bytes) (bytes told : Bytes) (good : A) (given : judge bytes ≡ Ok good) (r : Record) (k l : ℕ) where
+module _ {A : Type 0} (name : Bytes) (limit : ℕ) (judge : Bytes → Result A Bytes) (bytes told : Bytes) (good : A) (given : judge bytes ≡ Ok good) (r : Record) (k l m n : ℕ) where
   abbrev Before : DeskView
-  Before = showing (Some r) k
+  Before = showing (Some r) k m
 
   abbrev After : DeskView
-  After = showing (Some (after_all (Opens (Found (record { name = name; bytes = bytes; ended = true })) ∷ Line told ∷ []) r)) l
+  After = showing (Some (after_all (Opens (Found (record { name = name; bytes = bytes; ended = true })) ∷ Line told ∷ []) r)) l n
 
   abbrev reading : Reading
   reading = record { name = name; bytes = bytes; ended = true }
@@ -278,7 +278,7 @@ module _ {A : Type 0} (name : Bytes) (limit : ℕ) (judge : Bytes → Result A B
       by_end first (next_opening name openings) whole later break line first_is none is tells kept
 
   -- So the desk was shown to open it, to its end, and what was told is the line of memory.
-  pub opened_is_told : (status : ℕ) → Goes (file_stage name limit judge) (showing (Some r) k) (showing (Some (after_all done r)) l) (Err status) → TellsLine memory_line told Before After
+  pub opened_is_told : (status : ℕ) → Goes (file_stage name limit judge) (showing (Some r) k m) (showing (Some (after_all done r)) l n) (Err status) → TellsLine memory_line told Before After
   opened_is_told status (one, inl went) =
       let openings = went.passed ++ [] in
       let begun = begins_file name limit judge openings in

@@ -110,17 +110,17 @@ goes_broken name next file_fault.Memory old mid new status there breaks rose cou
 -- ---- a file that is kept whole as it is read
 
 -- (the counts say nothing here)
-pub breaks_as : (name : Bytes) (old mid : Option Record) (fault : FileFault) → ReadsFile name (showing old 0) (showing mid 0) (Err fault)
-    → FileBreaks name (showing old 0) (showing mid 0) fault
+pub breaks_as : (name : Bytes) (old mid : Option Record) (fault : FileFault) → ReadsFile name (showing old 0 0) (showing mid 0 0) (Err fault)
+    → FileBreaks name (showing old 0 0) (showing mid 0 0) fault
 breaks_as name old mid file_fault.Absent reads = reads
 breaks_as name old mid file_fault.NotOpened reads = reads
 breaks_as name old mid file_fault.NotRead reads = reads
 breaks_as name old mid file_fault.Memory reads = (reads.0, false, reads.1)
 
 -- (what is kept says nothing here)
-pub counted_as : (before now : ℕ) (fault : FileFault) → FaultCounts (showing None before) (showing None now) (Err fault)
-    → IsCounted (showing None before) (showing None now) fault
-counted_as before now file_fault.Absent counts = tt
-counted_as before now file_fault.NotOpened counts = counts.1
-counted_as before now file_fault.NotRead counts = counts.1
-counted_as before now file_fault.Memory counts = tt
+pub counted_as : (k l m n : ℕ) (fault : FileFault) → FaultCounts (showing None k m) (showing None l n) (Err fault)
+    → IsCounted (showing None k m) (showing None l n) fault
+counted_as k l m n file_fault.Absent counts = tt
+counted_as k l m n file_fault.NotOpened counts = counts.1.0
+counted_as k l m n file_fault.NotRead counts = counts.1.0
+counted_as k l m n file_fault.Memory counts = tt

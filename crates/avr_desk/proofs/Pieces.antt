@@ -32,8 +32,8 @@ all_text_more ps i d l =
 
 -- the end of a line behind its mark and its text (the counts say nothing here)
 pub line_ends : (old first then new : Option Record) (mark text : List ℕ) (result : Result (Unit {0}) DeskFault) → first ≡ option_map (after_err mark) old → then ≡ option_map (after_err text) first
-    → OnOk result (new ≡ option_map (after_err (10 ∷ [])) then) → OnErr result (SendsPart Messages (showing then 0) (showing new 0) (10 ∷ [])) → IsPrinted (showing old 0) (showing new 0) (mark ++ (text ++ 10 ∷ [])) result
+    → OnOk result (new ≡ option_map (after_err (10 ∷ [])) then) → OnErr result (SendsPart Messages (showing then 0 0) (showing new 0 0) (10 ∷ [])) → IsPrinted (showing old 0 0) (showing new 0 0) (mark ++ (text ++ 10 ∷ [])) result
 line_ends old first then new mark text (Ok done) e f all part = sent_next Messages old first new mark (text ++ 10 ∷ []) e (sent_next Messages first then new text (10 ∷ []) f all)
 line_ends old first then new mark text (Err fault) e f all part =
-    subst (SendsPart Messages (showing old 0) (showing new 0)) (append_assoc mark text (10 ∷ []))
+    subst (SendsPart Messages (showing old 0 0) (showing new 0 0)) (append_assoc mark text (10 ∷ []))
     (sent_next_part Messages old then new (mark ++ text) (10 ∷ []) [] (sent_next Messages old first then mark text e f) part)

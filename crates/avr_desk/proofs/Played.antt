@@ -1,8 +1,8 @@
 -- Stages that were played, one after the other.
-use Rattle.std.proofs.Common.{◌≡◌, ◌∙◌, sym, subst, inl, inr, ap, List, [], ◌∷◌, ◌++◌, ℕ, take, drop, refl, arith, Ok, Err, Result, append_assoc, append-nil}
+use Rattle.std.proofs.Common.{◌≡◌, ◌∙◌, sym, subst, inl, inr, ap, List, [], ◌∷◌, ◌++◌, ℕ, take, drop, refl, Ok, Err, Result, append_assoc, append-nil}
 use Rattle.std.proofs.lemmas.List.{take-append-drop}
 use Rattle.avr_desk.specs.Record.{DeskView, Passes}
-use Rattle.avr_desk.specs.Fault.{HasFailed, Counts, Follows}
+use Rattle.avr_desk.specs.Fault.{HasFailedToSay, Counts, Follows}
 use Rattle.avr_desk.specs.declared.fault.DeskFault.{DeskFault}
 use Rattle.avr_desk.specs.declared.fault.DeskFault.TheVariants.{NotFound, Failed}
 use Rattle.avr_desk.specs.Stream.{SendsPart}
@@ -10,7 +10,7 @@ use Rattle.avr_desk.specs.declared.stream.Stream.TheVariants.{Messages}
 use Rattle.avr_desk.specs.declared.record.Opening.{Opening}
 use Rattle.avr_desk.specs.Said.{Saying, Line, Opens, TellsLine, Tells, after_all}
 use Rattle.avr_desk.proofs.Saying.{kept_none, kept_append}
-use Rattle.avr_desk.proofs.Telling.{follows_on, failed_later, tells_since, failure_in}
+use Rattle.avr_desk.proofs.Telling.{follows_here, follows_on, unsaid_later, tells_since, failure_in}
 use Rattle.avr_desk.specs.Lines.{memory_line, not_opened_line, not_read_line}
 use Rattle.avr_desk.specs.Playing.{Went, Break, InLine, NotOpened, NotRead, NoMemory, NoMemoryFor, last_done, IsNextSaying, IsBreak, TellsBreak, Rest, StageBrokeOff, Goes}
 use Rattle.avr_desk.specs.Stage.{Stage, Answer, Made, Refused, Unread, StageResult, behind_sayings, going_on, ◌>>=◌, verdict_stage, saying_stage, next_opening}
@@ -18,9 +18,9 @@ use Rattle.avr_desk.specs.Stage.{Stage, Answer, Made, Refused, Unread, StageResu
 -- ---- counts
 
 break_since : (break : Break) (told : List ℕ) (first old new : DeskView) → Follows first old → TellsBreak break told old new → TellsBreak break told first new
-break_since (InLine line) told first old new rises tells = (tells.0, failed_later first old new rises tells.1)
-break_since (NotOpened name) told first old new rises tells = failure_in (not_opened_line name) told first old new new rises (omega arith) tells
-break_since (NotRead name bytes) told first old new rises tells = failure_in (not_read_line name) told first old new new rises (omega arith) tells
+break_since (InLine line) told first old new rises tells = (tells.0, unsaid_later first old new rises tells.1)
+break_since (NotOpened name) told first old new rises tells = failure_in (not_opened_line name) told first old new new rises (follows_here new) tells
+break_since (NotRead name bytes) told first old new rises tells = failure_in (not_read_line name) told first old new new rises (follows_here new) tells
 break_since NoMemory told first old new rises tells = tells_since memory_line told first old new rises tells
 break_since (NoMemoryFor reading) told first old new rises tells = tells_since memory_line told first old new rises tells
 
@@ -144,7 +144,7 @@ goes_no_further stage go_on old new status (one, inr broke) = (one, inr (broke_t
 
 -- nothing is said or read
 pub went_nowhere : {A : Type 0} (d : DeskView) (a : A) → Went (verdict_stage (Ok a)) d d (Made a)
-went_nowhere d a = record { passed = []; says = []; comes = λ more. refl; kept = kept_none d.kept; follows = omega arith }
+went_nowhere d a = record { passed = []; says = []; comes = λ more. refl; kept = kept_none d.kept; follows = follows_here d }
 
 -- a line was printed whole
 told_whole : {A : Type 0} (old new : DeskView) (line : List ℕ) → Passes (after_all (Line line ∷ [])) old new → Follows old new
@@ -199,7 +199,7 @@ goes_unsettled r line old new status is one told =
     subst (λ x. Goes (verdict_stage x) old new (Err status)) (sym is) (goes_refused old new line status one told)
 
 pub went_silent : (d : DeskView) → Went (saying_stage []) d d (Made tt)
-went_silent d = record { passed = []; says = []; comes = λ more. refl; kept = kept_none d.kept; follows = omega arith }
+went_silent d = record { passed = []; says = []; comes = λ more. refl; kept = kept_none d.kept; follows = follows_here d }
 
 pub went_saying : (old new : DeskView) (line : List ℕ) → Passes (after_all (Line line ∷ [])) old new
     → Follows old new → Went (saying_stage (Line line ∷ [])) old new (Made tt)
@@ -207,12 +207,12 @@ went_saying old new line kept follows =
     record { passed = []; says = Line line ∷ []; comes = λ more. refl; kept = kept; follows = follows }
 
 -- a failed call is counted
-failed_counts : (old new : DeskView) (fault : DeskFault) → fault ≡ Failed → Counts {T = Unit {0}} old new (Err fault) → HasFailed old new
+failed_counts : (old new : DeskView) (fault : DeskFault) → fault ≡ Failed → Counts {T = Unit {0}} Messages old new (Err fault) → HasFailedToSay old new
 failed_counts old new NotFound is counts = cc
 failed_counts old new Failed is counts = counts.1
 
 pub goes_saying_part : (old new : DeskView) (line : List ℕ) (fault : DeskFault) → SendsPart Messages old new line → fault ≡ Failed
-    → Counts {T = Unit {0}} old new (Err fault) → Goes (saying_stage (Line line ∷ [])) old new (Err 1)
+    → Counts {T = Unit {0}} Messages old new (Err fault) → Goes (saying_stage (Line line ∷ [])) old new (Err 1)
 goes_saying_part old new line fault part is counts = (
   refl,
   inr (broke_here (saying_stage (Line line ∷ [])) old new (InLine line) (take part.0 line) (λ more. ([], refl))
@@ -224,7 +224,7 @@ pub went_into : {A B : Type 0} (stage : Stage A) (f : A → B) (old new : DeskVi
     → Went (stage >>= λ x. verdict_stage (Ok (f x))) old new (Made (f a))
 went_into stage f old new a went = went_went stage (λ x. verdict_stage (Ok (f x))) old new new a (Made (f a)) went (went_nowhere new (f a))
 
--- however a stage goes, the count of failures never falls
+-- however a stage goes, the counts of failures never fall
 pub goes_follows : {A : Type 0} (stage : Stage A) (old new : DeskView) (result : Result A ℕ) → Goes stage old new result → Follows old new
 goes_follows stage old new (Ok a) went = went.follows
 goes_follows stage old new (Err status) (one, inl went) = went.follows

@@ -17,7 +17,7 @@ opened_read name (Some k) now new bytes ended opened read = read ∙ ap (option_
 
 -- (the counts say nothing here)
 pub reads_opened : (name : Bytes) (old now new : Option Record) (r : Result Contents FileFault)
-    → now ≡ option_map (after_open name (Ok tt)) old → ReadsOpen (showing now 0) (showing new 0) r → ReadsFile name (showing old 0) (showing new 0) r
+    → now ≡ option_map (after_open name (Ok tt)) old → ReadsOpen (showing now 0 0) (showing new 0 0) r → ReadsFile name (showing old 0 0) (showing new 0 0) r
 reads_opened name old now new (Ok c) opened read = opened_read name old now new c.bytes c.ended opened read
 reads_opened name old now new (Err Absent) opened read = absurd read
 reads_opened name old now new (Err NotOpened) opened read = absurd read

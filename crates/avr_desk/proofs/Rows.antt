@@ -4,6 +4,7 @@ use Rattle.avr_desk.specs.Failing.{Failing, FailsWhenDue}
 use Rattle.avr_desk.specs.Fault.{Counts}
 use Rattle.avr_desk.specs.Files.{FaultCounts}
 use Rattle.avr_desk.specs.Record.{Bytes, DeskView, Record, showing, nothing_kept, after_out}
+use Rattle.avr_desk.specs.Said.{TellsLine}
 use Rattle.avr_desk.specs.Shown.{AppendsFront}
 use Rattle.avr_desk.specs.Stream.{SendsTaken}
 use Rattle.avr_desk.specs.declared.fault.DeskFault.{DeskFault}
@@ -11,39 +12,54 @@ use Rattle.avr_desk.specs.declared.fault.DeskFault.TheVariants.{NotFound, Failed
 use Rattle.avr_desk.specs.declared.files.Contents.{Contents}
 use Rattle.avr_desk.specs.declared.files.FileFault.{FileFault}
 use Rattle.avr_desk.specs.declared.files.FileFault.TheVariants.{Memory}
-use Rattle.avr_desk.specs.declared.stream.Stream.TheVariants.{Output, Messages}
+use Rattle.avr_desk.specs.declared.stream.Stream.TheVariants.{File, Output, Messages}
 
--- a desk that keeps nothing, and has failed so often
+-- a desk that keeps nothing, and has failed so often, never at the messages
 abbrev silent : ℕ → DeskView
-silent failures = showing None failures
+silent failures = showing None failures 0
 
 abbrev done : Result (Unit {0}) DeskFault
 done = Ok tt
 
 -- a failure that is counted behind a success, behind a file that isn't there, behind a byte that was taken, or behind want of
 -- memory
-pub no_count_behind_success : Counts (silent 0) (silent 1) done → ⊥
-no_count_behind_success counts = let e : 1 ≡ 0 = counts.1 in omega (arith, e)
+pub no_count_behind_success : Counts File (silent 0) (silent 1) done → ⊥
+no_count_behind_success counts = let e : 1 ≡ 0 = counts.1.0 in omega (arith, e)
 
 abbrev absent : Result (Unit {0}) DeskFault
 absent = Err NotFound
 
-pub no_count_behind_absence : Counts (silent 0) (silent 1) absent → ⊥
-no_count_behind_absence counts = let e : 1 ≡ 0 = counts.1 in omega (arith, e)
+pub no_count_behind_absence : Counts File (silent 0) (silent 1) absent → ⊥
+no_count_behind_absence counts = let e : 1 ≡ 0 = counts.1.0 in omega (arith, e)
 
 abbrev short_of_memory : Result Contents FileFault
 short_of_memory = Err Memory
 
 pub no_count_behind_memory : FaultCounts (silent 0) (silent 1) short_of_memory → ⊥
-no_count_behind_memory counts = let e : 1 ≡ 0 = counts.1 in omega (arith, e)
+no_count_behind_memory counts = let e : 1 ≡ 0 = counts.1.0 in omega (arith, e)
 
 -- a failure that is not counted
 abbrev failed : Result (Unit {0}) DeskFault
 failed = Err Failed
 
-pub no_silent_failure : Counts (silent 0) (silent 0) failed → ⊥
-no_silent_failure (rises, inl more) = omega (arith, more)
-no_silent_failure (rises, inr last) = omega (arith, last)
+pub no_silent_failure : Counts File (silent 0) (silent 0) failed → ⊥
+no_silent_failure (rises, (inl more, same)) = omega (arith, more)
+no_silent_failure (rises, (inr last, same)) = omega (arith, last)
+
+-- a failure at the messages that only one count shows, one at a file and one at the output that both show, and what is
+-- unsaid behind a success
+pub no_message_unsaid_uncounted : Counts Messages (silent 0) (silent 1) failed → ⊥
+no_message_unsaid_uncounted (rises, (failures, inl more)) = omega (arith, more)
+no_message_unsaid_uncounted (rises, (failures, inr last)) = omega (arith, last)
+
+pub no_file_is_unsaid : Counts File (silent 0) (showing None 1 1) failed → ⊥
+no_file_is_unsaid counts = let e : 1 ≡ 0 = counts.1.1 in omega (arith, e)
+
+pub no_output_is_unsaid : Counts Output (silent 0) (showing None 1 1) failed → ⊥
+no_output_is_unsaid counts = let e : 1 ≡ 0 = counts.1.1 in omega (arith, e)
+
+pub nothing_is_unsaid_behind_success : Counts Messages (silent 0) (showing None 0 1) done → ⊥
+nothing_is_unsaid_behind_success counts = let e : 1 ≡ 0 = counts.1.1 in omega (arith, e)
 
 -- a front of the bytes may have gone out before a fault, but not their end
 abbrev end : List ℕ
@@ -60,14 +76,20 @@ abbrev output_of : Option Record → Bytes
 output_of (Some r) = r.output
 output_of _ = []
 
-pub no_end_before_a_fault : SendsTaken Output whole (showing (Some nothing_kept) 0) (showing (Some (after_out end nothing_kept)) 1) (Err Failed) → ⊥
+pub no_end_before_a_fault : SendsTaken Output whole (showing (Some nothing_kept) 0 0) (showing (Some (after_out end nothing_kept)) 1 0) (Err Failed) → ⊥
 no_end_before_a_fault sent = front_or_end sent.0 (ap output_of sent.2)
+
+-- a line cut short where only a file failed
+pub no_line_cut_by_a_file : TellsLine whole [] (silent 0) (silent 1) → ⊥
+no_line_cut_by_a_file (inl told) = absurd (cc)
+no_line_cut_by_a_file (inr (part, (failures, inl more))) = omega (arith, more)
+no_line_cut_by_a_file (inr (part, (failures, inr last))) = omega (arith, last)
 
 -- a message in the output
 abbrev byte : List ℕ
 byte = 1 ∷ []
 
-pub no_message_in_the_output : SendsTaken Messages byte (showing (Some nothing_kept) 0) (showing (Some (after_out byte nothing_kept)) 0) (Ok 1) → ⊥
+pub no_message_in_the_output : SendsTaken Messages byte (showing (Some nothing_kept) 0 0) (showing (Some (after_out byte nothing_kept)) 0 0) (Ok 1) → ⊥
 no_message_in_the_output sent = let e : byte ≡ [] = ap output_of sent in absurd (cc)
 
 -- a writer that took other bytes
@@ -83,7 +105,17 @@ no_other_bytes (front, (back, is), took) = begins_otherwise front back is took
 
 -- a failure by plan at a call that isn't due
 abbrev sound : Failing ℕ
-sound = record { inner = 0; due = 0; planned = 0 }
+sound = record { inner = 0; due = 0; planned = 0; unsaid = 0 }
 
-pub no_plan_behind_success : FailsWhenDue (Unit {0}) sound (record sound { planned = 1 }) done → ⊥
+pub no_plan_behind_success : FailsWhenDue File (Unit {0}) sound (record sound { planned = 1 }) done → ⊥
 no_plan_behind_success fails = let e : 1 ≡ 0 = fails.planned in omega (arith, e)
+
+-- and one at a file that is due, and is counted as unsaid
+abbrev failing : Failing ℕ
+failing = record { inner = 0; due = 1; planned = 0; unsaid = 0 }
+
+abbrev failed_unsaid : Failing ℕ
+failed_unsaid = record { inner = 0; due = 0; planned = 1; unsaid = 1 }
+
+pub no_file_is_unsaid_by_plan : FailsWhenDue File (Unit {0}) failing failed_unsaid failed → ⊥
+no_file_is_unsaid_by_plan fails = let e : 1 ≡ 0 = fails.unsaid in omega (arith, e)

@@ -52,7 +52,7 @@ sent_on s old now new bytes m n first then =
 
 -- the first m bytes are sent, and of the others a front (the counts say nothing here)
 pub sent_on_part : (s : Stream) (old now new : Option Record) (bytes : Bytes) (m : ℕ) → m ≤ length bytes → now ≡ option_map (after_sent s (take m bytes)) old
-    → SendsPart s (showing now 0) (showing new 0) (take (length bytes - m) (drop m bytes)) → SendsPart s (showing old 0) (showing new 0) bytes
+    → SendsPart s (showing now 0 0) (showing new 0 0) (take (length bytes - m) (drop m bytes)) → SendsPart s (showing old 0 0) (showing new 0 0) bytes
 sent_on_part s old now new bytes m within first part =
     let size : length (take (length bytes - m) (drop m bytes)) ≡ length bytes - m = ap length (slice_rest bytes m) ∙ length-drop m bytes in
     let n : ℕ = part.0 in
@@ -65,8 +65,8 @@ pub sent_next : (s : Stream) (old now new : Option Record) (a b : Bytes) → now
 sent_next s old now new a b first then = then ∙ ap (option_map (after_sent s b)) first ∙ after_sent-after_sent s old a b
 
 -- and of the others only a part
-pub sent_next_part : (s : Stream) (old now new : Option Record) (a b c : Bytes) → now ≡ option_map (after_sent s a) old → SendsPart s (showing now 0) (showing new 0) b
-    → SendsPart s (showing old 0) (showing new 0) (a ++ (b ++ c))
+pub sent_next_part : (s : Stream) (old now new : Option Record) (a b c : Bytes) → now ≡ option_map (after_sent s a) old → SendsPart s (showing now 0 0) (showing new 0 0) b
+    → SendsPart s (showing old 0 0) (showing new 0 0) (a ++ (b ++ c))
 sent_next_part s old now new a b c first then =
     let e = sent_next s old now new a (take then.0 b) first then.2 in
     let within : then.0 ≤ length b = then.1 in

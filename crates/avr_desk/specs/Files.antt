@@ -1,11 +1,12 @@
 -- A whole file over a desk: what passes when it is read to its end or past a limit.
 use Rattle.std.specs.Prelude.{◌≡◌, ◌≤◌, ◌<◌, ◌+◌, ℕ, length, Bool, Result, Ok, Err, false, MatchBool}
 use Rattle.avr_desk.specs.Record.{DeskView, Record, Bytes, Passes, noted, with_open, with_absent}
-use Rattle.avr_desk.specs.Fault.{Follows, HasFailed}
+use Rattle.avr_desk.specs.Fault.{Follows, HasFailedAt, HasSameCounts}
 use Rattle.avr_desk.specs.declared.record.Open.TheVariants.{ToRead}
 use Rattle.avr_desk.specs.declared.files.Contents.{Contents}
 use Rattle.avr_desk.specs.declared.files.FileFault.{FileFault}
 use Rattle.avr_desk.specs.declared.files.FileFault.TheVariants.{Absent, NotOpened, NotRead, Memory}
+use Rattle.avr_desk.specs.declared.stream.Stream.TheVariants.{File}
 
 abbrev pub file_fault_number : FileFault → ℕ
 file_fault_number Absent = 1
@@ -55,12 +56,12 @@ abbrev pub IsWhole : ℕ → Contents → Type 0
 IsWhole limit c =
     MatchBool c.ended (length c.bytes ≤ limit) ((limit < length c.bytes) × (length c.bytes ≤ limit + 4096))
 
--- what the count of failures says of a fault: want of memory is no failure of the desk
+-- what the counts of failures say of a fault: want of memory is no failure of the desk
 abbrev pub FaultIsCounted : DeskView → DeskView → Result Contents FileFault → Type 0
-FaultIsCounted old new (Err NotOpened) = HasFailed old new
-FaultIsCounted old new (Err NotRead) = HasFailed old new
-FaultIsCounted old new r = new.failures ≡ old.failures
+FaultIsCounted old new (Err NotOpened) = HasFailedAt File old new
+FaultIsCounted old new (Err NotRead) = HasFailedAt File old new
+FaultIsCounted old new r = HasSameCounts old new
 
--- the count never falls, and shows whether the desk failed
+-- the counts never fall, and show whether the desk failed
 abbrev pub FaultCounts : DeskView → DeskView → Result Contents FileFault → Type 0
 FaultCounts old new r = Follows old new × FaultIsCounted old new r

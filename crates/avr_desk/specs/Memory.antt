@@ -5,18 +5,19 @@ use Rattle.avr_desk.specs.Record.{DeskView, Record, Bytes, all_files, showing}
 use Rattle.avr_desk.specs.Named.{newest, bytes_given}
 use Rattle.avr_desk.specs.declared.record.Writing.{Writing}
 
--- what passed, the failures, the standard input, the files that were put there, and the whole
+-- what passed, the failures and those at the messages, the standard input, the files that were put there, and the whole
 -- bytes of the file that was opened last
 pub record Memory : Type 0 where
   pub kept : Record
   pub failures : ℕ
+  pub unsaid : ℕ
   pub input : Bytes
   pub stored : List Writing
   pub opened : Bytes
 
 -- what it shows as any desk does
 abbrev pub memory_view : Memory → DeskView
-memory_view m = showing (Some m.kept) m.failures
+memory_view m = showing (Some m.kept) m.failures m.unsaid
 
 -- the file of this name: the one that was created last, else the one that was put there last
 abbrev pub file_named : Bytes → Memory → Option Bytes

@@ -1,6 +1,6 @@
 -- A stage over a desk: played whole, or broken off by a fault of the desk or for want of memory.
 use Rattle.std.specs.Prelude.{◌≡◌, ◌⊎◌, ℕ, List, [], ◌∷◌, ◌++◌, false, Result, Ok, Err}
-use Rattle.avr_desk.specs.Fault.{Follows, HasFailed}
+use Rattle.avr_desk.specs.Fault.{Follows, HasFailedToSay}
 use Rattle.avr_desk.specs.Record.{DeskView, Passes}
 use Rattle.avr_desk.specs.declared.record.Opening.{Opening}
 use Rattle.avr_desk.specs.declared.record.Opening.TheVariants.{Found}
@@ -49,9 +49,9 @@ IsBreak NoMemory more later = Unit {0}
 IsBreak (NoMemoryFor reading) more later = IsNextSaying (Opens (next_opening reading.name more)) later
 
 -- The desk failed at the file, and from then on the line of that was told; or the line that memory was refused was
--- told. Of a line that could not be printed a front was, and the desk has failed; nothing else is told.
+-- told. Of a line that could not be printed a front was, and a write to the messages has failed; nothing else is told.
 abbrev pub TellsBreak : Break → Bytes → DeskView → DeskView → Type 0
-TellsBreak (InLine line) told old new = IsPrefixOf told line × HasFailed old new
+TellsBreak (InLine line) told old new = IsPrefixOf told line × HasFailedToSay old new
 TellsBreak (NotOpened name) told old new = TellsFailure (not_opened_line name) told old new
 TellsBreak (NotRead name bytes) told old new = TellsFailure (not_read_line name) told old new
 TellsBreak NoMemory told old new = TellsLine memory_line told old new

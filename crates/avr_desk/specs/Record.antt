@@ -20,14 +20,16 @@ pub record Record : Type 0 where
   pub output : Bytes
   pub messages : Bytes
 
--- what a desk shows of itself: its record, if it keeps one, and how often it has failed
+-- what a desk shows of itself: its record, if it keeps one, how often a call has failed, and how often of these a write
+-- to its messages
 pub record DeskView : Type 0 where
   pub kept : Option Record
   pub failures : ℕ
+  pub unsaid : ℕ
 
 -- what a desk shows that keeps this and has failed so often
-abbrev pub showing : Option Record → ℕ → DeskView
-showing kept failures = record { kept = kept; failures = failures }
+abbrev pub showing : Option Record → ℕ → ℕ → DeskView
+showing kept failures unsaid = record { kept = kept; failures = failures; unsaid = unsaid }
 
 -- what a desk keeps, if it keeps anything, has become this
 abbrev pub Passes : (Record → Record) → DeskView → DeskView → Type 0

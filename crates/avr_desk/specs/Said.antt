@@ -1,7 +1,7 @@
 -- What a run does at the desk: files that are read, lines that are printed, files and output that are written.
 use Rattle.std.specs.Prelude.{◌≡◌, ◌⊎◌, ℕ, List, [], ◌∷◌, ◌++◌, Result, Ok, Err}
 use Rattle.avr_desk.specs.Record.{DeskView, Record, Passes, with_open, with_absent, after_write, after_out, after_err}
-use Rattle.avr_desk.specs.Fault.{Follows, HasFailed}
+use Rattle.avr_desk.specs.Fault.{Follows, HasFailed, HasFailedToSay}
 use Rattle.avr_desk.specs.Stream.{SendsPart}
 use Rattle.avr_desk.specs.declared.record.Opening.{Opening}
 use Rattle.avr_desk.specs.declared.record.Opening.TheVariants.{Absent, Found}
@@ -48,14 +48,14 @@ SaidPart (Writes part) (Writes whole) = IsPrefixOf part whole
 SaidPart (Outs part) (Outs whole) = IsPrefixOf part whole
 SaidPart _ _ = ⊥
 
--- The line was printed, or where the desk failed a front of it.
+-- The line was printed, or where a write to the messages failed a front of it.
 abbrev pub IsPrinted : {T Fault : Type 0} → DeskView → DeskView → Bytes → Result T Fault → Type 0
 IsPrinted old new bytes (Ok done) = Passes (after_err bytes) old new
 IsPrinted old new bytes (Err fault) = SendsPart Messages old new bytes
 
--- The line was told whole; or the desk has failed, and a front of it was.
+-- The line was told whole; or a write to the messages has failed, and a front of it was.
 abbrev pub TellsLine : Bytes → Bytes → DeskView → DeskView → Type 0
-TellsLine line told old new = (told ≡ line) ⊎ (IsPrefixOf told line × HasFailed old new)
+TellsLine line told old new = (told ≡ line) ⊎ (IsPrefixOf told line × HasFailedToSay old new)
 
 -- So much of the line was told, and nothing else happened.
 pub record Tells (old new : DeskView) (line : Bytes) : Type 0 where

@@ -1,18 +1,23 @@
 -- What the desk of a program shows: its two writers, and what they take.
-use Rattle.std.specs.Prelude.{◌≡◌, ◌++◌, ℕ, Bool, false, codes, Option, Result, Ok, Err, take}
+use Rattle.std.specs.Prelude.{◌≡◌, ◌++◌, ℕ, Bool, false, codes, Option, None, Result, Ok, Err, take}
 use Rattle.std.specs.Io.KnownBytes.{Appends}
 use Rattle.std.specs.Str.{bytes_eq}
-use Rattle.avr_desk.specs.Record.{Bytes}
+use Rattle.avr_desk.specs.Record.{Bytes, DeskView, showing}
 use Rattle.avr_desk.specs.declared.fault.DeskFault.{DeskFault}
 use Rattle.avr_desk.specs.declared.fault.DeskFault.TheVariants.{Failed}
 
--- the writers of the output and of the messages, the failures, and whether what is written to the file goes to the
--- output
+-- the writers of the output and of the messages, the failures and those at the messages, and whether what is written to
+-- the file goes to the output
 pub record Shown (O E : Type 0) : Type 0 where
   pub output : O
   pub messages : E
   pub failures : ℕ
+  pub unsaid : ℕ
   pub to_output : Bool
+
+-- what it shows as any desk does: it keeps nothing
+abbrev pub shown_view : {O E : Type 0} → Shown O E → DeskView
+shown_view d = showing None d.failures d.unsaid
 
 -- a writer whose bytes are known took a front of these
 abbrev pub AppendsFront : Option Bytes → Option Bytes → Bytes → Type 0

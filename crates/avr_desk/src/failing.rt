@@ -1,6 +1,6 @@
 //! A desk that fails by plan, for tests of its callers.
 ghost use Rattle.std.specs.Prelude.{◌≡◌, ◌≤◌, ◌-◌, ◌==◌, length, IfOk, IfErr, MatchBool};
-ghost use Rattle.avr_desk.specs.Failing.{planned_after};
+ghost use Rattle.avr_desk.specs.Failing.{count_after};
 ghost use Rattle.avr_desk.specs.Fault.{HasRisen};
 
 use crate::desk::Desk;
@@ -14,6 +14,7 @@ pub struct FailingDesk<D> {
     inner: D,
     due: u64,
     planned: u64,
+    unsaid: u64,
 }
 
 impl<D> Model for FailingDesk<D> {
@@ -21,18 +22,19 @@ impl<D> Model for FailingDesk<D> {
 
     ghost Value = { Failing D };
 
-    ghost view = { λ d. record { inner = d.inner; due = d.due; planned = d.planned } };
+    ghost view = { λ d. record { inner = d.inner; due = d.due; planned = d.planned; unsaid = d.unsaid } };
 }
 
 impl<D> FailingDesk<D> {
     /// Over this desk, with the call that fails counted from 1; 0 for none.
     pub fn new(inner: D, n: u64) -> FailingDesk<D>
-        ensures { result ≡ record { inner = inner; due = n; planned = 0 } }
+        ensures { result ≡ record { inner = inner; due = n; planned = 0; unsaid = 0 } }
     {
         FailingDesk {
             inner,
             due: n,
             planned: 0,
+            unsaid: 0,
         }
     }
 
@@ -46,7 +48,7 @@ impl<D> FailingDesk<D> {
     /// Counts a call, and says whether it is the one that fails.
     fn is_due(&mut self) -> bool
         ensures due { result ≡ (self.old.due == 1) }
-        ensures same { self.new ≡ record self.old { due = self.old.due - 1; planned = planned_after self.old } }
+        ensures same { self.new ≡ record self.old { due = self.old.due - 1; planned = count_after self.old self.old.planned } }
         ensures counts { MatchBool result ((self.old.planned ≤ self.new.planned)
             × HasRisen self.old.planned self.new.planned) (self.new.planned ≡ self.old.planned) }
     {
@@ -70,9 +72,9 @@ impl<D: Desk> Desk for FailingDesk<D> {
 
     fn open(&mut self, name: &str) -> Result<(), DeskFault>
         ensures kept { Passes (after_open name.now result) (D.view self.old.inner) (D.view self.new.inner) }
-        ensures counts { Counts (failing_view (D.view self.old.inner) self.old)
+        ensures counts { Counts File (failing_view (D.view self.old.inner) self.old)
             (failing_view (D.view self.new.inner) self.new) result }
-        ensures when_due { FailsWhenDue (Counts (D.view self.old.inner) (D.view self.new.inner) result) self.old
+        ensures when_due { FailsWhenDue File (Counts File (D.view self.old.inner) (D.view self.new.inner) result) self.old
             self.new result }
     {
         if self.is_due() {
@@ -83,10 +85,10 @@ impl<D: Desk> Desk for FailingDesk<D> {
 
     fn create(&mut self, name: &str) -> Result<(), DeskFault>
         ensures kept { Passes (after_create name.now result) (D.view self.old.inner) (D.view self.new.inner) }
-        ensures counts { Counts (failing_view (D.view self.old.inner) self.old)
+        ensures counts { Counts File (failing_view (D.view self.old.inner) self.old)
             (failing_view (D.view self.new.inner) self.new) result }
         ensures fault { IfErr result (λ e. e ≡ DeskFault.Failed) }
-        ensures when_due { FailsWhenDue (Counts (D.view self.old.inner) (D.view self.new.inner) result) self.old
+        ensures when_due { FailsWhenDue File (Counts File (D.view self.old.inner) (D.view self.new.inner) result) self.old
             self.new result }
     {
         if self.is_due() {
@@ -99,10 +101,10 @@ impl<D: Desk> Desk for FailingDesk<D> {
         ensures bound { IfOk result (λ n. n ≤ length buf.new) }
         ensures kept { Passes (after_read buf.new result) (D.view self.old.inner) (D.view self.new.inner) }
         ensures has_file { HasOpen is_to_read (D.view self.old.inner) result }
-        ensures counts { Counts (failing_view (D.view self.old.inner) self.old)
+        ensures counts { Counts File (failing_view (D.view self.old.inner) self.old)
             (failing_view (D.view self.new.inner) self.new) result }
         ensures fault { IfErr result (λ e. e ≡ DeskFault.Failed) }
-        ensures when_due { FailsWhenDue (Counts (D.view self.old.inner) (D.view self.new.inner) result) self.old
+        ensures when_due { FailsWhenDue File (Counts File (D.view self.old.inner) (D.view self.new.inner) result) self.old
             self.new result }
     {
         if self.is_due() {
@@ -115,10 +117,10 @@ impl<D: Desk> Desk for FailingDesk<D> {
         ensures bound { IfOk result (λ n. n ≤ length bytes.now) }
         ensures kept { SendsTaken File bytes.now (D.view self.old.inner) (D.view self.new.inner) result }
         ensures has_file { HasOpen is_to_write (D.view self.old.inner) result }
-        ensures counts { WriteCounts bytes.now (failing_view (D.view self.old.inner) self.old)
+        ensures counts { WriteCounts File bytes.now (failing_view (D.view self.old.inner) self.old)
             (failing_view (D.view self.new.inner) self.new) result }
         ensures fault { IfErr result (λ e. e ≡ DeskFault.Failed) }
-        ensures when_due { FailsWhenDue (WriteCounts bytes.now (D.view self.old.inner)
+        ensures when_due { FailsWhenDue File (WriteCounts File bytes.now (D.view self.old.inner)
             (D.view self.new.inner) result) self.old self.new result }
     {
         if self.is_due() {
@@ -130,10 +132,10 @@ impl<D: Desk> Desk for FailingDesk<D> {
     fn out(&mut self, bytes: &[u8]) -> Result<usize, DeskFault>
         ensures bound { IfOk result (λ n. n ≤ length bytes.now) }
         ensures kept { SendsTaken Output bytes.now (D.view self.old.inner) (D.view self.new.inner) result }
-        ensures counts { WriteCounts bytes.now (failing_view (D.view self.old.inner) self.old)
+        ensures counts { WriteCounts Output bytes.now (failing_view (D.view self.old.inner) self.old)
             (failing_view (D.view self.new.inner) self.new) result }
         ensures fault { IfErr result (λ e. e ≡ DeskFault.Failed) }
-        ensures when_due { FailsWhenDue (WriteCounts bytes.now (D.view self.old.inner)
+        ensures when_due { FailsWhenDue Output (WriteCounts Output bytes.now (D.view self.old.inner)
             (D.view self.new.inner) result) self.old self.new result }
     {
         if self.is_due() {
@@ -145,13 +147,14 @@ impl<D: Desk> Desk for FailingDesk<D> {
     fn err(&mut self, bytes: &[u8]) -> Result<usize, DeskFault>
         ensures bound { IfOk result (λ n. n ≤ length bytes.now) }
         ensures kept { SendsTaken Messages bytes.now (D.view self.old.inner) (D.view self.new.inner) result }
-        ensures counts { WriteCounts bytes.now (failing_view (D.view self.old.inner) self.old)
+        ensures counts { WriteCounts Messages bytes.now (failing_view (D.view self.old.inner) self.old)
             (failing_view (D.view self.new.inner) self.new) result }
         ensures fault { IfErr result (λ e. e ≡ DeskFault.Failed) }
-        ensures when_due { FailsWhenDue (WriteCounts bytes.now (D.view self.old.inner)
+        ensures when_due { FailsWhenDue Messages (WriteCounts Messages bytes.now (D.view self.old.inner)
             (D.view self.new.inner) result) self.old self.new result }
     {
         if self.is_due() {
+            self.unsaid = self.unsaid.saturating_add(1);
             return Err(DeskFault::Failed);
         }
         self.inner.err(bytes)

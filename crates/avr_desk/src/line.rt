@@ -18,7 +18,7 @@ fn write_pieces<D: Desk>(desk: &mut D, pieces: &[Piece<'_>]) -> Result<(), DeskF
         (D.view desk.new)) }
     ensures part { OnErr result (SendsPart Stream.Messages (D.view desk.old) (D.view desk.new)
         (concat (map text_of pieces.now))) }
-    ensures counts { Counts (D.view desk.old) (D.view desk.new) result }
+    ensures counts { Counts Stream.Messages (D.view desk.old) (D.view desk.new) result }
     ensures fault { IfErr result (λ e. e ≡ DeskFault.Failed) }
 {
     for piece in pieces {
@@ -34,7 +34,7 @@ fn write_pieces<D: Desk>(desk: &mut D, pieces: &[Piece<'_>]) -> Result<(), DeskF
 fn end_line<D: Desk>(desk: &mut D) -> Result<(), DeskFault>
     ensures all { OnOk result (Passes (after_err (10 ∷ [])) (D.view desk.old) (D.view desk.new)) }
     ensures part { OnErr result (SendsPart Stream.Messages (D.view desk.old) (D.view desk.new) (10 ∷ [])) }
-    ensures counts { Counts (D.view desk.old) (D.view desk.new) result }
+    ensures counts { Counts Stream.Messages (D.view desk.old) (D.view desk.new) result }
     ensures fault { IfErr result (λ e. e ≡ DeskFault.Failed) }
 {
     write_all(desk, Stream::Messages, b"\n")
@@ -43,7 +43,7 @@ fn end_line<D: Desk>(desk: &mut D) -> Result<(), DeskFault>
 /// Prints a line that begins with this mark.
 fn print_line<D: Desk>(desk: &mut D, mark: &str, pieces: &[Piece<'_>]) -> Result<(), DeskFault>
     ensures printed { IsPrinted (D.view desk.old) (D.view desk.new) (line mark.now (map text_of pieces.now)) result }
-    ensures counts { Counts (D.view desk.old) (D.view desk.new) result }
+    ensures counts { Counts Stream.Messages (D.view desk.old) (D.view desk.new) result }
     ensures fault { IfErr result (λ e. e ≡ DeskFault.Failed) }
 {
     match write_all(desk, Stream::Messages, mark.as_bytes()) {
@@ -67,7 +67,7 @@ fn print_line<D: Desk>(desk: &mut D, mark: &str, pieces: &[Piece<'_>]) -> Result
 /// ```
 pub fn print_information<D: Desk>(desk: &mut D, pieces: &[Piece<'_>]) -> Result<(), DeskFault>
     ensures printed { IsPrinted (D.view desk.old) (D.view desk.new) (information (map text_of pieces.now)) result }
-    ensures counts { Counts (D.view desk.old) (D.view desk.new) result }
+    ensures counts { Counts Stream.Messages (D.view desk.old) (D.view desk.new) result }
     ensures fault { IfErr result (λ e. e ≡ DeskFault.Failed) }
 {
     print_line(desk, "avrstk: ", pieces)
@@ -81,7 +81,7 @@ pub fn print_information<D: Desk>(desk: &mut D, pieces: &[Piece<'_>]) -> Result<
 /// ```
 pub fn print_warning<D: Desk>(desk: &mut D, pieces: &[Piece<'_>]) -> Result<(), DeskFault>
     ensures printed { IsPrinted (D.view desk.old) (D.view desk.new) (warning (map text_of pieces.now)) result }
-    ensures counts { Counts (D.view desk.old) (D.view desk.new) result }
+    ensures counts { Counts Stream.Messages (D.view desk.old) (D.view desk.new) result }
     ensures fault { IfErr result (λ e. e ≡ DeskFault.Failed) }
 {
     print_line(desk, "avrstk: warning: ", pieces)
@@ -96,7 +96,7 @@ pub fn print_warning<D: Desk>(desk: &mut D, pieces: &[Piece<'_>]) -> Result<(), 
 /// ```
 pub fn print_error<D: Desk>(desk: &mut D, pieces: &[Piece<'_>]) -> Result<(), DeskFault>
     ensures printed { IsPrinted (D.view desk.old) (D.view desk.new) (error (map text_of pieces.now)) result }
-    ensures counts { Counts (D.view desk.old) (D.view desk.new) result }
+    ensures counts { Counts Stream.Messages (D.view desk.old) (D.view desk.new) result }
     ensures fault { IfErr result (λ e. e ≡ DeskFault.Failed) }
 {
     print_line(desk, "avrstk: error: ", pieces)

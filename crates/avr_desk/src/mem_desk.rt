@@ -22,6 +22,7 @@ pub struct MemDesk {
     opened: Bytes,
     kept: Kept,
     failures: u64,
+    unsaid: u64,
 }
 
 impl Model for MemDesk {
@@ -32,6 +33,7 @@ impl Model for MemDesk {
     ghost view = { λ d. record {
       kept = d.kept;
       failures = d.failures;
+      unsaid = d.unsaid;
       input = d.input;
       stored = d.stored.items;
       opened = d.opened;
@@ -64,12 +66,19 @@ fn copy_front(bytes: &[u8], buf: &mut [u8]) -> usize
 
 impl MemDesk {
     ghost use Rattle.avr_desk.specs.Record.{nothing_kept};
-    ghost use Rattle.avr_desk.specs.Fault.{HasRisen};
-    ghost use Rattle.avr_desk.specs.Memory.{contents, file_named};
+    ghost use Rattle.avr_desk.specs.Fault.{Follows, HasFailedToSay, HasRisen};
+    ghost use Rattle.avr_desk.specs.Memory.{contents, file_named, memory_view};
 
     /// A desk with this standard input and no files.
     pub fn new(alloc: Global, input: Bytes) -> MemDesk
-        ensures { result ≡ record { kept = nothing_kept; failures = 0; input = input; stored = []; opened = [] } }
+        ensures { result ≡ record {
+          kept = nothing_kept;
+          failures = 0;
+          unsaid = 0;
+          input = input;
+          stored = [];
+          opened = [];
+        } }
     {
         MemDesk {
             alloc,
@@ -78,6 +87,7 @@ impl MemDesk {
             opened: Bytes::new(alloc),
             kept: Kept::new(alloc),
             failures: 0,
+            unsaid: 0,
         }
     }
 
@@ -145,12 +155,24 @@ impl MemDesk {
         self.failures = self.failures.saturating_add(1);
         DeskFault::Failed
     }
+
+    /// Counts a failure at the messages.
+    fn fail_to_say(&mut self) -> DeskFault
+        ensures fault { result ≡ DeskFault.Failed }
+        ensures same { self.new ≡ record self.old { failures = self.new.failures; unsaid = self.new.unsaid } }
+        ensures rises { Follows (memory_view self.old) (memory_view self.new) }
+        ensures counts { HasFailedToSay (memory_view self.old) (memory_view self.new) }
+    {
+        self.unsaid = self.unsaid.saturating_add(1);
+        self.fail()
+    }
 }
 
 impl Desk for MemDesk {
     ghost use Rattle.avr_desk.specs.Record.{after_open, after_create, after_read, after_write, after_out, after_err, bytes_taken, is_to_read, is_to_write};
     ghost use Rattle.avr_desk.specs.Fault.{Counts, WriteCounts};
     ghost use Rattle.avr_desk.specs.Memory.{contents, memory_view, unread_bytes};
+    ghost use Rattle.avr_desk.specs.declared.stream.Stream.TheVariants.{File, Output, Messages};
 
     ghost view = { memory_view };
 
@@ -163,7 +185,7 @@ impl Desk for MemDesk {
         ensures found { OnOk result (contents name.now self.old ≡ Some self.new.opened) }
         ensures absent { result ≡ Err DeskFault.NotFound → contents name.now self.old ≡ None }
         ensures leaves { OnErr result (self.new.opened ≡ self.old.opened) }
-        ensures counts { Counts (memory_view self.old) (memory_view self.new) result }
+        ensures counts { Counts File (memory_view self.old) (memory_view self.new) result }
     {
         let Ok(kept_name) = Bytes::copied(self.alloc, name.as_bytes()) else {
             return Err(self.fail());
@@ -194,7 +216,7 @@ impl Desk for MemDesk {
           kept = after_create name.now result self.old.kept;
           failures = self.new.failures;
         } }
-        ensures counts { Counts (memory_view self.old) (memory_view self.new) result }
+        ensures counts { Counts File (memory_view self.old) (memory_view self.new) result }
         ensures fault { IfErr result (λ e. e ≡ DeskFault.Failed) }
     {
         let Ok(name) = Bytes::copied(self.alloc, name.as_bytes()) else {
@@ -219,7 +241,7 @@ impl Desk for MemDesk {
           failures = self.new.failures;
         } }
         ensures has_file { OnOk result (is_to_read self.old.kept.current ≡ true) }
-        ensures counts { Counts (memory_view self.old) (memory_view self.new) result }
+        ensures counts { Counts File (memory_view self.old) (memory_view self.new) result }
         ensures fault { IfErr result (λ e. e ≡ DeskFault.Failed) }
     {
         if !self.kept.is_reading() {
@@ -242,7 +264,7 @@ impl Desk for MemDesk {
           failures = self.new.failures;
         } }
         ensures has_file { OnOk result (is_to_write self.old.kept.current ≡ true) }
-        ensures counts { WriteCounts bytes.now (memory_view self.old) (memory_view self.new) result }
+        ensures counts { WriteCounts File bytes.now (memory_view self.old) (memory_view self.new) result }
         ensures fault { IfErr result (λ e. e ≡ DeskFault.Failed) }
     {
         if !self.kept.is_writing() {
@@ -260,7 +282,7 @@ impl Desk for MemDesk {
           kept = after_out (bytes_taken bytes.now result) self.old.kept;
           failures = self.new.failures;
         } }
-        ensures counts { WriteCounts bytes.now (memory_view self.old) (memory_view self.new) result }
+        ensures counts { WriteCounts Output bytes.now (memory_view self.old) (memory_view self.new) result }
         ensures fault { IfErr result (λ e. e ≡ DeskFault.Failed) }
     {
         if self.kept.print(bytes).is_err() {
@@ -274,12 +296,13 @@ impl Desk for MemDesk {
         ensures kept { self.new ≡ record self.old {
           kept = after_err (bytes_taken bytes.now result) self.old.kept;
           failures = self.new.failures;
+          unsaid = self.new.unsaid;
         } }
-        ensures counts { WriteCounts bytes.now (memory_view self.old) (memory_view self.new) result }
+        ensures counts { WriteCounts Messages bytes.now (memory_view self.old) (memory_view self.new) result }
         ensures fault { IfErr result (λ e. e ≡ DeskFault.Failed) }
     {
         if self.kept.report(bytes).is_err() {
-            return Err(self.fail());
+            return Err(self.fail_to_say());
         }
         Ok(bytes.len())
     }

@@ -66,7 +66,7 @@ fn spaced(signature: [u8; 3]) -> [u8; 8]
 fn write_number<D: Desk>(desk: &mut D, number: u32) -> Result<(), DeskFault>
     ensures all { OnOk result (Passes (after_err (decimal number)) (D.view desk.old) (D.view desk.new)) }
     ensures part { OnErr result (SendsPart Stream.Messages (D.view desk.old) (D.view desk.new) (decimal number)) }
-    ensures counts { Counts (D.view desk.old) (D.view desk.new) result }
+    ensures counts { Counts Stream.Messages (D.view desk.old) (D.view desk.new) result }
     ensures fault { IfErr result (λ e. e ≡ DeskFault.Failed) }
 {
     let mut buffer = itoa::Buffer::new();
@@ -77,7 +77,7 @@ fn write_number<D: Desk>(desk: &mut D, number: u32) -> Result<(), DeskFault>
 pub(crate) fn write_piece<D: Desk>(desk: &mut D, piece: &Piece<'_>) -> Result<(), DeskFault>
     ensures all { OnOk result (Passes (after_err (text_of piece.now)) (D.view desk.old) (D.view desk.new)) }
     ensures part { OnErr result (SendsPart Stream.Messages (D.view desk.old) (D.view desk.new) (text_of piece.now)) }
-    ensures counts { Counts (D.view desk.old) (D.view desk.new) result }
+    ensures counts { Counts Stream.Messages (D.view desk.old) (D.view desk.new) result }
     ensures fault { IfErr result (λ e. e ≡ DeskFault.Failed) }
 {
     match piece {

@@ -22,7 +22,7 @@ pub enum Stream {
 fn write_some<D: Desk>(desk: &mut D, stream: Stream, bytes: &[u8]) -> Result<usize, DeskFault>
     ensures bound { IfOk result (λ n. n ≤ length bytes.now) }
     ensures kept { SendsTaken stream bytes.now (D.view desk.old) (D.view desk.new) result }
-    ensures counts { WriteCounts bytes.now (D.view desk.old) (D.view desk.new) result }
+    ensures counts { WriteCounts stream bytes.now (D.view desk.old) (D.view desk.new) result }
     ensures fault { IfErr result (λ e. e ≡ DeskFault.Failed) }
 {
     match stream {
@@ -36,7 +36,7 @@ fn write_some<D: Desk>(desk: &mut D, stream: Stream, bytes: &[u8]) -> Result<usi
 pub fn write_all<D: Desk>(desk: &mut D, stream: Stream, bytes: &[u8]) -> Result<(), DeskFault>
     ensures all { OnOk result (Passes (after_sent stream bytes.now) (D.view desk.old) (D.view desk.new)) }
     ensures part { OnErr result (SendsPart stream (D.view desk.old) (D.view desk.new) bytes.now) }
-    ensures counts { Counts (D.view desk.old) (D.view desk.new) result }
+    ensures counts { Counts stream (D.view desk.old) (D.view desk.new) result }
     ensures fault { IfErr result (λ e. e ≡ DeskFault.Failed) }
 {
     let mut at = 0;

@@ -1,9 +1,9 @@
 //! The desk of a program: files and standard streams.
-ghost use Rattle.std.specs.Prelude.{None, ◌≡◌, ◌≤◌, length, take, IfOk, IfErr, OnErr, true, false, []};
+ghost use Rattle.std.specs.Prelude.{◌≡◌, ◌≤◌, length, take, IfOk, IfErr, OnErr, true, false, []};
 ghost use Rattle.std.specs.Io.KnownBytes.{Keeps, Appends};
 ghost use Rattle.avr_desk.specs.Fault.{Counts, HasRisen, WriteCounts};
-ghost use Rattle.avr_desk.specs.Record.{showing, HasOpen, is_to_read, is_to_write};
-ghost use Rattle.avr_desk.specs.Shown.{AppendsTaken, to_output_opened, to_output_created};
+ghost use Rattle.avr_desk.specs.Record.{HasOpen, is_to_read, is_to_write};
+ghost use Rattle.avr_desk.specs.Shown.{AppendsTaken, shown_view, to_output_opened, to_output_created};
 ghost use Rattle.avr_desk.specs.Stream.{SendsTaken};
 ghost use Rattle.avr_desk.specs.declared.fault.DeskFault.TheVariants.{Failed};
 ghost use Rattle.avr_desk.specs.declared.stream.Stream.TheVariants.{File, Output, Messages};
@@ -38,6 +38,7 @@ pub struct SystemDesk<'a, R: Files + Input, O: Write + Drop, E: Write + Drop> {
     messages: E,
     held: Held<R::File, R::Reader>,
     failures: u64,
+    unsaid: u64,
 }
 
 impl<'a, R: Files + Input, O: Write + Drop, E: Write + Drop> Model for SystemDesk<'a, R, O, E> {
@@ -50,6 +51,7 @@ impl<'a, R: Files + Input, O: Write + Drop, E: Write + Drop> Model for SystemDes
       output = desk.output;
       messages = desk.messages;
       failures = desk.failures;
+      unsaid = desk.unsaid;
       to_output = is_output desk.held;
     } };
 }
@@ -110,33 +112,34 @@ fn write_through<W: Write>(to: &mut W, bytes: &[u8]) -> io::Result<usize>
     }
 }
 
+/// Raises a count of failures.
+fn raise(count: &mut u64)
+    ensures rises { count.old ≤ count.new }
+    ensures counts { HasRisen count.old count.new }
+{
+    *count = count.saturating_add(1);
+}
+
 /// Counts a failure.
 fn fail(failures: &mut u64) -> DeskFault
     ensures fault { result ≡ Failed }
     ensures rises { failures.old ≤ failures.new }
     ensures counts { HasRisen failures.old failures.new }
 {
-    *failures = failures.saturating_add(1);
+    raise(failures);
     DeskFault::Failed
-}
-
-/// Writes to one of the writers, and counts a failure.
-fn put<W: Write>(to: &mut W, failures: &mut u64, bytes: &[u8]) -> Result<usize, DeskFault>
-    ensures bound { IfOk result (λ n. n ≤ length bytes.now) }
-    ensures counts { WriteCounts bytes.now (showing None failures.old) (showing None failures.new) result }
-    ensures fault { IfErr result (λ e. e ≡ Failed) }
-    ensures taken { AppendsTaken (W.contents to.old) (W.contents to.new) bytes.now result }
-{
-    match write_through(to, bytes) {
-        Ok(count) => Ok(count),
-        Err(_) => Err(fail(failures)),
-    }
 }
 
 impl<'a, R: Files + Input, O: Write + Drop, E: Write + Drop> SystemDesk<'a, R, O, E> {
     /// A desk with nothing open.
     pub fn new(rt: &'a R, output: O, messages: E) -> SystemDesk<'a, R, O, E>
-        ensures { result ≡ record { output = output; messages = messages; failures = 0; to_output = false } }
+        ensures { result ≡ record {
+          output = output;
+          messages = messages;
+          failures = 0;
+          unsaid = 0;
+          to_output = false;
+        } }
     {
         SystemDesk {
             rt,
@@ -144,15 +147,16 @@ impl<'a, R: Files + Input, O: Write + Drop, E: Write + Drop> SystemDesk<'a, R, O
             messages,
             held: Held::Nothing,
             failures: 0,
+            unsaid: 0,
         }
     }
 }
 
 impl<'a, R: Files + Input, O: Write + Drop, E: Write + Drop> Desk for SystemDesk<'a, R, O, E> {
-    ghost view = { λ d. showing None d.failures };
+    ghost view = { shown_view };
 
     fn open(&mut self, name: &str) -> Result<(), DeskFault>
-        ensures counts { Counts (showing None self.old.failures) (showing None self.new.failures) result }
+        ensures counts { Counts File (shown_view self.old) (shown_view self.new) result }
         ensures quiet { self.new ≡ record self.old {
           failures = self.new.failures;
           to_output = to_output_opened result self.old.to_output;
@@ -176,7 +180,7 @@ impl<'a, R: Files + Input, O: Write + Drop, E: Write + Drop> Desk for SystemDesk
     }
 
     fn create(&mut self, name: &str) -> Result<(), DeskFault>
-        ensures counts { Counts (showing None self.old.failures) (showing None self.new.failures) result }
+        ensures counts { Counts File (shown_view self.old) (shown_view self.new) result }
         ensures fault { IfErr result (λ e. e ≡ Failed) }
         ensures quiet { self.new ≡ record self.old {
           failures = self.new.failures;
@@ -198,8 +202,8 @@ impl<'a, R: Files + Input, O: Write + Drop, E: Write + Drop> Desk for SystemDesk
 
     fn read(&mut self, buf: &mut [u8]) -> Result<usize, DeskFault>
         ensures bound { IfOk result (λ n. n ≤ length buf.new) }
-        ensures has_file { HasOpen is_to_read (showing None self.old.failures) result }
-        ensures counts { Counts (showing None self.old.failures) (showing None self.new.failures) result }
+        ensures has_file { HasOpen is_to_read (shown_view self.old) result }
+        ensures counts { Counts File (shown_view self.old) (shown_view self.new) result }
         ensures fault { IfErr result (λ e. e ≡ Failed) }
         ensures quiet { self.new ≡ record self.old { failures = self.new.failures } }
     {
@@ -216,11 +220,9 @@ impl<'a, R: Files + Input, O: Write + Drop, E: Write + Drop> Desk for SystemDesk
 
     fn write(&mut self, bytes: &[u8]) -> Result<usize, DeskFault>
         ensures bound { IfOk result (λ n. n ≤ length bytes.now) }
-        ensures shown { SendsTaken File bytes.now (showing None self.old.failures)
-            (showing None self.new.failures) result }
-        ensures has_file { HasOpen is_to_write (showing None self.old.failures) result }
-        ensures counts { WriteCounts bytes.now (showing None self.old.failures)
-            (showing None self.new.failures) result }
+        ensures shown { SendsTaken File bytes.now (shown_view self.old) (shown_view self.new) result }
+        ensures has_file { HasOpen is_to_write (shown_view self.old) result }
+        ensures counts { WriteCounts File bytes.now (shown_view self.old) (shown_view self.new) result }
         ensures fault { IfErr result (λ e. e ≡ Failed) }
         ensures output { self.old.to_output ≡ true → AppendsTaken (O.contents self.old.output)
             (O.contents self.new.output) bytes.now result }
@@ -232,34 +234,46 @@ impl<'a, R: Files + Input, O: Write + Drop, E: Write + Drop> Desk for SystemDesk
                 Ok(count) => Ok(count),
                 Err(_) => Err(fail(&mut self.failures)),
             },
-            Held::Output => put(&mut self.output, &mut self.failures, bytes),
+            Held::Output => match write_through(&mut self.output, bytes) {
+                Ok(count) => Ok(count),
+                Err(_) => Err(fail(&mut self.failures)),
+            },
             _ => Err(fail(&mut self.failures)),
         }
     }
 
     fn out(&mut self, bytes: &[u8]) -> Result<usize, DeskFault>
         ensures bound { IfOk result (λ n. n ≤ length bytes.now) }
-        ensures shown { SendsTaken Output bytes.now (showing None self.old.failures)
-            (showing None self.new.failures) result }
-        ensures counts { WriteCounts bytes.now (showing None self.old.failures)
-            (showing None self.new.failures) result }
+        ensures shown { SendsTaken Output bytes.now (shown_view self.old) (shown_view self.new) result }
+        ensures counts { WriteCounts Output bytes.now (shown_view self.old) (shown_view self.new) result }
         ensures fault { IfErr result (λ e. e ≡ Failed) }
         ensures output { AppendsTaken (O.contents self.old.output) (O.contents self.new.output) bytes.now result }
         ensures quiet { self.new ≡ record self.old { output = self.new.output; failures = self.new.failures } }
     {
-        put(&mut self.output, &mut self.failures, bytes)
+        match write_through(&mut self.output, bytes) {
+            Ok(count) => Ok(count),
+            Err(_) => Err(fail(&mut self.failures)),
+        }
     }
 
     fn err(&mut self, bytes: &[u8]) -> Result<usize, DeskFault>
         ensures bound { IfOk result (λ n. n ≤ length bytes.now) }
-        ensures shown { SendsTaken Messages bytes.now (showing None self.old.failures)
-            (showing None self.new.failures) result }
-        ensures counts { WriteCounts bytes.now (showing None self.old.failures)
-            (showing None self.new.failures) result }
+        ensures shown { SendsTaken Messages bytes.now (shown_view self.old) (shown_view self.new) result }
+        ensures counts { WriteCounts Messages bytes.now (shown_view self.old) (shown_view self.new) result }
         ensures fault { IfErr result (λ e. e ≡ Failed) }
         ensures messages { AppendsTaken (E.contents self.old.messages) (E.contents self.new.messages) bytes.now result }
-        ensures quiet { self.new ≡ record self.old { messages = self.new.messages; failures = self.new.failures } }
+        ensures quiet { self.new ≡ record self.old {
+          messages = self.new.messages;
+          failures = self.new.failures;
+          unsaid = self.new.unsaid;
+        } }
     {
-        put(&mut self.messages, &mut self.failures, bytes)
+        match write_through(&mut self.messages, bytes) {
+            Ok(count) => Ok(count),
+            Err(_) => {
+                raise(&mut self.unsaid);
+                Err(fail(&mut self.failures))
+            }
+        }
     }
 }

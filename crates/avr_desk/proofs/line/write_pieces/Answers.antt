@@ -17,7 +17,7 @@ loop-piece-preserved g c =
     record {
       sent = sent_next Messages _ _ _ (all_text (take i ps)) (text_of (get_or ps i d)) c.loop-piece.invariant.sent c.in-Ok.ensures.all
           ∙ ap (λ (b : List ℕ). option_map (after_err b) (g.D.Desk.view c.args.desk.now).kept) (sym (all_text_more ps i d c.loop-piece-test.true));
-      counted = c.in-Ok.ensures.counts.1 ∙ c.loop-piece.invariant.counted;
+      counted = (c.in-Ok.ensures.counts.1.0 ∙ c.loop-piece.invariant.counted.0, c.in-Ok.ensures.counts.1.1 ∙ c.loop-piece.invariant.counted.1);
     }
 
 pub returns-in-Err-clause-part : goal.returns-in-Err-clause-part

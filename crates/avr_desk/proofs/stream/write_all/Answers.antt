@@ -5,11 +5,13 @@ use Rattle.avr_desk.proofs.Sending.{sent_on, sent_on_part}
 use Rattle.avr_desk.proofs.stream.write_all.Goals as goal
 
 pub loop-at-preserved : goal.loop-at-preserved
-loop-at-preserved g c = record {
-  within = grind arith;
-  sent = sent_on _ _ _ _ _ _ _ c.loop-at.invariant.sent c.in_ok-count.ensures.kept;
-  counted = taken_uncounted _ _ _ c.in_ok-count.count c.if-count-eq0.false c.in_ok-count.ensures.counts ∙ c.loop-at.invariant.counted;
-}
+loop-at-preserved g c =
+    let taken = taken_uncounted _ _ _ _ c.in_ok-count.count c.if-count-eq0.false c.in_ok-count.ensures.counts in
+    record {
+      within = grind arith;
+      sent = sent_on _ _ _ _ _ _ _ c.loop-at.invariant.sent c.in_ok-count.ensures.kept;
+      counted = (taken.0 ∙ c.loop-at.invariant.counted.0, taken.1 ∙ c.loop-at.invariant.counted.1);
+    }
 
 pub returns-in_err-count-clause-part : goal.returns-in_err-count-clause-part
 returns-in_err-count-clause-part g c =

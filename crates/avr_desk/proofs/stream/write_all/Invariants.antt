@@ -1,4 +1,5 @@
 use Rattle.std.proofs.Common.{◌≡◌, ◌≤◌, ◌-◌, length, take, option_map}
+use Rattle.avr_desk.specs.Fault.{HasSameCounts}
 use Rattle.avr_desk.specs.Stream.{after_sent}
 use Rattle.avr_desk.proofs.stream.write_all.Given as goal
 
@@ -6,7 +7,7 @@ abbrev pub invariant-loop-at : goal.invariant-loop-at
 invariant-loop-at g l = record {
   within : l.at ≤ length l.bytes;
   sent : (g.D.Desk.view l.desk).kept ≡ option_map (after_sent l.fn.stream (take l.at l.bytes)) (g.D.Desk.view l.initial.desk).kept;
-  counted : (g.D.Desk.view l.desk).failures ≡ (g.D.Desk.view l.initial.desk).failures;
+  counted : HasSameCounts (g.D.Desk.view l.initial.desk) (g.D.Desk.view l.desk);
 }
 
 abbrev pub decreases-loop-at : goal.decreases-loop-at

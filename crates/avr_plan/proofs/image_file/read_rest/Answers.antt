@@ -4,7 +4,7 @@ use Rattle.avr_plan.proofs.ImageReadings.{going_begins, going_on, rest_ends, res
 use Rattle.avr_plan.proofs.image_file.read_rest.Goals as goal
 
 pub pieces-init : goal.pieces-init
-pieces-init g c = record { going = going_begins _ _ _; rises = omega arith; room = omega arith }
+pieces-init g c = record { going = going_begins _ _ _; rises = (omega arith, omega arith); room = omega arith }
 
 pub pieces-preserved : goal.pieces-preserved
 pieces-preserved g c =
@@ -12,7 +12,7 @@ pieces-preserved g c =
     record {
       going = going_on _ _ _ _ _ _ _ _ c.in-Ok.count _ c.read.new.buf c.pieces.invariant.going c.in-Ok.ensures.kept c.if-count-eq0.false
           (omega (arith, len)) c.fed-intake.ensures.takes;
-      rises = omega (arith, c.in-Ok.ensures.counts.0);
+      rises = (omega (arith, c.in-Ok.ensures.counts.0.0), omega (arith, c.in-Ok.ensures.counts.0.1));
       room = omega (arith, len, c.fed-intake.ensures.count);
     }
 

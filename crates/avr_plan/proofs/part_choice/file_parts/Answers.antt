@@ -11,7 +11,7 @@ pub returns-in-Err : goal.returns-in-Err
 returns-in-Err g c =
     goes_file_fault c.args.file.now 65536 (judged_parts c.args.file.now) c.in-Err.fault _ _ _ _
     (breaks_as _ _ _ c.in-Err.fault c.in-Err.ensures.kept)
-    c.in-Err.ensures.counts.0 (counted_as _ _ c.in-Err.fault c.in-Err.ensures.counts) c.refuse.ensures.status
+    c.in-Err.ensures.counts.0 (counted_as _ _ _ _ c.in-Err.fault c.in-Err.ensures.counts) c.refuse.ensures.status
     (rw c.file_message.ensures at c.refuse.ensures.told)
 
 pub returns-then-not-contents : goal.returns-then-not-contents
