@@ -1,7 +1,7 @@
 -- A whole file over a desk: what passes when it is read to its end or past a limit.
 use Rattle.std.specs.Prelude.{◌≡◌, ◌≤◌, ◌<◌, ◌+◌, ℕ, length, Bool, Result, Ok, Err, false, MatchBool}
 use Rattle.avr_desk.specs.Record.{DeskView, Record, Bytes, Passes, noted, with_open, with_absent}
-use Rattle.avr_desk.specs.Fault.{Follows, HasFailedAt, HasSameCounts}
+use Rattle.avr_desk.specs.Fault.{Follows, HasFailed, HasFailedAt, HasSameCounts}
 use Rattle.avr_desk.specs.declared.record.Open.TheVariants.{ToRead}
 use Rattle.avr_desk.specs.declared.files.Contents.{Contents}
 use Rattle.avr_desk.specs.declared.files.FileFault.{FileFault}
