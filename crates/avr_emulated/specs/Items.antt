@@ -1,5 +1,5 @@
 -- What a plan does to the memories of a chip.
-use Rattle.std.specs.Prelude.{List, [], ◌∷◌, ◌++◌}
+use Rattle.std.specs.Prelude.{Bool, true, false, List, [], ◌∷◌, ◌++◌}
 use Rattle.avr_plan.specs.Plan.{Plan}
 use Rattle.avr_session.specs.Actions.{Action, EraseChip, WriteImage, actions}
 use Rattle.stk_emu.specs.Effect.{Item, Erase, Write}
@@ -17,3 +17,9 @@ items_of (action ∷ actions) = action_items action ++ items_of actions
 -- the erase, if due, and the writes, in their order
 abbrev pub items : Plan → List Item
 items plan = items_of (actions plan)
+
+-- an erase is among them
+abbrev pub has_erase : List Item → Bool
+has_erase [] = false
+has_erase (Erase ∷ items) = true
+has_erase (Write mem image ∷ items) = has_erase items
