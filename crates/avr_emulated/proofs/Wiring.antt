@@ -11,7 +11,8 @@ use Rattle.stk_host.specs.Dialog.{played, bytes_sent, sayings}
 use Rattle.stk_host.specs.Play.{Plays, Breaks, InTurn, IsPrefixOf}
 use Rattle.stk_host.specs.Talk.{Talk, Stays, sent, heard}
 use Rattle.avr_session.specs.Runs.{devices, RunsTo}
-use Rattle.avr_session.specs.Session.{session, is_erase_due, takes_memory}
+use Rattle.avr_session.specs.Actions.{takes_memory}
+use Rattle.avr_session.specs.Session.{session}
 use Rattle.avr_session.specs.Stopping.{IsPlayed}
 use Rattle.stk_emu.specs.Along.{along, said_along, AsksBodies}
 use Rattle.stk_emu.specs.Device.{device}
