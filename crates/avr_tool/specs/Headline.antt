@@ -179,7 +179,7 @@ pub record OverAnyLink (plan : Plan) (p q : Programmer) (fates : List Fate) (byt
   pub agrees : status ≡ 0 → (course plan (memories_of p.chip)).status ≡ 0
   pub said : status ≡ 0 → sayings events ≡ (course plan (memories_of p.chip)).says
   pub done : status ≡ 0 → IsDone plan (memories_of p.chip) (memories_of q.chip)
-  pub images : status ≡ 0 → plan.switches.dry ≡ false → plan.switches.no_verify ≡ false
+  pub images : status ≡ 0 → plan.switches.no_verify ≡ false
       → IsWritten plan (memories_of p.chip) (memories_of q.chip)
   pub strokes : MakesStrokes plan p fates (length (frames bytes)) (memories_of p.chip) (memories_of q.chip)
   pub four : (weight : Weight) → weighed weight (map body_of (frames bytes))
