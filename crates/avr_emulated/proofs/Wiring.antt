@@ -175,9 +175,9 @@ module _ (plan : Plan) (w v : WiredState) (fresh : IsFresh w) (stays : Stays Com
   goes_well (inr broke) few = inr broke.0
 
   -- and whatever the chip was, where the plan erases and agrees on a chip of 00 and on one of FF
-  succeeds_again : Either → AreFew w.wire.fates → plan.switches.dry ≡ false → is_erase_due plan.switches plan.tasks ≡ true → AgreesAnyway plan → (status ≡ 0) ⊎ Stopped plan w v old now
-  succeeds_again (inl whole) few wet due both = inl (succeeds plan before status sizes wet due both (ran_few whole few).status_is)
-  succeeds_again (inr broke) few wet due both = inr broke.0
+  succeeds_again : Either → AreFew w.wire.fates → has_erase (items plan) ≡ true → AgreesAnyway plan → (status ≡ 0) ⊎ Stopped plan w v old now
+  succeeds_again (inl whole) few erases both = inl (succeeds plan before status sizes erases both (ran_few whole few).status_is)
+  succeeds_again (inr broke) few erases both = inr broke.0
 
   -- and whatever was told was true then
   abbrev IsSaidTrue : Programmer → Saying → Type 0
@@ -201,7 +201,7 @@ module _ (plan : Plan) (w v : WiredState) (fresh : IsFresh w) (stays : Stays Com
   over_any_line runs = record {
     success = is_course runs;
     done = is_done runs;
-    images = λ zero wet verified. run_written plan before after fitted wet verified (is_done runs zero) sound sizes;
+    images = λ zero verified. run_written plan before after fitted verified (is_done runs zero) sound sizes;
     strokes = makes runs;
     untouched = λ none. ap (λ x. memories_of x.programmer.chip) (keeps.stands ∙ (ap (λ fs. line.wire_after device fs (line.fresh_wire begun w.wire.fates)) none ∙ as_begun));
     four = λ weight. front_weighs weight (4 * weighed weight (bodies_in (run_steps plan))) (session plan) 1 (heard v.talk) (sent v.talk) asks (session_weighs weight plan) (is_front runs);
