@@ -4,7 +4,8 @@ use Rattle.avr_desk.specs.Record.{DeskView, Record}
 use Rattle.avr_part.specs.Part.{IsPart}
 use Rattle.avr_plan.specs.Plan.{Plan, IsFitted}
 use Rattle.avr_session.specs.Runs.{start}
-use Rattle.avr_session.specs.Session.{session, is_erase_due, takes_memory}
+use Rattle.avr_session.specs.Actions.{is_erase_due, takes_memory}
+use Rattle.avr_session.specs.Session.{session}
 use Rattle.avr_session.specs.Stopping.{IsSound, LacksMemory, keeping}
 use Rattle.avr_session.proofs.SoundRuns.{broke_lacks}
 use Rattle.stk_emu.specs.Effect.{erase_keeps_eeprom}
