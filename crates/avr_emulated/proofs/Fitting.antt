@@ -59,7 +59,7 @@ module _ (part : Part) where
   task_fits s (Verify mem image) fitted = (fitted, tt)
   task_fits s (Read mem format file) fitted = (tt, tt)
 
-  tasks_fit : (s : Switches) (tasks : List Task) → All (IsFitted part) tasks → AllFitActions part (tasks_actions s tasks)
+  pub tasks_fit : (s : Switches) (tasks : List Task) → All (IsFitted part) tasks → AllFitActions part (tasks_actions s tasks)
   tasks_fit s [] fitted = tt
   tasks_fit s (task ∷ tasks) fitted =
       both_fit (task_actions s task) (tasks_actions s tasks) (task_fits s task (All-head (IsFitted part) task tasks fitted))

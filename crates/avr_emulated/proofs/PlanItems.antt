@@ -4,11 +4,12 @@ use Rattle.std.proofs.lemmas.Bool.{true≢false}
 use Rattle.std.specs.Prelude.{if◌then◌else◌}
 use Rattle.avr_cli.specs.declared.settings.Switches.{Switches}
 use Rattle.avr_part.specs.Part.{Part}
+use Rattle.avr_part.specs.declared.mem.Mem.{Mem}
 use Rattle.avr_plan.specs.Plan.{Plan}
 use Rattle.avr_plan.specs.declared.task.Task.{Task}
 use Rattle.avr_plan.specs.declared.task.Task.TheVariants as task
 use Rattle.avr_session.specs.Actions.{Action, EraseChip, LeaveErase, WriteImage, LeaveWrite, CompareImage, is_erase_due, erase_actions, tasks_actions}
-use Rattle.stk_emu.specs.Effect.{Memories, Item, Erase, Write, effects}
+use Rattle.stk_emu.specs.Effect.{Image, Memories, Item, Erase, Write, effects}
 use Rattle.stk_emu.proofs.PageStrokes.{effects_on}
 use Rattle.avr_emulated.specs.Agrees.{ActionsAgree, Agrees}
 use Rattle.avr_emulated.specs.Items.{action_items, items_of, items, has_erase}
@@ -24,15 +25,15 @@ pub items_on : (xs ys : List Action) → items_of (xs ++ ys) ≡ items_of xs ++ 
 items_on [] ys = refl
 items_on (x ∷ xs) ys = ap (λ more. action_items x ++ more) (items_on xs ys) ∙ sym (append_assoc (action_items x) (items_of xs) (items_of ys))
 
+write_writes : (dry left_out : Bool) (mem : Mem) (image : Image) (more : List Action) → has_erase (items_of more) ≡ false
+    → has_erase (items_of ((if dry then LeaveWrite mem image ∷ [] else WriteImage mem image ∷ (if left_out then [] else CompareImage mem image ∷ [])) ++ more)) ≡ false
+write_writes true left_out mem image more none = none
+write_writes false true mem image more none = none
+write_writes false false mem image more none = none
+
 pub tasks_write : (s : Switches) (tasks : List Task) → has_erase (items_of (tasks_actions s tasks)) ≡ false
 tasks_write s [] = refl
-tasks_write s (task.Write mem image ∷ tasks) = by_switches s.dry s.no_verify
-  where
-    by_switches : (dry left_out : Bool)
-        → has_erase (items_of ((if dry then LeaveWrite mem image ∷ [] else WriteImage mem image ∷ (if left_out then [] else CompareImage mem image ∷ [])) ++ tasks_actions s tasks)) ≡ false
-    by_switches true left_out = tasks_write s tasks
-    by_switches false true = tasks_write s tasks
-    by_switches false false = tasks_write s tasks
+tasks_write s (task.Write mem image ∷ tasks) = write_writes s.dry s.no_verify mem image (tasks_actions s tasks) (tasks_write s tasks)
 tasks_write s (task.Verify mem image ∷ tasks) = tasks_write s tasks
 tasks_write s (task.Read mem format file ∷ tasks) = tasks_write s tasks
 
@@ -41,8 +42,8 @@ erase_is : (dry asked due : Bool) (more : List Action) → has_erase (items_of m
     ≡ erase_if (has_erase (items_of ((if dry then (if asked then LeaveErase ∷ [] else []) else if due then EraseChip ∷ [] else []) ++ more)))
 erase_is true true due more none = ap erase_if (sym none)
 erase_is true false due more none = ap erase_if (sym none)
-erase_is false true more none = refl
-erase_is false false more none = ap erase_if (sym none)
+erase_is false asked true more none = refl
+erase_is false asked false more none = ap erase_if (sym none)
 
 pub begins : (plan : Plan) → items_of (erase_actions plan.switches plan.tasks) ≡ erase_if (has_erase (items plan))
 begins plan =
@@ -81,8 +82,8 @@ module _ (part : Part) where
       by_switches : (dry asked due : Bool) → ActionsAgree part (if dry then (if asked then LeaveErase ∷ [] else []) else if due then EraseChip ∷ [] else []) m
       by_switches true true due = (tt, tt)
       by_switches true false due = tt
-      by_switches false true = (tt, tt)
-      by_switches false false = tt
+      by_switches false asked true = (tt, tt)
+      by_switches false asked false = tt
 
   agree_behind : (xs ys : List Action) (m : Memories) → ActionsAgree part (xs ++ ys) m → ActionsAgree part ys (effects part (items_of xs) m)
   agree_behind [] ys m agree = agree

@@ -1,5 +1,5 @@
 -- A session that comes to status 0 over a line of any fates goes as its course, action by action.
-use Rattle.std.proofs.Common.{◌≡◌, ℕ, List, [], ◌∷◌, ◌++◌, length, refl, sym, ap, ◌∙◌, subst, arith, true, Result, Ok, Err, All, inl, inr}
+use Rattle.std.proofs.Common.{◌≡◌, ℕ, List, [], ◌∷◌, ◌++◌, length, refl, sym, ap, ◌∙◌, subst, arith, Bool, true, Result, Ok, Err, All, inl, inr}
 use Rattle.std.proofs.lemmas.List.{append-nil}
 use Rattle.std.specs.Prelude.{⊤, ◌≤◌}
 use Rattle.avr_cli.specs.declared.settings.Switches.{Switches}

@@ -1,5 +1,5 @@
 -- A course stands fine exactly where its comparisons agree.
-use Rattle.std.proofs.Common.{◌≡◌, arith, refl, sym, ap, subst, List, [], ◌∷◌, Option, Some, None}
+use Rattle.std.proofs.Common.{◌≡◌, arith, refl, sym, ap, ◌∙◌, subst, List, [], ◌∷◌, Option, Some, None}
 use Rattle.std.specs.Prelude.{⊤, ◌↔◌}
 use Rattle.avr_cli.specs.declared.settings.Switches.{Switches}
 use Rattle.avr_part.specs.Part.{Part}

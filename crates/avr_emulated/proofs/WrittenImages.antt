@@ -192,7 +192,7 @@ module _ (part : Part) where
       kept i (Some c) e none = some_none c none
       kept i None e none = b.rest i e ∙ a.rest i none
 
-  -- ---- what tasks leave
+  -- ---- what actions leave
 
   size_over : (mem other : Mem) (image more : Image) (same : Bool) → (memory_number other == memory_number mem) ≡ same → length image ≡ size_of other part → length more ≡ size_of mem part
       → length (if same then over image more else more) ≡ size_of mem part
@@ -221,25 +221,23 @@ module _ (part : Part) where
       left_over mem image more m (write_effect other image m) new (omega (arith, long, size)) first left
   write_left mem other image more m new false e fits size shows left = left_from mem more m (write_effect other image m) new (others_stay part other mem image m e) left
 
-  -- What actions make of a memory that agree.
-  abbrev ActionsLeave : Mem → Memories → List Action → Type 0
-  ActionsLeave mem m actions = AllFitActions part actions → ActionsAgree part actions m → Left part mem (written_to part mem (items_of actions)) m (effects part (items_of actions) m)
+  -- what actions leave of a memory that agree
+  abbrev Leave : Mem → List Action → Memories → Type 0
+  Leave mem actions m = AllFitActions part actions → ActionsAgree part actions m → Left part mem (written_to part mem (items_of actions)) m (effects part (items_of actions) m)
+
+  write_leaves : (dry left_out : Bool) (mem other : Mem) (image : Image) (more : List Action) (m : Memories) → left_out ≡ false → ((now : Memories) → Leave mem more now)
+      → Leave mem ((if dry then LeaveWrite other image ∷ [] else WriteImage other image ∷ (if left_out then [] else CompareImage other image ∷ [])) ++ more) m
+  write_leaves true left_out mem other image more m e rest fit agree = rest m fit.1 agree.1
+  write_leaves false true mem other image more m e rest fit agree = absurd (true≢false e)
+  write_leaves false false mem other image more m e rest fit agree =
+      let after = write_effect other image m in
+      write_left mem other image (written_to part mem (items_of more)) m (effects part (items_of more) after) (memory_number other == memory_number mem) refl
+      fit.0.0 (length-written_to mem more fit.1.1) agree.1.0 (rest after fit.1.1 agree.1.1)
 
   -- where writes are read back
-  pub tasks_left : (s : Switches) → s.no_verify ≡ false → (mem : Mem) (tasks : List Task) (m : Memories) → ActionsLeave mem m (tasks_actions s tasks)
-  tasks_left s verified mem [] m = λ fit agree. left_as_it_is mem (size_of mem part) m
-  tasks_left s verified mem (task.Write other image ∷ tasks) m = by_switches s.dry s.no_verify verified
-    where
-      rest : List Action
-      rest = tasks_actions s tasks
-
-      by_switches : (dry left_out : Bool) → left_out ≡ false
-          → ActionsLeave mem m ((if dry then LeaveWrite other image ∷ [] else WriteImage other image ∷ (if left_out then [] else CompareImage other image ∷ [])) ++ rest)
-      by_switches true left_out e = λ fit agree. tasks_left s verified mem tasks m fit.1 agree.1
-      by_switches false true e = absurd (true≢false e)
-      by_switches false false e = λ fit agree.
-          let after = write_effect other image m in
-          write_left mem other image (written_to part mem (items_of rest)) m (effects part (items_of rest) after) (memory_number other == memory_number mem) refl
-          fit.0.0 (length-written_to mem rest fit.1.1) agree.1.0 (tasks_left s verified mem tasks after fit.1.1 agree.1.1)
-  tasks_left s verified mem (task.Verify other image ∷ tasks) m = λ fit agree. tasks_left s verified mem tasks m fit.1 agree.1
-  tasks_left s verified mem (task.Read other format file ∷ tasks) m = λ fit agree. tasks_left s verified mem tasks m fit.1 agree.1
+  pub tasks_left : (s : Switches) → s.no_verify ≡ false → (mem : Mem) (tasks : List Task) (m : Memories) → Leave mem (tasks_actions s tasks) m
+  tasks_left s verified mem [] m fit agree = left_as_it_is mem (size_of mem part) m
+  tasks_left s verified mem (task.Write other image ∷ tasks) m fit agree =
+      write_leaves s.dry s.no_verify mem other image (tasks_actions s tasks) m verified (λ now. tasks_left s verified mem tasks now) fit agree
+  tasks_left s verified mem (task.Verify other image ∷ tasks) m fit agree = tasks_left s verified mem tasks m fit.1 agree.1
+  tasks_left s verified mem (task.Read other format file ∷ tasks) m fit agree = tasks_left s verified mem tasks m fit.1 agree.1

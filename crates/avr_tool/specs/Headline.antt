@@ -20,8 +20,8 @@ use Rattle.avr_plan.specs.Playing as planning
 use Rattle.avr_plan.specs.Playing.{Went}
 use Rattle.avr_plan.specs.Stage as stage
 use Rattle.avr_plan.specs.Stage.{Answer, Made, Refused, Unread}
-use Rattle.avr_session.specs.Runs.{Devices, devices, start, untold, BrokeOff}
 use Rattle.avr_session.specs.Actions.{takes_memory}
+use Rattle.avr_session.specs.Runs.{Devices, devices, start, untold, BrokeOff}
 use Rattle.avr_session.specs.Session.{session}
 use Rattle.avr_emulated.specs.AnyLine.{Weight, weighed, bodies_in, Stopped, OverAnyLine}
 use Rattle.avr_emulated.specs.Bound.{run_steps}
