@@ -3,25 +3,22 @@ use Rattle.std.proofs.Common.{◌≡◌, ℕ, zero, suc, ◌<◌, arith, refl, s
 use Rattle.std.proofs.lemmas.Bool.{true≢false}
 use Rattle.std.proofs.lemmas.List.{length-replicate}
 use Rattle.std.proofs.lemmas.Nat.Bits.{bit_at-zero}
-use Rattle.std.specs.Prelude.{◌==◌, ◌||◌, if◌then◌else◌, ⊤}
+use Rattle.std.specs.Prelude.{◌==◌, if◌then◌else◌, ⊤}
 use Rattle.std.specs.Int.{bit_at}
-use Rattle.avr_cli.specs.declared.settings.Switches.{Switches}
 use Rattle.avr_image.specs.Image.{byte_at}
 use Rattle.avr_part.specs.Memory.{blank}
 use Rattle.avr_part.specs.Part.{Part}
 use Rattle.avr_part.specs.declared.mem.Mem.{Mem}
 use Rattle.avr_part.specs.declared.mem.Mem.TheVariants.{Flash, Eeprom, Lfuse, Hfuse, Efuse, Lock, Signature, Calibration}
 use Rattle.avr_plan.specs.Plan.{Plan}
-use Rattle.avr_plan.specs.declared.task.Task.{Task}
-use Rattle.avr_plan.specs.declared.task.Task.TheVariants as task
-use Rattle.avr_session.specs.Session.{is_erase_due}
-use Rattle.stk_emu.specs.Effect.{Image, Memories, Item, Erase, Write, with_image, and_in, and_with, are_locked, erase_keeps_eeprom, effect, effects}
+use Rattle.avr_session.specs.Actions.{Action, EraseChip, WriteImage, CompareImage, tasks_actions}
+use Rattle.stk_emu.specs.Effect.{Image, Memories, Erase, Write, with_image, and_in, and_with, are_locked, erase_keeps_eeprom, effect, effects}
 use Rattle.stk_emu.specs.Given.{Holds}
 use Rattle.stk_emu.specs.Settled.{FitsPart}
-use Rattle.avr_emulated.specs.Again.{AreWrites, chip_of, AgreesAnyway}
-use Rattle.avr_emulated.specs.Agrees.{Agrees, Shows, Unless, TaskAgrees, TasksAgree}
-use Rattle.avr_emulated.specs.Items.{erasing_items, task_items}
-use Rattle.avr_emulated.proofs.AgainStrokes.{task_writes}
+use Rattle.avr_emulated.specs.Again.{chip_of, AgreesAnyway}
+use Rattle.avr_emulated.specs.Agrees.{Agrees, Shows, ActionAgrees, ActionsAgree}
+use Rattle.avr_emulated.specs.Items.{action_items, items_of, items, has_erase}
+use Rattle.avr_emulated.proofs.PlanItems.{begins, erase_if, tasks_write, tasks_agree, plan_agrees}
 
 -- ---- bytes: where two agree, the third agrees with them
 
@@ -171,11 +168,12 @@ module _ (part : Part) where
   write_between Signature image z o m t = t
   write_between Calibration image z o m t = t
 
-  writes_between : (items : List Item) (z o m : Memories) → AreWrites items → Between z o m → Between (effects part items z) (effects part items o) (effects part items m)
-  writes_between [] z o m w t = t
-  writes_between (Erase ∷ items) z o m w t = absurd w
-  writes_between (Write mem image ∷ items) z o m w t =
-      writes_between items (effect part (Write mem image) z) (effect part (Write mem image) o) (effect part (Write mem image) m) w (write_between mem image z o m t)
+  -- an action that erases nothing
+  items_between : (action : Action) (more : List Action) (z o m : Memories) → has_erase (items_of (action ∷ more)) ≡ false → Between z o m
+      → Between (effects part (action_items action) z) (effects part (action_items action) o) (effects part (action_items action) m)
+  items_between EraseChip more z o m none t = absurd (true≢false none)
+  items_between (WriteImage mem image) more z o m none t = write_between mem image z o m t
+  items_between action more z o m none t = t
 
   -- ---- comparisons
 
@@ -189,23 +187,23 @@ module _ (part : Part) where
   shows_between Signature image z o m t hz ho = hz
   shows_between Calibration image z o m t hz ho = hz
 
-  unless_between : (skipped : Bool) (mem : Mem) (image : Image) (z o m : Memories) → Between z o m
-      → Unless skipped (Shows part mem image z) → Unless skipped (Shows part mem image o) → Unless skipped (Shows part mem image m)
-  unless_between true mem image z o m t hz ho = tt
-  unless_between false mem image z o m t hz ho = shows_between mem image z o m t hz ho
+  action_between : (action : Action) (z o m : Memories) → Between z o m → ActionAgrees part action z → ActionAgrees part action o → ActionAgrees part action m
+  action_between (CompareImage mem image) z o m t hz ho = shows_between mem image z o m t hz ho
+  action_between action z o m t hz ho = tt
 
-  task_between : (s : Switches) (t : Task) (z o m : Memories) → Between z o m → TaskAgrees part s t z → TaskAgrees part s t o → TaskAgrees part s t m
-  task_between s (task.Write mem image) z o m t hz ho = unless_between (s.dry || s.no_verify) mem image z o m t hz ho
-  task_between s (task.Verify mem image) z o m t hz ho = shows_between mem image z o m t hz ho
-  task_between s (task.Read mem format file) z o m t hz ho = tt
+  no_more : (action : Action) (more : List Action) → has_erase (items_of (action ∷ more)) ≡ false → has_erase (items_of more) ≡ false
+  no_more EraseChip more none = absurd (true≢false none)
+  no_more (WriteImage mem image) more none = none
+  no_more action more none = none
 
-  tasks_between : (s : Switches) (tasks : List Task) (z o m : Memories) → Between z o m → TasksAgree part s tasks z → TasksAgree part s tasks o → TasksAgree part s tasks m
-  tasks_between s [] z o m t hz ho = tt
-  tasks_between s (first ∷ tasks) z o m t hz ho =
-      let items = task_items s first in
-      let next : Between (effects part items z) (effects part items o) (effects part items m) = writes_between items z o m (task_writes s first) t in (
-        task_between s first (effects part items z) (effects part items o) (effects part items m) next hz.0 ho.0,
-        tasks_between s tasks (effects part items z) (effects part items o) (effects part items m) next hz.1 ho.1,
+  actions_between : (actions : List Action) (z o m : Memories) → has_erase (items_of actions) ≡ false → Between z o m
+      → ActionsAgree part actions z → ActionsAgree part actions o → ActionsAgree part actions m
+  actions_between [] z o m none t hz ho = tt
+  actions_between (action ∷ actions) z o m none t hz ho =
+      let next = items_between action actions z o m none t in (
+        action_between action z o m t hz.0 ho.0,
+        actions_between actions (effects part (action_items action) z) (effects part (action_items action) o) (effects part (action_items action) m)
+            (no_more action actions none) next hz.1 ho.1,
       )
 
   -- ---- behind an erase
@@ -254,13 +252,13 @@ module _ (part : Part) where
         efuse = no_third m.efuse;
       }
 
-pub agrees_anyway : (plan : Plan) (m : Memories) → FitsPart plan.part m → plan.switches.dry ≡ false → is_erase_due plan.switches plan.tasks ≡ true → AgreesAnyway plan → Agrees plan m
-agrees_anyway plan m f wet due both =
+pub agrees_anyway : (plan : Plan) (m : Memories) → FitsPart plan.part m → has_erase (items plan) ≡ true → AgreesAnyway plan → Agrees plan m
+agrees_anyway plan m f erases both =
     let part = plan.part in
-    let s = plan.switches in
-    let are : erasing_items s plan.tasks ≡ Erase ∷ [] =
-    ap (λ dry. if dry then [] else if is_erase_due s plan.tasks then Erase ∷ [] else []) wet ∙ ap (λ d. if d then Erase ∷ [] else []) due in
-    let to : (x : Memories) → Agrees plan x → TasksAgree part s plan.tasks (effect part Erase x) = λ x a. subst (λ is. TasksAgree part s plan.tasks (effects part is x)) are a in
-    subst (λ is. TasksAgree part s plan.tasks (effects part is m)) (sym are)
-    (tasks_between part s plan.tasks (effect part Erase (chip_of part 0)) (effect part Erase (chip_of part 255)) (effect part Erase m) (begins_between part m f)
-    (to (chip_of part 0) both.zeros) (to (chip_of part 255) both.ones))
+    let rest = tasks_actions plan.switches plan.tasks in
+    let behind : (x : Memories) → Agrees plan x → ActionsAgree part rest (effect part Erase x) =
+    λ x agree. subst (λ due. ActionsAgree part rest (effects part (erase_if due) x)) erases (tasks_agree plan x agree) in
+    plan_agrees plan m (subst (λ xs. ActionsAgree part rest (effects part xs m)) (sym (begins plan ∙ ap erase_if erases))
+    (actions_between part rest (effect part Erase (chip_of part 0)) (effect part Erase (chip_of part 255)) (effect part Erase m)
+    (tasks_write plan.switches plan.tasks) (begins_between part m f)
+    (behind (chip_of part 0) both.zeros) (behind (chip_of part 255) both.ones)))

@@ -1,17 +1,13 @@
 -- The strokes of a plan that erases: an erase and writes, which keep EEPROM where the plan's do.
-use Rattle.std.proofs.Common.{◌≡◌, ℕ, zero, suc, ◌+◌, ◌*◌, ◌/◌, sym, ap, ◌∙◌, subst, inl, inr, List, [], ◌∷◌, ◌++◌, Bool, true, false, cond, Option, Some, None, unwrap_or}
-use Rattle.std.proofs.lemmas.Bool.{cases_Bool}
+use Rattle.std.proofs.Common.{◌≡◌, ℕ, zero, suc, ◌+◌, ◌*◌, ◌/◌, refl, sym, ap, ◌∙◌, subst, List, [], ◌∷◌, ◌++◌, Bool, true, false, cond, Option, Some, None, unwrap_or}
+use Rattle.std.proofs.lemmas.Bool.{true≢false}
 use Rattle.std.specs.Prelude.{◌==◌, if◌then◌else◌, take, ⊤, All}
 use Rattle.std.specs.Int.{bit_at}
-use Rattle.avr_cli.specs.declared.settings.Switches.{Switches}
 use Rattle.avr_image.specs.Image.{byte_at}
 use Rattle.avr_part.specs.Part.{Part, IsPart}
 use Rattle.avr_part.specs.declared.mem.Mem.{Mem}
 use Rattle.avr_part.specs.declared.mem.Mem.TheVariants.{Flash, Eeprom, Lfuse, Hfuse, Efuse, Lock, Signature, Calibration}
 use Rattle.avr_plan.specs.Plan.{Plan, IsFitted}
-use Rattle.avr_plan.specs.declared.task.Task.{Task}
-use Rattle.avr_plan.specs.declared.task.Task.TheVariants as task
-use Rattle.avr_session.specs.Session.{is_erase_due}
 use Rattle.stk_frame.specs.declared.command.Command.{Command}
 use Rattle.stk_frame.specs.declared.host_command.Fuse.TheVariants.{Low, High, Extended}
 use Rattle.stk_frame.specs.HostCommands.{program_fuse, program_lock}
@@ -22,12 +18,13 @@ use Rattle.stk_emu.specs.Settled.{FitsPart}
 use Rattle.stk_emu.specs.Strokes.{strokes_of, all_steps, AllFitItems}
 use Rattle.stk_emu.proofs.ItemStrokes.{items_do, effect_sizes}
 use Rattle.stk_emu.proofs.PageStrokes.{strokes_on}
-use Rattle.avr_emulated.specs.Again.{AreWrites, is_keeping, AreKeeping}
-use Rattle.avr_emulated.specs.Items.{task_items, tasks_items, items}
+use Rattle.avr_emulated.specs.Again.{is_keeping, AreKeeping}
+use Rattle.avr_emulated.specs.Items.{items, has_erase}
 use Rattle.avr_emulated.specs.Outcome.{strokes}
 use Rattle.avr_emulated.proofs.AgainNet.{first_again}
 use Rattle.avr_emulated.proofs.AgainWrites.{first_writes_again}
-use Rattle.avr_emulated.proofs.AnyLine.{tasks_fit}
+use Rattle.avr_emulated.proofs.Fitting.{work, work_fits, items_fit}
+use Rattle.avr_emulated.proofs.PlanItems.{writes, erase_if, tasks_write, items_are}
 
 -- a write, and if this is wanted one that keeps EEPROM
 abbrev Mild : Part → Type 0 → Item → Type 0
@@ -48,8 +45,8 @@ mild_take part want zero xs f = tt
 mild_take part want (suc k) [] f = tt
 mild_take part want (suc k) (x ∷ xs) f = (f.0, mild_take part want k xs f.1)
 
-mild_writes : (part : Part) (want : Type 0) (xs : List Item) → AllMild part want xs → AreWrites xs
-mild_writes part want [] f = tt
+mild_writes : (part : Part) (want : Type 0) (xs : List Item) → AllMild part want xs → has_erase xs ≡ false
+mild_writes part want [] f = refl
 mild_writes part want (Erase ∷ xs) f = absurd f.0
 mild_writes part want (Write mem image ∷ xs) f = mild_writes part want xs f.1
 
@@ -63,9 +60,9 @@ mild_item part want Lock image k = tt
 mild_item part want Signature image k = tt
 mild_item part want Calibration image k = tt
 
-all_mild : (part : Part) (want : Type 0) (xs : List Item) → AreWrites xs → (want → AreKeeping part xs) → AllMild part want xs
+all_mild : (part : Part) (want : Type 0) (xs : List Item) → has_erase xs ≡ false → (want → AreKeeping part xs) → AllMild part want xs
 all_mild part want [] f k = tt
-all_mild part want (Erase ∷ xs) f k = absurd f
+all_mild part want (Erase ∷ xs) f k = absurd (true≢false f)
 all_mild part want (Write mem image ∷ xs) f k = (mild_item part want mem image (λ w. ((k w).0, tt)), all_mild part want xs f (λ w. (k w).1))
 
 -- ---- EEPROM stays kept
@@ -148,35 +145,11 @@ module _ (part : Part) where
 
 -- ---- the items of a plan
 
-writes_on : (xs ys : List Item) → AreWrites xs → AreWrites ys → AreWrites (xs ++ ys)
-writes_on [] ys f g = g
-writes_on (Erase ∷ xs) ys f g = absurd f
-writes_on (Write mem image ∷ xs) ys f g = writes_on xs ys f g
-
-write_unless : (dry : Bool) (mem : Mem) (image : Image) → AreWrites (if dry then [] else Write mem image ∷ [])
-write_unless true mem image = tt
-write_unless false mem image = tt
-
-pub task_writes : (s : Switches) (t : Task) → AreWrites (task_items s t)
-task_writes s (task.Write mem image) = write_unless s.dry mem image
-task_writes s (task.Verify mem image) = tt
-task_writes s (task.Read mem format file) = tt
-
-tasks_writes : (s : Switches) (tasks : List Task) → AreWrites (tasks_items s tasks)
-tasks_writes s [] = tt
-tasks_writes s (t ∷ tasks) = writes_on (task_items s t) (tasks_items s tasks) (task_writes s t) (tasks_writes s tasks)
-
 pub all_sizes : (part : Part) (sound : IsPart part) (xs : List Item) (m : Memories) → FitsPart part m → FitsPart part (effects part xs m)
 all_sizes part sound [] m f = f
 all_sizes part sound (x ∷ xs) m f = all_sizes part sound xs (effect part x m) (effect_sizes part sound x m f)
 
-pub items_are : (plan : Plan) → plan.switches.dry ≡ false → is_erase_due plan.switches plan.tasks ≡ true → items plan ≡ Erase ∷ tasks_items plan.switches plan.tasks
-items_are plan wet due =
-    let more = tasks_items plan.switches plan.tasks in
-    ap (λ dry. (if dry then [] else if is_erase_due plan.switches plan.tasks then Erase ∷ [] else []) ++ more) wet
-    ∙ ap (λ d. (if d then Erase ∷ [] else []) ++ more) due
-
-some_strokes_again : (part : Part) (sound : IsPart part) (xs : List Item) (k : ℕ) (m : Memories) → AllFitItems part xs → FitsPart part m → AreWrites xs
+some_strokes_again : (part : Part) (sound : IsPart part) (xs : List Item) (k : ℕ) (m : Memories) → AllFitItems part xs → FitsPart part m → has_erase xs ≡ false
     → (erase_keeps_eeprom part m ≡ true → AreKeeping part xs)
     → effects part (Erase ∷ xs) (effects part (take k (strokes_of (all_steps part (Erase ∷ xs)))) m) ≡ effects part (Erase ∷ xs) m
 some_strokes_again part sound xs k m fits f writes kept =
@@ -190,19 +163,7 @@ some_strokes_again part sound xs k m fits f writes kept =
     ∙ (first_again part k ys m (mild_writes part (erase_keeps_eeprom part m ≡ true) ys mild) (λ e. first_keep part (erase_keeps_eeprom part m ≡ true) e k ys m mild e)
     ∙ same m f)
 
-pub strokes_again : (plan : Plan) (k : ℕ) (m : Memories) → IsPart plan.part → All (IsFitted plan.part) plan.tasks → FitsPart plan.part m
-    → plan.switches.dry ≡ false → is_erase_due plan.switches plan.tasks ≡ true → (erase_keeps_eeprom plan.part m ≡ true → AreKeeping plan.part (items plan))
-    → effects plan.part (items plan) (effects plan.part (take k (strokes plan)) m) ≡ effects plan.part (items plan) m
-strokes_again plan k m sound fitted f wet due kept =
-    let xs = tasks_items plan.switches plan.tasks in
-    let are = items_are plan wet due in
-    let kept_all : erase_keeps_eeprom plan.part m ≡ true → AreKeeping plan.part (Erase ∷ xs) = λ e. subst (AreKeeping plan.part) are (kept e) in
-    subst (λ all. effects plan.part all (effects plan.part (take k (strokes_of (all_steps plan.part all))) m) ≡ effects plan.part all m) (sym are)
-    (some_strokes_again plan.part sound xs k m (tasks_fit plan.part sound plan.switches plan.tasks fitted) f (tasks_writes plan.switches plan.tasks) (λ e. (kept_all e).1))
-
--- ---- a plan that erases nothing
-
-some_writes_again : (part : Part) (sound : IsPart part) (xs : List Item) (k : ℕ) (m : Memories) → AllFitItems part xs → FitsPart part m → AreWrites xs
+some_writes_again : (part : Part) (sound : IsPart part) (xs : List Item) (k : ℕ) (m : Memories) → AllFitItems part xs → FitsPart part m → has_erase xs ≡ false
     → effects part xs (effects part (take k (strokes_of (all_steps part xs))) m) ≡ effects part xs m
 some_writes_again part sound xs k m fits f writes =
     let ys = strokes_of (all_steps part xs) in
@@ -211,26 +172,20 @@ some_writes_again part sound xs k m fits f writes =
     sym (items_do part sound xs some fits (all_sizes part sound (take k ys) m f))
     ∙ (first_writes_again part k ys m (mild_writes part ⊥ ys mild) ∙ items_do part sound xs m fits f)
 
-unerased_again : (plan : Plan) (k : ℕ) (m : Memories) → IsPart plan.part → All (IsFitted plan.part) plan.tasks → FitsPart plan.part m
-    → items plan ≡ tasks_items plan.switches plan.tasks
-    → effects plan.part (items plan) (effects plan.part (take k (strokes plan)) m) ≡ effects plan.part (items plan) m
-unerased_again plan k m sound fitted f are =
-    let xs = tasks_items plan.switches plan.tasks in
-    subst (λ all. effects plan.part all (effects plan.part (take k (strokes_of (all_steps plan.part all))) m) ≡ effects plan.part all m) (sym are)
-    (some_writes_again plan.part sound xs k m (tasks_fit plan.part sound plan.switches plan.tasks fitted) f (tasks_writes plan.switches plan.tasks))
+items_again : (part : Part) (sound : IsPart part) (due : Bool) (xs : List Item) (k : ℕ) (m : Memories) → AllFitItems part (erase_if due ++ xs) → FitsPart part m → has_erase xs ≡ false
+    → (due ≡ true → erase_keeps_eeprom part m ≡ true → AreKeeping part (erase_if due ++ xs))
+    → effects part (erase_if due ++ xs) (effects part (take k (strokes_of (all_steps part (erase_if due ++ xs)))) m) ≡ effects part (erase_if due ++ xs) m
+items_again part sound true xs k m fits f writes kept = some_strokes_again part sound xs k m fits.1 f writes (λ e. (kept refl e).1)
+items_again part sound false xs k m fits f writes kept = some_writes_again part sound xs k m fits f writes
 
--- any plan
 pub plan_again : (plan : Plan) (k : ℕ) (m : Memories) → IsPart plan.part → All (IsFitted plan.part) plan.tasks → FitsPart plan.part m
-    → (is_erase_due plan.switches plan.tasks ≡ true → erase_keeps_eeprom plan.part m ≡ true → AreKeeping plan.part (items plan))
+    → (has_erase (items plan) ≡ true → erase_keeps_eeprom plan.part m ≡ true → AreKeeping plan.part (items plan))
     → effects plan.part (items plan) (effects plan.part (take k (strokes plan)) m) ≡ effects plan.part (items plan) m
 plan_again plan k m sound fitted f kept =
-    let more = tasks_items plan.switches plan.tasks in
-    let due = is_erase_due plan.switches plan.tasks in
-    elim (cases_Bool plan.switches.dry) [
-      | inl dry ↦ unerased_again plan k m sound fitted f (ap (λ (d : Bool). (if d then [] else if due then Erase ∷ [] else []) ++ more) dry)
-      | inr wet ↦ elim (cases_Bool due) [
-        | inl is ↦ strokes_again plan k m sound fitted f wet is (kept is)
-        | inr not ↦
-            unerased_again plan k m sound fitted f (ap (λ (d : Bool). (if d then [] else if due then Erase ∷ [] else []) ++ more) wet ∙ ap (λ (u : Bool). (if u then Erase ∷ [] else []) ++ more) not)
-      ]
-    ]
+    let part = plan.part in
+    let due = has_erase (items plan) in
+    let are = items_are plan in
+    subst (λ all. effects part all (effects part (take k (strokes_of (all_steps part all))) m) ≡ effects part all m) (sym are)
+    (items_again part sound due (writes plan) k m (subst (AllFitItems part) are (items_fit part (work plan) (work_fits plan fitted))) f
+    (tasks_write plan.switches plan.tasks)
+    (λ erases keeps. subst (AreKeeping part) are (kept erases keeps)))

@@ -1,11 +1,9 @@
 -- A session from its opening to its end, over any line.
-use Rattle.std.proofs.Common.{◌≡◌, ℕ, List, [], ◌∷◌, ◌∙◌, arith, Ok, Err, Result}
+use Rattle.std.proofs.Common.{◌≡◌, ℕ, List, [], ◌∙◌, arith, Ok, Err, Result}
 use Rattle.std.specs.Prelude.{All, ⊤}
-use Rattle.avr_cli.specs.declared.settings.Switches.{Switches}
 use Rattle.avr_desk.specs.Said.{Saying}
 use Rattle.avr_part.specs.Part.{Part, IsPart}
 use Rattle.avr_plan.specs.Plan.{Plan, IsFitted}
-use Rattle.avr_plan.specs.declared.task.Task.{Task}
 use Rattle.stk_host.specs.declared.fault.HostFault.{HostFault}
 use Rattle.stk_host.specs.Dialog.{Done}
 use Rattle.stk_host.specs.Operations.{closing}
@@ -21,14 +19,15 @@ use Rattle.stk_emu.proofs.Counting.{items_counted}
 use Rattle.stk_emu.proofs.LeadsOn.{leads_done, leads_wider, leads_bind, leads_closing}
 use Rattle.avr_session.specs.declared.standing.Standing.{Standing}
 use Rattle.avr_session.specs.declared.standing.Standing.TheVariants.{Fine, Faulty, Over}
-use Rattle.avr_session.specs.Session.{standing, reported, closed_says, opening_phase, erasing_phase, tasks_phase, beginning, working, ending, playing, status_of, session}
-use Rattle.avr_emulated.specs.Items.{erasing_items, task_items, tasks_items, items}
-use Rattle.avr_emulated.specs.Agrees.{Agrees}
+use Rattle.avr_session.specs.Actions.{OpenSession, actions}
+use Rattle.avr_session.specs.Session.{standing, reported, closed_says, phase, phases, ending, playing, status_of, session}
+use Rattle.avr_emulated.specs.Items.{items_of, items}
+use Rattle.avr_emulated.specs.Agrees.{ActionsAgree, Agrees}
 use Rattle.avr_emulated.specs.Outcome.{IsTouched, IsDone}
 use Rattle.avr_emulated.proofs.Standings.{after_fault}
-use Rattle.avr_emulated.proofs.AnyLineAsks.{first_of, rest_of}
-use Rattle.avr_emulated.proofs.AnyLineSteps.{Rests, rests_all, effects_sizes, fits_on}
-use Rattle.avr_emulated.proofs.AnyLineParts.{leads_reported, Comes, Goes, goes_then, goes_opening, goes_erasing, erasing_fits, task_fits, goes_tasks}
+use Rattle.avr_emulated.proofs.Fitting.{work, work_fits, items_fit}
+use Rattle.avr_emulated.proofs.AnyLineSteps.{Rests, rests_all}
+use Rattle.avr_emulated.proofs.AnyLinePhases.{leads_reported, Comes, Goes, goes_then, goes_opening, goes_phases}
 
 -- after the end: as before it, in any mode
 abbrev Ends : Part → Memories → List Item → Type 0 → Standing → Programmer → Type 0
@@ -82,63 +81,44 @@ module _ (part : Part) (sound : IsPart part) (m : Memories) (f : FitsPart part m
   ends_leaves Faulty q rests z = absurd (omega (arith, z))
   ends_leaves Over q rests z = absurd (omega (arith, z))
 
-pub tasks_fit : (part : Part) (sound : IsPart part) (s : Switches) (tasks : List Task) → All (IsFitted part) tasks → AllFitItems part (tasks_items s tasks)
-tasks_fit part sound s [] fitted = tt
-tasks_fit part sound s (task ∷ tasks) fitted =
-    fits_on part (task_items s task) (tasks_items s tasks) (task_fits part sound s task (first_of (IsFitted part) task tasks fitted))
-    (tasks_fit part sound s tasks (rest_of (IsFitted part) task tasks fitted))
-
 module _ (plan : Plan) (sound : IsPart plan.part) (fitted : All (IsFitted plan.part) plan.tasks) (m : Memories) (f : FitsPart plan.part m) where
   plan_fits : AllFitItems plan.part (items plan)
-  plan_fits =
-      fits_on plan.part (erasing_items plan.switches plan.tasks) (tasks_items plan.switches plan.tasks)
-      (erasing_fits plan.part sound plan.switches plan.tasks) (tasks_fit plan.part sound plan.switches plan.tasks fitted)
+  plan_fits = items_fit plan.part (work plan) (work_fits plan fitted)
 
   -- all of a session but its end
-  abbrev Checks : Type 0
-  Checks = (⊤ × ⊤) × Agrees plan m
-
-  pub goes_beginning : Goes plan.part (Idle plan.part m) m (erasing_items plan.switches plan.tasks) (⊤ × ⊤) (beginning plan)
-  goes_beginning =
+  pub goes_actions : Goes plan.part (Idle plan.part m) m (items plan) (Agrees plan m) (phases plan.part plan.switches (actions plan))
+  goes_actions =
       let part = plan.part in
       let s = plan.switches in
-      goes_then part sound (Idle part m) m [] (erasing_items s plan.tasks) ⊤ ⊤ (opening_phase part s) (erasing_phase part s plan.tasks) tt f
-      (goes_opening part sound s m f) (goes_erasing part sound s plan.tasks m f)
-
-  goes_working : Goes plan.part (Idle plan.part m) m (items plan) Checks (working plan)
-  goes_working =
-      let part = plan.part in
-      let s = plan.switches in
-      let erased = erasing_items s plan.tasks in
-      goes_then part sound (Idle part m) m erased (tasks_items s plan.tasks) (⊤ × ⊤) (Agrees plan m) (beginning plan) (tasks_phase part s plan.tasks)
-      (erasing_fits part sound s plan.tasks) f goes_beginning
-      (goes_tasks part sound s plan.tasks (effects part erased m) fitted (effects_sizes part sound erased m f))
+      goes_then part sound (Idle part m) m [] (items_of (work plan)) ⊤ (ActionsAgree part (work plan) m) (phase part s OpenSession) (phases part s (work plan)) tt f
+      (goes_opening part sound s m f) (goes_phases part sound s (work plan) m (work_fits plan fitted) f)
 
   -- a session
   leads_session : (p : Programmer) (fates : List Fate) → Idle plan.part m p
-      → Leads device (session plan) p fates (Rests plan.part (all_steps plan.part (items plan)) m) (Leaves plan.part m (items plan) Checks)
+      → Leads device (session plan) p fates (Rests plan.part (all_steps plan.part (items plan)) m) (Leaves plan.part m (items plan) (Agrees plan m))
   unfolding session
   leads_session p fates idle =
       let part = plan.part in
       let all = items plan in
       let During : Programmer → Type 0 = Rests part (all_steps part all) m in
-      leads_bind device During (Ends part m all Checks) (Leaves part m all Checks) (λ standing. Done (status_of standing))
-      (λ s q fs ends. leads_done device (status_of s) q fs During (Leaves part m all Checks) (ends_rests part sound m f all plan_fits Checks s q ends)
-      (ends_leaves part sound m f all plan_fits Checks s q ends))
+      leads_bind device During (Ends part m all (Agrees plan m)) (Leaves part m all (Agrees plan m)) (λ standing. Done (status_of standing))
+      (λ s q fs ends. leads_done device (status_of s) q fs During (Leaves part m all (Agrees plan m)) (ends_rests part sound m f all plan_fits (Agrees plan m) s q ends)
+      (ends_leaves part sound m f all plan_fits (Agrees plan m) s q ends))
       (playing plan) p fates
-      (leads_bind device During (Comes part m all Checks) (Ends part m all Checks) (ending part plan.switches)
-      (λ s q fs came. leads_ending part sound m f all plan_fits Checks plan s q fs came) (working plan) p fates (goes_working p fates idle))
+      (leads_bind device During (Comes part m all (Agrees plan m)) (Ends part m all (Agrees plan m)) (ending part plan.switches)
+      (λ s q fs came. leads_ending part sound m f all plan_fits (Agrees plan m) plan s q fs came) (phases part plan.switches (actions plan)) p fates
+      (goes_actions p fates idle))
 
   touched : (q : Programmer) → Rests plan.part (all_steps plan.part (items plan)) m q → IsTouched plan m (memories_of q.chip)
   touched q r = record { count = r.count; memories = r.stands.memories ∙ items_counted plan.part (items plan) r.count m }
 
-  left : (status : ℕ) (q : Programmer) → Leaves plan.part m (items plan) Checks status q → status ≡ 0 → IsDone plan m (memories_of q.chip)
-  left status q leaves e = let after = leaves e in record { memories = after.0.memories; agrees = after.1.1 }
+  left : (status : ℕ) (q : Programmer) → Leaves plan.part m (items plan) (Agrees plan m) status q → status ≡ 0 → IsDone plan m (memories_of q.chip)
+  left status q leaves e = let after = leaves e in record { memories = after.0.memories; agrees = after.1 }
 
   -- what a session leaves
   pub session_leaves : (p : Programmer) (fates : List Fate) → Idle plan.part m p
       → Leads device (session plan) p fates (λ q. IsTouched plan m (memories_of q.chip)) (λ status q. status ≡ 0 → IsDone plan m (memories_of q.chip))
   session_leaves p fates idle =
       leads_wider device (session plan) p fates (Rests plan.part (all_steps plan.part (items plan)) m) (λ q. IsTouched plan m (memories_of q.chip))
-      (Leaves plan.part m (items plan) Checks) (λ status q. status ≡ 0 → IsDone plan m (memories_of q.chip))
+      (Leaves plan.part m (items plan) (Agrees plan m)) (λ status q. status ≡ 0 → IsDone plan m (memories_of q.chip))
       (λ q r. touched q r) (λ status q leaves. left status q leaves) (leads_session p fates idle)

@@ -1,7 +1,7 @@
--- The parts of a session, by the strokes that they make one after another.
+-- The phases of a session, by the strokes that they make one after another.
 use Rattle.std.proofs.Common.{◌≡◌, ℕ, zero, suc, ◌+◌, ◌-◌, ◌≤◌, List, [], ◌∷◌, ◌++◌, length, refl, sym, ap, ◌∙◌, subst, arith, inl, inr, Ok, Err, Result}
 use Rattle.std.proofs.lemmas.List.{length-append}
-use Rattle.std.specs.Prelude.{◌==◌, ⊤, if◌then◌else◌, min}
+use Rattle.std.specs.Prelude.{⊤, min}
 use Rattle.avr_desk.specs.Said.{Saying}
 use Rattle.avr_part.specs.Part.{Part, IsPart}
 use Rattle.stk_frame.specs.declared.command.Command.{Command}
@@ -25,11 +25,11 @@ use Rattle.stk_emu.proofs.Obeying.{settled_idle}
 use Rattle.stk_emu.proofs.Tallying.{tallies_wider, tallies_bind, steps_all, tallies_play}
 use Rattle.avr_session.specs.declared.standing.Standing.{Standing}
 use Rattle.avr_session.specs.declared.standing.Standing.TheVariants.{Fine, Faulty, Over}
-use Rattle.avr_session.specs.Session.{reported, unless_fault, status_of}
-use Rattle.avr_emulated.specs.Made.{none_made}
+use Rattle.avr_session.specs.Session.{reported, unless_fault}
+use Rattle.avr_emulated.specs.Made.{none_made, made_unless_fault}
 use Rattle.avr_emulated.proofs.Standings.{faulty_fine, over_fine}
 use Rattle.avr_emulated.proofs.AnyLineSteps.{Rests, front, behind, struck_front, struck_behind, all_on, all_struck}
-use Rattle.avr_emulated.proofs.AnyLineParts.{Comes}
+use Rattle.avr_emulated.proofs.AnyLinePhases.{Comes}
 use Rattle.avr_emulated.proofs.AnyLineTold.{done_same, says≢done, none_left, reported_programmer, reported_fine, operation_programmer, operation_ok}
 
 -- the memories of so many first steps of these items
@@ -37,7 +37,7 @@ pub record Struck (part : Part) (items : List Item) (m : Memories) (j : ℕ) (q 
   pub few : j ≤ length (all_steps part items)
   pub stands : Idle part (struck_by part j (all_steps part items) m) q
 
--- a part that makes the strokes of these items in their order, and where it is fine all have come to data
+-- a phase that makes the strokes of these items in their order, and where it is fine all have come to data
 pub record Makes (part : Part) (m : Memories) (items : List Item) (d : Dialog Saying Standing) (made : Count Programmer) (p : Programmer) (fates : List Fate) : Type 0 where
   pub tally : Tallies device d made (Struck part items m) p fates
   pub complete : (k : ℕ) → (along device k d p fates).dialog ≡ Done Fine → made k p fates ≡ length (all_steps part items)
@@ -52,14 +52,6 @@ tallies_same d made other At p fates same t = record {
   at_least = λ k. subst (λ n. n ≤ t.count k) (same k) (t.at_least k);
   at_most = λ k. subst (λ n. t.count k ≤ suc n) (same (k - 1)) (t.at_most k);
   stands = λ k. t.stands k;
-}
-
-pub makes_same : (part : Part) (m : Memories) (items : List Item) (d : Dialog Saying Standing) (made other : Count Programmer) (p : Programmer) (fates : List Fate)
-    → ((k : ℕ) → made k p fates ≡ other k p fates)
-    → Makes part m items d made p fates → Makes part m items d other p fates
-makes_same part m items d made other p fates same makes = record {
-  tally = tallies_same d made other (Struck part items m) p fates same makes.tally;
-  complete = λ k e. sym (same k) ∙ makes.complete k e;
 }
 
 struck_none : (part : Part) (count : ℕ) (m : Memories) → struck_by part count [] m ≡ m
@@ -102,45 +94,43 @@ steps_most (commands ∷ steps) k p fates =
 
 module _ (part : Part) (sound : IsPart part) where
   -- the steps of items
-  pub makes_items : (m : Memories) (items : List Item) (steps : List (List Command)) (judge : List ℕ → Result ⊤ HostFault) (outcome_says : Result ⊤ HostFault → List Saying) (p : Programmer)
-      (fates : List Fate)
-      → steps ≡ all_steps part items → AreSteps part steps → Settled part m p → Makes part m items (reported (operation steps judge) outcome_says) (steps_done device steps) p fates
-  makes_items m items steps judge outcome_says p fates same are s = record { tally = tally; complete = λ k e. complete k e }
-    where
-      d : Dialog Saying Standing
-      d = reported (operation steps judge) outcome_says
+  module _ (m : Memories) (items : List Item) (judge : List ℕ → Result ⊤ HostFault) (outcome_says : Result ⊤ HostFault → List Saying) (p : Programmer) (fates : List Fate)
+      (are : AreSteps part (all_steps part items)) (settled : Settled part m p) where
+    abbrev steps : List (List Command)
+    steps = all_steps part items
 
-      played : Tallies device (play steps []) (steps_done device steps) (λ j. Settled part (struck_by part j steps m)) p fates
-      played = (tallies_play part steps m [] p fates sound are s).0
+    abbrev told : Dialog Saying Standing
+    told = reported (operation steps judge) outcome_says
 
-      moved : (k : ℕ) → (along device k (play steps []) p fates).programmer ≡ (along device k (reported (operation steps judge) outcome_says) p fates).programmer
-      moved k = sym (reported_programmer device (operation steps judge) outcome_says k p fates ∙ operation_programmer device steps judge k p fates)
+    played : Tallies device (play steps []) (steps_done device steps) (λ j. Settled part (struck_by part j steps m)) p fates
+    played = (tallies_play part steps m [] p fates sound are settled).0
 
-      stands : (k : ℕ) (q : Programmer) → Settled part (struck_by part (played.count k) steps m) q → Struck part items m (min (played.count k) (length steps)) q
-      stands k q settled =
-          let n = min (played.count k) (length steps) in
-          let size : length steps ≡ length (all_steps part items) = ap length same in
-          record {
-            few = omega (arith, size);
-            stands =
-                subst (λ z. Idle part z q) (sym (struck_min part (played.count k) steps m) ∙ ap (λ all. struck_by part n all m) same)
-                (settled_idle part (struck_by part (played.count k) steps m) q settled);
-          }
+    moved : (k : ℕ) → (along device k (play steps []) p fates).programmer ≡ (along device k told p fates).programmer
+    moved k = sym (reported_programmer device (operation steps judge) outcome_says k p fates ∙ operation_programmer device steps judge k p fates)
 
-      tally : Tallies device (reported (operation steps judge) outcome_says) (steps_done device steps) (Struck part items m) p fates
-      tally = record {
-        count = λ k. min (played.count k) (length steps);
-        none = let e = played.none in omega (arith, e);
-        at_least = λ k. let l = played.at_least k in let most = steps_most steps k p fates in omega (arith, l, most);
-        at_most = λ k. let l = played.at_most k in omega (arith, l);
-        stands = λ k. subst (Struck part items m (min (played.count k) (length steps))) (moved k) (stands k (along device k (play steps []) p fates).programmer (played.stands k));
-      }
+    stands : (k : ℕ) (q : Programmer) → Settled part (struck_by part (played.count k) steps m) q → Struck part items m (min (played.count k) (length steps)) q
+    stands k q at = record {
+      few = omega arith;
+      stands = subst (λ z. Idle part z q) (sym (struck_min part (played.count k) steps m)) (settled_idle part (struck_by part (played.count k) steps m) q at);
+    }
 
-      complete : (k : ℕ) → (along device k (reported (operation steps judge) outcome_says) p fates).dialog ≡ Done Fine → steps_done device steps k p fates ≡ length (all_steps part items)
-      complete k e =
-          let ok = reported_fine device (operation steps judge) outcome_says k p fates e in
-          let got = operation_ok device steps judge k p fates ok.0 ok.1 in
-          steps_all device steps k [] p fates got.0 got.1 ∙ ap length same
+    told_tally : Tallies device told (steps_done device steps) (Struck part items m) p fates
+    told_tally = record {
+      count = λ k. min (played.count k) (length steps);
+      none = let e = played.none in omega (arith, e);
+      at_least = λ k. let l = played.at_least k in let most = steps_most steps k p fates in omega (arith, l, most);
+      at_most = λ k. let l = played.at_most k in omega (arith, l);
+      stands = λ k. subst (Struck part items m (min (played.count k) (length steps))) (moved k) (stands k (along device k (play steps []) p fates).programmer (played.stands k));
+    }
+
+    all_done : (k : ℕ) → (along device k told p fates).dialog ≡ Done Fine → steps_done device steps k p fates ≡ length steps
+    all_done k e =
+        let ok = reported_fine device (operation steps judge) outcome_says k p fates e in
+        let got = operation_ok device steps judge k p fates ok.0 ok.1 in
+        steps_all device steps k [] p fates got.0 got.1
+
+    pub makes_items : Makes part m items told (steps_done device steps) p fates
+    makes_items = record { tally = told_tally; complete = λ k e. all_done k e }
 
   front_is : (count : ℕ) (steps : List (List Command)) → count ≤ length steps → front count steps ≡ count
   front_is zero steps l = refl
@@ -182,13 +172,13 @@ module _ (part : Part) (sound : IsPart part) where
             ∙ (struck_behind part j steps (all_steps part ys) m ∙ ap (struck_by part j (all_steps part ys)) (all_struck part sound xs m fits f))))) s.stands;
       }
 
-  -- one part, and the next one unless there was a fault
+  -- one phase, and the next one unless there was a fault
   module _ (m : Memories) (xs ys : List Item) (Check : Type 0) (d next : Dialog Saying Standing) (made later : Count Programmer) (p : Programmer) (fates : List Fate)
       (fits : AllFitItems part xs) (f : FitsPart part m)
       (leads : Leads device d p fates (Rests part (all_steps part xs) m) (Comes part m xs Check)) (first : Makes part m xs d made p fates)
       (more : (q : Programmer) (fs : List Fate) → Settled part (effects part xs m) q → Makes part (effects part xs m) ys next later q fs) where
     abbrev after : Standing → Count Programmer
-    after standing = if status_of standing == 0 then later else none_made
+    after = made_unless_fault later
 
     abbrev At : ℕ → Programmer → Type 0
     At = Struck part (xs ++ ys) m

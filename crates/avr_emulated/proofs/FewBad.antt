@@ -1,15 +1,10 @@
--- A session over a line on which few frames go wrong goes as its course, part by part.
-use Rattle.std.proofs.Common.{◌≡◌, ℕ, ◌*◌, ◌≤◌, List, [], ◌∷◌, ◌++◌, refl, sym, ap, ◌∙◌, subst, arith, Bool, true, false, Result, Ok, All}
+-- A session over a line on which few frames go wrong goes as its course, action by action.
+use Rattle.std.proofs.Common.{◌≡◌, ℕ, ◌*◌, ◌≤◌, List, [], ◌∷◌, ◌++◌, refl, sym, ap, ◌∙◌, subst, arith, Result, Ok, All}
 use Rattle.std.proofs.lemmas.List.{append-nil}
-use Rattle.std.proofs.lemmas.List.Elements.{All-head, All-tail}
-use Rattle.std.specs.Prelude.{if◌then◌else◌}
 use Rattle.avr_cli.specs.declared.settings.Switches.{Switches}
 use Rattle.avr_desk.specs.Said.{Saying}
-use Rattle.avr_part.specs.declared.mem.Mem.{Mem}
 use Rattle.avr_part.specs.Part.{Part, IsPart}
 use Rattle.avr_plan.specs.Plan.{Plan, IsFitted}
-use Rattle.avr_plan.specs.declared.task.Task.{Task}
-use Rattle.avr_plan.specs.declared.task.Task.TheVariants.{Write, Verify, Read}
 use Rattle.stk_host.specs.declared.fault.HostFault.{HostFault}
 use Rattle.stk_host.specs.Dialog.{Dialog, Done, ◌>>=◌, lifted}
 use Rattle.stk_host.specs.Bound.{commands_in}
@@ -20,23 +15,26 @@ use Rattle.stk_emu.specs.Along.{along}
 use Rattle.stk_emu.specs.Device.{device}
 use Rattle.stk_emu.specs.Programmer.{Programmer}
 use Rattle.stk_emu.specs.Effect as item
-use Rattle.stk_emu.specs.Effect.{Image, Memories, memories_of, effect, memory_in}
+use Rattle.stk_emu.specs.Effect.{Memories, memories_of, effect, memory_in}
 use Rattle.stk_emu.specs.Settled.{Idle, FitsPart}
 use Rattle.stk_emu.specs.Few.{AreFew}
 use Rattle.stk_emu.proofs.FewFates.{done_within}
 use Rattle.stk_emu.proofs.Obeying.{ready_idle}
 use Rattle.avr_session.specs.declared.standing.Standing.{Standing}
 use Rattle.avr_session.specs.declared.standing.Standing.TheVariants.{Fine, Faulty, Over}
+use Rattle.avr_session.specs.Actions.{Action, OpenSession, EraseChip, LeaveErase, WriteImage, LeaveWrite, CompareImage, SaveMemory, actions}
 use Rattle.avr_session.specs.Session as session
-use Rattle.avr_session.specs.Session.{says, standing, reported, unless_fault, fault_or, opening_says, erased_says, written_says, verified_says, closed_says, read_says, is_erase_due, left_out_erase, left_out_write, status_of}
+use Rattle.avr_session.specs.Session.{says, standing, reported, unless_fault, fault_or, opening_says, erased_says, written_says, verified_says, closed_says, read_says, left_out_erase, left_out_write, phase, phases, status_of}
 use Rattle.avr_emulated.specs.Bound.{run_steps}
 use Rattle.avr_emulated.specs.Course as course
-use Rattle.avr_emulated.specs.Course.{Course, then_from, ending_says, status_after}
+use Rattle.avr_emulated.specs.Course.{Course, then_from, action_course, actions_course, working_course, ending_says}
+use Rattle.avr_emulated.proofs.Fitting.{FitsAction, AllFitActions, work, work_fits}
+use Rattle.avr_emulated.proofs.Standings.{at_end, status_is}
 use Rattle.avr_emulated.proofs.RunBound.{session_most}
 use Rattle.avr_emulated.proofs.FewBadEnds.{Ends, ends_done, ends_says, ends_wider, ends_lifted, ends_bind}
 use Rattle.avr_emulated.proofs.FewBadCalls.{Stands, ends_opening, ends_erasing, ends_writing, ends_reading, ends_verifying, ends_closing}
 
--- a part of a session goes as this course
+-- a phase of a session goes as this course
 abbrev Follows : Part → Dialog Saying Standing → Course → Programmer → List Fate → Type 0
 Follows part d c p fates = Ends d c.standing c.says (Stands part c.memories) p fates
 
@@ -72,96 +70,49 @@ module _ (part : Part) (sound : IsPart part) (s : Switches) where
   follows_from c Faulty more d next p fates good is first rest = left_out c d next p fates good (ap (unless_fault next) is ∙ ap (λ at. Done at) (sym is)) first
   follows_from c Over more d next p fates good is first rest = left_out c d next p fates good (ap (unless_fault next) is ∙ ap (λ at. Done at) (sym is)) first
 
-  -- a part, and the next one unless a fault came
+  -- a phase, and the next one unless a fault came
   follows_then : (c : Course) (more : Memories → Course) (d next : Dialog Saying Standing) (p : Programmer) (fates : List Fate) → AreFew fates
       → Follows part d c p fates → Goes part next c.memories (more c.memories) → Follows part (d >>= unless_fault next) (then_from c c.standing more) p fates
   follows_then c more d next p fates good first rest = follows_from c c.standing more d next p fates good refl first rest
 
   opening_follows : (m : Memories) (p : Programmer) (fates : List Fate) → FitsPart part m → Idle part m p → AreFew fates
-      → Follows part (session.opening_phase part s) (course.opening_course part s m) p fates
+      → Follows part (phase part s OpenSession) (action_course part s OpenSession m) p fates
   opening_follows m p fates sizes idle good =
       ends_reported (host.opening part.signature s.force) (opening_says s.quiet part) (Ok part.signature) (Stands part m) p fates good
       (ends_opening part sound s.force m p fates sizes idle good)
 
-  erasing_goes : (tasks : List Task) (m : Memories) → Goes part (session.erasing_phase part s tasks) m (course.erasing_course part s tasks m)
-  erasing_goes tasks m p fates good t = by_switches s.dry (is_erase_due s tasks)
-    where
-      erased : Course
-      erased = course.reported_course (erased_says s.quiet part) (Ok tt) (effect part item.Erase m)
-
-      by_switches : (dry due : Bool) → Follows part (if dry then says (left_out_erase s) (Done Fine) else if due then session.chip_erasing_phase part s else Done Fine)
-          (if dry then course.fine (left_out_erase s) m else if due then erased else course.fine [] m) p fates
-      by_switches true due = ends_says (left_out_erase s) Fine (Stands part m) p fates t
-      by_switches false true = ends_reported host.erasing (erased_says s.quiet part) (Ok tt) (Stands part erased.memories) p fates good (ends_erasing part sound m p fates t good)
-      by_switches false false = ends_done Fine (Stands part m) p fates t
-
-  verifying_goes : (mem : Mem) (image : Image) (m : Memories) → Goes part (session.verifying_phase part s mem image) m (course.verifying_course part s mem image m)
-  verifying_goes mem image m p fates good t =
+  action_goes : (action : Action) (m : Memories) → FitsAction part action → Goes part (phase part s action) m (action_course part s action m)
+  action_goes OpenSession m fits p fates good t = absurd fits
+  action_goes EraseChip m fits p fates good t =
+      ends_reported host.erasing (erased_says s.quiet part) (Ok tt) (Stands part (effect part item.Erase m)) p fates good (ends_erasing part sound m p fates t good)
+  action_goes LeaveErase m fits p fates good t = ends_says (left_out_erase s.quiet) Fine (Stands part m) p fates t
+  action_goes (WriteImage mem image) m fits p fates good t =
+      ends_reported (host.writing part mem image) (written_says s.quiet part mem image) (Ok tt) (Stands part (effect part (item.Write mem image) m)) p fates good
+      (ends_writing part sound mem image m p fates (let size = fits.0 in omega (arith, size)) fits.1 t good)
+  action_goes (LeaveWrite mem image) m fits p fates good t = ends_says (left_out_write s.quiet mem image) Fine (Stands part m) p fates t
+  action_goes (CompareImage mem image) m fits p fates good t =
       ends_reported (host.verifying part mem image) (verified_says s.quiet part mem image) (comparison mem image (memory_in part mem m)) (Stands part m) p fates good
       (ends_verifying part sound mem image m p fates t good)
-
-  reading_back_goes : (mem : Mem) (image : Image) (m : Memories) → Goes part (session.reading_back_phase part s mem image) m (course.reading_back_course part s mem image m)
-  reading_back_goes mem image m p fates good t = by_switch s.no_verify
-    where
-      by_switch : (left : Bool) → Follows part (if left then Done Fine else session.verifying_phase part s mem image)
-          (if left then course.fine [] m else course.verifying_course part s mem image m) p fates
-      by_switch true = ends_done Fine (Stands part m) p fates t
-      by_switch false = verifying_goes mem image m p fates good t
-
-  writing_goes : (mem : Mem) (image : Image) (m : Memories) → IsFitted part (Write mem image) → Goes part (session.write_task_phase part s mem image) m (course.writing_course part s mem image m)
-  writing_goes mem image m fitted p fates good t = by_switch s.dry
-    where
-      written : Course
-      written = course.reported_course (written_says s.quiet part mem image) (Ok tt) (effect part (item.Write mem image) m)
-
-      by_switch : (dry : Bool)
-          → Follows part (if dry then says (left_out_write s mem image) (Done Fine) else session.writing_phase part s mem image >>= unless_fault (session.reading_back_phase part s mem image))
-          (if dry then course.fine (left_out_write s mem image) m else then_from written written.standing (course.reading_back_course part s mem image)) p fates
-      by_switch true = ends_says (left_out_write s mem image) Fine (Stands part m) p fates t
-      by_switch false =
-          follows_then written (course.reading_back_course part s mem image) (session.writing_phase part s mem image) (session.reading_back_phase part s mem image) p fates good
-          (ends_reported (host.writing part mem image) (written_says s.quiet part mem image) (Ok tt) (Stands part written.memories) p fates good
-          (ends_writing part sound mem image m p fates (let size = fitted.0 in omega (arith, size)) fitted.1 t good))
-          (reading_back_goes mem image written.memories)
-
-  task_goes : (task : Task) (m : Memories) → IsFitted part task → Goes part (session.task_phase part s task) m (course.task_course part s task m)
-  task_goes (Write mem image) m fitted p fates good t = writing_goes mem image m fitted p fates good t
-  task_goes (Verify mem image) m fitted p fates good t = verifying_goes mem image m p fates good t
-  task_goes (Read mem format file) m fitted p fates good t =
+  action_goes (SaveMemory mem format file) m fits p fates good t =
       ends_reported (host.reading part mem) (fault_or part (read_says s mem format file)) (Ok (memory_in part mem m)) (Stands part m) p fates good
       (ends_reading part sound mem m p fates t good)
 
-  tasks_go : (tasks : List Task) (m : Memories) → All (IsFitted part) tasks → Goes part (session.tasks_phase part s tasks) m (course.tasks_course part s tasks m)
-  tasks_go [] m fitted p fates good t = ends_done Fine (Stands part m) p fates t
-  tasks_go (task ∷ tasks) m fitted p fates good t =
-      let first = course.task_course part s task m in
-      follows_then first (course.tasks_course part s tasks) (session.task_phase part s task) (session.tasks_phase part s tasks) p fates good
-      (task_goes task m (All-head (IsFitted part) task tasks fitted) p fates good t)
-      (tasks_go tasks first.memories (All-tail (IsFitted part) task tasks fitted))
-
--- how a session stands at its end
-abbrev at_end : Standing → Standing
-at_end Fine = Fine
-at_end _ = Over
-
-status_is : (at : Standing) → status_of (at_end at) ≡ status_after at
-status_is Fine = refl
-status_is Faulty = refl
-status_is Over = refl
+  actions_go : (actions : List Action) (m : Memories) → AllFitActions part actions → Goes part (phases part s actions) m (actions_course part s actions m)
+  actions_go [] m fit p fates good t = ends_done Fine (Stands part m) p fates t
+  actions_go (action ∷ actions) m fit p fates good t =
+      let first = action_course part s action m in
+      follows_then first (actions_course part s actions) (phase part s action) (phases part s actions) p fates good
+      (action_goes action m fit.0 p fates good t) (actions_go actions first.memories fit.1)
 
 module _ (plan : Plan) (sound : IsPart plan.part) (fitted : All (IsFitted plan.part) plan.tasks) where
   working_follows : (m : Memories) (p : Programmer) (fates : List Fate) → FitsPart plan.part m → Idle plan.part m p → AreFew fates
-      → Follows plan.part (session.working plan) (course.working_course plan m) p fates
+      → Follows plan.part (phases plan.part plan.switches (actions plan)) (working_course plan m) p fates
   working_follows m p fates sizes idle good =
       let part = plan.part in
       let s = plan.switches in
-      let opened = course.opening_course part s m in
-      let begun = then_from opened opened.standing (course.erasing_course part s plan.tasks) in
-      follows_then part sound s begun (course.tasks_course part s plan.tasks) (session.beginning plan) (session.tasks_phase part s plan.tasks) p fates good
-      (follows_then part sound s opened (course.erasing_course part s plan.tasks) (session.opening_phase part s) (session.erasing_phase part s plan.tasks) p fates good
+      follows_then part sound s (action_course part s OpenSession m) (actions_course part s (work plan)) (phase part s OpenSession) (phases part s (work plan)) p fates good
       (opening_follows part sound s m p fates sizes idle good)
-      (erasing_goes part sound s plan.tasks m))
-      (tasks_go part sound s plan.tasks begun.memories fitted)
+      (actions_go part sound s (work plan) m (work_fits plan fitted))
 
   -- programming mode is left, unless the line has ended; of a fault after a fault nothing is said
   ending_ends : (at : Standing) (m : Memories) (p : Programmer) (fates : List Fate) → Idle plan.part m p → AreFew fates
@@ -179,18 +130,18 @@ module _ (plan : Plan) (sound : IsPart plan.part) (fitted : All (IsFitted plan.p
       → Ends (session.session plan) (course.course plan m).status (course.course plan m).says (λ q. memories_of q.chip ≡ (course.course plan m).memories) p fates
   unfolding session.session
   session_ends m p fates sizes idle good =
-      let c = course.working_course plan m in
+      let c = working_course plan m in
       let rest = Idle plan.part c.memories in
       let said = c.says ++ ending_says plan c.standing in
       let played : Ends (session.playing plan) (at_end c.standing) said rest p fates =
       ends_bind (session.ending plan.part plan.switches) c.standing (at_end c.standing) c.says (ending_says plan c.standing) (Stands plan.part c.memories) rest
-      (session.working plan) p fates good
+      (phases plan.part plan.switches (actions plan)) p fates good
       (working_follows m p fates sizes idle good)
       (λ q fs g t. ending_ends c.standing c.memories q fs (ready_idle plan.part c.memories q t.ready) g) in
       let told : Ends (session.session plan) (status_of (at_end c.standing)) (said ++ []) rest p fates =
       ends_bind (λ at. Done (status_of at)) (at_end c.standing) (status_of (at_end c.standing)) said [] rest rest (session.playing plan) p fates good played
       (λ q fs g i. ends_done (status_of (at_end c.standing)) rest q fs i) in
-      ends_wider (session.session plan) (status_after c.standing) said rest (λ q. memories_of q.chip ≡ c.memories) p fates (λ q i. i.memories)
+      ends_wider (session.session plan) (status_of c.standing) said rest (λ q. memories_of q.chip ≡ c.memories) p fates (λ q i. i.memories)
       (subst (λ status. Ends (session.session plan) status said rest p fates) (status_is c.standing)
       (subst (λ x. Ends (session.session plan) (status_of (at_end c.standing)) x rest p fates) (append-nil said) told))
 

@@ -1,5 +1,6 @@
 -- A byte of flash, behind items.
 use Rattle.std.proofs.Common.{◌≡◌, ◌⊎◌, ◌<◌, ℕ, zero, suc, List, [], ◌∷◌, length, get_or, take, bit_and, refl, sym, ap, ◌∙◌, subst, inl, inr, arith, Bool, true, false, if◌then◌else◌, Option, Some, None}
+use Rattle.std.proofs.lemmas.Bool.{true≢false}
 use Rattle.std.proofs.lemmas.List.{length-replicate, get_or-replicate}
 use Rattle.avr_image.specs.Image.{byte_at}
 use Rattle.avr_part.specs.Part.{Part}
@@ -7,22 +8,22 @@ use Rattle.avr_part.specs.declared.mem.Mem.TheVariants.{Flash, Eeprom, Lfuse, Hf
 use Rattle.avr_plan.specs.Plan.{Plan}
 use Rattle.stk_emu.specs.Effect.{Image, Item, Erase, Write, Memories, and_with, and_in, are_locked, effect, effects}
 use Rattle.stk_emu.proofs.Images.{length-and_in, get_and_in}
-use Rattle.avr_emulated.specs.Items.{items}
+use Rattle.avr_emulated.specs.Items.{items, has_erase}
 use Rattle.avr_emulated.specs.Outcome.{strokes, IsTouched, IsDone}
-use Rattle.avr_emulated.specs.Written.{IsThere, AreThere, HasErase, and_all, IsMade}
+use Rattle.avr_emulated.specs.Written.{IsThere, AreThere, and_all, IsMade}
 
 are_later : (item : Item) (xs : List Item) (addr : ℕ) (bytes : List ℕ) → AreThere xs addr bytes → AreThere (item ∷ xs) addr bytes
 are_later item xs addr [] are = tt
 are_later item xs addr (b ∷ bytes) are = (inr are.0, are_later item xs addr bytes are.1)
 
-erase_later : (item : Item) (xs : List Item) → HasErase xs → HasErase (item ∷ xs)
-erase_later Erase xs has = tt
+erase_later : (item : Item) (xs : List Item) → has_erase xs ≡ true → has_erase (item ∷ xs) ≡ true
+erase_later Erase xs has = refl
 erase_later (Write mem image) xs has = has
 
 -- an item before, of which the byte has nothing
 later : (item : Item) (xs : List Item) (addr before after : ℕ) → IsMade xs addr before after → IsMade (item ∷ xs) addr before after
 later item xs addr before after m =
-    let first_is : (m.first ≡ before) ⊎ ((m.first ≡ 255) × HasErase (item ∷ xs)) =
+    let first_is : (m.first ≡ before) ⊎ ((m.first ≡ 255) × (has_erase (item ∷ xs) ≡ true)) =
     elim m.first_is [ inl same ↦ inl same | inr blank ↦ inr (blank.0, erase_later item xs blank.1) ] in
     record { first = m.first; bytes = m.bytes; first_is = first_is; are_there = are_later item xs addr m.bytes m.are_there; is = m.is }
 
@@ -31,7 +32,7 @@ erased : (xs : List Item) (addr before mid after : ℕ) → mid ≡ 255 → IsMa
 erased xs addr before mid after e m = record {
   first = m.first;
   bytes = m.bytes;
-  first_is = elim m.first_is [ inl is ↦ inr (is ∙ e, tt) | inr is ↦ inr (is.0, tt) ];
+  first_is = elim m.first_is [ inl is ↦ inr (is ∙ e, refl) | inr is ↦ inr (is.0, refl) ];
   are_there = are_later Erase xs addr m.bytes m.are_there;
   is = m.is;
 }
@@ -101,10 +102,10 @@ all_there : (k : ℕ) (xs : List Item) (addr : ℕ) (bytes : List ℕ) → AreTh
 all_there k xs addr [] are = tt
 all_there k xs addr (b ∷ bytes) are = (there_of k xs addr b are.0, all_there k xs addr bytes are.1)
 
-erase_of : (k : ℕ) (xs : List Item) → HasErase (take k xs) → HasErase xs
-erase_of zero xs has = absurd has
-erase_of (suc k) [] has = absurd has
-erase_of (suc k) (Erase ∷ xs) has = tt
+erase_of : (k : ℕ) (xs : List Item) → has_erase (take k xs) ≡ true → has_erase xs ≡ true
+erase_of zero xs has = absurd (true≢false (sym has))
+erase_of (suc k) [] has = has
+erase_of (suc k) (Erase ∷ xs) has = refl
 erase_of (suc k) (Write mem image ∷ xs) has = erase_of k xs has
 
 pub done_made : (plan : Plan) (before after : Memories) (addr : ℕ) → addr < length before.flash → IsDone plan before after
@@ -118,6 +119,6 @@ touched_made plan before after addr l touched =
     let m : IsMade (take touched.count (strokes plan)) addr (get_or before.flash addr 0) (get_or after.flash addr 0) =
     subst (λ (n : Memories). IsMade (take touched.count (strokes plan)) addr (get_or before.flash addr 0) (get_or n.flash addr 0)) (sym touched.memories)
     (made plan.part addr (take touched.count (strokes plan)) before l) in
-    let first_is : (m.first ≡ get_or before.flash addr 0) ⊎ ((m.first ≡ 255) × HasErase (strokes plan)) =
+    let first_is : (m.first ≡ get_or before.flash addr 0) ⊎ ((m.first ≡ 255) × (has_erase (strokes plan) ≡ true)) =
     elim m.first_is [ inl same ↦ inl same | inr blank ↦ inr (blank.0, erase_of touched.count (strokes plan) blank.1) ] in
     record { first = m.first; bytes = m.bytes; first_is = first_is; are_there = all_there touched.count (strokes plan) addr m.bytes m.are_there; is = m.is }

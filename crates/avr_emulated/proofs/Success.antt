@@ -1,16 +1,13 @@
--- A session that comes to status 0 over a line of any fates goes as its course, part by part.
-use Rattle.std.proofs.Common.{◌≡◌, ℕ, List, [], ◌∷◌, ◌++◌, length, refl, sym, ap, ◌∙◌, subst, arith, Bool, true, false, Result, Ok, Err, All, inl, inr}
+-- A session that comes to status 0 over a line of any fates goes as its course, action by action.
+use Rattle.std.proofs.Common.{◌≡◌, ℕ, List, [], ◌∷◌, ◌++◌, length, refl, sym, ap, ◌∙◌, subst, arith, Bool, true, Result, Ok, Err, All, inl, inr}
 use Rattle.std.proofs.lemmas.List.{append-nil}
-use Rattle.std.proofs.lemmas.List.Elements.{All-head, All-tail}
-use Rattle.std.specs.Prelude.{if◌then◌else◌, ⊤, ◌≤◌}
+use Rattle.std.specs.Prelude.{⊤, ◌≤◌}
 use Rattle.avr_cli.specs.declared.settings.Switches.{Switches}
 use Rattle.avr_desk.specs.Said.{Saying}
 use Rattle.avr_part.specs.declared.mem.Mem.{Mem}
 use Rattle.avr_part.specs.Mem.{is_writable}
 use Rattle.avr_part.specs.Part.{Part, IsPart, size_of}
 use Rattle.avr_plan.specs.Plan.{Plan, IsFitted}
-use Rattle.avr_plan.specs.declared.task.Task.{Task}
-use Rattle.avr_plan.specs.declared.task.Task.TheVariants.{Write, Verify, Read}
 use Rattle.stk_frame.specs.declared.command.Command.{Command}
 use Rattle.stk_frame.specs.HostCommands.{erase}
 use Rattle.stk_frame.proofs.Cut.{chosen}
@@ -37,12 +34,14 @@ use Rattle.stk_emu.proofs.Obeying.{settled_idle}
 use Rattle.stk_emu.proofs.PlayGiven.{read_gives}
 use Rattle.avr_session.specs.declared.standing.Standing.{Standing}
 use Rattle.avr_session.specs.declared.standing.Standing.TheVariants.{Fine, Faulty, Over}
+use Rattle.avr_session.specs.Actions.{Action, OpenSession, EraseChip, LeaveErase, WriteImage, LeaveWrite, CompareImage, SaveMemory, actions}
 use Rattle.avr_session.specs.Session as session
-use Rattle.avr_session.specs.Session.{says, standing, reported, unless_fault, fault_or, opening_says, erased_says, written_says, verified_says, closed_says, read_says, is_erase_due, left_out_erase, left_out_write, status_of}
+use Rattle.avr_session.specs.Session.{says, standing, reported, unless_fault, fault_or, opening_says, erased_says, written_says, verified_says, closed_says, read_says, left_out_erase, left_out_write, phase, phases, status_of}
 use Rattle.avr_emulated.specs.Course as course
-use Rattle.avr_emulated.specs.Course.{Course, then_from, ending_says, status_after}
+use Rattle.avr_emulated.specs.Course.{Course, then_from, action_course, actions_course, working_course, ending_says}
 use Rattle.avr_emulated.proofs.AnyLineSteps.{quiet_stays, read_quiet}
-use Rattle.avr_emulated.proofs.Standings.{after_fault, faulty_fine, over_fine}
+use Rattle.avr_emulated.proofs.Fitting.{FitsAction, AllFitActions, work, work_fits}
+use Rattle.avr_emulated.proofs.Standings.{after_fault, faulty_fine, over_fine, at_end, status_is}
 use Rattle.avr_emulated.proofs.FewBadEnds.{done_is, say_no}
 use Rattle.avr_emulated.proofs.SuccessEnds.{Succeeds, IsOk, done_succeeds, says_succeed, succeeds_wider, lifted_succeeds, led_succeeds, bind_succeeds}
 
@@ -58,7 +57,7 @@ record Stands (part : Part) (m : Memories) (q : Programmer) : Type 0 where
   settled : Settled part m q
   sizes : FitsPart part m
 
--- a part of a session goes as this course, where it is fine
+-- a phase of a session goes as this course, where it is fine
 abbrev Follows : Part → Dialog Saying Standing → Course → Programmer → List Fate → Type 0
 Follows part d c p fates = Succeeds IsFine d c.standing c.says (Stands part c.memories) p fates
 
@@ -152,7 +151,7 @@ module _ (part : Part) (sound : IsPart part) where
   closing_succeeds m p fates idle =
       led_succeeds IsOk host.closing (Ok tt) (Idle part m) (λ result q. Idle part m q) (Idle part m) p fates (closed m) (leads_closing part m p fates idle)
 
-  -- ---- the parts of a session
+  -- ---- the phases of a session
 
   module _ (s : Switches) where
     -- after a fault nothing more is done or said
@@ -173,72 +172,39 @@ module _ (part : Part) (sound : IsPart part) where
     follows_from c Faulty more d next p fates is first rest = left_out c d next p fates (ap (unless_fault next) is ∙ ap (λ at. Done at) (sym is)) first
     follows_from c Over more d next p fates is first rest = left_out c d next p fates (ap (unless_fault next) is ∙ ap (λ at. Done at) (sym is)) first
 
-    -- a part, and the next one unless a fault came
+    -- a phase, and the next one unless a fault came
     follows_then : (c : Course) (more : Memories → Course) (d next : Dialog Saying Standing) (p : Programmer) (fates : List Fate)
         → Follows part d c p fates → Goes part next c.memories (more c.memories) → Follows part (d >>= unless_fault next) (then_from c c.standing more) p fates
     follows_then c more d next p fates first rest = follows_from c c.standing more d next p fates refl first rest
 
     opening_follows : (m : Memories) (p : Programmer) (fates : List Fate) → FitsPart part m → Idle part m p
-        → Follows part (session.opening_phase part s) (course.opening_course part s m) p fates
+        → Follows part (phase part s OpenSession) (action_course part s OpenSession m) p fates
     opening_follows m p fates sizes idle =
         reported_succeeds (host.opening part.signature s.force) (opening_says s.quiet part) (Ok part.signature) (Stands part m) p fates
         (opening_succeeds s.force m p fates sizes idle)
 
-    erasing_goes : (tasks : List Task) (m : Memories) → Goes part (session.erasing_phase part s tasks) m (course.erasing_course part s tasks m)
-    erasing_goes tasks m p fates t = by_switches s.dry (is_erase_due s tasks)
-      where
-        erased : Course
-        erased = course.reported_course (erased_says s.quiet part) (Ok tt) (effect part item.Erase m)
-
-        by_switches : (dry due : Bool) → Follows part (if dry then says (left_out_erase s) (Done Fine) else if due then session.chip_erasing_phase part s else Done Fine)
-            (if dry then course.fine (left_out_erase s) m else if due then erased else course.fine [] m) p fates
-        by_switches true due = says_succeed IsFine (left_out_erase s) Fine (Stands part m) p fates t
-        by_switches false true = reported_succeeds host.erasing (erased_says s.quiet part) (Ok tt) (Stands part erased.memories) p fates (erasing_succeeds m p fates t)
-        by_switches false false = done_succeeds IsFine Fine (Stands part m) p fates t
-
-    verifying_goes : (mem : Mem) (image : Image) (m : Memories) → Goes part (session.verifying_phase part s mem image) m (course.verifying_course part s mem image m)
-    verifying_goes mem image m p fates t =
+    action_goes : (action : Action) (m : Memories) → FitsAction part action → Goes part (phase part s action) m (action_course part s action m)
+    action_goes OpenSession m fits p fates t = absurd fits
+    action_goes EraseChip m fits p fates t =
+        reported_succeeds host.erasing (erased_says s.quiet part) (Ok tt) (Stands part (effect part item.Erase m)) p fates (erasing_succeeds m p fates t)
+    action_goes LeaveErase m fits p fates t = says_succeed IsFine (left_out_erase s.quiet) Fine (Stands part m) p fates t
+    action_goes (WriteImage mem image) m fits p fates t =
+        reported_succeeds (host.writing part mem image) (written_says s.quiet part mem image) (Ok tt) (Stands part (effect part (item.Write mem image) m)) p fates
+        (writing_succeeds mem image m p fates (let size = fits.0 in omega (arith, size)) fits.1 t)
+    action_goes (LeaveWrite mem image) m fits p fates t = says_succeed IsFine (left_out_write s.quiet mem image) Fine (Stands part m) p fates t
+    action_goes (CompareImage mem image) m fits p fates t =
         reported_succeeds (host.verifying part mem image) (verified_says s.quiet part mem image) (comparison mem image (memory_in part mem m)) (Stands part m) p fates
         (reads_succeed mem (comparison mem image) m p fates t)
-
-    reading_back_goes : (mem : Mem) (image : Image) (m : Memories) → Goes part (session.reading_back_phase part s mem image) m (course.reading_back_course part s mem image m)
-    reading_back_goes mem image m p fates t = by_switch s.no_verify
-      where
-        by_switch : (left : Bool) → Follows part (if left then Done Fine else session.verifying_phase part s mem image)
-            (if left then course.fine [] m else course.verifying_course part s mem image m) p fates
-        by_switch true = done_succeeds IsFine Fine (Stands part m) p fates t
-        by_switch false = verifying_goes mem image m p fates t
-
-    writing_goes : (mem : Mem) (image : Image) (m : Memories) → IsFitted part (Write mem image) → Goes part (session.write_task_phase part s mem image) m (course.writing_course part s mem image m)
-    writing_goes mem image m fitted p fates t = by_switch s.dry
-      where
-        written : Course
-        written = course.reported_course (written_says s.quiet part mem image) (Ok tt) (effect part (item.Write mem image) m)
-
-        by_switch : (dry : Bool)
-            → Follows part (if dry then says (left_out_write s mem image) (Done Fine) else session.writing_phase part s mem image >>= unless_fault (session.reading_back_phase part s mem image))
-            (if dry then course.fine (left_out_write s mem image) m else then_from written written.standing (course.reading_back_course part s mem image)) p fates
-        by_switch true = says_succeed IsFine (left_out_write s mem image) Fine (Stands part m) p fates t
-        by_switch false =
-            follows_then written (course.reading_back_course part s mem image) (session.writing_phase part s mem image) (session.reading_back_phase part s mem image) p fates
-            (reported_succeeds (host.writing part mem image) (written_says s.quiet part mem image) (Ok tt) (Stands part written.memories) p fates
-            (writing_succeeds mem image m p fates (let size = fitted.0 in omega (arith, size)) fitted.1 t))
-            (reading_back_goes mem image written.memories)
-
-    task_goes : (task : Task) (m : Memories) → IsFitted part task → Goes part (session.task_phase part s task) m (course.task_course part s task m)
-    task_goes (Write mem image) m fitted p fates t = writing_goes mem image m fitted p fates t
-    task_goes (Verify mem image) m fitted p fates t = verifying_goes mem image m p fates t
-    task_goes (Read mem format file) m fitted p fates t =
+    action_goes (SaveMemory mem format file) m fits p fates t =
         reported_succeeds (host.reading part mem) (fault_or part (read_says s mem format file)) (Ok (memory_in part mem m)) (Stands part m) p fates
         (reads_succeed mem Ok m p fates t)
 
-    tasks_go : (tasks : List Task) (m : Memories) → All (IsFitted part) tasks → Goes part (session.tasks_phase part s tasks) m (course.tasks_course part s tasks m)
-    tasks_go [] m fitted p fates t = done_succeeds IsFine Fine (Stands part m) p fates t
-    tasks_go (task ∷ tasks) m fitted p fates t =
-        let first = course.task_course part s task m in
-        follows_then first (course.tasks_course part s tasks) (session.task_phase part s task) (session.tasks_phase part s tasks) p fates
-        (task_goes task m (All-head (IsFitted part) task tasks fitted) p fates t)
-        (tasks_go tasks first.memories (All-tail (IsFitted part) task tasks fitted))
+    actions_go : (actions : List Action) (m : Memories) → AllFitActions part actions → Goes part (phases part s actions) m (actions_course part s actions m)
+    actions_go [] m fit p fates t = done_succeeds IsFine Fine (Stands part m) p fates t
+    actions_go (action ∷ actions) m fit p fates t =
+        let first = action_course part s action m in
+        follows_then first (actions_course part s actions) (phase part s action) (phases part s actions) p fates
+        (action_goes action m fit.0 p fates t) (actions_go actions first.memories fit.1)
 
 -- ---- the whole session
 
@@ -264,29 +230,15 @@ only_zero Fine left q fs got e zero = refl
 only_zero Faulty left q fs got e zero = absurd (let is = done_is 1 got e ∙ zero in omega (arith, is))
 only_zero Over left q fs got e zero = absurd (let is = done_is 1 got e ∙ zero in omega (arith, is))
 
--- how a session stands at its end
-abbrev at_end : Standing → Standing
-at_end Fine = Fine
-at_end _ = Over
-
-status_is : (at : Standing) → status_of (at_end at) ≡ status_after at
-status_is Fine = refl
-status_is Faulty = refl
-status_is Over = refl
-
 module _ (plan : Plan) (sound : IsPart plan.part) (fitted : All (IsFitted plan.part) plan.tasks) where
   working_follows : (m : Memories) (p : Programmer) (fates : List Fate) → FitsPart plan.part m → Idle plan.part m p
-      → Follows plan.part (session.working plan) (course.working_course plan m) p fates
+      → Follows plan.part (phases plan.part plan.switches (actions plan)) (working_course plan m) p fates
   working_follows m p fates sizes idle =
       let part = plan.part in
       let s = plan.switches in
-      let first = course.opening_course part s m in
-      let begun = then_from first first.standing (course.erasing_course part s plan.tasks) in
-      follows_then part sound s begun (course.tasks_course part s plan.tasks) (session.beginning plan) (session.tasks_phase part s plan.tasks) p fates
-      (follows_then part sound s first (course.erasing_course part s plan.tasks) (session.opening_phase part s) (session.erasing_phase part s plan.tasks) p fates
+      follows_then part sound s (action_course part s OpenSession m) (actions_course part s (work plan)) (phase part s OpenSession) (phases part s (work plan)) p fates
       (opening_follows part sound s m p fates sizes idle)
-      (erasing_goes part sound s plan.tasks m))
-      (tasks_go part sound s plan.tasks begun.memories fitted)
+      (actions_go part sound s (work plan) m (work_fits plan fitted))
 
   -- programming mode is left
   ending_succeeds : (at : Standing) (m : Memories) (p : Programmer) (fates : List Fate) → Idle plan.part m p
@@ -302,17 +254,17 @@ module _ (plan : Plan) (sound : IsPart plan.part) (fitted : All (IsFitted plan.p
       → Succeeds IsZero (session.session plan) (course.course plan m).status (course.course plan m).says (λ q. memories_of q.chip ≡ (course.course plan m).memories) p fates
   unfolding session.session
   session_succeeds m p fates sizes idle =
-      let c = course.working_course plan m in
+      let c = working_course plan m in
       let rest = Idle plan.part c.memories in
       let said = c.says ++ ending_says plan c.standing in
       let played : Succeeds IsFine (session.playing plan) (at_end c.standing) said rest p fates =
       bind_succeeds IsFine IsFine (session.ending plan.part plan.switches) (only_ends plan) c.standing (at_end c.standing) c.says (ending_says plan c.standing) (Stands plan.part c.memories) rest
-      (session.working plan) p fates
+      (phases plan.part plan.switches (actions plan)) p fates
       (working_follows m p fates sizes idle)
       (λ q fs t. ending_succeeds c.standing c.memories q fs (settled_idle plan.part c.memories q t.settled)) in
       let told : Succeeds IsZero (session.session plan) (status_of (at_end c.standing)) (said ++ []) rest p fates =
       bind_succeeds IsFine IsZero (λ at. Done (status_of at)) only_zero (at_end c.standing) (status_of (at_end c.standing)) said [] rest rest (session.playing plan) p fates played
       (λ q fs i. done_succeeds IsZero (status_of (at_end c.standing)) rest q fs i) in
-      succeeds_wider IsZero (session.session plan) (status_after c.standing) said rest (λ q. memories_of q.chip ≡ c.memories) p fates (λ q i. i.memories)
+      succeeds_wider IsZero (session.session plan) (status_of c.standing) said rest (λ q. memories_of q.chip ≡ c.memories) p fates (λ q i. i.memories)
       (subst (λ status. Succeeds IsZero (session.session plan) status said rest p fates) (status_is c.standing)
       (subst (λ x. Succeeds IsZero (session.session plan) (status_of (at_end c.standing)) x rest p fates) (append-nil said) told))

@@ -1,5 +1,6 @@
--- What a run tells is true where it tells it, part by part.
+-- What a run tells is true where it tells it, action by action.
 use Rattle.std.proofs.Common.{◌≡◌, ℕ, zero, suc, ◌≤◌, List, [], ◌∷◌, ◌++◌, length, append_assoc, refl, sym, ap, ◌∙◌, subst, arith, inl, inr, ◌⊎◌, Ok, Err, Result, Bool, true, false, Option, Some, None}
+use Rattle.std.proofs.lemmas.List.{append-nil}
 use Rattle.std.proofs.lemmas.List.Elements.{Contains-append_right}
 use Rattle.std.specs.Prelude.{All, Contains, ⊤, codes, decimal, nat_lt, if◌then◌else◌}
 use Rattle.std.specs.Str.{bytes_eq}
@@ -11,11 +12,10 @@ use Rattle.avr_part.specs.Mem.{is_writable, name_of}
 use Rattle.avr_part.specs.Part.{IsPart, size_of}
 use Rattle.avr_part.specs.declared.mem.Mem.{Mem}
 use Rattle.avr_plan.specs.Plan.{Plan, IsFitted}
-use Rattle.avr_plan.specs.declared.task.Task.{Task}
-use Rattle.avr_plan.specs.declared.task.Task.TheVariants as task
+use Rattle.avr_session.specs.Actions.{Action, OpenSession, EraseChip, LeaveErase, WriteImage, LeaveWrite, CompareImage, SaveMemory, actions}
 use Rattle.avr_session.specs.FileText.{file_text}
-use Rattle.avr_session.specs.Lines.{informs, warns, fault_line}
-use Rattle.avr_session.specs.Session.{says, standing, reported, unless_fault, fault_or, signature_says, warns_of_signature, opening_says, saving_says, bytes_say, erased_says, written_says, verified_says, closed_says, read_says, opening_phase, is_erase_due, left_out_erase, erasing_phase, verifying_phase, writing_phase, reading_back_phase, left_out_write, write_task_phase, reading_phase, task_phase, tasks_phase, beginning, working, ending, playing, status_of, session}
+use Rattle.avr_session.specs.Lines.{informs, fault_line}
+use Rattle.avr_session.specs.Session.{says, standing, reported, unless_fault, fault_or, signature_says, warns_of_signature, opening_says, saving_says, bytes_say, erased_says, written_says, verified_says, closed_says, read_says, left_out_erase, left_out_write, phase, phases, ending, playing, status_of, session}
 use Rattle.avr_session.specs.declared.standing.Standing.{Standing}
 use Rattle.avr_session.specs.declared.standing.Standing.TheVariants.{Fine, Faulty, Over}
 use Rattle.stk_frame.specs.declared.command.Command.{Command}
@@ -45,13 +45,14 @@ use Rattle.stk_emu.proofs.ItemStrokes.{struck_all, item_does, item_are_steps, re
 use Rattle.stk_emu.proofs.LeadsOn.{leads_done, leads_lifted, leads_wider, leads_bind, leads_play, leads_beginning}
 use Rattle.stk_emu.proofs.PageStrokes.{effects_on}
 use Rattle.stk_emu.proofs.PlayGiven.{read_gives}
-use Rattle.avr_emulated.specs.Items.{erasing_items, task_items, tasks_items, items}
-use Rattle.avr_emulated.specs.Told.{TellsTrue, Compares, count_line, kept_in, IsTrue, SignatureRead, ChipErased, BytesWritten, BytesVerified, Differed, BytesSaved, BytesRead, EraseLeftOut, WriteLeftOut, StepFailed, SessionDone}
-use Rattle.avr_emulated.proofs.AnyLine.{goes_beginning}
-use Rattle.avr_emulated.proofs.AnyLineAsks.{first_of, rest_of}
-use Rattle.avr_emulated.proofs.AnyLineParts.{Comes, Goes, goes_opening, goes_writing, goes_task}
+use Rattle.avr_emulated.specs.Agrees.{ActionAgrees}
+use Rattle.avr_emulated.specs.Items.{action_items, items_of, items}
+use Rattle.avr_emulated.specs.Told.{TellsTrue, count_line, kept_in, IsTrue, SignatureRead, ChipErased, BytesWritten, BytesVerified, Differed, BytesSaved, BytesRead, EraseLeftOut, WriteLeftOut, StepFailed, SessionDone}
+use Rattle.avr_emulated.proofs.AnyLinePhases.{Comes, Goes, goes_opening, goes_phase}
 use Rattle.avr_emulated.proofs.AnyLineSteps.{effects_sizes, quiet_stays, read_quiet}
 use Rattle.avr_emulated.proofs.FewBadCalls.{bytes_same, signature_taken}
+use Rattle.avr_emulated.proofs.Fitting.{FitsAction, AllFitActions, work, work_fits}
+use Rattle.avr_emulated.proofs.PlanItems.{items_on, erase_first}
 
 -- it holds of each of them
 abbrev AllHold : {E : Type 0} → (E → Type 0) → List E → Type 0
@@ -112,7 +113,7 @@ none_differs : (mem : Mem) (d : Option Difference) (a : ⊤) → differs mem d �
 none_differs mem None a e = refl
 none_differs mem (Some d) a e = absurd (ok_is a (Differs mem d.addr d.want d.found) (sym e))
 
--- ---- the parts of a session
+-- ---- the phases of a session
 
 module _ (plan : Plan) (sound : IsPart plan.part) (m0 : Memories) (f0 : FitsPart plan.part m0) where
   abbrev T : Programmer → Saying → Type 0
@@ -160,7 +161,7 @@ module _ (plan : Plan) (sound : IsPart plan.part) (m0 : Memories) (f0 : FitsPart
   failed : (fault : StepFault) (q : Programmer) → AllHold (T q) (Line (fault_line plan.part (host_fault fault)) ∷ [])
   failed fault q = (StepFailed fault refl, tt)
 
-  -- one part, and the next one unless there was a fault
+  -- one phase, and the next one unless there was a fault
   tells_then : (From : Programmer → Type 0) (m : Memories) (xs : List Item) (Check : Type 0) (d next : Dialog Saying Standing) → Goes plan.part From m xs Check d
       → Tells From d → Tells (Settled plan.part (effects plan.part xs m)) next → Tells From (d >>= unless_fault next)
   tells_then From m xs Check d next goes first more k p fates from =
@@ -172,7 +173,7 @@ module _ (plan : Plan) (sound : IsPart plan.part) (m0 : Memories) (f0 : FitsPart
       on Faulty left q fs came = tt
       on Over left q fs came = tt
 
-  -- ---- the beginning
+  -- ---- the opening
 
   abbrev AfterSignature : Result (List ℕ) HostFault → Programmer → Type 0
   AfterSignature r q = (r ≡ Ok plan.part.signature) ⊎ ((fault : StepFault) × (r ≡ Err (host_fault fault)))
@@ -204,7 +205,7 @@ module _ (plan : Plan) (sound : IsPart plan.part) (m0 : Memories) (f0 : FitsPart
       (informs_hold quiet (codes "device signature = " ∷ spaced_digits plan.part.signature ∷ []) q (SignatureRead refl))
       (hold_not (T q) (bytes_eq plan.part.signature plan.part.signature) _ (bytes_same plan.part.signature))
 
-  tells_opening : Tells (Idle plan.part m0) (opening_phase plan.part plan.switches)
+  tells_opening : Tells (Idle plan.part m0) (phase plan.part plan.switches OpenSession)
   tells_opening k p fates idle =
       true_reported device T (host.opening plan.part.signature plan.switches.force) (opening_says plan.switches.quiet plan.part) AfterSignature k p fates
       (leads_signature plan.switches.force p fates idle) each
@@ -213,25 +214,13 @@ module _ (plan : Plan) (sound : IsPart plan.part) (m0 : Memories) (f0 : FitsPart
       each r q (inl found) = subst (λ x. AllHold (T q) (opening_says plan.switches.quiet plan.part x)) (sym found) (own_signature plan.switches.quiet q)
       each r q (inr broke) = subst (λ x. AllHold (T q) (opening_says plan.switches.quiet plan.part x)) (sym broke.1) (no_signature plan.switches.quiet broke.0 q)
 
-  tells_chip_erasing : Tells (Settled plan.part m0) (reported host.erasing (erased_says plan.switches.quiet plan.part))
-  tells_chip_erasing =
-      tells_call ((erase ∷ []) ∷ []) m0 no_result (erased_says plan.switches.quiet plan.part) (item_are_steps plan.part sound Erase tt) f0
-      (λ q s. informs_hold plan.switches.quiet (codes "chip erased" ∷ []) q (ChipErased refl s.memories)) failed
+  -- ---- the actions behind it
 
-  not_erased : (asked : Bool) (quiet : ℕ) (q : Programmer) → plan.switches.dry ≡ true → AllHold (T q) (if asked then warns quiet (codes "chip not erased because of -n" ∷ []) else [])
-  not_erased true quiet q dry = hold_unless (T q) (nat_lt 1 quiet) (Line (warning (codes "chip not erased because of -n" ∷ []))) (EraseLeftOut dry refl)
-  not_erased false quiet q dry = tt
-
-  tells_erasing : Tells (Settled plan.part m0) (erasing_phase plan.part plan.switches plan.tasks)
-  tells_erasing = by_switch plan.switches.dry (is_erase_due plan.switches plan.tasks) refl
-    where
-      by_switch : (dry due : Bool) → plan.switches.dry ≡ dry
-          → Tells (Settled plan.part m0) (if dry then says (left_out_erase plan.switches) (Done Fine) else if due then reported host.erasing (erased_says plan.switches.quiet plan.part) else Done Fine)
-      by_switch true due e = λ k p fates s. true_says device T k (left_out_erase plan.switches) Fine p fates (not_erased plan.switches.erase plan.switches.quiet p e)
-      by_switch false true e = tells_chip_erasing
-      by_switch false false e = λ k p fates s. tt
-
-  -- ---- tasks
+  tells_erasing : (first : List Item) → first ≡ [] → Contains (actions plan) EraseChip → Tells (Settled plan.part (effects plan.part first m0)) (phase plan.part plan.switches EraseChip)
+  tells_erasing first none has =
+      tells_call ((erase ∷ []) ∷ []) (effects plan.part first m0) no_result (erased_says plan.switches.quiet plan.part) (item_are_steps plan.part sound Erase tt)
+      (effects_sizes plan.part sound first m0 f0)
+      (λ q s. informs_hold plan.switches.quiet (codes "chip erased" ∷ []) q (ChipErased has refl (s.memories ∙ ap (λ xs. effect plan.part Erase (effects plan.part xs m0)) none))) failed
 
   -- a memory that was read is the chip's
   read_now : (mem : Mem) (m : Memories) (q : Programmer) → FitsPart plan.part m → Settled plan.part (struck_by plan.part (length (read_steps plan.part mem)) (read_steps plan.part mem) m) q
@@ -240,39 +229,39 @@ module _ (plan : Plan) (sound : IsPart plan.part) (m0 : Memories) (f0 : FitsPart
       let same : memories_of q.chip ≡ m = s.memories ∙ quiet_stays plan.part (length (read_steps plan.part mem)) (read_steps plan.part mem) m (read_quiet plan.part mem) in
       read_gives plan.part sound m f mem ∙ ap (memory_in plan.part mem) (sym same)
 
-  compared_now : (mem : Mem) (image : Image) (q : Programmer) → Compares plan mem image → (r : Result ⊤ HostFault) → comparison mem image (memory_in plan.part mem (memories_of q.chip)) ≡ r
+  compared_now : (mem : Mem) (image : Image) (q : Programmer) → Contains (actions plan) (CompareImage mem image) → (r : Result ⊤ HostFault) → comparison mem image (memory_in plan.part mem (memories_of q.chip)) ≡ r
       → AllHold (T q) (verified_says plan.switches.quiet plan.part mem image r)
-  compared_now mem image q compares (Ok a) e =
+  compared_now mem image q has (Ok a) e =
       counts_hold mem (byte_count image) (codes " bytes verified") q
-      (BytesVerified mem image refl compares
+      (BytesVerified mem image has refl
       (no_difference 0 image (memory_in plan.part mem (memories_of q.chip)) (none_differs mem (difference_from 0 image (memory_in plan.part mem (memories_of q.chip))) a e)))
-  compared_now mem image q compares (Err fault) e = (Differed mem image fault refl compares e, tt)
+  compared_now mem image q has (Err fault) e = (Differed mem image fault has refl e, tt)
 
-  tells_verifying : (mem : Mem) (image : Image) (m : Memories) → FitsPart plan.part m → Compares plan mem image → Tells (Settled plan.part m) (verifying_phase plan.part plan.switches mem image)
-  tells_verifying mem image m f compares =
+  tells_verifying : (mem : Mem) (image : Image) (m : Memories) → FitsPart plan.part m → Contains (actions plan) (CompareImage mem image) → Tells (Settled plan.part m) (phase plan.part plan.switches (CompareImage mem image))
+  tells_verifying mem image m f has =
       tells_call (read_steps plan.part mem) m (comparison mem image) (verified_says plan.switches.quiet plan.part mem image) (read_are_steps plan.part sound mem) f
       (λ q s.
       subst (λ bytes. AllHold (T q) (verified_says plan.switches.quiet plan.part mem image (comparison mem image bytes))) (sym (read_now mem m q f s))
-      (compared_now mem image q compares (comparison mem image (memory_in plan.part mem (memories_of q.chip))) refl))
+      (compared_now mem image q has (comparison mem image (memory_in plan.part mem (memories_of q.chip))) refl))
       failed
 
-  saved_now : (b : Bool) (mem : Mem) (format : Format) (file : Bytes) (q : Programmer) → Contains plan.tasks (task.Read mem format file) → (text : Bytes) → text ≡ file_text format (kept_in plan mem (memories_of q.chip))
+  saved_now : (b : Bool) (mem : Mem) (format : Format) (file : Bytes) (q : Programmer) → Contains (actions plan) (SaveMemory mem format file) → (text : Bytes) → text ≡ file_text format (kept_in plan mem (memories_of q.chip))
       → AllHold (T q) (if b then Outs text ∷ [] else Creates file ∷ Writes text ∷ [])
-  saved_now true mem format file q is_task text e = (BytesSaved mem format file is_task (inr (inr (ap Outs e))), tt)
-  saved_now false mem format file q is_task text e = (BytesSaved mem format file is_task (inl refl), (BytesSaved mem format file is_task (inr (inl (ap Writes e))), tt))
+  saved_now true mem format file q has text e = (BytesSaved mem format file has (inr (inr (ap Outs e))), tt)
+  saved_now false mem format file q has text e = (BytesSaved mem format file has (inl refl), (BytesSaved mem format file has (inr (inl (ap Writes e))), tt))
 
-  tells_reading : (mem : Mem) (format : Format) (file : Bytes) (m : Memories) → FitsPart plan.part m → Contains plan.tasks (task.Read mem format file) → Tells (Settled plan.part m) (reading_phase plan.part plan.switches mem format file)
-  tells_reading mem format file m f is_task =
+  tells_reading : (mem : Mem) (format : Format) (file : Bytes) (m : Memories) → FitsPart plan.part m → Contains (actions plan) (SaveMemory mem format file) → Tells (Settled plan.part m) (phase plan.part plan.switches (SaveMemory mem format file))
+  tells_reading mem format file m f has =
       tells_call (read_steps plan.part mem) m Ok (fault_or plan.part (read_says plan.switches mem format file)) (read_are_steps plan.part sound mem) f
       (λ q s.
       subst (λ bytes. AllHold (T q) (read_says plan.switches mem format file bytes)) (sym (read_now mem m q f s))
       (hold_on (T q) (saving_says file (file_text format (kept_in plan mem (memories_of q.chip)))) (bytes_say plan.switches.quiet mem (length (kept_in plan mem (memories_of q.chip))) (codes " bytes read"))
-      (saved_now (bytes_eq file (codes "-")) mem format file q is_task (file_text format (kept_in plan mem (memories_of q.chip))) refl)
-      (counts_hold mem (length (kept_in plan mem (memories_of q.chip))) (codes " bytes read") q (BytesRead mem format file is_task refl))))
+      (saved_now (bytes_eq file (codes "-")) mem format file q has (file_text format (kept_in plan mem (memories_of q.chip))) refl)
+      (counts_hold mem (length (kept_in plan mem (memories_of q.chip))) (codes " bytes read") q (BytesRead mem format file has refl))))
       failed
 
   tells_writing : (mem : Mem) (image : Image) (first later : List Item) → items plan ≡ first ++ Write mem image ∷ later → length image ≤ size_of mem plan.part → is_writable mem ≡ true
-      → Tells (Settled plan.part (effects plan.part first m0)) (writing_phase plan.part plan.switches mem image)
+      → Tells (Settled plan.part (effects plan.part first m0)) (phase plan.part plan.switches (WriteImage mem image))
   tells_writing mem image first later order fits can = by_kind (is_writable mem) can
     where
       m : Memories
@@ -294,55 +283,51 @@ module _ (plan : Plan) (sound : IsPart plan.part) (m0 : Memories) (f0 : FitsPart
           (λ q s. counts_hold mem (byte_count image) (codes " bytes written") q (BytesWritten mem image first later refl order (now q s))) failed
       by_kind false e = absurd (cc)
 
-  tells_read_back : (mem : Mem) (image : Image) (m : Memories) → FitsPart plan.part m → Compares plan mem image → Tells (Settled plan.part m) (reading_back_phase plan.part plan.switches mem image)
-  tells_read_back mem image m f compares = by_switch plan.switches.no_verify
+  tells_action : (action : Action) (done later : List Action) → FitsAction plan.part action → actions plan ≡ done ++ action ∷ later
+      → Tells (Settled plan.part (effects plan.part (items_of done) m0)) (phase plan.part plan.switches action)
+  tells_action action done later fits order = by_kind action fits here among
     where
-      by_switch : (b : Bool) → Tells (Settled plan.part m) (if b then Done Fine else verifying_phase plan.part plan.switches mem image)
-      by_switch true = λ k p fates s. tt
-      by_switch false = tells_verifying mem image m f compares
+      here : Contains (actions plan) action
+      here = subst (λ all. Contains all action) (sym order) (Contains-append_right done (action ∷ later) action (0, omega arith, refl))
 
-  tells_write : (mem : Mem) (image : Image) (first later : List Item) → items plan ≡ first ++ (task_items plan.switches (task.Write mem image) ++ later) → length image ≤ size_of mem plan.part
-      → is_writable mem ≡ true → Compares plan mem image → Tells (Settled plan.part (effects plan.part first m0)) (write_task_phase plan.part plan.switches mem image)
-  tells_write mem image first later order fits can compares = by_switch plan.switches.dry refl order
-    where
-      m : Memories
-      m = effects plan.part first m0
+      among : items plan ≡ items_of done ++ (action_items action ++ items_of later)
+      among = ap items_of order ∙ items_on done (action ∷ later)
 
-      f : FitsPart plan.part m
-      f = effects_sizes plan.part sound first m0 f0
+      f : FitsPart plan.part (effects plan.part (items_of done) m0)
+      f = effects_sizes plan.part sound (items_of done) m0 f0
 
-      by_switch : (dry : Bool) → plan.switches.dry ≡ dry → items plan ≡ first ++ ((if dry then [] else Write mem image ∷ []) ++ later)
-          → Tells (Settled plan.part m) (if dry then says (left_out_write plan.switches mem image) (Done Fine) else writing_phase plan.part plan.switches mem image >>= unless_fault (reading_back_phase plan.part plan.switches mem image))
-      by_switch true e o = λ k p fates s. true_says device T k (left_out_write plan.switches mem image) Fine p fates (counts_hold mem (byte_count image) (codes " bytes not written") p (WriteLeftOut mem image e refl))
-      by_switch false e o =
-          tells_then (Settled plan.part m) m (Write mem image ∷ []) ⊤ (writing_phase plan.part plan.switches mem image) (reading_back_phase plan.part plan.switches mem image)
-          (goes_writing plan.part sound plan.switches mem image m fits can f) (tells_writing mem image first later o fits can)
-          (tells_read_back mem image (effect plan.part (Write mem image) m) (effect_sizes plan.part sound (Write mem image) m f) compares)
+      by_kind : (a : Action) → FitsAction plan.part a → Contains (actions plan) a → items plan ≡ items_of done ++ (action_items a ++ items_of later)
+          → Tells (Settled plan.part (effects plan.part (items_of done) m0)) (phase plan.part plan.switches a)
+      by_kind OpenSession fits has order = absurd fits
+      by_kind EraseChip fits has order = tells_erasing (items_of done) (erase_first plan (items_of done) (items_of later) order) has
+      by_kind LeaveErase fits has order = λ k p fates s.
+          true_says device T k (left_out_erase plan.switches.quiet) Fine p fates
+          (hold_unless (T p) (nat_lt 1 plan.switches.quiet) (Line (warning (codes "chip not erased because of -n" ∷ []))) (EraseLeftOut has refl))
+      by_kind (WriteImage mem image) fits has order =
+          tells_writing mem image (items_of done) (items_of later) order (let size = fits.0 in omega (arith, size)) fits.1
+      by_kind (LeaveWrite mem image) fits has order = λ k p fates s.
+          true_says device T k (left_out_write plan.switches.quiet mem image) Fine p fates
+          (counts_hold mem (byte_count image) (codes " bytes not written") p (WriteLeftOut mem image has refl))
+      by_kind (CompareImage mem image) fits has order = tells_verifying mem image (effects plan.part (items_of done) m0) f has
+      by_kind (SaveMemory mem format file) fits has order = tells_reading mem format file (effects plan.part (items_of done) m0) f has
 
-  tells_task : (t : Task) (first later : List Item) → items plan ≡ first ++ (task_items plan.switches t ++ later) → IsFitted plan.part t → Contains plan.tasks t
-      → Tells (Settled plan.part (effects plan.part first m0)) (task_phase plan.part plan.switches t)
-  tells_task (task.Write mem image) first later order fitted is_task = tells_write mem image first later order (let size = fitted.0 in omega (arith, size)) fitted.1 (inr is_task)
-  tells_task (task.Verify mem image) first later order fitted is_task =
-      tells_verifying mem image (effects plan.part first m0) (effects_sizes plan.part sound first m0 f0) (inl is_task)
-  tells_task (task.Read mem format file) first later order fitted is_task =
-      tells_reading mem format file (effects plan.part first m0) (effects_sizes plan.part sound first m0 f0) is_task
+  -- the memories behind one more action
+  one_more : (done : List Action) (action : Action)
+      → effects plan.part (items_of (done ++ action ∷ [])) m0 ≡ effects plan.part (action_items action) (effects plan.part (items_of done) m0)
+  one_more done action =
+      ap (λ xs. effects plan.part xs m0) (items_on done (action ∷ []) ∙ ap (λ xs. items_of done ++ xs) (append-nil (action_items action)))
+      ∙ effects_on plan.part (items_of done) (action_items action) m0
 
-  here : (t : Task) (before tasks : List Task) → plan.tasks ≡ before ++ t ∷ tasks → Contains plan.tasks t
-  here t before tasks e = subst (λ all. Contains all t) (sym e) (Contains-append_right before (t ∷ tasks) t (0, omega arith, refl))
-
-  tells_tasks : (tasks before : List Task) (first : List Item) → plan.tasks ≡ before ++ tasks → items plan ≡ first ++ tasks_items plan.switches tasks → All (IsFitted plan.part) tasks
-      → Tells (Settled plan.part (effects plan.part first m0)) (tasks_phase plan.part plan.switches tasks)
-  tells_tasks [] before first all order fitted = λ k p fates s. tt
-  tells_tasks (t ∷ tasks) before first all order fitted =
-      let its = task_items plan.switches t in
-      let m = effects plan.part first m0 in
-      let fits = first_of (IsFitted plan.part) t tasks fitted in
-      tells_then (Settled plan.part m) m its _ (task_phase plan.part plan.switches t) (tasks_phase plan.part plan.switches tasks)
-      (goes_task plan.part sound plan.switches t m fits (effects_sizes plan.part sound first m0 f0))
-      (tells_task t first (tasks_items plan.switches tasks) order fits (here t before tasks all))
-      (subst (λ z. Tells (Settled plan.part z) (tasks_phase plan.part plan.switches tasks)) (effects_on plan.part first its m0)
-      (tells_tasks tasks (before ++ t ∷ []) (first ++ its) (all ∙ sym (append_assoc before (t ∷ []) tasks)) (order ∙ sym (append_assoc first its (tasks_items plan.switches tasks)))
-      (rest_of (IsFitted plan.part) t tasks fitted)))
+  tells_actions : (later done : List Action) → AllFitActions plan.part later → actions plan ≡ done ++ later
+      → Tells (Settled plan.part (effects plan.part (items_of done) m0)) (phases plan.part plan.switches later)
+  tells_actions [] done fit order = λ k p fates s. tt
+  tells_actions (action ∷ later) done fit order =
+      let m = effects plan.part (items_of done) m0 in
+      tells_then (Settled plan.part m) m (action_items action) (ActionAgrees plan.part action m) (phase plan.part plan.switches action) (phases plan.part plan.switches later)
+      (goes_phase plan.part sound plan.switches action m fit.0 (effects_sizes plan.part sound (items_of done) m0 f0))
+      (tells_action action done later fit.0 order)
+      (subst (λ z. Tells (Settled plan.part z) (phases plan.part plan.switches later)) (one_more done action)
+      (tells_actions later (done ++ action ∷ []) fit.1 (order ∙ sym (append_assoc done (action ∷ []) later))))
 
   -- ---- the end
 
@@ -372,19 +357,18 @@ module _ (plan : Plan) (sound : IsPart plan.part) (m0 : Memories) (f0 : FitsPart
   tells_ending Over k p fates any = tt
 
   module _ (fitted : All (IsFitted plan.part) plan.tasks) where
-    tells_working : Tells (Idle plan.part m0) (working plan)
-    tells_working =
-        tells_then (Idle plan.part m0) m0 (erasing_items plan.switches plan.tasks) _ (beginning plan) (tasks_phase plan.part plan.switches plan.tasks)
-        (goes_beginning plan sound fitted m0 f0)
-        (tells_then (Idle plan.part m0) m0 [] _ (opening_phase plan.part plan.switches) (erasing_phase plan.part plan.switches plan.tasks)
-        (goes_opening plan.part sound plan.switches m0 f0) tells_opening tells_erasing)
-        (tells_tasks plan.tasks [] (erasing_items plan.switches plan.tasks) refl refl fitted)
+    tells_phases : Tells (Idle plan.part m0) (phases plan.part plan.switches (actions plan))
+    tells_phases =
+        tells_then (Idle plan.part m0) m0 [] ⊤ (phase plan.part plan.switches OpenSession) (phases plan.part plan.switches (work plan))
+        (goes_opening plan.part sound plan.switches m0 f0) tells_opening
+        (tells_actions (work plan) (OpenSession ∷ []) (work_fits plan fitted) refl)
 
     -- a session
     pub session_tells : (k : ℕ) (p : Programmer) (fates : List Fate) → Idle plan.part m0 p → TellsTrue device T k (session plan) p fates
     unfolding session
     session_tells k p fates idle =
+        let done = along device k (phases plan.part plan.switches (actions plan)) p fates in
         true_bind device T k (playing plan) (λ standing. Done (status_of standing)) p fates
-        (true_bind device T k (working plan) (ending plan.part plan.switches) p fates (tells_working k p fates idle)
-        (λ standing e. tells_ending standing (along device k (working plan) p fates).left (along device k (working plan) p fates).programmer (along device k (working plan) p fates).fates tt))
+        (true_bind device T k (phases plan.part plan.switches (actions plan)) (ending plan.part plan.switches) p fates (tells_phases k p fates idle)
+        (λ standing e. tells_ending standing done.left done.programmer done.fates tt))
         (λ standing e. tt)

@@ -1,5 +1,5 @@
 -- Worked rows: what may not be told. Nothing was sent, so neither that the chip is erased nor that a byte is written.
-use Rattle.std.proofs.Common.{◌≡◌, ℕ, List, [], ◌∷◌, ◌++◌, Some, None, length, take, sym, ap, ◌∙◌, arith, ◌⊎◌, inl, inr, true, false}
+use Rattle.std.proofs.Common.{◌≡◌, ℕ, List, [], ◌∷◌, ◌++◌, Some, None, length, take, sym, ap, ◌∙◌, arith, ◌⊎◌, inl, inr}
 use Rattle.std.proofs.lemmas.List.{append-nil, reverse-append, take-append-le}
 use Rattle.std.specs.Prelude.{◌≤◌, codes, decimal, reverse, slice_index}
 use Rattle.avr_image.specs.Image.{byte_count}
@@ -29,7 +29,7 @@ zeros = chip_of tiny 0
 
 -- the last bytes of a line, last first
 abbrev ends : Saying → List ℕ
-ends (Line bytes) = take 9 (reverse bytes)
+ends (Line bytes) = take 10 (reverse bytes)
 ends (Opens opening) = []
 ends (Creates name) = []
 ends (Writes bytes) = []
@@ -43,21 +43,24 @@ joined [] [] [] (x ∷ d) e l = ap (λ t. x ∷ t) (joined [] [] [] d e l)
 joined [] [] [] [] e l = ap (λ t. t ++ l) (append-nil e)
 
 -- the line of a memory ends as its words do
-line_ends : (mem : Mem) (count : ℕ) (words : Bytes) → 9 ≤ length (reverse (words ++ 10 ∷ [])) → ends (count_line mem count words) ≡ take 9 (reverse (words ++ 10 ∷ []))
+line_ends : (mem : Mem) (count : ℕ) (words : Bytes) → 10 ≤ length (reverse (words ++ 10 ∷ [])) → ends (count_line mem count words) ≡ take 10 (reverse (words ++ 10 ∷ []))
 line_ends mem count words enough =
     let front : List ℕ = codes "avrstk: " ++ (name_of mem ++ (codes ": " ++ decimal count)) in
-    ap (λ bytes. take 9 (reverse bytes)) (joined (codes "avrstk: ") (name_of mem) (codes ": ") (decimal count) words (10 ∷ []))
-    ∙ (ap (take 9) (reverse-append front (words ++ 10 ∷ []))
-    ∙ take-append-le 9 (reverse (words ++ 10 ∷ [])) (reverse front) enough)
+    ap (λ bytes. take 10 (reverse bytes)) (joined (codes "avrstk: ") (name_of mem) (codes ": ") (decimal count) words (10 ∷ []))
+    ∙ (ap (take 10) (reverse-append front (words ++ 10 ∷ []))
+    ∙ take-append-le 10 (reverse (words ++ 10 ∷ [])) (reverse front) enough)
 
-verified_ends : (mem : Mem) (count : ℕ) → ends (count_line mem count (codes " bytes verified")) ≡ take 9 (reverse (codes " bytes verified" ++ 10 ∷ []))
+verified_ends : (mem : Mem) (count : ℕ) → ends (count_line mem count (codes " bytes verified")) ≡ take 10 (reverse (codes " bytes verified" ++ 10 ∷ []))
 verified_ends mem count = line_ends mem count (codes " bytes verified") (omega arith)
 
-read_ends : (mem : Mem) (count : ℕ) → ends (count_line mem count (codes " bytes read")) ≡ take 9 (reverse (codes " bytes read" ++ 10 ∷ []))
+read_ends : (mem : Mem) (count : ℕ) → ends (count_line mem count (codes " bytes read")) ≡ take 10 (reverse (codes " bytes read" ++ 10 ∷ []))
 read_ends mem count = line_ends mem count (codes " bytes read") (omega arith)
 
-written_ends : (mem : Mem) (count : ℕ) → ends (count_line mem count (codes " bytes written")) ≡ take 9 (reverse (codes " bytes written" ++ 10 ∷ []))
+written_ends : (mem : Mem) (count : ℕ) → ends (count_line mem count (codes " bytes written")) ≡ take 10 (reverse (codes " bytes written" ++ 10 ∷ []))
 written_ends mem count = line_ends mem count (codes " bytes written") (omega arith)
+
+left_ends : (mem : Mem) (count : ℕ) → ends (count_line mem count (codes " bytes not written")) ≡ take 10 (reverse (codes " bytes not written" ++ 10 ∷ []))
+left_ends mem count = line_ends mem count (codes " bytes not written") (omega arith)
 
 -- an erase opens the lock
 first_item : (a b x : Item) (more : List Item) → a ∷ b ∷ [] ≡ x ∷ more → a ≡ x
@@ -90,9 +93,6 @@ byte place (Creates name) = 0
 byte place (Writes bytes) = 0
 byte place (Outs bytes) = 0
 
-not_dry : false ≡ true → ⊥
-not_dry e = cc
-
 not_saved : (line file text : Bytes) → (Line line ≡ Creates file) ⊎ ((Line line ≡ Writes text) ⊎ (Line line ≡ Outs text)) → ⊥
 not_saved line file text (inl a) = cc
 not_saved line file text (inr (inl b)) = cc
@@ -101,27 +101,27 @@ not_saved line file text (inr (inr c)) = cc
 never_written : IsTrue plan zeros zeros (count_line Eeprom 1 (codes " bytes written")) → ⊥
 unfolding fault_line
 never_written (SignatureRead e) = let clash : 101 ≡ 100 = ap (byte 8) e in omega (arith, clash)
-never_written (ChipErased e now) = let clash : 101 ≡ 99 = ap (byte 8) e in omega (arith, clash)
+never_written (ChipErased has e now) = let clash : 101 ≡ 99 = ap (byte 8) e in omega (arith, clash)
+never_written (EraseLeftOut has e) = let clash : 101 ≡ 119 = ap (byte 8) e in omega (arith, clash)
 never_written (BytesWritten mem bytes first later e order now) = not_begun mem bytes first later order now
-never_written (BytesVerified mem bytes e compares shows) = let clash : 110 ≡ 100 = ap (λ l. slice_index l 1) (sym (written_ends Eeprom 1) ∙ (ap ends e ∙ verified_ends mem (byte_count bytes))) in omega (arith, clash)
-never_written (Differed mem bytes fault e compares differs) = let clash : 101 ≡ 114 = ap (byte 9) e in omega (arith, clash)
-never_written (BytesSaved mem format file is_task e) = not_saved _ file _ e
-never_written (BytesRead mem format file is_task e) = let clash : 110 ≡ 100 = ap (λ l. slice_index l 1) (sym (written_ends Eeprom 1) ∙ (ap ends e ∙ read_ends mem (length (kept_in plan mem zeros)))) in omega (arith, clash)
-never_written (EraseLeftOut dry e) = not_dry dry
-never_written (WriteLeftOut mem bytes dry e) = not_dry dry
+never_written (WriteLeftOut mem bytes has e) = let clash : 115 ≡ 116 = ap (λ l. slice_index l 9) (sym (written_ends Eeprom 1) ∙ (ap ends e ∙ left_ends mem (byte_count bytes))) in omega (arith, clash)
+never_written (BytesVerified mem bytes has e shows) = let clash : 110 ≡ 100 = ap (λ l. slice_index l 1) (sym (written_ends Eeprom 1) ∙ (ap ends e ∙ verified_ends mem (byte_count bytes))) in omega (arith, clash)
+never_written (Differed mem bytes fault has e differs) = let clash : 101 ≡ 114 = ap (byte 9) e in omega (arith, clash)
+never_written (BytesSaved mem format file has e) = not_saved _ file _ e
+never_written (BytesRead mem format file has e) = let clash : 110 ≡ 100 = ap (λ l. slice_index l 1) (sym (written_ends Eeprom 1) ∙ (ap ends e ∙ read_ends mem (length (kept_in plan mem zeros)))) in omega (arith, clash)
 never_written (StepFailed fault e) = let clash : 101 ≡ 114 = ap (byte 9) e in omega (arith, clash)
 never_written (SessionDone e) = let clash : 101 ≡ 100 = ap (byte 8) e in omega (arith, clash)
 
 never_erased : IsTrue plan zeros zeros (Line (information (codes "chip erased" ∷ []))) → ⊥
 unfolding fault_line
 never_erased (SignatureRead e) = let clash : 99 ≡ 100 = ap (byte 8) e in omega (arith, clash)
-never_erased (ChipErased e now) = let lock : 0 ≡ 255 = ap (λ (m : Memories). m.lock) now in omega (arith, lock)
+never_erased (ChipErased has e now) = let lock : 0 ≡ 255 = ap (λ (m : Memories). m.lock) now in omega (arith, lock)
+never_erased (EraseLeftOut has e) = let clash : 99 ≡ 119 = ap (byte 8) e in omega (arith, clash)
 never_erased (BytesWritten mem bytes first later e order now) = not_begun mem bytes first later order now
-never_erased (BytesVerified mem bytes e compares shows) = let clash : 115 ≡ 105 = ap (λ l. slice_index l 3) (ap ends e ∙ verified_ends mem (byte_count bytes)) in omega (arith, clash)
-never_erased (Differed mem bytes fault e compares differs) = let clash : 99 ≡ 101 = ap (byte 8) e in omega (arith, clash)
-never_erased (BytesSaved mem format file is_task e) = not_saved _ file _ e
-never_erased (BytesRead mem format file is_task e) = let clash : 101 ≡ 97 = ap (λ l. slice_index l 2) (ap ends e ∙ read_ends mem (length (kept_in plan mem zeros))) in omega (arith, clash)
-never_erased (EraseLeftOut dry e) = not_dry dry
-never_erased (WriteLeftOut mem bytes dry e) = not_dry dry
+never_erased (WriteLeftOut mem bytes has e) = let clash : 100 ≡ 110 = ap (λ l. slice_index l 1) (ap ends e ∙ left_ends mem (byte_count bytes)) in omega (arith, clash)
+never_erased (BytesVerified mem bytes has e shows) = let clash : 115 ≡ 105 = ap (λ l. slice_index l 3) (ap ends e ∙ verified_ends mem (byte_count bytes)) in omega (arith, clash)
+never_erased (Differed mem bytes fault has e differs) = let clash : 99 ≡ 101 = ap (byte 8) e in omega (arith, clash)
+never_erased (BytesSaved mem format file has e) = not_saved _ file _ e
+never_erased (BytesRead mem format file has e) = let clash : 101 ≡ 97 = ap (λ l. slice_index l 2) (ap ends e ∙ read_ends mem (length (kept_in plan mem zeros))) in omega (arith, clash)
 never_erased (StepFailed fault e) = let clash : 99 ≡ 101 = ap (byte 8) e in omega (arith, clash)
 never_erased (SessionDone e) = let clash : 99 ≡ 100 = ap (byte 8) e in omega (arith, clash)

@@ -1,5 +1,5 @@
 -- How much a session asks, by any weight of bodies: at most four times the commands of its plan's steps.
-use Rattle.std.proofs.Common.{◌≡◌, ℕ, zero, suc, ◌+◌, ◌*◌, ◌-◌, ◌≤◌, List, [], ◌∷◌, ◌++◌, map, append_assoc, refl, sym, ap, ◌∙◌, subst, arith, Bool, true, false, Ok, Err, Result, Option}
+use Rattle.std.proofs.Common.{◌≡◌, ℕ, zero, suc, ◌+◌, ◌*◌, ◌-◌, ◌≤◌, List, [], ◌∷◌, ◌++◌, map, append_assoc, refl, sym, ap, ◌∙◌, arith, Bool, true, false, Ok, Err, Result, Option}
 use Rattle.std.proofs.Math.Nat.{suc-mul}
 use Rattle.std.specs.Prelude.{if◌then◌else◌}
 use Rattle.avr_cli.specs.declared.settings.Switches.{Switches}
@@ -8,8 +8,6 @@ use Rattle.avr_part.specs.declared.mem.Mem.{Mem}
 use Rattle.avr_part.specs.Mem.{is_writable}
 use Rattle.avr_part.specs.Part.{Part}
 use Rattle.avr_plan.specs.Plan.{Plan}
-use Rattle.avr_plan.specs.declared.task.Task.{Task}
-use Rattle.avr_plan.specs.declared.task.Task.TheVariants.{Write, Verify, Read}
 use Rattle.stk_frame.specs.Commands.{body}
 use Rattle.stk_frame.specs.HostCommands.{enter, leave}
 use Rattle.stk_frame.specs.declared.command.Command.{Command}
@@ -25,11 +23,11 @@ use Rattle.stk_host.specs.WriteSteps.{write_steps}
 use Rattle.stk_host.specs.ReadSteps.{signature_steps, read_steps}
 use Rattle.stk_host.specs.Operations.{handshake, signature_judged, opening, without_bytes, closing, judged_by, operation, no_result, erasing, writing, reading, comparison, verifying}
 use Rattle.stk_host.specs.Bound.{opening_steps, erasing_steps, closing_steps}
-use Rattle.stk_emu.specs.Effect.{Image}
 use Rattle.avr_session.specs.declared.standing.Standing.{Standing}
 use Rattle.avr_session.specs.declared.standing.Standing.TheVariants.{Fine, Faulty, Over}
-use Rattle.avr_session.specs.Session.{says, standing, reported, unless_fault, fault_or, opening_says, erased_says, written_says, verified_says, closed_says, read_says, opening_phase, is_erase_due, left_out_erase, erasing_phase, verifying_phase, writing_phase, reading_back_phase, left_out_write, write_task_phase, task_phase, tasks_phase, working, ending, playing, status_of, session}
-use Rattle.avr_emulated.specs.Bound.{due_erase_steps, read_back_steps, task_steps, tasks_steps, run_steps}
+use Rattle.avr_session.specs.Actions.{Action, OpenSession, EraseChip, LeaveErase, WriteImage, LeaveWrite, CompareImage, SaveMemory, actions}
+use Rattle.avr_session.specs.Session.{says, standing, reported, unless_fault, fault_or, opening_says, erased_says, written_says, verified_says, closed_says, read_says, left_out_erase, left_out_write, phase, phases, ending, playing, status_of, session}
+use Rattle.avr_emulated.specs.Bound.{action_steps, actions_steps, run_steps}
 use Rattle.avr_emulated.specs.AnyLine.{Weight, weighed, bodies_in}
 
 -- whatever is read, the questions weigh at most so much
@@ -171,7 +169,7 @@ module _ (w : Weight) where
       by_kind true = operation_weighs (write_steps part mem image) no_result
       by_kind false = tt
 
-  -- ---- the parts of a session
+  -- ---- the phases of a session
 
   says_weigh : (n : ℕ) (sayings : List Saying) (s : Standing) → WeighsAtMost w n (says sayings (Done s))
   says_weigh n [] s = tt
@@ -182,9 +180,9 @@ module _ (w : Weight) where
       alone n (lifted call) (λ outcome. says (tells outcome) (Done (standing outcome))) (lifts Saying n call asks) (λ outcome. says_weigh 0 (tells outcome) (standing outcome))
 
   -- after a fault nothing more is asked
-  then_part : (xs ys : List (List Command)) (d next : Dialog Saying Standing) → WeighsAtMost w (4 * total xs) d → WeighsAtMost w (4 * total ys) next
+  then_phases : (xs ys : List (List Command)) (d next : Dialog Saying Standing) → WeighsAtMost w (4 * total xs) d → WeighsAtMost w (4 * total ys) next
       → WeighsAtMost w (4 * total (xs ++ ys)) (d >>= unless_fault next)
-  then_part xs ys d next asks more = one_on xs ys d (unless_fault next) asks after
+  then_phases xs ys d next asks more = one_on xs ys d (unless_fault next) asks after
     where
       after : (s : Standing) → WeighsAtMost w (4 * total ys) (unless_fault next s)
       after Fine = more
@@ -192,50 +190,23 @@ module _ (w : Weight) where
       after Over = tt
 
   module _ (part : Part) (s : Switches) where
-    opening_part_weighs : WeighsAtMost w (4 * total opening_steps) (opening_phase part s)
-    opening_part_weighs =
+    phase_weighs : (action : Action) → WeighsAtMost w (4 * total (action_steps part action)) (phase part s action)
+    phase_weighs OpenSession =
         reported_weighs (4 * total opening_steps) (opening part.signature s.force) (opening_says s.quiet part) (opening_weighs part.signature s.force)
-
-    erasing_part_weighs : (tasks : List Task) → WeighsAtMost w (4 * total (due_erase_steps s tasks)) (erasing_phase part s tasks)
-    erasing_part_weighs tasks = by_switch s.dry (is_erase_due s tasks)
-      where
-        by_switch : (dry due : Bool) → WeighsAtMost w (4 * total (if dry then [] else if due then erasing_steps else []))
-            (if dry then says (left_out_erase s) (Done Fine) else if due then reported erasing (erased_says s.quiet part) else Done Fine)
-        by_switch true due = says_weigh 0 (left_out_erase s) Fine
-        by_switch false true = reported_weighs (4 * total erasing_steps) erasing (erased_says s.quiet part) (operation_weighs erasing_steps no_result)
-        by_switch false false = tt
-
-    verifying_part_weighs : (mem : Mem) (image : Image) → WeighsAtMost w (4 * total (read_steps part mem)) (verifying_phase part s mem image)
-    verifying_part_weighs mem image =
+    phase_weighs EraseChip = reported_weighs (4 * total erasing_steps) erasing (erased_says s.quiet part) (operation_weighs erasing_steps no_result)
+    phase_weighs LeaveErase = says_weigh 0 (left_out_erase s.quiet) Fine
+    phase_weighs (WriteImage mem image) =
+        reported_weighs (4 * total (write_steps part mem image)) (writing part mem image) (written_says s.quiet part mem image) (writing_weighs part mem image)
+    phase_weighs (LeaveWrite mem image) = says_weigh 0 (left_out_write s.quiet mem image) Fine
+    phase_weighs (CompareImage mem image) =
         reported_weighs (4 * total (read_steps part mem)) (verifying part mem image) (verified_says s.quiet part mem image) (operation_weighs (read_steps part mem) (comparison mem image))
-
-    read_back_weighs : (mem : Mem) (image : Image) → WeighsAtMost w (4 * total (read_back_steps part s mem)) (reading_back_phase part s mem image)
-    read_back_weighs mem image = by_switch s.no_verify
-      where
-        by_switch : (b : Bool) → WeighsAtMost w (4 * total (if b then [] else read_steps part mem)) (if b then Done Fine else verifying_phase part s mem image)
-        by_switch true = tt
-        by_switch false = verifying_part_weighs mem image
-
-    write_part_weighs : (mem : Mem) (image : Image) → WeighsAtMost w (4 * total (task_steps part s (Write mem image))) (write_task_phase part s mem image)
-    write_part_weighs mem image = by_switch s.dry
-      where
-        by_switch : (b : Bool) → WeighsAtMost w (4 * total (if b then [] else write_steps part mem image ++ read_back_steps part s mem))
-            (if b then says (left_out_write s mem image) (Done Fine) else writing_phase part s mem image >>= unless_fault (reading_back_phase part s mem image))
-        by_switch true = says_weigh 0 (left_out_write s mem image) Fine
-        by_switch false =
-            then_part (write_steps part mem image) (read_back_steps part s mem) (writing_phase part s mem image) (reading_back_phase part s mem image)
-            (reported_weighs (4 * total (write_steps part mem image)) (writing part mem image) (written_says s.quiet part mem image) (writing_weighs part mem image)) (read_back_weighs mem image)
-
-    task_part_weighs : (task : Task) → WeighsAtMost w (4 * total (task_steps part s task)) (task_phase part s task)
-    task_part_weighs (Write mem image) = write_part_weighs mem image
-    task_part_weighs (Verify mem image) = verifying_part_weighs mem image
-    task_part_weighs (Read mem format file) =
+    phase_weighs (SaveMemory mem format file) =
         reported_weighs (4 * total (read_steps part mem)) (reading part mem) (fault_or part (read_says s mem format file)) (operation_weighs (read_steps part mem) Ok)
 
-    tasks_part_weigh : (tasks : List Task) → WeighsAtMost w (4 * total (tasks_steps part s tasks)) (tasks_phase part s tasks)
-    tasks_part_weigh [] = tt
-    tasks_part_weigh (task ∷ tasks) =
-        then_part (task_steps part s task) (tasks_steps part s tasks) (task_phase part s task) (tasks_phase part s tasks) (task_part_weighs task) (tasks_part_weigh tasks)
+    phases_weigh : (actions : List Action) → WeighsAtMost w (4 * total (actions_steps part actions)) (phases part s actions)
+    phases_weigh [] = tt
+    phases_weigh (action ∷ actions) =
+        then_phases (action_steps part action) (actions_steps part actions) (phase part s action) (phases part s actions) (phase_weighs action) (phases_weigh actions)
 
     ending_weighs : (at : Standing) → WeighsAtMost w (4 * total closing_steps) (ending part s at)
     ending_weighs Fine = reported_weighs (4 * total closing_steps) closing (closed_says s.quiet part) closing_weighs
@@ -243,24 +214,10 @@ module _ (w : Weight) where
         alone (4 * total closing_steps) (reported closing (λ _. [])) (λ closed. Done Over) (reported_weighs (4 * total closing_steps) closing (λ _. []) closing_weighs) (λ closed. tt)
     ending_weighs Over = tt
 
-  -- ---- the session
-
-  regrouped : {A : Type 0} (a b c d : List A) → ((a ++ b) ++ c) ++ d ≡ a ++ (b ++ (c ++ d))
-  regrouped a b c d = append_assoc (a ++ b) c d ∙ append_assoc a b (c ++ d)
-
-  playing_weighs : (plan : Plan) → WeighsAtMost w (4 * total (run_steps plan)) (playing plan)
-  playing_weighs plan =
-      let part = plan.part in
-      let s = plan.switches in
-      let erase = due_erase_steps s plan.tasks in
-      let tasks = tasks_steps part s plan.tasks in
-      subst (λ steps. WeighsAtMost w (4 * total steps) (playing plan)) (regrouped opening_steps erase tasks closing_steps)
-      (one_on ((opening_steps ++ erase) ++ tasks) closing_steps (working plan) (ending part s)
-      (then_part (opening_steps ++ erase) tasks (opening_phase part s >>= unless_fault (erasing_phase part s plan.tasks)) (tasks_phase part s plan.tasks)
-      (then_part opening_steps erase (opening_phase part s) (erasing_phase part s plan.tasks) (opening_part_weighs part s) (erasing_part_weighs part s plan.tasks))
-      (tasks_part_weigh part s plan.tasks))
-      (ending_weighs part s))
-
   pub session_weighs : (plan : Plan) → WeighsAtMost w (4 * total (run_steps plan)) (session plan)
   unfolding session
-  session_weighs plan = alone (4 * total (run_steps plan)) (playing plan) (λ standing. Done (status_of standing)) (playing_weighs plan) (λ standing. tt)
+  session_weighs plan =
+      let part = plan.part in
+      let s = plan.switches in
+      alone (4 * total (run_steps plan)) (playing plan) (λ standing. Done (status_of standing))
+      (one_on (actions_steps part (actions plan)) closing_steps (phases part s (actions plan)) (ending part s) (phases_weigh part s (actions plan)) (ending_weighs part s)) (λ standing. tt)

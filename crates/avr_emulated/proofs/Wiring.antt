@@ -10,8 +10,9 @@ use Rattle.stk_frame.specs.Cut.{frames}
 use Rattle.stk_host.specs.Dialog.{played, bytes_sent, sayings}
 use Rattle.stk_host.specs.Play.{Plays, Breaks, InTurn, IsPrefixOf}
 use Rattle.stk_host.specs.Talk.{Talk, Stays, sent, heard}
+use Rattle.avr_session.specs.Actions.{takes_memory}
 use Rattle.avr_session.specs.Runs.{devices, RunsTo}
-use Rattle.avr_session.specs.Session.{session, is_erase_due, takes_memory}
+use Rattle.avr_session.specs.Session.{session}
 use Rattle.avr_session.specs.Stopping.{IsPlayed}
 use Rattle.stk_emu.specs.Along.{along, said_along, AsksBodies}
 use Rattle.stk_emu.specs.Device.{device}
@@ -30,6 +31,7 @@ use Rattle.avr_emulated.specs.AnyLine.{weighed, bodies_in, memories, frames_over
 use Rattle.avr_emulated.specs.Bound.{run_steps}
 use Rattle.avr_emulated.specs.Course.{course}
 use Rattle.avr_emulated.specs.Told.{IsTrue, SaidTrue}
+use Rattle.avr_emulated.specs.Items.{items, has_erase}
 use Rattle.avr_emulated.specs.Outcome.{IsTouched, MakesStrokes, IsDone, IsCourse}
 use Rattle.avr_emulated.proofs.AgainHeals.{succeeds}
 use Rattle.avr_emulated.proofs.AnyLine.{session_leaves}
@@ -174,9 +176,9 @@ module _ (plan : Plan) (w v : WiredState) (fresh : IsFresh w) (stays : Stays Com
   goes_well (inr broke) few = inr broke.0
 
   -- and whatever the chip was, where the plan erases and agrees on a chip of 00 and on one of FF
-  succeeds_again : Either → AreFew w.wire.fates → plan.switches.dry ≡ false → is_erase_due plan.switches plan.tasks ≡ true → AgreesAnyway plan → (status ≡ 0) ⊎ Stopped plan w v old now
-  succeeds_again (inl whole) few wet due both = inl (succeeds plan before status sizes wet due both (ran_few whole few).status_is)
-  succeeds_again (inr broke) few wet due both = inr broke.0
+  succeeds_again : Either → AreFew w.wire.fates → has_erase (items plan) ≡ true → AgreesAnyway plan → (status ≡ 0) ⊎ Stopped plan w v old now
+  succeeds_again (inl whole) few erases both = inl (succeeds plan before status sizes erases both (ran_few whole few).status_is)
+  succeeds_again (inr broke) few erases both = inr broke.0
 
   -- and whatever was told was true then
   abbrev IsSaidTrue : Programmer → Saying → Type 0
@@ -200,7 +202,7 @@ module _ (plan : Plan) (w v : WiredState) (fresh : IsFresh w) (stays : Stays Com
   over_any_line runs = record {
     success = is_course runs;
     done = is_done runs;
-    images = λ zero wet verified. run_written plan before after fitted wet verified (is_done runs zero) sound sizes;
+    images = λ zero verified. run_written plan before after fitted verified (is_done runs zero) sound sizes;
     strokes = makes runs;
     untouched = λ none. ap (λ x. memories_of x.programmer.chip) (keeps.stands ∙ (ap (λ fs. line.wire_after device fs (line.fresh_wire begun w.wire.fates)) none ∙ as_begun));
     four = λ weight. front_weighs weight (4 * weighed weight (bodies_in (run_steps plan))) (session plan) 1 (heard v.talk) (sent v.talk) asks (session_weighs weight plan) (is_front runs);

@@ -1,22 +1,22 @@
 -- What writes leave in a memory: their images laid over each other, and elsewhere what was there.
-use Rattle.std.proofs.Common.{◌≡◌, ℕ, zero, suc, ◌≤◌, ◌<◌, arith, refl, sym, ap, ◌∙◌, subst, List, [], ◌∷◌, length, get_or, Bool, true, false, Option, Some, None, unwrap_or}
+use Rattle.std.proofs.Common.{◌≡◌, ℕ, zero, suc, ◌≤◌, ◌<◌, arith, refl, sym, ap, ◌∙◌, subst, List, [], ◌∷◌, ◌++◌, length, get_or, Bool, true, false, Option, Some, None, unwrap_or}
 use Rattle.std.proofs.lemmas.Bool.{true≢false, eqb-true}
 use Rattle.std.proofs.lemmas.List.{length-replicate}
-use Rattle.std.specs.Prelude.{◌==◌, ◌||◌, if◌then◌else◌, All}
+use Rattle.std.specs.Prelude.{◌==◌, if◌then◌else◌}
 use Rattle.avr_cli.specs.declared.settings.Switches.{Switches}
 use Rattle.avr_image.specs.Image.{empty, byte_at, either, over}
 use Rattle.avr_part.specs.Part.{Part, size_of}
 use Rattle.avr_part.specs.declared.mem.Mem.{Mem}
 use Rattle.avr_part.specs.declared.mem.Mem.TheVariants.{Flash, Eeprom, Lfuse, Hfuse, Efuse, Lock, Signature, Calibration}
-use Rattle.avr_plan.specs.Plan.{IsFitted}
 use Rattle.avr_plan.specs.declared.task.Task.{Task}
 use Rattle.avr_plan.specs.declared.task.Task.TheVariants as task
+use Rattle.avr_session.specs.Actions.{Action, OpenSession, EraseChip, LeaveErase, WriteImage, LeaveWrite, CompareImage, SaveMemory, tasks_actions}
 use Rattle.stk_emu.specs.Effect.{Image, Memories, Write, with_image, and_in, and_with, are_locked, write_effect, effects, memory_in}
 use Rattle.stk_emu.proofs.Images.{length-laid, length-and_in}
-use Rattle.stk_emu.proofs.PageStrokes.{effects_on}
-use Rattle.avr_emulated.specs.Agrees.{Shows, Unless, TasksAgree}
-use Rattle.avr_emulated.specs.Items.{task_items, tasks_items}
+use Rattle.avr_emulated.specs.Agrees.{Shows, ActionsAgree}
+use Rattle.avr_emulated.specs.Items.{items_of}
 use Rattle.avr_emulated.specs.Written.{memory_number, written_to, byte_in}
+use Rattle.avr_emulated.proofs.Fitting.{AllFitActions}
 
 none_some : {A : Type 0} (b : ℕ) → ◌≡◌ {A = Option ℕ} None (Some b) → A
 none_some b e = absurd (let no : ⊥ = cc in no)
@@ -192,32 +192,23 @@ module _ (part : Part) where
       kept i (Some c) e none = some_none c none
       kept i None e none = b.rest i e ∙ a.rest i none
 
-  -- ---- what tasks leave
-
-  first_fitted : (task : Task) (tasks : List Task) → All (IsFitted part) (task ∷ tasks) → IsFitted part task
-  first_fitted task tasks all = all 0 task (omega arith)
-
-  others_fitted : (task : Task) (tasks : List Task) → All (IsFitted part) (task ∷ tasks) → All (IsFitted part) tasks
-  others_fitted task tasks all = λ k d l. all (suc k) d (omega (arith, l))
+  -- ---- what actions leave
 
   size_over : (mem other : Mem) (image more : Image) (same : Bool) → (memory_number other == memory_number mem) ≡ same → length image ≡ size_of other part → length more ≡ size_of mem part
       → length (if same then over image more else more) ≡ size_of mem part
   size_over mem other image more true e fits rest = length-over image more ∙ (fits ∙ ap (λ (x : Mem). size_of x part) (same_memory other mem e))
   size_over mem other image more false e fits rest = rest
 
-  length-written_to : (mem : Mem) (tasks : List Task) → All (IsFitted part) tasks → length (written_to part mem tasks) ≡ size_of mem part
-  length-written_to mem [] all = length-replicate {A = Option ℕ} (size_of mem part) None
-  length-written_to mem (task.Write other image ∷ tasks) all =
-      size_over mem other image (written_to part mem tasks) (memory_number other == memory_number mem) refl (first_fitted (task.Write other image) tasks all).0
-      (length-written_to mem tasks (others_fitted (task.Write other image) tasks all))
-  length-written_to mem (task.Verify other image ∷ tasks) all = length-written_to mem tasks (others_fitted (task.Verify other image) tasks all)
-  length-written_to mem (task.Read other format file ∷ tasks) all = length-written_to mem tasks (others_fitted (task.Read other format file) tasks all)
-
-  agreed : (dry no_verify : Bool) (mem : Mem) (image : Image) (m : Memories) → dry ≡ false → no_verify ≡ false
-      → Unless (dry || no_verify) (Shows part mem image (effects part (if dry then [] else Write mem image ∷ []) m)) → Shows part mem image (write_effect mem image m)
-  agreed true no_verify mem image m e f agree = absurd (true≢false e)
-  agreed false true mem image m e f agree = absurd (true≢false f)
-  agreed false false mem image m e f agree = agree
+  length-written_to : (mem : Mem) (actions : List Action) → AllFitActions part actions → length (written_to part mem (items_of actions)) ≡ size_of mem part
+  length-written_to mem [] fit = length-replicate {A = Option ℕ} (size_of mem part) None
+  length-written_to mem (WriteImage other image ∷ actions) fit =
+      size_over mem other image (written_to part mem (items_of actions)) (memory_number other == memory_number mem) refl fit.0.0 (length-written_to mem actions fit.1)
+  length-written_to mem (OpenSession ∷ actions) fit = length-written_to mem actions fit.1
+  length-written_to mem (EraseChip ∷ actions) fit = length-written_to mem actions fit.1
+  length-written_to mem (LeaveErase ∷ actions) fit = length-written_to mem actions fit.1
+  length-written_to mem (LeaveWrite other image ∷ actions) fit = length-written_to mem actions fit.1
+  length-written_to mem (CompareImage other image ∷ actions) fit = length-written_to mem actions fit.1
+  length-written_to mem (SaveMemory other format file ∷ actions) fit = length-written_to mem actions fit.1
 
   -- a write, and what follows it
   write_left : (mem other : Mem) (image more : Image) (m new : Memories) (same : Bool) → (memory_number other == memory_number mem) ≡ same
@@ -230,20 +221,23 @@ module _ (part : Part) where
       left_over mem image more m (write_effect other image m) new (omega (arith, long, size)) first left
   write_left mem other image more m new false e fits size shows left = left_from mem more m (write_effect other image m) new (others_stay part other mem image m e) left
 
-  -- where writes are made and read back
-  pub tasks_left : (s : Switches) → s.dry ≡ false → s.no_verify ≡ false → (mem : Mem) (tasks : List Task) (m : Memories) → All (IsFitted part) tasks → TasksAgree part s tasks m
-      → Left part mem (written_to part mem tasks) m (effects part (tasks_items s tasks) m)
-  tasks_left s wet verified mem [] m all agree = left_as_it_is mem (size_of mem part) m
-  tasks_left s wet verified mem (task.Write other image ∷ tasks) m all agree =
+  -- what actions leave of a memory that agree
+  abbrev Leave : Mem → List Action → Memories → Type 0
+  Leave mem actions m = AllFitActions part actions → ActionsAgree part actions m → Left part mem (written_to part mem (items_of actions)) m (effects part (items_of actions) m)
+
+  write_leaves : (dry left_out : Bool) (mem other : Mem) (image : Image) (more : List Action) (m : Memories) → left_out ≡ false → ((now : Memories) → Leave mem more now)
+      → Leave mem ((if dry then LeaveWrite other image ∷ [] else WriteImage other image ∷ (if left_out then [] else CompareImage other image ∷ [])) ++ more) m
+  write_leaves true left_out mem other image more m e rest fit agree = rest m fit.1 agree.1
+  write_leaves false true mem other image more m e rest fit agree = absurd (true≢false e)
+  write_leaves false false mem other image more m e rest fit agree =
       let after = write_effect other image m in
-      let fitted = others_fitted (task.Write other image) tasks all in
-      let is_after : effects part (task_items s (task.Write other image)) m ≡ after = ap (λ dry. effects part (if dry then [] else Write other image ∷ []) m) wet in
-      let whole : effects part (tasks_items s (task.Write other image ∷ tasks)) m ≡ effects part (tasks_items s tasks) after =
-      effects_on part (task_items s (task.Write other image)) (tasks_items s tasks) m ∙ ap (effects part (tasks_items s tasks)) is_after in
-      subst (λ new. Left part mem (written_to part mem (task.Write other image ∷ tasks)) m new) (sym whole)
-      (write_left mem other image (written_to part mem tasks) m (effects part (tasks_items s tasks) after) (memory_number other == memory_number mem) refl
-      (first_fitted (task.Write other image) tasks all).0 (length-written_to mem tasks fitted)
-      (agreed s.dry s.no_verify other image m wet verified agree.0)
-      (tasks_left s wet verified mem tasks after fitted (subst (λ m'. TasksAgree part s tasks m') is_after agree.1)))
-  tasks_left s wet verified mem (task.Verify other image ∷ tasks) m all agree = tasks_left s wet verified mem tasks m (others_fitted (task.Verify other image) tasks all) agree.1
-  tasks_left s wet verified mem (task.Read other format file ∷ tasks) m all agree = tasks_left s wet verified mem tasks m (others_fitted (task.Read other format file) tasks all) agree.1
+      write_left mem other image (written_to part mem (items_of more)) m (effects part (items_of more) after) (memory_number other == memory_number mem) refl
+      fit.0.0 (length-written_to mem more fit.1.1) agree.1.0 (rest after fit.1.1 agree.1.1)
+
+  -- where writes are read back
+  pub tasks_left : (s : Switches) → s.no_verify ≡ false → (mem : Mem) (tasks : List Task) (m : Memories) → Leave mem (tasks_actions s tasks) m
+  tasks_left s verified mem [] m fit agree = left_as_it_is mem (size_of mem part) m
+  tasks_left s verified mem (task.Write other image ∷ tasks) m fit agree =
+      write_leaves s.dry s.no_verify mem other image (tasks_actions s tasks) m verified (λ now. tasks_left s verified mem tasks now) fit agree
+  tasks_left s verified mem (task.Verify other image ∷ tasks) m fit agree = tasks_left s verified mem tasks m fit.1 agree.1
+  tasks_left s verified mem (task.Read other format file ∷ tasks) m fit agree = tasks_left s verified mem tasks m fit.1 agree.1

@@ -1,5 +1,5 @@
 -- What a verified run leaves in each memory, and that a further comparison agrees.
-use Rattle.std.proofs.Common.{◌≡◌, ℕ, ◌<◌, arith, refl, sym, ◌∙◌, subst, List, [], ◌∷◌, map, length, get_or, Bool, true, false}
+use Rattle.std.proofs.Common.{◌≡◌, ℕ, ◌<◌, arith, refl, sym, ap, ◌∙◌, subst, List, [], ◌∷◌, ◌++◌, map, length, get_or, Bool, true, false}
 use Rattle.std.proofs.lemmas.Bool.{true≢false}
 use Rattle.std.proofs.lemmas.List.{get_or-replicate}
 use Rattle.std.specs.List.{list_any}
@@ -11,88 +11,89 @@ use Rattle.avr_part.specs.declared.mem.Mem.{Mem}
 use Rattle.avr_part.specs.declared.mem.Mem.TheVariants.{Flash, Eeprom, Lfuse, Hfuse, Efuse, Lock}
 use Rattle.avr_plan.specs.Plan.{Plan, IsFitted}
 use Rattle.avr_plan.specs.declared.task.Task.TheVariants as task
-use Rattle.avr_session.specs.Session.{is_erase_due, writes_flash}
+use Rattle.avr_session.specs.Actions.{writes_flash, tasks_actions, EraseChip, LeaveErase}
 use Rattle.stk_emu.specs.Effect.{Image, Memories, Item, Erase, erase_keeps_eeprom, effect, effects}
 use Rattle.stk_emu.specs.Settled.{FitsPart}
 use Rattle.stk_emu.proofs.PageStrokes.{effects_on}
-use Rattle.avr_emulated.specs.Agrees.{Shows, TasksAgree}
+use Rattle.avr_emulated.specs.Agrees.{Shows, ActionsAgree}
 use Rattle.avr_emulated.specs.Course.{course}
-use Rattle.avr_emulated.specs.Items.{items, erasing_items, tasks_items}
+use Rattle.avr_emulated.specs.Items.{items_of, items, has_erase}
 use Rattle.avr_emulated.specs.Outcome.{IsDone}
 use Rattle.avr_emulated.specs.Written.{IsWritten, written_to}
 use Rattle.avr_emulated.proofs.AgainStrokes.{all_sizes}
+use Rattle.avr_emulated.proofs.Fitting.{tasks_fit}
+use Rattle.avr_emulated.proofs.PlanItems.{writes, erase_if, items_are, tasks_agree, plan_agrees}
 use Rattle.avr_emulated.proofs.WrittenCourse.{course_status}
 use Rattle.avr_emulated.proofs.WrittenImages.{Left, tasks_left}
 
 -- ---- after the erase
 
-abbrev erase_if : Bool → Bool → List Item
-erase_if dry due = if dry then [] else if due then Erase ∷ [] else []
-
-flash_erased : (part : Part) (dry due : Bool) (m : Memories) (addr : ℕ) → dry ≡ false → addr < length m.flash
-    → get_or (effects part (erase_if dry due) m).flash addr 0 ≡ (if due then 255 else get_or m.flash addr 0)
-flash_erased part true due m addr e l = absurd (true≢false e)
-flash_erased part false true m addr e l = get_or-replicate (length m.flash) addr 255 0 l
-flash_erased part false false m addr e l = refl
+flash_erased : (part : Part) (due : Bool) (m : Memories) (addr : ℕ) → addr < length m.flash
+    → get_or (effects part (erase_if due) m).flash addr 0 ≡ (if due then 255 else get_or m.flash addr 0)
+flash_erased part true m addr l = get_or-replicate (length m.flash) addr 255 0 l
+flash_erased part false m addr l = refl
 
 eeprom_blanked : (keeps : Bool) (xs : List ℕ) (addr : ℕ) → addr < length xs
     → get_or (if keeps then xs else blank xs) addr 0 ≡ (if not keeps then 255 else get_or xs addr 0)
 eeprom_blanked true xs addr l = refl
 eeprom_blanked false xs addr l = get_or-replicate (length xs) addr 255 0 l
 
-eeprom_erased : (part : Part) (dry due : Bool) (m : Memories) (addr : ℕ) → dry ≡ false → addr < length m.eeprom
-    → get_or (effects part (erase_if dry due) m).eeprom addr 0 ≡ (if due && not (erase_keeps_eeprom part m) then 255 else get_or m.eeprom addr 0)
-eeprom_erased part true due m addr e l = absurd (true≢false e)
-eeprom_erased part false true m addr e l = eeprom_blanked (erase_keeps_eeprom part m) m.eeprom addr l
-eeprom_erased part false false m addr e l = refl
+eeprom_erased : (part : Part) (due : Bool) (m : Memories) (addr : ℕ) → addr < length m.eeprom
+    → get_or (effects part (erase_if due) m).eeprom addr 0 ≡ (if due && not (erase_keeps_eeprom part m) then 255 else get_or m.eeprom addr 0)
+eeprom_erased part true m addr l = eeprom_blanked (erase_keeps_eeprom part m) m.eeprom addr l
+eeprom_erased part false m addr l = refl
 
 -- an erase keeps a fuse
-fuse_kept : (part : Part) (fuse : Memories → ℕ) (dry due : Bool) (m : Memories) → fuse (effect part Erase m) ≡ fuse m → fuse (effects part (erase_if dry due) m) ≡ fuse m
-fuse_kept part fuse true due m kept = refl
-fuse_kept part fuse false true m kept = kept
-fuse_kept part fuse false false m kept = refl
+fuse_kept : (part : Part) (fuse : Memories → ℕ) (due : Bool) (m : Memories) → fuse (effect part Erase m) ≡ fuse m → fuse (effects part (erase_if due) m) ≡ fuse m
+fuse_kept part fuse true m kept = kept
+fuse_kept part fuse false m kept = refl
 
-lock_erased : (part : Part) (dry due : Bool) (m : Memories) → dry ≡ false → (effects part (erase_if dry due) m).lock ≡ (if due then 255 else m.lock)
-lock_erased part true due m e = absurd (true≢false e)
-lock_erased part false true m e = refl
-lock_erased part false false m e = refl
+lock_erased : (part : Part) (due : Bool) (m : Memories) → (effects part (erase_if due) m).lock ≡ (if due then 255 else m.lock)
+lock_erased part true m = refl
+lock_erased part false m = refl
+
+-- an erase writes no image
+written_behind : (part : Part) (mem : Mem) (due : Bool) (xs : List Item) → written_to part mem (erase_if due ++ xs) ≡ written_to part mem xs
+written_behind part mem true xs = refl
+written_behind part mem false xs = refl
 
 -- ---- the whole run
 
-module _ (plan : Plan) (before after : Memories) (all : All (IsFitted plan.part) plan.tasks)
-    (wet : plan.switches.dry ≡ false) (verified : plan.switches.no_verify ≡ false) (run : IsDone plan before after) where
+module _ (plan : Plan) (before after : Memories) (all : All (IsFitted plan.part) plan.tasks) (verified : plan.switches.no_verify ≡ false) (run : IsDone plan before after) where
+  abbrev due : Bool
+  due = has_erase (items plan)
+
   abbrev erased : Memories
-  erased = effects plan.part (erasing_items plan.switches plan.tasks) before
+  erased = effects plan.part (erase_if due) before
 
-  is_after : effects plan.part (tasks_items plan.switches plan.tasks) erased ≡ after
-  is_after = sym (run.memories ∙ effects_on plan.part (erasing_items plan.switches plan.tasks) (tasks_items plan.switches plan.tasks) before)
+  is_after : effects plan.part (writes plan) erased ≡ after
+  is_after = sym (run.memories ∙ (ap (λ xs. effects plan.part xs before) (items_are plan) ∙ effects_on plan.part (erase_if due) (writes plan) before))
 
-  memory_left : (mem : Mem) → Left plan.part mem (written_to plan.part mem plan.tasks) erased after
+  memory_left : (mem : Mem) → Left plan.part mem (written_to plan.part mem (items plan)) erased after
   memory_left mem =
-      subst (λ new. Left plan.part mem (written_to plan.part mem plan.tasks) erased new) is_after
-      (tasks_left plan.part plan.switches wet verified mem plan.tasks erased all run.agrees)
+      subst (λ image. Left plan.part mem image erased after) (sym (ap (written_to plan.part mem) (items_are plan) ∙ written_behind plan.part mem due (writes plan)))
+      (subst (λ new. Left plan.part mem (written_to plan.part mem (writes plan)) erased new) is_after
+      (tasks_left plan.part plan.switches verified mem plan.tasks erased (tasks_fit plan.part plan.switches plan.tasks all) (tasks_agree plan before run.agrees)))
 
   pub run_written : IsPart plan.part → FitsPart plan.part before → IsWritten plan before after
   run_written sound fits =
       let part = plan.part in
       let sizes : FitsPart part after = subst (FitsPart part) (sym run.memories) (all_sizes part sound (items plan) before fits) in
-      let dry = plan.switches.dry in
-      let due = is_erase_due plan.switches plan.tasks in
       record {
         flash_size = sizes.flash;
         eeprom_size = sizes.eeprom;
         images = λ mem. (memory_left mem).shows;
-        rest_of_flash = λ addr l none. (memory_left Flash).rest addr none ∙ flash_erased part dry due before addr wet (omega (arith, l, fits.flash));
-        rest_of_eeprom = λ addr l none. (memory_left Eeprom).rest addr none ∙ eeprom_erased part dry due before addr wet (omega (arith, l, fits.eeprom));
-        lfuse = λ none. (memory_left Lfuse).rest 0 none ∙ fuse_kept part (λ m. m.lfuse) dry due before refl;
-        hfuse = λ none. (memory_left Hfuse).rest 0 none ∙ fuse_kept part (λ m. m.hfuse) dry due before refl;
-        efuse = λ none. (memory_left Efuse).rest 0 none ∙ fuse_kept part (λ m. m.efuse) dry due before refl;
-        lock = λ none. (memory_left Lock).rest 0 none ∙ lock_erased part dry due before wet;
+        rest_of_flash = λ addr l none. (memory_left Flash).rest addr none ∙ flash_erased part due before addr (omega (arith, l, fits.flash));
+        rest_of_eeprom = λ addr l none. (memory_left Eeprom).rest addr none ∙ eeprom_erased part due before addr (omega (arith, l, fits.eeprom));
+        lfuse = λ none. (memory_left Lfuse).rest 0 none ∙ fuse_kept part (λ m. m.lfuse) due before refl;
+        hfuse = λ none. (memory_left Hfuse).rest 0 none ∙ fuse_kept part (λ m. m.hfuse) due before refl;
+        efuse = λ none. (memory_left Efuse).rest 0 none ∙ fuse_kept part (λ m. m.efuse) due before refl;
+        lock = λ none. (memory_left Lock).rest 0 none ∙ lock_erased part due before;
       }
 
 -- images that are shown agree once more
 shown_agree : (part : Part) (s : Switches) (image_of : Mem → Image) (m : Memories) (mems : List Mem) → ((mem : Mem) → Shows part mem (image_of mem) m)
-    → TasksAgree part s (map (λ mem. task.Verify mem (image_of mem)) mems) m
+    → ActionsAgree part (tasks_actions s (map (λ mem. task.Verify mem (image_of mem)) mems)) m
 shown_agree part s image_of m [] shown = tt
 shown_agree part s image_of m (mem ∷ mems) shown = (shown mem, shown_agree part s image_of m mems shown)
 
@@ -101,10 +102,11 @@ none_writes : (image_of : Mem → Image) (mems : List Mem) → list_any writes_f
 none_writes image_of [] = refl
 none_writes image_of (mem ∷ mems) = none_writes image_of mems
 
-no_erase : (dry erase any keep : Bool) → erase ≡ false → any ≡ false → erase_if dry (erase || (any && keep)) ≡ []
-no_erase true erase any keep e n = refl
-no_erase false true any keep e n = absurd (true≢false e)
-no_erase false false true keep e n = absurd (true≢false n)
+no_erase : (dry erase any keep : Bool) → erase ≡ false → any ≡ false
+    → items_of (if dry then (if erase then LeaveErase ∷ [] else []) else if erase || (any && keep) then EraseChip ∷ [] else []) ≡ []
+no_erase dry true any keep e n = absurd (true≢false e)
+no_erase dry false true keep e n = absurd (true≢false n)
+no_erase true false false keep e n = refl
 no_erase false false false keep e n = refl
 
 -- so a run that compares what is shown, and nothing else, has status 0
@@ -112,7 +114,9 @@ pub shown_succeeds : (part : Part) (s : Switches) (image_of : Mem → Image) (m 
     → (course (record { part = part; tasks = map (λ mem. task.Verify mem (image_of mem)) mems; switches = s }) m).status ≡ 0
 shown_succeeds part s image_of m mems kept shown =
     let tasks = map (λ mem. task.Verify mem (image_of mem)) mems in
-    (course_status (record { part = part; tasks = tasks; switches = s }) m).1
-    (subst (λ items. TasksAgree part s tasks (effects part items m))
+    let plan : Plan = record { part = part; tasks = tasks; switches = s } in
+    (course_status plan m).1
+    (plan_agrees plan m
+    (subst (λ items. ActionsAgree part (tasks_actions s tasks) (effects part items m))
     (sym (no_erase s.dry s.erase (list_any writes_flash tasks) (not s.keep_flash) kept (none_writes image_of mems)))
-    (shown_agree part s image_of m mems shown))
+    (shown_agree part s image_of m mems shown)))

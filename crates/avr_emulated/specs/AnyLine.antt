@@ -5,7 +5,8 @@ use Rattle.avr_desk.specs.Record.{DeskView}
 use Rattle.avr_desk.specs.Said.{Saying}
 use Rattle.avr_plan.specs.Plan.{Plan}
 use Rattle.avr_session.specs.Runs.{devices, start, untold, BrokeOff}
-use Rattle.avr_session.specs.Session.{session, is_erase_due, takes_memory}
+use Rattle.avr_session.specs.Actions.{takes_memory}
+use Rattle.avr_session.specs.Session.{session}
 use Rattle.stk_emu.specs.Device.{device}
 use Rattle.stk_emu.specs.Effect.{Memories, memories_of}
 use Rattle.stk_emu.specs.Few.{AreFew}
@@ -18,6 +19,7 @@ use Rattle.stk_host.specs.Dialog.{Event, played}
 use Rattle.stk_host.specs.Talk.{sent, heard}
 use Rattle.avr_emulated.specs.Again.{AgreesAnyway}
 use Rattle.avr_emulated.specs.Bound.{run_steps}
+use Rattle.avr_emulated.specs.Items.{items, has_erase}
 use Rattle.avr_emulated.specs.Outcome.{IsCourse, IsDone, MakesStrokes}
 use Rattle.avr_emulated.specs.Told.{IsTrue, SaidTrue}
 use Rattle.avr_emulated.specs.Written.{IsWritten}
@@ -62,8 +64,7 @@ pub record OverAnyLine (plan : Plan) (before after : WiredState) (old now : Desk
   -- all that the plan writes was written, and all that it compares agreed
   pub done : status ≡ 0 → IsDone plan (memories before) (memories after)
   -- each memory holds its images, later over earlier, and the rest is as it was, or as an erase leaves it
-  pub images : status ≡ 0 → plan.switches.dry ≡ false → plan.switches.no_verify ≡ false
-      → IsWritten plan (memories before) (memories after)
+  pub images : status ≡ 0 → plan.switches.no_verify ≡ false → IsWritten plan (memories before) (memories after)
   -- whatever the status: the first strokes of the plan were made, those that came to data, and perhaps one more
   pub strokes : MakesStrokes plan (fresh_programmer before.wire.programmer.chip) before.wire.fates
       (length (frames_over after)) (memories before) (memories after)
@@ -80,6 +81,5 @@ pub record OverAnyLine (plan : Plan) (before after : WiredState) (old now : Desk
   pub few_bad : AreFew before.wire.fates
       → IsCourse plan (memories before) (memories after) old now status ⊎ Stopped plan before after old now
   -- and then a plan that erases, and agrees on a chip of 00 and on one of FF, succeeds, whatever the chip was
-  pub again : AreFew before.wire.fates → plan.switches.dry ≡ false
-      → is_erase_due plan.switches plan.tasks ≡ true → AgreesAnyway plan
+  pub again : AreFew before.wire.fates → has_erase (items plan) ≡ true → AgreesAnyway plan
       → (status ≡ 0) ⊎ Stopped plan before after old now

@@ -1,12 +1,8 @@
 -- All the steps that a run of a plan may take, and how long it can listen.
-use Rattle.std.specs.Prelude.{ℕ, suc, ◌+◌, ◌*◌, ◌<◌, ◌≤◌, List, [], ◌∷◌, ◌++◌, length, if◌then◌else◌}
-use Rattle.avr_cli.specs.declared.settings.Switches.{Switches}
-use Rattle.avr_part.specs.declared.mem.Mem.{Mem}
+use Rattle.std.specs.Prelude.{ℕ, suc, ◌+◌, ◌*◌, ◌<◌, ◌≤◌, List, [], ◌∷◌, ◌++◌, length}
 use Rattle.avr_part.specs.Part.{Part}
 use Rattle.avr_plan.specs.Plan.{Plan}
-use Rattle.avr_plan.specs.declared.task.Task.{Task}
-use Rattle.avr_plan.specs.declared.task.Task.TheVariants as task
-use Rattle.avr_session.specs.Session.{is_erase_due}
+use Rattle.avr_session.specs.Actions.{Action, OpenSession, EraseChip, WriteImage, CompareImage, SaveMemory, actions}
 use Rattle.stk_frame.specs.Cut.{frames}
 use Rattle.stk_frame.specs.declared.command.Command.{Command}
 use Rattle.stk_host.specs.Bound.{opening_steps, erasing_steps, closing_steps}
@@ -18,30 +14,22 @@ use Rattle.stk_host.specs.Tape.{Tape, limit}
 use Rattle.stk_host.specs.declared.link.Item.TheVariants.{Byte, Silence, End}
 use Rattle.stk_host.specs.WriteSteps.{write_steps}
 
--- an erase, where it is due
-abbrev pub due_erase_steps : Switches → List Task → List (List Command)
-due_erase_steps s tasks = if s.dry then [] else if is_erase_due s tasks then erasing_steps else []
+-- the steps of one action: a comparison reads its memory, and what is left out takes none
+abbrev pub action_steps : Part → Action → List (List Command)
+action_steps part OpenSession = opening_steps
+action_steps part EraseChip = erasing_steps
+action_steps part (WriteImage mem image) = write_steps part mem image
+action_steps part (CompareImage mem image) = read_steps part mem
+action_steps part (SaveMemory mem format file) = read_steps part mem
+action_steps part action = []
 
--- what was written is read back, unless that isn't wanted
-abbrev pub read_back_steps : Part → Switches → Mem → List (List Command)
-read_back_steps part s mem = if s.no_verify then [] else read_steps part mem
+abbrev pub actions_steps : Part → List Action → List (List Command)
+actions_steps part [] = []
+actions_steps part (action ∷ actions) = action_steps part action ++ actions_steps part actions
 
--- a write, unless nothing is to be written; a comparison reads its memory
-abbrev pub task_steps : Part → Switches → Task → List (List Command)
-task_steps part s (task.Write mem image) =
-    if s.dry then [] else write_steps part mem image ++ read_back_steps part s mem
-task_steps part s (task.Verify mem image) = read_steps part mem
-task_steps part s (task.Read mem format file) = read_steps part mem
-
-abbrev pub tasks_steps : Part → Switches → List Task → List (List Command)
-tasks_steps part s [] = []
-tasks_steps part s (first ∷ tasks) = task_steps part s first ++ tasks_steps part s tasks
-
--- the opening, the erase, if due, the tasks in their order, and the closing
+-- its actions in their order, and the closing
 abbrev pub run_steps : Plan → List (List Command)
-run_steps plan =
-    opening_steps ++ (due_erase_steps plan.switches plan.tasks
-    ++ (tasks_steps plan.part plan.switches plan.tasks ++ closing_steps))
+run_steps plan = actions_steps plan.part (actions plan) ++ closing_steps
 
 -- how often nothing came, and how many bytes did
 abbrev pub silences : Tape → ℕ

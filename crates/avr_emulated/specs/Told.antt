@@ -1,5 +1,5 @@
 -- That what a run tells is true of the chip where it tells it.
-use Rattle.std.specs.Prelude.{ℕ, zero, suc, true, ◌≡◌, ◌⊎◌, List, [], ◌∷◌, ◌++◌, length, Contains, Err, ⊤, codes, decimal}
+use Rattle.std.specs.Prelude.{ℕ, zero, suc, ◌≡◌, ◌⊎◌, List, [], ◌∷◌, ◌++◌, length, Contains, Err, ⊤, codes, decimal}
 use Rattle.avr_cli.specs.declared.update.Format.{Format}
 use Rattle.avr_image.specs.Image.{byte_count}
 use Rattle.avr_desk.specs.Lines.{Bytes, spaced_digits, information, warning}
@@ -7,7 +7,7 @@ use Rattle.avr_desk.specs.Said.{Saying, Line, Creates, Writes, Outs}
 use Rattle.avr_part.specs.Mem.{name_of}
 use Rattle.avr_part.specs.declared.mem.Mem.{Mem}
 use Rattle.avr_plan.specs.Plan.{Plan}
-use Rattle.avr_plan.specs.declared.task.Task.TheVariants as task
+use Rattle.avr_session.specs.Actions.{EraseChip, LeaveErase, LeaveWrite, CompareImage, SaveMemory, actions}
 use Rattle.avr_session.specs.FileText.{file_text}
 use Rattle.avr_session.specs.Lines.{fault_line}
 use Rattle.avr_session.specs.Session.{kept_of}
@@ -36,42 +36,39 @@ TellsTrue m IsTrue (suc k) (Ask bytes go_on) p fates =
 abbrev pub count_line : Mem → ℕ → Bytes → Saying
 count_line mem count done = Line (information (name_of mem ∷ codes ": " ∷ decimal count ∷ done ∷ []))
 
--- a plan compares the memory with this image, or reads it back behind the write
-abbrev pub Compares : Plan → Mem → Image → Type 0
-Compares plan mem image = Contains plan.tasks (task.Verify mem image) ⊎ Contains plan.tasks (task.Write mem image)
-
 -- what a plan keeps of a memory that it reads: the chip's bytes
 abbrev pub kept_in : Plan → Mem → Memories → List ℕ
 kept_in plan mem now = kept_of mem plan.switches.all (memory_in plan.part mem now)
 
--- What is told in a run of a plan, and what of it holds of the memories now, by those before the run. That the chip is
--- erased: an erase has been done, and nothing else. That bytes are written: the plan's items up to this write have been
--- done. That they are verified: the memory holds the image. What is saved, and counted as read, is what the memory has;
--- and a difference told is one that is there. Else: the chip's signature, what is left out as nothing is to be written,
--- why a step has failed, and the end.
+-- What is told in a run of a plan, and what of it holds of the memories now, by those before the run: each of an action
+-- of the plan. That the chip is erased: that has been done, and nothing else. That bytes are written: the plan's items up
+-- to this write have been done. That they are verified: the memory holds the image. What is saved, and counted as read,
+-- is what the memory has; and a difference told is one that is there. Else: the chip's signature, what is left out, why a
+-- step has failed, and the end.
 pub data IsTrue (plan : Plan) (before now : Memories) (saying : Saying) : Type 0 where
   SignatureRead : saying ≡ Line (information (codes "device signature = " ∷ spaced_digits plan.part.signature ∷ []))
       → IsTrue plan before now saying
-  ChipErased : saying ≡ Line (information (codes "chip erased" ∷ [])) → now ≡ effect plan.part Erase before
-      → IsTrue plan before now saying
+  ChipErased : Contains (actions plan) EraseChip → saying ≡ Line (information (codes "chip erased" ∷ []))
+      → now ≡ effect plan.part Erase before → IsTrue plan before now saying
+  EraseLeftOut : Contains (actions plan) LeaveErase
+      → saying ≡ Line (warning (codes "chip not erased because of -n" ∷ [])) → IsTrue plan before now saying
   BytesWritten : (mem : Mem) (image : Image) (first later : List Item)
       → saying ≡ count_line mem (byte_count image) (codes " bytes written")
       → items plan ≡ first ++ Write mem image ∷ later → now ≡ effects plan.part (first ++ Write mem image ∷ []) before
       → IsTrue plan before now saying
-  BytesVerified : (mem : Mem) (image : Image) → saying ≡ count_line mem (byte_count image) (codes " bytes verified")
-      → Compares plan mem image → Shows plan.part mem image now → IsTrue plan before now saying
-  Differed : (mem : Mem) (image : Image) (fault : HostFault) → saying ≡ Line (fault_line plan.part fault)
-      → Compares plan mem image → comparison mem image (memory_in plan.part mem now) ≡ Err fault
+  WriteLeftOut : (mem : Mem) (image : Image) → Contains (actions plan) (LeaveWrite mem image)
+      → saying ≡ count_line mem (byte_count image) (codes " bytes not written") → IsTrue plan before now saying
+  BytesVerified : (mem : Mem) (image : Image) → Contains (actions plan) (CompareImage mem image)
+      → saying ≡ count_line mem (byte_count image) (codes " bytes verified") → Shows plan.part mem image now
       → IsTrue plan before now saying
-  BytesSaved : (mem : Mem) (format : Format) (file : Bytes) → Contains plan.tasks (task.Read mem format file)
+  Differed : (mem : Mem) (image : Image) (fault : HostFault) → Contains (actions plan) (CompareImage mem image)
+      → saying ≡ Line (fault_line plan.part fault) → comparison mem image (memory_in plan.part mem now) ≡ Err fault
+      → IsTrue plan before now saying
+  BytesSaved : (mem : Mem) (format : Format) (file : Bytes) → Contains (actions plan) (SaveMemory mem format file)
       → (saying ≡ Creates file) ⊎ ((saying ≡ Writes (file_text format (kept_in plan mem now)))
       ⊎ (saying ≡ Outs (file_text format (kept_in plan mem now)))) → IsTrue plan before now saying
-  BytesRead : (mem : Mem) (format : Format) (file : Bytes) → Contains plan.tasks (task.Read mem format file)
+  BytesRead : (mem : Mem) (format : Format) (file : Bytes) → Contains (actions plan) (SaveMemory mem format file)
       → saying ≡ count_line mem (length (kept_in plan mem now)) (codes " bytes read") → IsTrue plan before now saying
-  EraseLeftOut : plan.switches.dry ≡ true → saying ≡ Line (warning (codes "chip not erased because of -n" ∷ []))
-      → IsTrue plan before now saying
-  WriteLeftOut : (mem : Mem) (image : Image) → plan.switches.dry ≡ true
-      → saying ≡ count_line mem (byte_count image) (codes " bytes not written") → IsTrue plan before now saying
   StepFailed : (fault : StepFault) → saying ≡ Line (fault_line plan.part (host_fault fault))
       → IsTrue plan before now saying
   SessionDone : saying ≡ Line (information (codes "done" ∷ [])) → IsTrue plan before now saying

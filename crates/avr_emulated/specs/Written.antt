@@ -1,16 +1,13 @@
 -- What the memories hold after a verified run of status 0, address by address.
-use Rattle.std.specs.Prelude.{ℕ, ◌≡◌, ◌==◌, ◌<◌, ◌⊎◌, ◌&&◌, not, bit_and, List, [], ◌∷◌, length, slice_index, Some, None, if◌then◌else◌, ⊤}
+use Rattle.std.specs.Prelude.{ℕ, true, ◌≡◌, ◌==◌, ◌<◌, ◌⊎◌, ◌&&◌, not, bit_and, List, [], ◌∷◌, length, slice_index, Some, None, if◌then◌else◌, ⊤}
 use Rattle.avr_image.specs.Image.{empty, byte_at, over}
 use Rattle.avr_part.specs.Part.{Part, size_of}
 use Rattle.avr_part.specs.declared.mem.Mem.{Mem}
 use Rattle.avr_part.specs.declared.mem.Mem.TheVariants.{Flash, Eeprom, Lfuse, Hfuse, Efuse, Lock, Signature, Calibration}
 use Rattle.avr_plan.specs.Plan.{Plan}
-use Rattle.avr_plan.specs.declared.task.Task.{Task}
-use Rattle.avr_plan.specs.declared.task.Task.TheVariants.{Write, Verify, Read}
-use Rattle.avr_session.specs.Session.{is_erase_due}
-use Rattle.stk_emu.specs.Effect as effect
-use Rattle.stk_emu.specs.Effect.{Image, Item, Memories, erase_keeps_eeprom, memory_in}
+use Rattle.stk_emu.specs.Effect.{Image, Item, Erase, Write, Memories, erase_keeps_eeprom, memory_in}
 use Rattle.avr_emulated.specs.Agrees.{Shows}
+use Rattle.avr_emulated.specs.Items.{items, has_erase}
 
 abbrev pub memory_number : Mem → ℕ
 memory_number Flash = 0
@@ -22,14 +19,13 @@ memory_number Lock = 5
 memory_number Signature = 6
 memory_number Calibration = 7
 
--- the images that tasks write to a memory, laid over each other: a later one's byte stands
-abbrev pub written_to : Part → Mem → List Task → Image
+-- the images that items write to a memory, laid over each other: a later one's byte stands
+abbrev pub written_to : Part → Mem → List Item → Image
 written_to part mem [] = empty (size_of mem part)
-written_to part mem (Write other image ∷ tasks) =
-    if memory_number other == memory_number mem then over image (written_to part mem tasks)
-    else written_to part mem tasks
-written_to part mem (Verify other image ∷ tasks) = written_to part mem tasks
-written_to part mem (Read other format file ∷ tasks) = written_to part mem tasks
+written_to part mem (Erase ∷ items) = written_to part mem items
+written_to part mem (Write other image ∷ items) =
+    if memory_number other == memory_number mem then over image (written_to part mem items)
+    else written_to part mem items
 
 abbrev pub byte_in : Part → Mem → ℕ → Memories → ℕ
 byte_in part mem addr m = slice_index (memory_in part mem m) addr
@@ -40,25 +36,25 @@ byte_in part mem addr m = slice_index (memory_in part mem m) addr
 pub record IsWritten (plan : Plan) (before after : Memories) : Type 0 where
   pub flash_size : length after.flash ≡ plan.part.flash_size
   pub eeprom_size : length after.eeprom ≡ plan.part.eeprom_size
-  pub images : (mem : Mem) → Shows plan.part mem (written_to plan.part mem plan.tasks) after
+  pub images : (mem : Mem) → Shows plan.part mem (written_to plan.part mem (items plan)) after
   pub rest_of_flash : (addr : ℕ) → addr < plan.part.flash_size
-      → byte_at (written_to plan.part Flash plan.tasks) addr ≡ None
-      → byte_in plan.part Flash addr after ≡ (if is_erase_due plan.switches plan.tasks then 255
+      → byte_at (written_to plan.part Flash (items plan)) addr ≡ None
+      → byte_in plan.part Flash addr after ≡ (if has_erase (items plan) then 255
       else byte_in plan.part Flash addr before)
   pub rest_of_eeprom : (addr : ℕ) → addr < plan.part.eeprom_size
-      → byte_at (written_to plan.part Eeprom plan.tasks) addr ≡ None
+      → byte_at (written_to plan.part Eeprom (items plan)) addr ≡ None
       → byte_in plan.part Eeprom addr after
-      ≡ (if is_erase_due plan.switches plan.tasks && not (erase_keeps_eeprom plan.part before) then 255
+      ≡ (if has_erase (items plan) && not (erase_keeps_eeprom plan.part before) then 255
       else byte_in plan.part Eeprom addr before)
-  pub lfuse : byte_at (written_to plan.part Lfuse plan.tasks) 0 ≡ None → after.lfuse ≡ before.lfuse
-  pub hfuse : byte_at (written_to plan.part Hfuse plan.tasks) 0 ≡ None → after.hfuse ≡ before.hfuse
-  pub efuse : byte_at (written_to plan.part Efuse plan.tasks) 0 ≡ None → after.efuse ≡ before.efuse
-  pub lock : byte_at (written_to plan.part Lock plan.tasks) 0 ≡ None
-      → after.lock ≡ (if is_erase_due plan.switches plan.tasks then 255 else before.lock)
+  pub lfuse : byte_at (written_to plan.part Lfuse (items plan)) 0 ≡ None → after.lfuse ≡ before.lfuse
+  pub hfuse : byte_at (written_to plan.part Hfuse (items plan)) 0 ≡ None → after.hfuse ≡ before.hfuse
+  pub efuse : byte_at (written_to plan.part Efuse (items plan)) 0 ≡ None → after.efuse ≡ before.efuse
+  pub lock : byte_at (written_to plan.part Lock (items plan)) 0 ≡ None
+      → after.lock ≡ (if has_erase (items plan) then 255 else before.lock)
 
 -- an item writes an image to flash that has this byte at an address
 abbrev pub Brings : Item → ℕ → ℕ → Type 0
-Brings (effect.Write Flash image) addr byte = byte_at image addr ≡ Some byte
+Brings (Write Flash image) addr byte = byte_at image addr ≡ Some byte
 Brings item addr byte = ⊥
 
 -- one of some items does
@@ -74,17 +70,11 @@ abbrev pub and_all : ℕ → List ℕ → ℕ
 and_all first [] = first
 and_all first (byte ∷ bytes) = and_all (bit_and first byte) bytes
 
--- an erase is among them
-abbrev pub HasErase : List Item → Type 0
-HasErase [] = ⊥
-HasErase (effect.Erase ∷ items) = ⊤
-HasErase (effect.Write mem image ∷ items) = HasErase items
-
 -- A byte of flash before some items and after them: it is the one before, or the FF of an erase, AND the bytes that
 -- none, one or more of the images have there that are written to flash.
 pub record IsMade (items : List Item) (addr before after : ℕ) : Type 0 where
   pub first : ℕ
   pub bytes : List ℕ
-  pub first_is : (first ≡ before) ⊎ ((first ≡ 255) × HasErase items)
+  pub first_is : (first ≡ before) ⊎ ((first ≡ 255) × (has_erase items ≡ true))
   pub are_there : AreThere items addr bytes
   pub is : after ≡ and_all first bytes

@@ -4,26 +4,25 @@
 ghost use Rattle.std.specs.Prelude.{◌≡◌, ◌∷◌, ℕ, true, false, List, take, All};
 ghost use Rattle.avr_part.specs.Part.{Part, IsPart};
 ghost use Rattle.avr_plan.specs.Plan.{Plan, IsFitted};
-ghost use Rattle.avr_session.specs.Session.{is_erase_due};
 ghost use Rattle.stk_emu.specs.Effect.{Memories, Item, Erase, erase_keeps_eeprom, effects};
 ghost use Rattle.stk_emu.specs.Settled.{FitsPart};
-ghost use Rattle.avr_emulated.specs.Again.{AreWrites, AreKeeping, AgreesAnyway, Heals};
+ghost use Rattle.avr_emulated.specs.Again.{AreKeeping, AgreesAnyway, Heals};
 ghost use Rattle.avr_emulated.specs.Agrees.{Agrees};
 ghost use Rattle.avr_emulated.specs.Course.{course};
-ghost use Rattle.avr_emulated.specs.Items.{items};
+ghost use Rattle.avr_emulated.specs.Items.{items, has_erase};
 ghost use Rattle.avr_emulated.specs.Outcome.{strokes, IsTouched, IsDone};
 
 /// An erase and writes behind any first ones of them come to what they come to alone, unless these took the EEPROM's
 /// keeping away.
 pub fn first_items_and_then_all_are_all()
-    ensures { (part : Part) (items : List Item) (k : ℕ) (m : Memories) → AreWrites items
+    ensures { (part : Part) (items : List Item) (k : ℕ) (m : Memories) → has_erase items ≡ false
         → (erase_keeps_eeprom part m ≡ true → erase_keeps_eeprom part (effects part (take k (Erase ∷ items)) m) ≡ true)
         → effects part (Erase ∷ items) (effects part (take k (Erase ∷ items)) m) ≡ effects part (Erase ∷ items) m }
 {}
 
 /// Writes behind any first ones of them come to what they come to alone, whatever they lock.
 pub fn first_writes_and_then_all_are_all()
-    ensures { (part : Part) (items : List Item) (k : ℕ) (m : Memories) → AreWrites items
+    ensures { (part : Part) (items : List Item) (k : ℕ) (m : Memories) → has_erase items ≡ false
         → effects part items (effects part (take k items) m) ≡ effects part items m }
 {}
 
@@ -32,7 +31,7 @@ pub fn first_writes_and_then_all_are_all()
 pub fn a_second_run_heals_the_first()
     ensures { (plan : Plan) (k : ℕ) (m : Memories) → IsPart plan.part → All (IsFitted plan.part) plan.tasks
         → FitsPart plan.part m
-        → (is_erase_due plan.switches plan.tasks ≡ true → erase_keeps_eeprom plan.part m ≡ true
+        → (has_erase (items plan) ≡ true → erase_keeps_eeprom plan.part m ≡ true
         → AreKeeping plan.part (items plan))
         → effects plan.part (items plan) (effects plan.part (take k (strokes plan)) m)
         ≡ effects plan.part (items plan) m }
@@ -42,9 +41,9 @@ pub fn a_second_run_heals_the_first()
 /// every chip: so its course has status 0, whatever the chip was. What agrees on every chip agrees on these two.
 pub fn what_agrees_on_two_chips_agrees_on_all()
     ensures agrees { (plan : Plan) (m : Memories) → FitsPart plan.part m
-        → plan.switches.dry ≡ false → is_erase_due plan.switches plan.tasks ≡ true → AgreesAnyway plan → Agrees plan m }
+        → has_erase (items plan) ≡ true → AgreesAnyway plan → Agrees plan m }
     ensures status { (plan : Plan) (m : Memories) → FitsPart plan.part m
-        → plan.switches.dry ≡ false → is_erase_due plan.switches plan.tasks ≡ true → AgreesAnyway plan
+        → has_erase (items plan) ≡ true → AgreesAnyway plan
         → (course plan m).status ≡ 0 }
     ensures needed { (plan : Plan) → ((m : Memories) → FitsPart plan.part m → Agrees plan m) → AgreesAnyway plan }
 {}
@@ -55,17 +54,17 @@ pub fn what_agrees_on_two_chips_agrees_on_all()
 pub fn the_same_run_again_heals()
     ensures touched { (plan : Plan) (before after : Memories) → IsPart plan.part → All (IsFitted plan.part) plan.tasks
         → FitsPart plan.part before
-        → plan.switches.dry ≡ false → is_erase_due plan.switches plan.tasks ≡ true → AgreesAnyway plan
+        → has_erase (items plan) ≡ true → AgreesAnyway plan
         → (erase_keeps_eeprom plan.part before ≡ true → AreKeeping plan.part (items plan))
         → IsTouched plan before after → Heals plan before after }
     ensures strokes { (plan : Plan) (k : ℕ) (m : Memories) → IsPart plan.part → All (IsFitted plan.part) plan.tasks
         → FitsPart plan.part m
-        → plan.switches.dry ≡ false → is_erase_due plan.switches plan.tasks ≡ true → AgreesAnyway plan
+        → has_erase (items plan) ≡ true → AgreesAnyway plan
         → (erase_keeps_eeprom plan.part m ≡ true → AreKeeping plan.part (items plan))
         → Heals plan m (effects plan.part (take k (strokes plan)) m) }
     ensures done { (plan : Plan) (before left after : Memories) → IsPart plan.part → All (IsFitted plan.part) plan.tasks
         → FitsPart plan.part before
-        → (is_erase_due plan.switches plan.tasks ≡ true → erase_keeps_eeprom plan.part before ≡ true
+        → (has_erase (items plan) ≡ true → erase_keeps_eeprom plan.part before ≡ true
         → AreKeeping plan.part (items plan))
         → IsTouched plan before left → IsDone plan left after → after ≡ effects plan.part (items plan) before }
 {}

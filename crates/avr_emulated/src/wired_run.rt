@@ -2,8 +2,9 @@
 ghost use Rattle.std.specs.Prelude.{◌≡◌};
 ghost use Rattle.avr_desk.specs.Fault.{Follows};
 ghost use Rattle.avr_emulated.specs.AnyLine.{OverAnyLine};
+ghost use Rattle.avr_session.specs.Actions.{takes_memory};
 ghost use Rattle.avr_session.specs.Runs.{RunsTo, devices};
-ghost use Rattle.avr_session.specs.Session.{session, takes_memory};
+ghost use Rattle.avr_session.specs.Session.{session};
 ghost use Rattle.stk_emu.specs.Wired.{ComesOf, IsFresh, wired_view};
 ghost use Rattle.stk_host.specs.Talk.{Stays};
 

@@ -29,14 +29,14 @@ pub fn a_course_succeeds_where_it_agrees()
 pub fn a_verified_run_leaves_its_images()
     ensures images { (plan : Plan) (before after : Memories)
         → IsPart plan.part → All (IsFitted plan.part) plan.tasks → FitsPart plan.part before
-        → plan.switches.dry ≡ false → plan.switches.no_verify ≡ false → IsDone plan before after
+        → plan.switches.no_verify ≡ false → IsDone plan before after
         → IsWritten plan before after }
     ensures again { (plan : Plan) (before after : Memories) (s : Switches) (mems : List Mem)
         → IsPart plan.part → All (IsFitted plan.part) plan.tasks → FitsPart plan.part before
-        → plan.switches.dry ≡ false → plan.switches.no_verify ≡ false → IsDone plan before after → s.erase ≡ false
+        → plan.switches.no_verify ≡ false → IsDone plan before after → s.erase ≡ false
         → (course (record {
           part = plan.part;
-          tasks = map (λ mem. Task.Verify mem (written_to plan.part mem plan.tasks))
+          tasks = map (λ mem. Task.Verify mem (written_to plan.part mem (items plan)))
               mems;
           switches = s;
         }) after).status ≡ 0 }

@@ -1,4 +1,4 @@
--- How a part of a session stands at its end says whether a fault was told in it: laws of dialogs alone.
+-- How a phase of a session stands at its end says whether a fault was told in it: laws of dialogs alone.
 use Rattle.std.proofs.Common.{◌≡◌, ℕ, Bool, true, false, ◌||◌, List, [], ◌∷◌, ◌++◌, length, drop, map, refl, sym, ap, ◌∙◌, subst, append_assoc, append-nil, nat_lt, bytes_eq, codes, decimal, if◌then◌else◌, Option, Some, None, Result, Ok, Err, inl, inr}
 use Rattle.std.proofs.lemmas.Bool.{cases_Bool}
 use Rattle.std.proofs.lemmas.List.Folds.{list_any-append}
@@ -11,9 +11,6 @@ use Rattle.avr_image.specs.Image.{byte_count}
 use Rattle.avr_part.specs.Part.{Part}
 use Rattle.avr_part.specs.declared.mem.Mem.{Mem}
 use Rattle.avr_part.specs.declared.mem.Mem.TheVariants.{Flash, Eeprom, Lfuse, Hfuse, Efuse, Lock, Signature, Calibration}
-use Rattle.avr_plan.specs.Plan.{Plan}
-use Rattle.avr_plan.specs.declared.task.Task.{Task}
-use Rattle.avr_plan.specs.declared.task.Task.TheVariants.{Write, Verify, Read}
 use Rattle.stk_host.specs.declared.fault.HostFault.{HostFault}
 use Rattle.stk_host.specs.declared.fault.HostFault.TheVariants.{NoAnswer, LinkEnded, SendFailed, Babble, Refused, BadAnswer, WrongSignature, Differs, ReadOnly, Memory, RecvFailed}
 use Rattle.stk_host.specs.Tape.{Tape, Reading, on_tape, answer}
@@ -25,11 +22,12 @@ use Rattle.avr_desk.specs.Lines.{Bytes, information, warning, error}
 use Rattle.avr_desk.specs.Said.{Saying, Line, Creates, Writes, Outs, IsPrefixOf}
 use Rattle.avr_session.specs.declared.standing.Standing.{Standing}
 use Rattle.avr_session.specs.declared.standing.Standing.TheVariants.{Fine, Faulty, Over}
+use Rattle.avr_session.specs.Actions.{Action, OpenSession, EraseChip, LeaveErase, WriteImage, LeaveWrite, CompareImage, SaveMemory}
 use Rattle.avr_session.specs.FileText.{file_text}
 use Rattle.avr_session.specs.Lines.{informs, warns, other_signature, fault_line}
 use Rattle.avr_session.specs.Phases.{is_told}
 use Rattle.avr_session.specs.Runs.{Devices, Cause, OfSending, OfListening, OfFile, OfPrinting, OfMemory, NotCreated, NotWritten, is_error, tells_fault, Ran, AtFrame, StopsAt, SaysFront}
-use Rattle.avr_session.specs.Session.{says, standing, reported, unless_fault, fault_or, opening_says, warns_of_signature, signature_says, bytes_say, saving_says, kept_of, erased_says, written_says, verified_says, read_says, left_out_erase, left_out_write, opening_phase, chip_erasing_phase, is_erase_due, erasing_phase, verifying_phase, writing_phase, reading_back_phase, write_task_phase, reading_phase, task_phase, tasks_phase, beginning, working}
+use Rattle.avr_session.specs.Session.{says, standing, reported, unless_fault, fault_or, opening_says, warns_of_signature, signature_says, bytes_say, saving_says, kept_of, erased_says, written_says, verified_says, read_says, left_out_erase, left_out_write, phase, phases}
 use Rattle.avr_session.proofs.Places.{sayings_by}
 
 -- ---- along every way of a dialog
@@ -92,7 +90,7 @@ foretold {dialog = dialog} {m = m} f ran =
     subst (λ (p : Played Saying Standing). Ends Foretold (sayings p.events) p.outcome) (ran.plays.plays [])
     (along_play Foretold dialog m.next (on_tape m.unread ++ (heard ran.during ++ [])) f)
 
--- one part after another
+-- one phase after another
 pub foretells_then : (first more : Dialog Saying Standing) → Foretells first → Foretells more → Foretells (first >>= unless_fault more)
 foretells_then first more f g = along_bind Foretold Foretold first (unless_fault more) f λ said s is. next_of said s is
   where
@@ -108,7 +106,7 @@ foretells_reported operation outcome_says f = along_bind (λ said outcome. said 
     along_says (λ more after. Foretold (said ++ more) after) (outcome_says outcome) (Done (standing outcome))
     (ap tells_fault (ap (λ (xs : List Saying). xs ++ (outcome_says outcome ++ [])) none ∙ append-nil (outcome_says outcome)) ∙ f outcome)
 
--- what is said in place of a part
+-- what is said in place of an action
 foretells_says : (sayings : List Saying) → tells_fault sayings ≡ false → Foretells (says sayings (Done Fine))
 foretells_says sayings f = along_says Foretold sayings (Done Fine) (ap tells_fault (append-nil sayings) ∙ f)
 
@@ -194,58 +192,23 @@ opening_tells quiet part (Err (ReadOnly mem)) = fault_tells part (ReadOnly mem)
 opening_tells quiet part (Err Memory) = fault_tells part Memory
 opening_tells quiet part (Err RecvFailed) = fault_tells part RecvFailed
 
--- ---- the parts of a session
+-- ---- the phases of a session
 
-pub opening_foretells : (part : Part) (s : Switches) → Foretells (opening_phase part s)
-opening_foretells part s = foretells_reported (opening part.signature s.force) (opening_says s.quiet part) (opening_tells s.quiet part)
+pub phase_foretells : (part : Part) (s : Switches) (action : Action) → Foretells (phase part s action)
+phase_foretells part s OpenSession = foretells_reported (opening part.signature s.force) (opening_says s.quiet part) (opening_tells s.quiet part)
+phase_foretells part s EraseChip =
+    foretells_reported erasing (erased_says s.quiet part) (or_tells part (λ _. informs s.quiet (codes "chip erased" ∷ [])) (λ done. unless_quiet (nat_lt 0 s.quiet) (information (codes "chip erased" ∷ [])) refl))
+phase_foretells part s LeaveErase = foretells_says (left_out_erase s.quiet) (warns_none s.quiet (codes "chip not erased because of -n" ∷ []))
+phase_foretells part s (WriteImage mem image) =
+    foretells_reported (writing part mem image) (written_says s.quiet part mem image) (or_tells part (λ _. bytes_say s.quiet mem (byte_count image) (codes " bytes written")) (λ done. bytes_none s.quiet mem (byte_count image) (codes " bytes written")))
+phase_foretells part s (LeaveWrite mem image) = foretells_says (left_out_write s.quiet mem image) (bytes_none s.quiet mem (byte_count image) (codes " bytes not written"))
+phase_foretells part s (CompareImage mem image) =
+    foretells_reported (verifying part mem image) (verified_says s.quiet part mem image) (or_tells part (λ _. bytes_say s.quiet mem (byte_count image) (codes " bytes verified")) (λ done. bytes_none s.quiet mem (byte_count image) (codes " bytes verified")))
+phase_foretells part s (SaveMemory mem format file) = foretells_reported (reading part mem) (fault_or part (read_says s mem format file)) (or_tells part (read_says s mem format file) (λ bytes. read_none s mem format file bytes))
 
-erasing_foretells : (part : Part) (s : Switches) (tasks : List Task) → Foretells (erasing_phase part s tasks)
-erasing_foretells part s tasks = elim s.dry as (λ b. Foretells (if b then says (left_out_erase s) (Done Fine) else if is_erase_due s tasks then chip_erasing_phase part s else Done Fine)) [
-  | true ↦ foretells_says (left_out_erase s) (elim s.erase as (λ b. tells_fault (if b then warns s.quiet (codes "chip not erased because of -n" ∷ []) else []) ≡ false) [
-    | true ↦ warns_none s.quiet (codes "chip not erased because of -n" ∷ [])
-    | false ↦ refl
-  ])
-  | false ↦ elim (is_erase_due s tasks) as (λ b. Foretells (if b then chip_erasing_phase part s else Done Fine)) [
-    | true ↦ foretells_reported erasing (erased_says s.quiet part) (or_tells part (λ _. informs s.quiet (codes "chip erased" ∷ [])) (λ done. unless_quiet (nat_lt 0 s.quiet) (information (codes "chip erased" ∷ [])) refl))
-    | false ↦ refl
-  ]
-]
-
-pub verifying_foretells : (part : Part) (s : Switches) (mem : Mem) (image : List (Option ℕ)) → Foretells (verifying_phase part s mem image)
-verifying_foretells part s mem image = foretells_reported (verifying part mem image) (verified_says s.quiet part mem image) (or_tells part (λ _. bytes_say s.quiet mem (byte_count image) (codes " bytes verified")) (λ done. bytes_none s.quiet mem (byte_count image) (codes " bytes verified")))
-
-pub writing_foretells : (part : Part) (s : Switches) (mem : Mem) (image : List (Option ℕ)) → Foretells (writing_phase part s mem image)
-writing_foretells part s mem image = foretells_reported (writing part mem image) (written_says s.quiet part mem image) (or_tells part (λ _. bytes_say s.quiet mem (byte_count image) (codes " bytes written")) (λ done. bytes_none s.quiet mem (byte_count image) (codes " bytes written")))
-
-read_back_foretells : (part : Part) (s : Switches) (mem : Mem) (image : List (Option ℕ)) → Foretells (reading_back_phase part s mem image)
-read_back_foretells part s mem image = elim s.no_verify as (λ b. Foretells (if b then Done Fine else verifying_phase part s mem image)) [
-  | true ↦ refl
-  | false ↦ verifying_foretells part s mem image
-]
-
-write_foretells : (part : Part) (s : Switches) (mem : Mem) (image : List (Option ℕ)) → Foretells (write_task_phase part s mem image)
-write_foretells part s mem image = elim s.dry as (λ b. Foretells (if b then says (left_out_write s mem image) (Done Fine) else writing_phase part s mem image >>= unless_fault (reading_back_phase part s mem image))) [
-  | true ↦ foretells_says (left_out_write s mem image) (bytes_none s.quiet mem (byte_count image) (codes " bytes not written"))
-  | false ↦ foretells_then (writing_phase part s mem image) (reading_back_phase part s mem image) (writing_foretells part s mem image) (read_back_foretells part s mem image)
-]
-
-reading_foretells : (part : Part) (s : Switches) (mem : Mem) (format : Format) (file : Bytes) → Foretells (reading_phase part s mem format file)
-reading_foretells part s mem format file = foretells_reported (reading part mem) (fault_or part (read_says s mem format file)) (or_tells part (read_says s mem format file) (λ bytes. read_none s mem format file bytes))
-
-pub task_foretells : (part : Part) (s : Switches) (task : Task) → Foretells (task_phase part s task)
-task_foretells part s (Write mem image) = write_foretells part s mem image
-task_foretells part s (Verify mem image) = verifying_foretells part s mem image
-task_foretells part s (Read mem format file) = reading_foretells part s mem format file
-
-tasks_foretells : (part : Part) (s : Switches) (tasks : List Task) → Foretells (tasks_phase part s tasks)
-tasks_foretells part s [] = refl
-tasks_foretells part s (task ∷ tasks) = foretells_then (task_phase part s task) (tasks_phase part s tasks) (task_foretells part s task) (tasks_foretells part s tasks)
-
-pub beginning_foretells : (plan : Plan) → Foretells (beginning plan)
-beginning_foretells plan = foretells_then (opening_phase plan.part plan.switches) (erasing_phase plan.part plan.switches plan.tasks) (opening_foretells plan.part plan.switches) (erasing_foretells plan.part plan.switches plan.tasks)
-
-pub working_foretells : (plan : Plan) → Foretells (working plan)
-working_foretells plan = foretells_then (beginning plan) (tasks_phase plan.part plan.switches plan.tasks) (beginning_foretells plan) (tasks_foretells plan.part plan.switches plan.tasks)
+pub phases_foretells : (part : Part) (s : Switches) (actions : List Action) → Foretells (phases part s actions)
+phases_foretells part s [] = refl
+phases_foretells part s (action ∷ actions) = foretells_then (phase part s action) (phases part s actions) (phase_foretells part s action) (phases_foretells part s actions)
 
 -- ---- a front of what tells no fault tells none
 

@@ -1,4 +1,4 @@
--- An operation of the host and its report, as a part of a session.
+-- An operation of the host and its report, as a phase of a session.
 use Rattle.std.proofs.Common.{◌≡◌, ℕ, ◌≤◌, Bool, true, false, List, [], ◌++◌, length, refl, sym, ap, ◌∙◌, ◌∷◌, subst, bytes_eq, if◌then◌else◌, Option, Some, None, Result, Ok, Err, inl, inr, ◌⊎◌}
 use Rattle.avr_desk.specs.Record.{DeskView}
 use Rattle.avr_part.specs.Part.{Part}
@@ -259,7 +259,7 @@ stop_is (Err (ReadOnly mem)) takes o p failed lacks stop = absurd stop
 stop_is (Err Memory) takes o p failed lacks stop = lacks tt
 stop_is (Err RecvFailed) takes o p failed lacks stop = failed tt
 
--- An operation and its report are a part of a session.
+-- An operation and its report are a phase of a session.
 pub operation_runs : {A : Type 0} {operation : Dialog ⊥ (Result A HostFault)} (takes : Bool) (outcome_says : Result A HostFault → List Saying) {m n : Position} {o p : LinkView} {d e : DeskView} (outcome : Result A HostFault)
     (said : Result (Unit {0}) Stopped) (terms : Terms) (By : DeskView → DeskView → Cause → List ℕ → Type 0) → StopsReport terms p d e (outcome_says outcome) By
     → Ended takes operation m o p outcome n → length n.unread ≤ 281 → o.failures ≤ p.failures → SaysOrStops By d e (outcome_says outcome) said → (IsStop outcome → ToldBy terms (cause_of outcome) (devices o d) (devices p e))

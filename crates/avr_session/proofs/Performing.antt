@@ -1,6 +1,8 @@
--- Parts of a session, one after another.
-use Rattle.std.proofs.Common.{◌≡◌, ℕ, Bool, true, false, ◌||◌, ◌++◌, ◌≤◌, arith, List, [], ◌∷◌, length, refl, sym, ap, ◌∙◌, subst, Option, None, Result, Ok, Err, inl, inr, get_or, take, drop, ◌<◌, ◌-◌}
+-- Phases of a session, one after another.
+use Rattle.std.proofs.Common.{◌≡◌, ℕ, Bool, true, false, ◌||◌, ◌++◌, ◌≤◌, arith, List, [], ◌∷◌, length, refl, sym, ap, ◌∙◌, subst, subst₂, Option, None, Result, Ok, Err, inl, inr, get_or, take, drop, ◌<◌, ◌-◌}
+use Rattle.std.specs.List.{list_any}
 use Rattle.std.proofs.lemmas.Grind.{common_steps}
+use Rattle.std.proofs.lemmas.List.Folds.{list_any-append}
 use Rattle.avr_desk.specs.Fault.{Follows}
 use Rattle.avr_desk.specs.Record.{DeskView}
 use Rattle.avr_cli.specs.declared.settings.Switches.{Switches}
@@ -13,7 +15,7 @@ use Rattle.stk_host.specs.State.{HostState, lasting_fault}
 use Rattle.stk_host.specs.Talk as link
 use Rattle.stk_host.specs.Play.{Position}
 use Rattle.stk_host.specs.Talk.{LinkView}
-use Rattle.stk_host.specs.Calls.{IsBroken, given_or_fault}
+use Rattle.stk_host.specs.Calls.{IsBroken, EndsCall, Calls, CallsBy, given_or_fault}
 use Rattle.stk_host.specs.Dialog.{Dialog, Done, ◌>>=◌, sayings}
 use Rattle.avr_desk.specs.Said.{Saying, Tells}
 use Rattle.avr_plan.specs.Plan.{Plan}
@@ -21,16 +23,18 @@ use Rattle.avr_plan.specs.declared.task.Task.{Task}
 use Rattle.avr_session.specs.declared.standing.Standing.{Standing}
 use Rattle.avr_session.specs.declared.standing.Standing.TheVariants.{Fine, Faulty, Over}
 use Rattle.avr_session.specs.declared.standing.Stopped.{Stopped}
+use Rattle.avr_session.specs.Actions.{Action, action_takes_memory, takes_memory}
 use Rattle.avr_session.specs.Concluding.{HostServes, after_outcome, conclusion, fine_if_said}
 use Rattle.avr_session.specs.Lines.{fault_line}
-use Rattle.avr_session.specs.Session.{says, standing, reported, unless_fault, fault_or, read_says, opening_says, playing, session, status_of, takes_memory}
+use Rattle.avr_session.specs.Session.{says, standing, reported, unless_fault, fault_or, read_says, opening_says, phase, phases, playing, session, status_of}
 use Rattle.avr_session.specs.Runs.{Cause, OfSending, OfListening, OfFile, OfPrinting, OfMemory, cause_line, tells_fault, Devices, devices, start, Terms, untold, TellsCause, StopsBehind, DeskStops, PrintStops, ReadStops, Reports, BrokeOff, Ran, Runs, RunsTo}
-use Rattle.avr_session.specs.Phases.{is_told, PerformsBehind, Performs, LeavesOut}
+use Rattle.avr_session.specs.Phases.{is_told, PerformsBehind, Performs, Does, LeavesOut}
 use Rattle.avr_session.proofs.Reporting.{told_some, kept_nothing}
 use Rattle.avr_desk.proofs.Saying.{kept_none}
 use Rattle.avr_desk.proofs.Telling.{follows_on}
 use Rattle.avr_session.proofs.Running.{came_here, came_said, came_part, ran_from, ran_on, stops_in, stops_since, broke_after, broke_part, broke_saying, StopsReport, ToldBy}
-use Rattle.avr_session.proofs.Foretelling.{Foretells, foretold, front_tells_none, read_none}
+use Rattle.avr_session.proofs.Foretelling.{Foretells, foretold, front_tells_none, read_none, phases_foretells}
+use Rattle.avr_session.proofs.Actions.{phases-one, phases-append}
 use Rattle.avr_session.proofs.Operations.{IsStop, IsMemory, cause_of, Ended, lacks_where, only_broken, operation_runs, stop_is, told_of}
 
 -- a desk that failed as it printed stops the run, whatever was told
@@ -107,19 +111,20 @@ told_by : {A : Type 0} (takes : Bool) (outcome : Result A HostFault) (o p : Link
 told_by takes outcome o p d e failed lacks stop some = (some.told, record { between = d; has_come = stop_is outcome takes (devices o d) (devices p d) failed lacks stop; tells = some.tells; since = omega arith; until = some.follows }, some.kept)
 
 -- an operation of the host and its report
-pub operation_performs : {A : Type 0} {operation : Dialog ⊥ (Result A HostFault)} (takes : Bool) (outcome_says : Result A HostFault → List Saying) {old new : HostState} {o p : LinkView} {d e : DeskView} (outcome : Result A HostFault) (told : Result (Unit {0}) Stopped)
-    (result : Result Standing Stopped) (By : DeskView → DeskView → Cause → List ℕ → Type 0) → StopsReport (untold takes) p d e (outcome_says outcome) By
-    → result ≡ conclusion outcome told → Ended takes operation old.progress o p outcome new.progress → length new.progress.unread ≤ 281 → Reports By d e (outcome_says outcome) told → (IsStop outcome → Tells d e (cause_line (cause_of outcome)))
-    → (IsBroken outcome → link.HasFailed o p) → new.broken ≡ lasting_fault outcome → new.part ≡ old.part → o.failures ≤ p.failures
+pub operation_performs : {A : Type 0} {Ends : Position → LinkView → LinkView → Result A HostFault → Position → Type 0} (takes : Bool) (operation : Dialog ⊥ (Result A HostFault)) (outcome_says : Result A HostFault → List Saying) {old new : HostState} {o p : LinkView} {d e : DeskView} (outcome : Result A HostFault)
+    (told : Result (Unit {0}) Stopped) (result : Result Standing Stopped) (By : DeskView → DeskView → Cause → List ℕ → Type 0) → StopsReport (untold takes) p d e (outcome_says outcome) By
+    → old.broken ≡ None → CallsBy Ends old new o p outcome → (Ends old.progress o p outcome new.progress → Ended takes operation old.progress o p outcome new.progress)
+    → Reports By d e (outcome_says outcome) told → (IsStop outcome → Tells d e (cause_line (cause_of outcome))) → result ≡ conclusion outcome told
     → Performs takes (reported operation outcome_says) old new (devices o d) (devices p e) result
-operation_performs {operation = operation} takes outcome_says {old = old} {new = new} {o = o} {p = p} {d = d} {e = e} outcome told result By why is ended few reports some failed lasts part counted =
+operation_performs takes operation outcome_says {old = old} {new = new} {o = o} {p = p} {d = d} {e = e} outcome told result By why sound calls ends reports some is =
+    let ended = ends (calls.played sound) in
     let lacks = lacks_where takes operation old.progress o p outcome new.progress ended in
     record {
       runs = subst (λ r. Runs (reported operation outcome_says) old.progress (devices o d) (devices p e) (untold takes) r new.progress) (sym is)
-          (operation_runs takes outcome_says outcome told (untold takes) By why ended few counted reports.says (λ stop. told_by takes outcome o p d e failed lacks stop (some stop)));
-      serves = subst (λ r. HostServes r new.broken) (sym is) (serves_after outcome told new.broken lasts);
-      part = part;
-      link = counted;
+          (operation_runs takes outcome_says outcome told (untold takes) By why ended (calls.bound sound) calls.counted reports.says (λ stop. told_by takes outcome o p d e (calls.failed sound) lacks stop (some stop)));
+      serves = subst (λ r. HostServes r new.broken) (sym is) (serves_after outcome told new.broken (calls.lasts sound));
+      part = calls.part;
+      link = calls.counted;
       desk = reports.follows;
     }
 
@@ -144,7 +149,7 @@ left_out_performs takes sayings {host = host} {o = o} {d = d} {e = e} result sou
 }
 
 -- nothing
-pub nothing_performs : (takes : Bool) (host : HostState) (o : Devices) → host.broken ≡ None → Performs takes (Done Fine) host host o o (Ok Fine)
+nothing_performs : (takes : Bool) (host : HostState) (o : Devices) → host.broken ≡ None → Performs takes (Done Fine) host host o o (Ok Fine)
 nothing_performs takes host o sound = record {
   runs = ran_from (came_here (Done Fine) host.progress o);
   serves = sound;
@@ -153,7 +158,7 @@ nothing_performs takes host o sound = record {
   desk = omega arith;
 }
 
--- any part goes on as its result chooses
+-- any phase goes on as its result chooses
 pub performs_on : {first : Dialog Saying Standing} (takes more_takes : Bool) (go_on : Standing → Dialog Saying Standing) {x y z : HostState} {o p q : Devices} (standing : Standing) (result : Result Standing Stopped)
     → (more_takes ≡ true → takes ≡ true) → Foretells first → Performs takes first x y o p (Ok standing) → PerformsBehind (record { takes = more_takes; was_told = is_told standing }) (go_on standing) y z p q result → Performs takes (first >>= go_on) x z o q result
 performs_on takes more_takes go_on {o = o} {p = p} {q = q} standing (Ok then) both foretells done rest = record {
@@ -184,14 +189,14 @@ or_then false c is = is
 performs_with : {dialog : Dialog Saying Standing} (takes more_takes : Bool) {x y : HostState} {o p : Devices} (standing : Standing) → Performs takes dialog x y o p (Ok standing) → Performs (takes || more_takes) dialog x y o p (Ok standing)
 performs_with takes more_takes standing done = record { runs = done.runs; serves = done.serves; part = done.part; link = done.link; desk = done.desk }
 
--- one part after another
-pub performs_then : {first more : Dialog Saying Standing} (takes more_takes : Bool) {x y z : HostState} {o p q : Devices} (result : Result Standing Stopped)
+-- one phase after another
+performs_then : {first more : Dialog Saying Standing} (takes more_takes : Bool) {x y z : HostState} {o p q : Devices} (result : Result Standing Stopped)
     → Foretells first → Performs takes first x y o p (Ok Fine) → Performs more_takes more y z p q result → Performs (takes || more_takes) (first >>= unless_fault more) x z o q result
 performs_then {more = more} takes more_takes result foretells done rest =
     performs_on (takes || more_takes) more_takes (unless_fault more) Fine result (or_then takes more_takes) foretells (performs_with takes more_takes Fine done) rest
 
--- a part that is the last
-pub performs_last : {first : Dialog Saying Standing} (takes more_takes : Bool) (more : Dialog Saying Standing) {x y : HostState} {o p : Devices} (result : Result Standing Stopped) → (result ≡ Ok Fine → ⊥)
+-- a phase that is the last
+performs_last : {first : Dialog Saying Standing} (takes more_takes : Bool) (more : Dialog Saying Standing) {x y : HostState} {o p : Devices} (result : Result Standing Stopped) → (result ≡ Ok Fine → ⊥)
     → Performs takes first x y o p result → Performs (takes || more_takes) (first >>= unless_fault more) x y o p result
 performs_last takes more_takes more (Ok Fine) not done = absurd (not refl)
 performs_last takes more_takes more (Ok Faulty) not done = record { runs = ran_from (came_part (unless_fault more) done.runs); serves = done.serves; part = done.part; link = done.link; desk = done.desk }
@@ -203,6 +208,36 @@ performs_last takes more_takes more {o = o} {p = p} (Err stopped) not done = rec
   link = done.link;
   desk = done.desk;
 }
+
+-- ---- the actions of a plan
+
+or_false : (b : Bool) → (b || false) ≡ b
+or_false true = refl
+or_false false = refl
+
+-- none
+pub does_nothing : (plan : Plan) (host : HostState) (o : Devices) → host.broken ≡ None → Does plan [] host host o o (Ok Fine)
+does_nothing plan host o sound = nothing_performs false host o sound
+
+-- one
+pub does_one : (plan : Plan) (action : Action) {x y : HostState} {o p : Devices} {result : Result Standing Stopped} → Performs (action_takes_memory action) (phase plan.part plan.switches action) x y o p result → Does plan (action ∷ []) x y o p result
+does_one plan action {x = x} {y = y} {o = o} {p = p} {result = result} done =
+    subst₂ (λ (takes : Bool) (dialog : Dialog Saying Standing). Performs takes dialog x y o p result) (sym (or_false (action_takes_memory action))) (sym (phases-one plan.part plan.switches action)) done
+
+does_both : (plan : Plan) (xs ys : List Action) {x y : HostState} {o p : Devices} {result : Result Standing Stopped}
+    → Performs (list_any action_takes_memory xs || list_any action_takes_memory ys) (phases plan.part plan.switches xs >>= unless_fault (phases plan.part plan.switches ys)) x y o p result → Does plan (xs ++ ys) x y o p result
+does_both plan xs ys {x = x} {y = y} {o = o} {p = p} {result = result} done =
+    subst₂ (λ (takes : Bool) (dialog : Dialog Saying Standing). Performs takes dialog x y o p result) (sym (list_any-append action_takes_memory xs ys)) (sym (phases-append plan.part plan.switches xs ys)) done
+
+-- these, and then those
+pub does_then : (plan : Plan) (xs ys : List Action) {x y z : HostState} {o p q : Devices} (result : Result Standing Stopped) → Does plan xs x y o p (Ok Fine) → Does plan ys y z p q result → Does plan (xs ++ ys) x z o q result
+does_then plan xs ys result done rest =
+    does_both plan xs ys (performs_then (list_any action_takes_memory xs) (list_any action_takes_memory ys) result (phases_foretells plan.part plan.switches xs) done rest)
+
+-- behind these the others are left out
+pub does_last : (plan : Plan) (xs ys : List Action) {x y : HostState} {o p : Devices} (result : Result Standing Stopped) → (result ≡ Ok Fine → ⊥) → Does plan xs x y o p result → Does plan (xs ++ ys) x y o p result
+does_last plan xs ys result not done =
+    does_both plan xs ys (performs_last (list_any action_takes_memory xs) (list_any action_takes_memory ys) (phases plan.part plan.switches ys) result not done)
 
 -- a read, whose data stand in a vector
 
@@ -282,18 +317,19 @@ told_nothing (Err Memory) d failed broken = absurd broken
 told_nothing (Err RecvFailed) d failed broken = ([], record { between = d; has_come = failed tt; tells = refl; since = omega arith; until = omega arith }, kept_nothing d.kept)
 
 -- an operation of which nothing is told
-pub quietly_performs : {operation : Dialog ⊥ (Result (Unit {0}) HostFault)} {old new : HostState} {o p : LinkView} (d : DeskView) (outcome : Result (Unit {0}) HostFault) (result : Result Standing Stopped)
-    → result ≡ conclusion outcome (Ok tt) → Ended false operation old.progress o p outcome new.progress → length new.progress.unread ≤ 281
-    → (IsBroken outcome → link.HasFailed o p) → new.broken ≡ lasting_fault outcome → new.part ≡ old.part → o.failures ≤ p.failures → PerformsBehind told_before (reported operation (λ _. [])) old new (devices o d) (devices p d) result
-quietly_performs {operation = operation} {old = old} {new = new} {o = o} {p = p} d outcome result is ended few failed lasts part counted =
+pub quietly_performs : (operation : Dialog ⊥ (Result (Unit {0}) HostFault)) {old new : HostState} {o p : LinkView} (d : DeskView) (outcome : Result (Unit {0}) HostFault) (result : Result Standing Stopped)
+    → old.broken ≡ None → Calls operation old new o p outcome → (EndsCall operation old.progress o p outcome new.progress → Ended false operation old.progress o p outcome new.progress) → result ≡ conclusion outcome (Ok tt)
+    → PerformsBehind told_before (reported operation (λ _. [])) old new (devices o d) (devices p d) result
+quietly_performs operation {old = old} {new = new} {o = o} {p = p} d outcome result sound calls ends is =
+    let ended = ends (calls.played sound) in
     let only = only_broken operation old.progress o p outcome new.progress ended in
     record {
       runs = subst (λ r. Runs (reported operation (λ _. [])) old.progress (devices o d) (devices p d) told_before r new.progress) (sym is)
           (operation_runs false (λ _. []) outcome (Ok tt) told_before PrintStops
-          (λ mid cause front told stops. print_stops_run told_before p d d (omega arith) (front.whole ++ front.begun) cause told stops) ended few counted (kept_none d.kept) (λ stop. told_nothing outcome d failed (only stop)));
-      serves = subst (λ r. HostServes r new.broken) (sym is) (serves_after outcome (Ok tt) new.broken lasts);
-      part = part;
-      link = counted;
+          (λ mid cause front told stops. print_stops_run told_before p d d (omega arith) (front.whole ++ front.begun) cause told stops) ended (calls.bound sound) calls.counted (kept_none d.kept) (λ stop. told_nothing outcome d (calls.failed sound) (only stop)));
+      serves = subst (λ r. HostServes r new.broken) (sym is) (serves_after outcome (Ok tt) new.broken (calls.lasts sound));
+      part = calls.part;
+      link = calls.counted;
       desk = omega arith;
     }
 

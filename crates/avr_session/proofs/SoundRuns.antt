@@ -13,8 +13,9 @@ use Rattle.stk_host.specs.Talk.{Talk, LinkView, heard, Grows}
 use Rattle.stk_host.specs.Dialog.{Dialog, Event, Said, Played, played, sayings}
 use Rattle.avr_desk.specs.Lines.{Bytes}
 use Rattle.avr_desk.specs.Said.{Saying, Line, Creates, Writes, Outs, after_all}
+use Rattle.avr_session.specs.Actions.{takes_memory}
 use Rattle.avr_session.specs.Runs.{Cause, OfSending, OfListening, OfFile, OfPrinting, OfMemory, NotCreated, NotWritten, Devices, devices, start, cause_line, tells_fault, TellsCause, StopsAt, untold, StopsBehind, BrokeOff, RunsTo}
-use Rattle.avr_session.specs.Session.{session, takes_memory}
+use Rattle.avr_session.specs.Session.{session}
 use Rattle.avr_session.specs.Stopping.{keeping, talking, IsSound, LacksMemory, IsPlayed}
 use Rattle.avr_desk.proofs.Telling.{failed_later, failed_before}
 

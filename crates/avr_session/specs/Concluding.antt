@@ -28,7 +28,7 @@ abbrev pub stopped_of : Result ⊤ DeskFault → Result ⊤ Stopped
 stopped_of (Ok done) = Ok tt
 stopped_of (Err fault) = Err (record {})
 
--- after any part that leaves the line, the host serves
+-- after any phase that leaves the line, the host serves
 abbrev pub HostServes : Result Standing Stopped → Option HostFault → Type 0
 HostServes (Ok Fine) broken = broken ≡ None
 HostServes (Ok Faulty) broken = broken ≡ None

@@ -1,22 +1,26 @@
--- How a part of a session ends. (For contracts inside this crate.)
+-- How a phase of a session ends. (For contracts inside this crate.)
 use Rattle.std.specs.Prelude.{Bool, true, false, ◌≡◌, ◌≤◌, List, Result, ⊤}
+use Rattle.std.specs.List.{list_any}
 use Rattle.avr_desk.specs.Fault.{Follows}
 use Rattle.avr_desk.specs.Record.{DeskView}
+use Rattle.avr_plan.specs.Plan.{Plan}
 use Rattle.stk_host.specs.Dialog.{Dialog}
 use Rattle.stk_host.specs.State.{HostState}
 use Rattle.avr_desk.specs.Said.{Saying}
 use Rattle.avr_session.specs.declared.standing.Standing.{Standing}
 use Rattle.avr_session.specs.declared.standing.Standing.TheVariants.{Fine}
 use Rattle.avr_session.specs.declared.standing.Stopped.{Stopped}
+use Rattle.avr_session.specs.Actions.{Action, action_takes_memory}
 use Rattle.avr_session.specs.Concluding.{HostServes, fine_if_said}
 use Rattle.avr_session.specs.Runs.{Devices, Terms, untold, PrintStops, Reports, Runs}
+use Rattle.avr_session.specs.Session.{phases}
 
 -- whether a fault was told, by how a session stands
 abbrev pub is_told : Standing → Bool
 is_told Fine = false
 is_told standing = true
 
--- A part of a session was played on these terms by a host, over devices that showed this before and after it.
+-- A phase was played on these terms by a host, over devices that showed this before and after it.
 pub record PerformsBehind (terms : Terms) (dialog : Dialog Saying Standing) (host_old host_new : HostState)
     (old new : Devices) (result : Result Standing Stopped) : Type 0 where
   pub runs : Runs dialog host_old.progress old new terms result host_new.progress
@@ -31,7 +35,13 @@ abbrev pub Performs : Bool → Dialog Saying Standing → HostState → HostStat
 Performs takes dialog host_old host_new old new result =
     PerformsBehind (untold takes) dialog host_old host_new old new result
 
--- something was said in place of a part of a session
+-- these actions of a plan were done in their order, up to the first fault
+abbrev pub Does : Plan → List Action → HostState → HostState → Devices → Devices → Result Standing Stopped → Type 0
+Does plan actions host_old host_new old new result =
+    Performs (list_any action_takes_memory actions) (phases plan.part plan.switches actions)
+    host_old host_new old new result
+
+-- something was said in place of an action
 pub record LeavesOut (sayings : List Saying) (old new : DeskView) (result : Result Standing Stopped) : Type 0 where
   pub told : Result ⊤ Stopped
   pub reports : Reports PrintStops old new sayings told

@@ -7,8 +7,9 @@ use Rattle.avr_plan.specs.Planning.{planned}
 use Rattle.avr_desk.specs.Playing as planning
 use Rattle.avr_desk.specs.Playing.{Went}
 use Rattle.avr_desk.specs.Stage.{Made, Refused}
+use Rattle.avr_session.specs.Actions.{takes_memory}
 use Rattle.avr_session.specs.Runs.{Devices, devices, RunsTo}
-use Rattle.avr_session.specs.Session.{session, takes_memory}
+use Rattle.avr_session.specs.Session.{session}
 
 -- the plan was made, of what the files gave, and its session was run from there
 pub record RunsPlan (settings : Settings) (old new : Devices) (status : ℕ) : Type 0 where

@@ -1,12 +1,12 @@
-//! The parts of a session: each is an operation of the host and its report.
-ghost use Rattle.std.specs.Prelude.{◌≡◌, ◌∷◌, ◌≤◌, ◌||◌, [], None, codes, length, All, true, false, not};
+//! The phases of a session: each is an operation of the host and its report.
+ghost use Rattle.std.specs.Prelude.{◌≡◌, ◌∷◌, ◌≤◌, [], None, length, All};
 ghost use Rattle.std.specs.List.{list_any};
 ghost use Rattle.avr_part.specs.Part.{size_of};
 ghost use Rattle.avr_plan.specs.Plan.{IsFitted};
-ghost use Rattle.avr_session.specs.Lines.{warns};
-ghost use Rattle.avr_session.specs.Runs.{devices, Reports, PrintStops};
-ghost use Rattle.avr_session.specs.Phases.{Performs, LeavesOut};
-ghost use Rattle.avr_session.specs.Session.{opening_phase, chip_erasing_phase, left_out_erase, erasing_phase, verifying_phase, writing_phase, reading_back_phase, reading_phase, left_out_write, write_task_phase, task_phase, tasks_phase, writes_flash, is_erase_due, task_takes_memory};
+ghost use Rattle.avr_session.specs.Actions.{OpenSession, EraseChip, WriteImage, CompareImage, SaveMemory, writes_flash, is_erase_due, erase_actions, read_back_actions, write_actions, task_actions, tasks_actions};
+ghost use Rattle.avr_session.specs.Phases.{Does, LeavesOut};
+ghost use Rattle.avr_session.specs.Runs.{devices};
+ghost use Rattle.avr_session.specs.Session.{left_out_erase, left_out_write};
 ghost use Rattle.stk_host.specs.Talk.{Stays};
 
 use crate::reports::{report_bytes, report_done, report_erased, report_opening, warn};
@@ -29,7 +29,7 @@ pub(crate) fn open_session<D: Desk, L: Link>(
 ) -> Result<Standing, Stopped>
     requires sound { host.old.broken ≡ None }
     requires part { host.old.part ≡ plan.now.part }
-    ensures performs { Performs false (opening_phase plan.now.part plan.now.switches) host.old host.new
+    ensures performs { Does plan.now (OpenSession ∷ []) host.old host.new
         (devices (L.view link.old) (D.view desk.old)) (devices (L.view link.new) (D.view desk.new)) result }
     ensures comes { Stays L.comes_of link.old link.new }
 {
@@ -47,7 +47,7 @@ fn erase_chip<D: Desk, L: Link>(
     plan: &Plan,
 ) -> Result<Standing, Stopped>
     requires sound { host.old.broken ≡ None }
-    ensures performs { Performs false (chip_erasing_phase plan.now.part plan.now.switches) host.old host.new
+    ensures performs { Does plan.now (EraseChip ∷ []) host.old host.new
         (devices (L.view link.old) (D.view desk.old)) (devices (L.view link.new) (D.view desk.new)) result }
     ensures comes { Stays L.comes_of link.old link.new }
 {
@@ -56,23 +56,12 @@ fn erase_chip<D: Desk, L: Link>(
     conclude(&erased, reported)
 }
 
-/// Warns that an erase that was asked for is left out.
-fn warn_of_no_erase<D: Desk>(desk: &mut D, quiet: u8) -> Result<(), Stopped>
-    ensures { Reports PrintStops (D.view desk.old) (D.view desk.new)
-        (warns quiet (codes "chip not erased because of -n" ∷ [])) result }
+/// Leaves out an erase that was asked for, with a warning.
+fn leave_out_erase<D: Desk>(desk: &mut D, quiet: u8) -> Result<Standing, Stopped>
+    ensures { LeavesOut (left_out_erase quiet) (D.view desk.old) (D.view desk.new) result }
 {
-    warn(desk, quiet, &[Piece::Text("chip not erased because of -n")])
-}
-
-/// Leaves out an erase, with a warning if one was asked for.
-fn leave_out_erase<D: Desk>(desk: &mut D, switches: Switches) -> Result<Standing, Stopped>
-    ensures { LeavesOut (left_out_erase switches) (D.view desk.old) (D.view desk.new) result }
-{
-    if switches.erase {
-        let warned = warn_of_no_erase(desk, switches.quiet);
-        return fine_if_said(warned);
-    }
-    Ok(Standing::Fine)
+    let warned = warn(desk, quiet, &[Piece::Text("chip not erased because of -n")]);
+    fine_if_said(warned)
 }
 
 /// Whether the task writes flash.
@@ -96,7 +85,7 @@ fn is_erase_due(switches: Switches, tasks: &[Task]) -> bool
     switches.erase || (any_writes_flash(tasks) && !switches.keep_flash)
 }
 
-/// Erases the chip where that is due.
+/// Erases the chip where that is due; in a dry run that is left out.
 pub(crate) fn erase_if_due<D: Desk, L: Link>(
     host: &mut Host,
     desk: &mut D,
@@ -104,13 +93,16 @@ pub(crate) fn erase_if_due<D: Desk, L: Link>(
     plan: &Plan,
 ) -> Result<Standing, Stopped>
     requires sound { host.old.broken ≡ None }
-    ensures performs { Performs false (erasing_phase plan.now.part plan.now.switches plan.now.tasks) host.old host.new
+    ensures performs { Does plan.now (erase_actions plan.now.switches plan.now.tasks) host.old host.new
         (devices (L.view link.old) (D.view desk.old)) (devices (L.view link.new) (D.view desk.new)) result }
     ensures comes { Stays L.comes_of link.old link.new }
 {
     let switches = plan.switches();
     if switches.dry {
-        return leave_out_erase(desk, switches);
+        if switches.erase {
+            return leave_out_erase(desk, switches.quiet);
+        }
+        return Ok(Standing::Fine);
     }
     if is_erase_due(switches, plan.tasks()) {
         return erase_chip(host, desk, link, plan);
@@ -131,7 +123,7 @@ fn verify<D: Desk, L: Link>(
     requires sound { host.old.broken ≡ None }
     requires part { host.old.part ≡ plan.now.part }
     requires fits { length image.now ≤ size_of mem plan.now.part }
-    ensures performs { Performs true (verifying_phase plan.now.part plan.now.switches mem image.now) host.old host.new
+    ensures performs { Does plan.now (CompareImage mem image.now ∷ []) host.old host.new
         (devices (L.view link.old) (D.view desk.old)) (devices (L.view link.new) (D.view desk.new)) result }
     ensures comes { Stays L.comes_of link.old link.new }
 {
@@ -161,7 +153,7 @@ fn write<D: Desk, L: Link>(
     requires sound { host.old.broken ≡ None }
     requires part { host.old.part ≡ plan.now.part }
     requires fits { length image.now ≤ size_of mem plan.now.part }
-    ensures performs { Performs false (writing_phase plan.now.part plan.now.switches mem image.now) host.old host.new
+    ensures performs { Does plan.now (WriteImage mem image.now ∷ []) host.old host.new
         (devices (L.view link.old) (D.view desk.old)) (devices (L.view link.new) (D.view desk.new)) result }
     ensures comes { Stays L.comes_of link.old link.new }
 {
@@ -192,8 +184,7 @@ fn read_back<D: Desk, L: Link>(
     requires sound { host.old.broken ≡ None }
     requires part { host.old.part ≡ plan.now.part }
     requires fits { length image.now ≤ size_of mem plan.now.part }
-    ensures performs { Performs (not plan.now.switches.no_verify)
-        (reading_back_phase plan.now.part plan.now.switches mem image.now) host.old host.new
+    ensures performs { Does plan.now (read_back_actions plan.now.switches mem image.now) host.old host.new
         (devices (L.view link.old) (D.view desk.old)) (devices (L.view link.new) (D.view desk.new)) result }
     ensures comes { Stays L.comes_of link.old link.new }
 {
@@ -210,7 +201,8 @@ fn leave_out_write<D: Desk>(
     mem: Mem,
     image: &Image,
 ) -> Result<Standing, Stopped>
-    ensures { LeavesOut (left_out_write plan.now.switches mem image.now) (D.view desk.old) (D.view desk.new) result }
+    ensures { LeavesOut (left_out_write plan.now.switches.quiet mem image.now)
+        (D.view desk.old) (D.view desk.new) result }
 {
     let said = report_bytes(
         desk,
@@ -235,8 +227,7 @@ fn write_and_verify<D: Desk, L: Link>(
     requires sound { host.old.broken ≡ None }
     requires part { host.old.part ≡ plan.now.part }
     requires fits { length image.now ≤ size_of mem plan.now.part }
-    ensures performs { Performs (not (plan.now.switches.dry || plan.now.switches.no_verify))
-        (write_task_phase plan.now.part plan.now.switches mem image.now) host.old host.new
+    ensures performs { Does plan.now (write_actions plan.now.switches mem image.now) host.old host.new
         (devices (L.view link.old) (D.view desk.old)) (devices (L.view link.new) (D.view desk.new)) result }
     ensures comes { Stays L.comes_of link.old link.new }
 {
@@ -261,9 +252,7 @@ fn read<D: Desk, L: Link>(
 ) -> Result<Standing, Stopped>
     requires sound { host.old.broken ≡ None }
     requires part { host.old.part ≡ plan.now.part }
-    ensures performs { Performs true
-        (reading_phase plan.now.part plan.now.switches mem target.entry.format target.entry.file.now)
-        host.old host.new
+    ensures performs { Does plan.now (SaveMemory mem target.entry.format target.entry.file.now ∷ []) host.old host.new
         (devices (L.view link.old) (D.view desk.old)) (devices (L.view link.new) (D.view desk.new)) result }
     ensures comes { Stays L.comes_of link.old link.new }
 {
@@ -285,8 +274,7 @@ fn perform<D: Desk, L: Link>(
     requires sound { host.old.broken ≡ None }
     requires part { host.old.part ≡ plan.now.part }
     requires fits { IsFitted plan.now.part task.now }
-    ensures performs { Performs (task_takes_memory plan.now.switches task.now)
-        (task_phase plan.now.part plan.now.switches task.now) host.old host.new
+    ensures performs { Does plan.now (task_actions plan.now.switches task.now) host.old host.new
         (devices (L.view link.old) (D.view desk.old)) (devices (L.view link.new) (D.view desk.new)) result }
     ensures comes { Stays L.comes_of link.old link.new }
 {
@@ -319,8 +307,7 @@ pub(crate) fn perform_all<D: Desk, L: Link>(
     requires sound { host.old.broken ≡ None }
     requires part { host.old.part ≡ plan.now.part }
     requires fits { All (IsFitted plan.now.part) tasks.now }
-    ensures performs { Performs (list_any (task_takes_memory plan.now.switches) tasks.now)
-        (tasks_phase plan.now.part plan.now.switches tasks.now) host.old host.new
+    ensures performs { Does plan.now (tasks_actions plan.now.switches tasks.now) host.old host.new
         (devices (L.view link.old) (D.view desk.old)) (devices (L.view link.new) (D.view desk.new)) result }
     ensures comes { Stays L.comes_of link.old link.new }
 {

@@ -1,11 +1,12 @@
 //! The session of a plan: what it asks of a programmer, and what it reports at the desk.
-ghost use Rattle.std.specs.Prelude.{◌≡◌, ◌∷◌, [], None, Ok, codes, true, false};
+ghost use Rattle.std.specs.Prelude.{◌≡◌, None, Ok, true, false};
 ghost use Rattle.avr_desk.specs.Fault.{Follows};
 ghost use Rattle.avr_session.specs.declared.standing.Standing.TheVariants.{Fine, Faulty};
+ghost use Rattle.avr_session.specs.Actions.{actions, takes_memory};
 ghost use Rattle.avr_session.specs.Concluding.{HostServes};
-ghost use Rattle.avr_session.specs.Phases.{is_told, Performs, PerformsBehind};
+ghost use Rattle.avr_session.specs.Phases.{is_told, Performs, PerformsBehind, Does};
 ghost use Rattle.avr_session.specs.Runs.{devices, RunsTo};
-ghost use Rattle.avr_session.specs.Session.{beginning, working, ending, playing, session, takes_memory};
+ghost use Rattle.avr_session.specs.Session.{ending, playing, session};
 ghost use Rattle.stk_host.specs.Talk.{Stays};
 
 use crate::phases::{erase_if_due, open_session, perform_all};
@@ -16,26 +17,7 @@ use avr_plan::Plan;
 use std::alloc::Global;
 use stk_host::{Host, Link};
 
-/// Opens a session, and erases the chip where that is due.
-fn open_and_erase<D: Desk, L: Link>(
-    host: &mut Host,
-    desk: &mut D,
-    link: &mut L,
-    plan: &Plan,
-) -> Result<Standing, Stopped>
-    requires sound { host.old.broken ≡ None }
-    requires part { host.old.part ≡ plan.now.part }
-    ensures performs { Performs false (beginning plan.now) host.old host.new
-        (devices (L.view link.old) (D.view desk.old)) (devices (L.view link.new) (D.view desk.new)) result }
-    ensures comes { Stays L.comes_of link.old link.new }
-{
-    match open_session(host, desk, link, plan)? {
-        Standing::Fine => erase_if_due(host, desk, link, plan),
-        fault => Ok(fault),
-    }
-}
-
-/// Plays all of a session but its end.
+/// Does all that a plan asks for: opens a session, erases the chip where that is due, and performs the tasks.
 fn work<D: Desk, L: Link>(
     alloc: Global,
     host: &mut Host,
@@ -45,12 +27,15 @@ fn work<D: Desk, L: Link>(
 ) -> Result<Standing, Stopped>
     requires sound { host.old.broken ≡ None }
     requires part { host.old.part ≡ plan.now.part }
-    ensures performs { Performs (takes_memory plan.now) (working plan.now) host.old host.new
+    ensures performs { Does plan.now (actions plan.now) host.old host.new
         (devices (L.view link.old) (D.view desk.old)) (devices (L.view link.new) (D.view desk.new)) result }
     ensures comes { Stays L.comes_of link.old link.new }
 {
-    match open_and_erase(host, desk, link, plan)? {
-        Standing::Fine => perform_all(alloc, host, desk, link, plan, plan.tasks()),
+    match open_session(host, desk, link, plan)? {
+        Standing::Fine => match erase_if_due(host, desk, link, plan)? {
+            Standing::Fine => perform_all(alloc, host, desk, link, plan, plan.tasks()),
+            fault => Ok(fault),
+        },
         fault => Ok(fault),
     }
 }

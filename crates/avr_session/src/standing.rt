@@ -1,4 +1,4 @@
-//! How a session stands after a part of it.
+//! How a session stands after a phase of it.
 ghost use Rattle.std.specs.Prelude.{◌≡◌};
 ghost use Rattle.avr_session.specs.Concluding.{conclusion, fine_if_said};
 ghost use Rattle.avr_session.specs.Session.{status_of};

@@ -6,8 +6,9 @@ ghost use Rattle.avr_desk.specs.Said.{Saying, Line, Creates, Writes};
 ghost use Rattle.stk_host.specs.Dialog.{Dialog, Event, Said, played};
 ghost use Rattle.stk_host.specs.Talk.{Talk, LinkView, heard};
 ghost use Rattle.avr_plan.specs.Plan.{Plan};
+ghost use Rattle.avr_session.specs.Actions.{takes_memory};
 ghost use Rattle.avr_session.specs.Runs.{Cause, OfFile, OfPrinting, OfMemory, NotCreated, NotWritten, Devices, devices, tells_fault, StopsAt, untold, StopsBehind, RunsTo};
-ghost use Rattle.avr_session.specs.Session.{session, takes_memory};
+ghost use Rattle.avr_session.specs.Session.{session};
 ghost use Rattle.avr_session.specs.Stopping.{IsSound, LacksMemory, IsPlayed, keeping, talking};
 
 /// Where no device failed, a run was played whole, if the messages do not say that memory was refused, or if its plan

@@ -4,7 +4,8 @@ use Rattle.avr_desk.specs.Record.{DeskView, Record}
 use Rattle.avr_part.specs.Part.{IsPart}
 use Rattle.avr_plan.specs.Plan.{Plan, IsFitted}
 use Rattle.avr_session.specs.Runs.{start}
-use Rattle.avr_session.specs.Session.{session, is_erase_due, takes_memory}
+use Rattle.avr_session.specs.Actions.{takes_memory}
+use Rattle.avr_session.specs.Session.{session}
 use Rattle.avr_session.specs.Stopping.{IsSound, LacksMemory, keeping}
 use Rattle.avr_session.proofs.SoundRuns.{broke_lacks}
 use Rattle.stk_emu.specs.Effect.{erase_keeps_eeprom}
@@ -13,7 +14,7 @@ use Rattle.stk_emu.specs.Settled.{FitsPart}
 use Rattle.stk_emu.specs.Wired.{WiredState, wired_view}
 use Rattle.avr_emulated.specs.Again.{AreKeeping, AgreesAnyway}
 use Rattle.avr_emulated.specs.AnyLine.{Stopped, OverAnyLine, memories}
-use Rattle.avr_emulated.specs.Items.{items}
+use Rattle.avr_emulated.specs.Items.{items, has_erase}
 use Rattle.avr_emulated.specs.Outcome.{IsTouched, IsDone, IsCourse}
 use Rattle.avr_emulated.specs.Written.{IsWritten}
 use Rattle.avr_emulated.proofs.AgainAgrees.{agrees_anyway}
@@ -33,25 +34,25 @@ module _ (plan : Plan) (w v : WiredState) (d e : Record) (a b status : ℕ) (few
   pub sound_course : OverAnyLine plan w v old now status → IsCourse plan (memories w) (memories v) old now status
   sound_course is_over = elim (is_over.few_bad few) [ inl is ↦ is | inr stopped ↦ absurd (goes_on stopped) ]
 
-  pub sound_images : plan.switches.dry ≡ false → plan.switches.no_verify ≡ false → is_erase_due plan.switches plan.tasks ≡ true → AgreesAnyway plan
+  pub sound_images : plan.switches.no_verify ≡ false → has_erase (items plan) ≡ true → AgreesAnyway plan
       → OverAnyLine plan w v old now status → (status ≡ 0) × IsWritten plan (memories w) (memories v)
-  sound_images wet verified due both is_over = elim (is_over.again few wet due both) [ inl zero ↦ (zero, is_over.images zero wet verified) | inr stopped ↦ absurd (goes_on stopped) ]
+  sound_images verified erases both is_over = elim (is_over.again few erases both) [ inl zero ↦ (zero, is_over.images zero verified) | inr stopped ↦ absurd (goes_on stopped) ]
 
 pub further_heals : (plan : Plan) (w v x y : WiredState) (d e f g : DeskView) (status further : ℕ)
     → IsPart plan.part → All (IsFitted plan.part) plan.tasks → FitsPart plan.part (memories w)
-    → plan.switches.dry ≡ false → is_erase_due plan.switches plan.tasks ≡ true → AgreesAnyway plan
+    → has_erase (items plan) ≡ true → AgreesAnyway plan
     → (erase_keeps_eeprom plan.part (memories w) ≡ true → AreKeeping plan.part (items plan))
     → OverAnyLine plan w v d e status
     → memories x ≡ memories v → AreFew x.wire.fates → OverAnyLine plan x y f g further
     → ((further ≡ 0) × IsDone plan (memories w) (memories y)) ⊎ Stopped plan x y f g
-further_heals plan w v x y d e f g status further sound fitted fits wet due both kept first same few second =
+further_heals plan w v x y d e f g status further sound fitted fits erases both kept first same few second =
     let touched : IsTouched plan (memories w) (memories x) = record { count = first.strokes.count; memories = same ∙ first.strokes.memories } in
-    elim (second.again few wet due both) [
+    elim (second.again few erases both) [
       | inl zero ↦ inl (
         zero,
         record {
           memories = done_again plan (memories w) (memories x) (memories y) sound fitted fits (λ _. kept) touched (second.done zero);
-          agrees = agrees_anyway plan (memories w) fits wet due both;
+          agrees = agrees_anyway plan (memories w) fits erases both;
         },
       )
       | inr stopped ↦ inr stopped

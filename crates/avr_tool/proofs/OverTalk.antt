@@ -94,7 +94,7 @@ module _ (plan : Plan) (s : chips.ChipState) (q : Programmer) (fates : List Fate
         agrees = λ zero. sym (came zero).result ∙ zero;
         said = λ zero. said ∙ (came zero).sayings;
         done = is_done;
-        images = λ zero wet verified. run_written plan (memories_of s) (memories_of q.chip) fitted wet verified (is_done zero) sound sizes;
+        images = λ zero verified. run_written plan (memories_of s) (memories_of q.chip) fitted verified (is_done zero) sound sizes;
         strokes = record {
           count = makes.count count;
           at_least = makes.at_least count;

@@ -8,8 +8,9 @@ use Rattle.avr_plan.specs.Planning.{planned}
 use Rattle.avr_desk.specs.Playing as planning
 use Rattle.avr_desk.specs.Playing.{Went, Goes}
 use Rattle.avr_desk.specs.Stage.{Made, Refused}
+use Rattle.avr_session.specs.Actions.{takes_memory}
 use Rattle.avr_session.specs.Runs.{RunsTo}
-use Rattle.avr_session.specs.Session.{session, takes_memory}
+use Rattle.avr_session.specs.Session.{session}
 use Rattle.stk_frame.specs.Cut.{frames}
 use Rattle.stk_frame.specs.Reader.{Stands}
 use Rattle.stk_host.specs.Talk.{sent, heard}

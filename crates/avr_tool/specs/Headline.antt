@@ -20,8 +20,9 @@ use Rattle.avr_desk.specs.Playing as planning
 use Rattle.avr_desk.specs.Playing.{Went}
 use Rattle.avr_desk.specs.Stage as stage
 use Rattle.avr_desk.specs.Stage.{Answer, Made, Refused, Unread}
+use Rattle.avr_session.specs.Actions.{takes_memory}
 use Rattle.avr_session.specs.Runs.{Devices, devices, start, untold, BrokeOff}
-use Rattle.avr_session.specs.Session.{session, takes_memory}
+use Rattle.avr_session.specs.Session.{session}
 use Rattle.avr_emulated.specs.AnyLine.{Weight, weighed, bodies_in, Stopped, OverAnyLine}
 use Rattle.avr_emulated.specs.Bound.{run_steps}
 use Rattle.avr_emulated.specs.Course.{course}
@@ -179,7 +180,7 @@ pub record OverAnyLink (plan : Plan) (p q : Programmer) (fates : List Fate) (byt
   pub agrees : status ≡ 0 → (course plan (memories_of p.chip)).status ≡ 0
   pub said : status ≡ 0 → sayings events ≡ (course plan (memories_of p.chip)).says
   pub done : status ≡ 0 → IsDone plan (memories_of p.chip) (memories_of q.chip)
-  pub images : status ≡ 0 → plan.switches.dry ≡ false → plan.switches.no_verify ≡ false
+  pub images : status ≡ 0 → plan.switches.no_verify ≡ false
       → IsWritten plan (memories_of p.chip) (memories_of q.chip)
   pub strokes : MakesStrokes plan p fates (length (frames bytes)) (memories_of p.chip) (memories_of q.chip)
   pub four : (weight : Weight) → weighed weight (map body_of (frames bytes))

@@ -7,7 +7,7 @@ ghost use Rattle.avr_emulated.specs.Again.{AgreesAnyway, AreKeeping};
 ghost use Rattle.avr_emulated.specs.AnyLine.{Stopped, OverAnyLine, Weight, weighed, bodies_in, memories, frames_over};
 ghost use Rattle.avr_emulated.specs.Bound.{run_steps};
 ghost use Rattle.avr_emulated.specs.Course.{course};
-ghost use Rattle.avr_emulated.specs.Items.{items};
+ghost use Rattle.avr_emulated.specs.Items.{items, has_erase};
 ghost use Rattle.avr_emulated.specs.Outcome.{IsCourse, IsDone};
 ghost use Rattle.avr_emulated.specs.Written.{IsWritten};
 ghost use Rattle.avr_desk.specs.Said.{Saying, after_all};
@@ -17,7 +17,7 @@ ghost use Rattle.avr_part.specs.State.{ChipState as Chip};
 ghost use Rattle.avr_plan.specs.Plan.{Plan, IsFitted};
 ghost use Rattle.avr_session.specs.Run.{RunsSettings};
 ghost use Rattle.avr_session.specs.Runs.{Devices, devices};
-ghost use Rattle.avr_session.specs.Session.{session, is_erase_due};
+ghost use Rattle.avr_session.specs.Session.{session};
 ghost use Rattle.avr_session.specs.Stopping.{IsSound, LacksMemory, keeping, talking};
 ghost use Rattle.avr_tool.specs.Headline.{IsRun, IsStopped, StoppedPlaying, IsFrontOfRun, OverAnyLink, wire_and_desk};
 ghost use Rattle.avr_tool.specs.Worked.{worked_settings, worked_answers, frames_due, lines_due};
@@ -93,8 +93,7 @@ pub fn a_sound_run_is_its_course()
     ensures images { (plan : Plan) (w v : WiredState) (d e : Record) (a b status : ℕ)
         → AreFew w.wire.fates → IsSound (wire_and_desk w (keeping d a)) (wire_and_desk v (keeping e b))
         → (LacksMemory e.messages → ⊥)
-        → plan.switches.dry ≡ false → plan.switches.no_verify ≡ false
-        → is_erase_due plan.switches plan.tasks ≡ true → AgreesAnyway plan
+        → plan.switches.no_verify ≡ false → has_erase (items plan) ≡ true → AgreesAnyway plan
         → OverAnyLine plan w v (keeping d a) (keeping e b) status
         → (status ≡ 0) × IsWritten plan (memories w) (memories v) }
 {}
@@ -106,7 +105,7 @@ pub fn a_sound_run_is_its_course()
 pub fn a_further_run_heals()
     ensures { (plan : Plan) (w v x y : WiredState) (d e f g : DeskView) (status further : ℕ)
         → IsPart plan.part → All (IsFitted plan.part) plan.tasks → FitsPart plan.part (memories w)
-        → plan.switches.dry ≡ false → is_erase_due plan.switches plan.tasks ≡ true → AgreesAnyway plan
+        → has_erase (items plan) ≡ true → AgreesAnyway plan
         → (erase_keeps_eeprom plan.part (memories w) ≡ true → AreKeeping plan.part (items plan))
         → OverAnyLine plan w v d e status
         → memories x ≡ memories v → AreFew x.wire.fates → OverAnyLine plan x y f g further

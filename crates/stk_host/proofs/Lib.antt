@@ -1,5 +1,6 @@
 pub mod Tapes
 pub mod Talks
+pub mod Binding
 pub mod Leading
 pub mod Sending
 pub mod Listens

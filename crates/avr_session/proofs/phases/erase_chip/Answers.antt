@@ -1,14 +1,17 @@
-use Rattle.std.proofs.Common.{codes, [], ◌∷◌, false}
-use Rattle.avr_session.specs.Lines.{informs}
-use Rattle.avr_session.specs.Session.{fault_or}
+use Rattle.std.proofs.Common.{false}
+use Rattle.stk_host.specs.Operations.{erasing}
+use Rattle.avr_session.specs.Actions.{EraseChip}
+use Rattle.avr_session.specs.Session.{erased_says}
 use Rattle.avr_session.specs.Runs.{PrintStops}
 use Rattle.avr_session.proofs.Operations.{call_ended, erasing_lacks_none, told_of}
-use Rattle.avr_session.proofs.Performing.{operation_performs, print_stops_report}
+use Rattle.avr_session.proofs.Performing.{does_one, operation_performs, print_stops_report}
 use Rattle.avr_session.proofs.phases.erase_chip.Goals as goal
 
 pub returns-clause-performs : goal.returns-clause-performs
 returns-clause-performs g c =
+    let part = c.args.plan.now.part in
+    let s = c.args.plan.now.switches in
     let reports = rw (c.part.ensures, c.switches.ensures) at c.report_erased-reported.ensures in
-    operation_performs false (fault_or c.args.plan.now.part (λ _. informs c.args.plan.now.switches.quiet (codes "chip erased" ∷ []))) c.erase-erased.result c.report_erased-reported.result c.conclude.result PrintStops (print_stops_report _ _ reports) c.conclude.ensures
-    (call_ended _ _ _ _ c.erase-erased.result _ erasing_lacks_none (c.erase-erased.ensures.calls.played c.requires.sound)) (c.erase-erased.ensures.calls.bound c.requires.sound) reports
-    (told_of _ _ c.args.plan.now.part _ c.erase-erased.result c.report_erased-reported.result reports) (c.erase-erased.ensures.calls.failed c.requires.sound) (c.erase-erased.ensures.calls.lasts c.requires.sound) c.erase-erased.ensures.calls.part c.erase-erased.ensures.calls.counted
+    does_one c.args.plan.now EraseChip (operation_performs false erasing (erased_says s.quiet part) c.erase-erased.result c.report_erased-reported.result c.conclude.result PrintStops (print_stops_report _ _ reports)
+    c.requires.sound c.erase-erased.ensures.calls (call_ended erasing _ _ _ c.erase-erased.result _ erasing_lacks_none) reports
+    (told_of _ _ part _ c.erase-erased.result c.report_erased-reported.result reports) c.conclude.ensures)

@@ -1,5 +1,5 @@
-use Rattle.avr_session.proofs.Performing.{nothing_performs}
+use Rattle.avr_session.proofs.Performing.{does_nothing}
 use Rattle.avr_session.proofs.phases.read_back.Goals as goal
 
 pub returns-then-switches-clause-performs : goal.returns-then-switches-clause-performs
-returns-then-switches-clause-performs g c = rw (rw c.switches.ensures at c.if-switches.true) (nothing_performs _ _ _ c.requires.sound)
+returns-then-switches-clause-performs g c = rw (rw c.switches.ensures at c.if-switches.true) (does_nothing c.args.plan.now _ _ c.requires.sound)

@@ -1,6 +1,6 @@
-use Rattle.std.proofs.Common.{codes, [], ◌∷◌, false}
-use Rattle.avr_session.specs.Lines.{informs}
-use Rattle.avr_session.specs.Session.{fault_or}
+use Rattle.std.proofs.Common.{false}
+use Rattle.stk_host.specs.Operations.{closing}
+use Rattle.avr_session.specs.Session.{closed_says}
 use Rattle.avr_session.specs.Runs.{PrintStops}
 use Rattle.avr_session.proofs.Operations.{call_ended, closing_lacks_none, told_of}
 use Rattle.avr_session.proofs.Performing.{operation_performs, print_stops_report}
@@ -8,7 +8,9 @@ use Rattle.avr_session.proofs.session.close.Goals as goal
 
 pub returns-clause-performs : goal.returns-clause-performs
 returns-clause-performs g c =
+    let part = c.args.plan.now.part in
+    let s = c.args.plan.now.switches in
     let reports = rw (c.part.ensures, c.switches.ensures) at c.report_closing-reported.ensures in
-    operation_performs false (fault_or c.args.plan.now.part (λ _. informs c.args.plan.now.switches.quiet (codes "done" ∷ []))) c.close-closed.result c.report_closing-reported.result c.conclude.result PrintStops (print_stops_report _ _ reports) c.conclude.ensures
-    (call_ended _ _ _ _ c.close-closed.result _ closing_lacks_none (c.close-closed.ensures.calls.played c.requires)) (c.close-closed.ensures.calls.bound c.requires) reports
-    (told_of _ _ c.args.plan.now.part _ c.close-closed.result c.report_closing-reported.result reports) (c.close-closed.ensures.calls.failed c.requires) (c.close-closed.ensures.calls.lasts c.requires) c.close-closed.ensures.calls.part c.close-closed.ensures.calls.counted
+    operation_performs false closing (closed_says s.quiet part) c.close-closed.result c.report_closing-reported.result c.conclude.result PrintStops (print_stops_report _ _ reports)
+    c.requires c.close-closed.ensures.calls (call_ended closing _ _ _ c.close-closed.result _ closing_lacks_none) reports
+    (told_of _ _ part _ c.close-closed.result c.report_closing-reported.result reports) c.conclude.ensures

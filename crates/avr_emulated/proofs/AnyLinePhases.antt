@@ -1,43 +1,41 @@
--- The parts of a session, by what they leave over any line.
+-- The phases of a session, by what they leave over any line.
 use Rattle.std.proofs.Common.{◌≡◌, ℕ, ◌≤◌, List, [], ◌∷◌, ◌++◌, length, refl, sym, ap, ◌∙◌, subst, arith, inl, inr, Ok, Err, Result, Bool, true, false, Option, Some, None}
 use Rattle.std.proofs.lemmas.List.{append-nil}
-use Rattle.std.specs.Prelude.{All, ⊤, ◌||◌, if◌then◌else◌}
+use Rattle.std.specs.Prelude.{⊤, if◌then◌else◌}
 use Rattle.avr_cli.specs.declared.settings.Switches.{Switches}
 use Rattle.avr_desk.specs.Said.{Saying}
 use Rattle.avr_part.specs.Mem.{is_writable}
 use Rattle.avr_part.specs.declared.mem.Mem.{Mem}
 use Rattle.avr_part.specs.Part.{Part, IsPart, size_of}
-use Rattle.avr_plan.specs.Plan.{IsFitted}
-use Rattle.avr_plan.specs.declared.task.Task.{Task}
-use Rattle.avr_plan.specs.declared.task.Task.TheVariants as task
 use Rattle.stk_frame.specs.declared.command.Command.{Command}
 use Rattle.stk_host.specs.declared.fault.HostFault.{HostFault}
 use Rattle.stk_host.specs.declared.fault.HostFault.TheVariants.{Differs, ReadOnly}
 use Rattle.stk_host.specs.Dialog.{Dialog, Done, ◌>>=◌, lifted}
 use Rattle.stk_host.specs.WriteSteps.{write_steps}
 use Rattle.stk_host.specs.ReadSteps.{read_steps}
-use Rattle.stk_host.specs.Operations.{Difference, opening, no_result, erasing, difference_from, differs, comparison, operation}
+use Rattle.stk_host.specs.Operations.{Difference, opening, no_result, difference_from, differs, comparison, operation}
 use Rattle.stk_emu.specs.declared.fate.Fate.{Fate}
 use Rattle.stk_emu.specs.Programmer.{Programmer}
 use Rattle.stk_emu.specs.Device.{device}
-use Rattle.stk_emu.specs.Effect.{Memories, Image, Item, Erase, Write, effect, effects, memory_in}
+use Rattle.stk_emu.specs.Effect.{Memories, Image, Item, Erase, Write, effects, memory_in}
 use Rattle.stk_emu.specs.Settled.{Idle, Settled, FitsPart}
 use Rattle.stk_emu.specs.Strokes.{struck_by, steps_of, all_steps, AreSteps, AllFitItems}
 use Rattle.stk_emu.specs.Given.{all_given}
 use Rattle.stk_emu.specs.Leads.{Leads, Reached, AfterOperation, AfterOpening}
 use Rattle.stk_emu.proofs.Obeying.{settled_idle}
 use Rattle.stk_emu.proofs.PageStrokes.{effects_on}
-use Rattle.stk_emu.proofs.ItemStrokes.{write_are_steps, read_are_steps, item_are_steps, effect_sizes}
+use Rattle.stk_emu.proofs.ItemStrokes.{write_are_steps, read_are_steps, item_are_steps}
 use Rattle.stk_emu.proofs.PlayGiven.{read_gives}
 use Rattle.stk_emu.proofs.Comparing.{no_difference}
 use Rattle.stk_emu.proofs.LeadsOn.{leads_done, leads_say, leads_lifted, leads_wider, leads_bind, leads_operation, leads_opening}
 use Rattle.avr_session.specs.declared.standing.Standing.{Standing}
 use Rattle.avr_session.specs.declared.standing.Standing.TheVariants.{Fine, Faulty, Over}
-use Rattle.avr_session.specs.Session.{says, standing, reported, unless_fault, fault_or, opening_says, erased_says, written_says, verified_says, read_says, opening_phase, is_erase_due, left_out_erase, erasing_phase, verifying_phase, writing_phase, reading_back_phase, left_out_write, write_task_phase, task_phase, tasks_phase}
-use Rattle.avr_emulated.specs.Items.{erasing_items, task_items, tasks_items}
-use Rattle.avr_emulated.specs.Agrees.{Shows, Unless, TaskAgrees, TasksAgree}
+use Rattle.avr_session.specs.Actions.{Action, OpenSession, EraseChip, LeaveErase, WriteImage, LeaveWrite, CompareImage, SaveMemory}
+use Rattle.avr_session.specs.Session.{says, standing, reported, unless_fault, fault_or, opening_says, erased_says, written_says, verified_says, read_says, left_out_erase, left_out_write, phase, phases}
+use Rattle.avr_emulated.specs.Items.{action_items, items_of}
+use Rattle.avr_emulated.specs.Agrees.{Shows, ActionAgrees, ActionsAgree}
 use Rattle.avr_emulated.proofs.Standings.{after_fault}
-use Rattle.avr_emulated.proofs.AnyLineAsks.{first_of, rest_of}
+use Rattle.avr_emulated.proofs.Fitting.{FitsAction, AllFitActions, action_items_fit}
 use Rattle.avr_emulated.proofs.AnyLineSteps.{Rests, reached_rests, rests_here, rests_before, rests_all, rests_behind, effects_sizes, all_struck, quiet_stays, read_quiet}
 
 leads_says : {R : Type 0} (sayings : List Saying) (d : Dialog Saying R) (p : Programmer) (fates : List Fate) (During : Programmer → Type 0) (After : R → Programmer → Type 0)
@@ -55,7 +53,7 @@ leads_reported call outcome_says p fates During After Then during after l =
     (λ r q fs a. leads_says (outcome_says r) (Done (standing r)) q fs During Then (leads_done device (standing r) q fs During Then (during r q a) (after r q a)))
     (lifted call) p fates (leads_lifted device call p fates During After l)
 
--- After a part of a session that does these items: where it is fine, it has done them all, and the check holds; after a
+-- After a phase of a session that does these items: where it is fine, it has done them all, and the check holds; after a
 -- fault the memories are those of some first steps.
 abbrev pub Comes : Part → Memories → List Item → Type 0 → Standing → Programmer → Type 0
 Comes part m items Check Fine q = Settled part (effects part items m) q × Check
@@ -67,7 +65,7 @@ abbrev CameTo : {A : Type 0} → Part → Memories → List Item → Type 0 → 
 CameTo part m items Check (Ok a) q = Settled part (effects part items m) q × Check
 CameTo part m items Check (Err fault) q = Rests part (all_steps part items) m q
 
--- a part of a session that does these items, from a programmer of these memories
+-- a phase of a session that does these items, from a programmer of these memories
 abbrev pub Goes : Part → (Programmer → Type 0) → Memories → List Item → Type 0 → Dialog Saying Standing → Type 0
 Goes part From m items Check d = (p : Programmer) (fates : List Fate) → From p → Leads device d p fates (Rests part (all_steps part items) m) (Comes part m items Check)
 
@@ -85,20 +83,8 @@ module _ (part : Part) (sound : IsPart part) where
   came_rests m items Check (Ok a) q fits f came = rests_all part sound items m q fits f (settled_idle part (effects part items m) q came.0)
   came_rests m items Check (Err fault) q fits f came = came
 
-  comes_wider : (m : Memories) (items : List Item) (Check Wider : Type 0) → (Check → Wider) → (s : Standing) (q : Programmer) → Comes part m items Check s q → Comes part m items Wider s q
-  comes_wider m items Check Wider follows Fine q came = (came.0, follows came.1)
-  comes_wider m items Check Wider follows Faulty q rests = rests
-  comes_wider m items Check Wider follows Over q rests = rests
-
-  -- another check that follows
-  goes_wider : (From : Programmer → Type 0) (m : Memories) (items : List Item) (Check Wider : Type 0) (d : Dialog Saying Standing) → (Check → Wider) → Goes part From m items Check d
-      → Goes part From m items Wider d
-  goes_wider From m items Check Wider d follows goes p fates from =
-      leads_wider device d p fates (Rests part (all_steps part items) m) (Rests part (all_steps part items) m) (Comes part m items Check) (Comes part m items Wider)
-      (λ q r. r) (λ s q came. comes_wider m items Check Wider follows s q came) (goes p fates from)
-
   -- nothing but what is said
-  pub goes_saying : (m : Memories) (sayings : List Saying) → Goes part (Settled part m) m [] ⊤ (says sayings (Done Fine))
+  goes_saying : (m : Memories) (sayings : List Saying) → Goes part (Settled part m) m [] ⊤ (says sayings (Done Fine))
   goes_saying m sayings p fates s =
       leads_says sayings (Done Fine) p fates (Rests part [] m) (Comes part m [] ⊤)
       (leads_done device Fine p fates (Rests part [] m) (Comes part m [] ⊤) (rests_here part [] m p (settled_idle part m p s)) (s, tt))
@@ -121,7 +107,7 @@ module _ (part : Part) (sound : IsPart part) where
       came (Ok a) q (inr broke) = absurd (ok_is a broke.0 broke.1)
       came (Err fault) q (inr broke) = rests q broke.2
 
-  -- one part, and the next one unless there was a fault
+  -- one phase, and the next one unless there was a fault
   pub goes_then : (From : Programmer → Type 0) (m : Memories) (xs ys : List Item) (Check More : Type 0) (d next : Dialog Saying Standing) → AllFitItems part xs → FitsPart part m
       → Goes part From m xs Check d → Goes part (Settled part (effects part xs m)) (effects part xs m) ys More next → Goes part From m (xs ++ ys) (Check × More) (d >>= unless_fault next)
   goes_then From m xs ys Check More d next fits f goes more p fates from =
@@ -149,7 +135,7 @@ module _ (part : Part) (sound : IsPart part) where
           leads_done device Over q fs (Rests part (all_steps part (xs ++ ys)) m) (Comes part m (xs ++ ys) (Check × More)) r r
 
   -- a memory is read, and what it holds is judged
-  pub goes_reading : {A : Type 0} (m : Memories) (Check : Type 0) (mem : Mem) (judge : List ℕ → Result A HostFault) (outcome_says : Result A HostFault → List Saying)
+  goes_reading : {A : Type 0} (m : Memories) (Check : Type 0) (mem : Mem) (judge : List ℕ → Result A HostFault) (outcome_says : Result A HostFault → List Saying)
       → FitsPart part m → ((a : A) → judge (memory_in part mem m) ≡ Ok a → Check) → Goes part (Settled part m) m [] Check (reported (operation (read_steps part mem) judge) outcome_says)
   goes_reading m Check mem judge outcome_says f judged =
       let steps = read_steps part mem in
@@ -173,53 +159,26 @@ module _ (part : Part) (sound : IsPart part) where
     opened m (Ok found) q after = (after.0, tt)
     opened m (Err fault) q after = rests_here part [] m q after
 
-    pub goes_opening : (m : Memories) → FitsPart part m → Goes part (Idle part m) m [] ⊤ (opening_phase part s)
+    pub goes_opening : (m : Memories) → FitsPart part m → Goes part (Idle part m) m [] ⊤ (phase part s OpenSession)
     goes_opening m f p fates idle =
         leads_reported (opening part.signature s.force) (opening_says s.quiet part) p fates (Rests part [] m) (CameTo part m [] ⊤) (Comes part m [] ⊤)
         (λ r q came. came_rests m [] ⊤ r q tt f came) (λ r q came. come_standing part m [] ⊤ r q came)
         (leads_wider device (opening part.signature s.force) p fates (Idle part m) (Rests part [] m) (AfterOpening part m) (CameTo part m [] ⊤)
         (λ q i. rests_here part [] m q i) (λ r q after. opened m r q after) (leads_opening part sound part.signature s.force m p fates f idle))
 
-    goes_chip_erasing : (m : Memories) → FitsPart part m → Goes part (Settled part m) m (Erase ∷ []) ⊤ (reported erasing (erased_says s.quiet part))
-    goes_chip_erasing m f = goes_items m (Erase ∷ []) (steps_of part Erase) (erased_says s.quiet part) refl (tt, tt) f (item_are_steps part sound Erase tt)
-
-    pub goes_erasing : (tasks : List Task) (m : Memories) → FitsPart part m → Goes part (Settled part m) m (erasing_items s tasks) ⊤ (erasing_phase part s tasks)
-    goes_erasing tasks m f = by_switch s.dry (is_erase_due s tasks)
-      where
-        by_switch : (dry due : Bool) → Goes part (Settled part m) m (if dry then [] else if due then Erase ∷ [] else []) ⊤
-            (if dry then says (left_out_erase s) (Done Fine) else if due then reported erasing (erased_says s.quiet part) else Done Fine)
-        by_switch true due = goes_saying m (left_out_erase s)
-        by_switch false true = goes_chip_erasing m f
-        by_switch false false = goes_saying m []
-
-    pub erasing_fits : (tasks : List Task) → AllFitItems part (erasing_items s tasks)
-    erasing_fits tasks = by_switch s.dry (is_erase_due s tasks)
-      where
-        by_switch : (dry due : Bool) → AllFitItems part (if dry then [] else if due then Erase ∷ [] else [])
-        by_switch true due = tt
-        by_switch false true = (tt, tt)
-        by_switch false false = tt
-
     -- a comparison
     ok_same : (mem : Mem) (d : Option Difference) (a : ⊤) → differs mem d ≡ Ok a → d ≡ None
     ok_same mem None a e = refl
     ok_same mem (Some d) a e = absurd (ok_is a (Differs mem d.addr d.want d.found) (sym e))
 
-    pub goes_verifying : (mem : Mem) (image : Image) (m : Memories) → FitsPart part m → Goes part (Settled part m) m [] (Shows part mem image m) (verifying_phase part s mem image)
-    goes_verifying mem image m f =
+    goes_comparing : (mem : Mem) (image : Image) (m : Memories) → FitsPart part m
+        → Goes part (Settled part m) m [] (Shows part mem image m) (phase part s (CompareImage mem image))
+    goes_comparing mem image m f =
         goes_reading m (Shows part mem image m) mem (comparison mem image) (verified_says s.quiet part mem image) f
         (λ a e. no_difference 0 image (memory_in part mem m) (ok_same mem (difference_from 0 image (memory_in part mem m)) a e))
 
-    pub goes_read_back : (mem : Mem) (image : Image) (m : Memories) → FitsPart part m
-        → Goes part (Settled part m) m [] (Unless s.no_verify (Shows part mem image m)) (reading_back_phase part s mem image)
-    goes_read_back mem image m f = by_switch s.no_verify
-      where
-        by_switch : (b : Bool) → Goes part (Settled part m) m [] (Unless b (Shows part mem image m)) (if b then Done Fine else verifying_phase part s mem image)
-        by_switch true = goes_saying m []
-        by_switch false = goes_verifying mem image m f
-
-    pub goes_writing : (mem : Mem) (image : Image) (m : Memories) → length image ≤ size_of mem part → is_writable mem ≡ true → FitsPart part m
-        → Goes part (Settled part m) m (Write mem image ∷ []) ⊤ (writing_phase part s mem image)
+    goes_writing : (mem : Mem) (image : Image) (m : Memories) → length image ≤ size_of mem part → is_writable mem ≡ true → FitsPart part m
+        → Goes part (Settled part m) m (Write mem image ∷ []) ⊤ (phase part s (WriteImage mem image))
     goes_writing mem image m fits can f = by_kind (is_writable mem) can
       where
         by_kind : (b : Bool) → b ≡ true
@@ -230,44 +189,21 @@ module _ (part : Part) (sound : IsPart part) where
             (write_are_steps part sound mem image fits)
         by_kind false e = absurd cc
 
-    goes_write : (mem : Mem) (image : Image) (m : Memories) → length image ≤ size_of mem part → is_writable mem ≡ true → FitsPart part m
-        → Goes part (Settled part m) m (task_items s (task.Write mem image)) (TaskAgrees part s (task.Write mem image) (effects part (task_items s (task.Write mem image)) m))
-        (write_task_phase part s mem image)
-    goes_write mem image m fits can f = by_switch s.dry
-      where
-        by_switch : (dry : Bool) → Goes part (Settled part m) m (if dry then [] else Write mem image ∷ [])
-            (Unless (dry || s.no_verify) (Shows part mem image (effects part (if dry then [] else Write mem image ∷ []) m)))
-            (if dry then says (left_out_write s mem image) (Done Fine) else writing_phase part s mem image >>= unless_fault (reading_back_phase part s mem image))
-        by_switch true = goes_saying m (left_out_write s mem image)
-        by_switch false =
-            let left = effect part (Write mem image) m in
-            let Check = Unless s.no_verify (Shows part mem image left) in
-            goes_wider (Settled part m) m (Write mem image ∷ []) (⊤ × Check) Check (writing_phase part s mem image >>= unless_fault (reading_back_phase part s mem image)) (λ both. both.1)
-            (goes_then (Settled part m) m (Write mem image ∷ []) [] ⊤ Check (writing_phase part s mem image) (reading_back_phase part s mem image) (fits, tt) f
-            (goes_writing mem image m fits can f) (goes_read_back mem image left (effect_sizes part sound (Write mem image) m f)))
+    pub goes_phase : (action : Action) (m : Memories) → FitsAction part action → FitsPart part m
+        → Goes part (Settled part m) m (action_items action) (ActionAgrees part action m) (phase part s action)
+    goes_phase OpenSession m fits f = absurd fits
+    goes_phase EraseChip m fits f = goes_items m (Erase ∷ []) (steps_of part Erase) (erased_says s.quiet part) refl (tt, tt) f (item_are_steps part sound Erase tt)
+    goes_phase LeaveErase m fits f = goes_saying m (left_out_erase s.quiet)
+    goes_phase (WriteImage mem image) m fits f = goes_writing mem image m (let size = fits.0 in omega (arith, size)) fits.1 f
+    goes_phase (LeaveWrite mem image) m fits f = goes_saying m (left_out_write s.quiet mem image)
+    goes_phase (CompareImage mem image) m fits f = goes_comparing mem image m f
+    goes_phase (SaveMemory mem format file) m fits f = goes_reading m ⊤ mem Ok (fault_or part (read_says s mem format file)) f (λ a e. tt)
 
-    pub goes_task : (task : Task) (m : Memories) → IsFitted part task → FitsPart part m
-        → Goes part (Settled part m) m (task_items s task) (TaskAgrees part s task (effects part (task_items s task) m)) (task_phase part s task)
-    goes_task (task.Write mem image) m fitted f = goes_write mem image m (let size = fitted.0 in omega (arith, size)) fitted.1 f
-    goes_task (task.Verify mem image) m fitted f = goes_verifying mem image m f
-    goes_task (task.Read mem format file) m fitted f = goes_reading m ⊤ mem Ok (fault_or part (read_says s mem format file)) f (λ a e. tt)
-
-    pub task_fits : (task : Task) → IsFitted part task → AllFitItems part (task_items s task)
-    task_fits (task.Write mem image) fitted = by_switch s.dry
-      where
-        by_switch : (dry : Bool) → AllFitItems part (if dry then [] else Write mem image ∷ [])
-        by_switch true = tt
-        by_switch false = ((let size = fitted.0 in omega (arith, size)), tt)
-    task_fits (task.Verify mem image) fitted = tt
-    task_fits (task.Read mem format file) fitted = tt
-
-    pub goes_tasks : (tasks : List Task) (m : Memories) → All (IsFitted part) tasks → FitsPart part m
-        → Goes part (Settled part m) m (tasks_items s tasks) (TasksAgree part s tasks m) (tasks_phase part s tasks)
-    goes_tasks [] m fitted f = goes_saying m []
-    goes_tasks (task ∷ tasks) m fitted f =
-        let first = task_items s task in
-        let left = effects part first m in
-        let fits = first_of (IsFitted part) task tasks fitted in
-        goes_then (Settled part m) m first (tasks_items s tasks) (TaskAgrees part s task left) (TasksAgree part s tasks left) (task_phase part s task) (tasks_phase part s tasks)
-        (task_fits task fits) f
-        (goes_task task m fits f) (goes_tasks tasks left (rest_of (IsFitted part) task tasks fitted) (effects_sizes part sound first m f))
+    pub goes_phases : (actions : List Action) (m : Memories) → AllFitActions part actions → FitsPart part m
+        → Goes part (Settled part m) m (items_of actions) (ActionsAgree part actions m) (phases part s actions)
+    goes_phases [] m fits f = goes_saying m []
+    goes_phases (action ∷ actions) m fits f =
+        let items = action_items action in
+        let left = effects part items m in
+        goes_then (Settled part m) m items (items_of actions) (ActionAgrees part action m) (ActionsAgree part actions left) (phase part s action) (phases part s actions)
+        (action_items_fit part action fits.0) f (goes_phase action m fits.0 f) (goes_phases actions left fits.1 (effects_sizes part sound items m f))
