@@ -1,11 +1,11 @@
 -- Words for the contracts of calls.
-use Rattle.std.specs.Prelude.{ℕ, Bool, List, [], ◌∷◌, ◌≡◌, ◌<◌, ◌≤◌, length, Option, None, Some, Result, Ok, Err}
+use Rattle.std.specs.Prelude.{ℕ, Bool, List, [], ◌∷◌, ◌≡◌, ◌<◌, ◌≤◌, length, Option, None, Some, Result, Ok, Err, IfOk, IfErr, IsOkAnd}
 use Rattle.avr_part.specs.declared.mem.Mem.{Mem}
 use Rattle.stk_frame.specs.declared.protocol.TheConstants.{LARGEST_BODY, LARGEST_FRAME}
 use Rattle.stk_frame.specs.declared.command.Command.{Command}
 use Rattle.stk_frame.specs.declared.answer.Shape.{Shape}
 use Rattle.stk_frame.specs.declared.answer.Shape.TheVariants.{Name, Bytes, Closed}
-use Rattle.stk_frame.specs.Commands.{body, shape}
+use Rattle.stk_frame.specs.Commands.{body, shape, SizedBy}
 use Rattle.stk_frame.specs.Cut.{body_of}
 use Rattle.stk_frame.specs.Reader.{HoldsFrame}
 use Rattle.stk_host.specs.declared.link.Heard.{Heard}
@@ -15,6 +15,7 @@ use Rattle.stk_host.specs.declared.listen.Reading.{Reading}
 use Rattle.stk_host.specs.declared.listen.Reading.TheVariants as read
 use Rattle.stk_host.specs.declared.conversation.Reply.{Reply}
 use Rattle.stk_host.specs.declared.conversation.Reply.TheVariants as said
+use Rattle.stk_host.specs.declared.fault.Broken.{Broken}
 use Rattle.stk_host.specs.declared.fault.Broken.TheVariants as broken
 use Rattle.stk_host.specs.declared.fault.Stop.{Stop}
 use Rattle.stk_host.specs.declared.fault.Stop.TheVariants.{Fault, Link}
@@ -25,11 +26,11 @@ use Rattle.stk_host.specs.Tape.{on_tape}
 use Rattle.stk_host.specs.Steps as steps
 use Rattle.stk_host.specs.Steps.{play}
 use Rattle.stk_host.specs.Operations.{host_fault, signature_judged, comparison}
-use Rattle.stk_host.specs.Talk.{LinkView, Got, Grows, HasFailed}
+use Rattle.stk_host.specs.Talk.{LinkView, Got, Grows, HasFailed, LinkCounts}
 use Rattle.stk_host.specs.Dialog.{Dialog}
 use Rattle.stk_host.specs.Play.{Position, PlaysOver, FailsOver}
 use Rattle.stk_host.specs.Reach.{Reaches}
-use Rattle.stk_host.specs.State.{HostState, lasting_fault}
+use Rattle.stk_host.specs.State.{ConversationState, HostState, data_held, lasting_fault}
 
 -- of what was heard at most one piece is left
 abbrev pub HasFewUnread : Position → Type 0
@@ -66,10 +67,10 @@ StopsSteps dialog before old new (Fault fault) after = PlaysOver dialog before o
 StopsSteps dialog before old new (Link broken) after = FailsOver broken dialog before old new
 
 -- How steps end that were asked to give these data: they were played whole, or they stop.
-abbrev pub EndsSteps : {A : Type 0} → Dialog ⊥ steps.Outcome → Position → LinkView → LinkView → (A → List ℕ)
+abbrev pub EndsSteps : {A : Type 0} → Dialog ⊥ steps.Outcome → (A → List ℕ) → Position → LinkView → LinkView
     → Result A Stop → Position → Type 0
-EndsSteps dialog before old new bytes (Ok a) after = PlaysOver dialog before old new (Ok (bytes a)) after
-EndsSteps dialog before old new bytes (Err stop) after = StopsSteps dialog before old new stop after
+EndsSteps dialog bytes before old new (Ok a) after = PlaysOver dialog before old new (Ok (bytes a)) after
+EndsSteps dialog bytes before old new (Err stop) after = StopsSteps dialog before old new stop after
 
 -- the play of a list of steps behind such data, whatever steps they are
 abbrev pub Playing : Type 0
@@ -111,6 +112,32 @@ FailsByLink old new (Err (Link broken)) = HasFailed old new
 -- and it never falls
 abbrev pub CountsLink : {A : Type 0} → LinkView → LinkView → Result A Stop → Type 0
 CountsLink old new result = (old.failures ≤ new.failures) × FailsByLink old new result
+
+-- A call of a conversation that asks: it ends so, the failures of its link are counted, and of what was heard at most
+-- one piece is left.
+pub record Asks {A : Type 0} (Ends : Position → LinkView → LinkView → Result A Stop → Position → Type 0)
+    (before : Position) (old new : LinkView) (result : Result A Stop) (after : Position) : Type 0 where
+  pub played : Ends before old new result after
+  pub counted : CountsLink old new result
+  pub bound : HasFewUnread after
+
+-- And one that may have nothing to ask.
+pub record MayAsk {A : Type 0} (Ends : Position → LinkView → LinkView → Result A Stop → Position → Type 0)
+    (before : Position) (old new : LinkView) (result : Result A Stop) (after : Position) : Type 0 where
+  pub played : Ends before old new result after
+  pub counted : CountsLink old new result
+  pub bound : HasFewUnread before → HasFewUnread after
+
+-- How one command or more are answered, by what is held then: their play came to this reply, or it broke off as the link
+-- failed. Data have the size that the last command asks for.
+pub record Replies (dialog : Dialog ⊥ steps.Reply) (last : Command) (before : Position) (old new : LinkView)
+    (result : Result Reply Broken) (after : ConversationState) : Type 0 where
+  pub ok : IfOk result (λ reply. PlaysOver dialog before old new (reply_of reply (data_held last after.held))
+      after.progress)
+  pub err : IfErr result (λ broken. FailsOver broken dialog before old new)
+  pub sized : IsOkAnd result (λ reply. reply ≡ said.Data) → SizedBy (shape last) (data_held last after.held)
+  pub counts : LinkCounts old new result
+  pub bound : HasFewUnread after.progress
 
 -- How a call of a host ends: after a fault of the link its dialog broke off, in a frame that wasn't sent whole or where
 -- it listened; else it was played whole.
