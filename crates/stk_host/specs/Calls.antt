@@ -1,5 +1,5 @@
 -- Words for the contracts of calls.
-use Rattle.std.specs.Prelude.{ℕ, Bool, List, [], ◌∷◌, ◌≡◌, ◌<◌, ◌≤◌, length, Option, None, Some, Result, Ok, Err, IfOk, IfErr, IsOkAnd}
+use Rattle.std.specs.Prelude.{ℕ, Bool, List, [], ◌∷◌, ◌≡◌, ◌<◌, ◌≤◌, length, Option, None, Some, Result, Ok, Err, IfOk, IfErr, IsOkAnd, OnErr, All}
 use Rattle.avr_part.specs.declared.mem.Mem.{Mem}
 use Rattle.stk_frame.specs.declared.protocol.TheConstants.{LARGEST_BODY, LARGEST_FRAME}
 use Rattle.stk_frame.specs.declared.command.Command.{Command}
@@ -11,6 +11,7 @@ use Rattle.stk_frame.specs.Reader.{HoldsFrame}
 use Rattle.stk_host.specs.declared.link.Heard.{Heard}
 use Rattle.stk_host.specs.declared.link.Heard.TheVariants as heard
 use Rattle.stk_host.specs.declared.link.Item.TheVariants as item
+use Rattle.stk_host.specs.declared.link.LinkFault.{LinkFault}
 use Rattle.stk_host.specs.declared.listen.Reading.{Reading}
 use Rattle.stk_host.specs.declared.listen.Reading.TheVariants as read
 use Rattle.stk_host.specs.declared.conversation.Reply.{Reply}
@@ -29,7 +30,7 @@ use Rattle.stk_host.specs.Operations.{host_fault, signature_judged, comparison}
 use Rattle.stk_host.specs.Talk.{LinkView, Got, Grows, HasFailed, LinkCounts}
 use Rattle.stk_host.specs.Dialog.{Dialog}
 use Rattle.stk_host.specs.Play.{Position, PlaysOver, FailsOver}
-use Rattle.stk_host.specs.Reach.{Reaches}
+use Rattle.stk_host.specs.Reach.{Reaches, Hears, HearsNone}
 use Rattle.stk_host.specs.State.{ConversationState, HostState, data_held, lasting_fault}
 
 -- of what was heard at most one piece is left
@@ -41,6 +42,14 @@ abbrev pub HearsPiece : Heard → List ℕ → LinkView → LinkView → Type 0
 HearsPiece (heard.Bytes n) unread old new = (0 < length unread) × Grows old.talk (Got (on_tape unread) ∷ []) new.talk
 HearsPiece heard.Silence unread old new = (unread ≡ []) × Grows old.talk (Got (item.Silence ∷ []) ∷ []) new.talk
 HearsPiece heard.End unread old new = (unread ≡ []) × Grows old.talk (Got (item.End ∷ []) ∷ []) new.talk
+
+-- what was heard of the next piece, of at most so many bytes, which alone are unread then
+pub record HearsNext (most : ℕ) (old new : LinkView) (unread : List ℕ) (result : Result Heard LinkFault) : Type 0 where
+  pub within : length unread ≤ most
+  pub fits : length unread ≤ LARGEST_FRAME
+  pub ok : IfOk result (λ heard. HearsPiece heard unread old new)
+  pub err : OnErr result (Grows old.talk [] new.talk)
+  pub counts : LinkCounts old new result
 
 -- how listening ended, by the reader that holds the answer
 abbrev pub reading_of : Reading → List ℕ → tape.Reading
@@ -54,6 +63,15 @@ HoldsAnswer read.Answered held = HoldsFrame held
 HoldsAnswer read.Silent held = Unit {0}
 HoldsAnswer read.Ended held = Unit {0}
 HoldsAnswer read.Babbled held = Unit {0}
+
+-- How listening for the answer to a frame ends, by what the reader holds and what is unread then.
+pub record HearsAnswer (seq : ℕ) (before : List ℕ) (old new : LinkView) (result : Result Reading LinkFault)
+    (held after : List ℕ) : Type 0 where
+  pub ok : IfOk result (λ reading. Hears seq before old new (reading_of reading held) after)
+  pub holds : IfOk result (λ reading. HoldsAnswer reading held)
+  pub err : OnErr result (HearsNone seq before old new)
+  pub counts : LinkCounts old new result
+  pub fits : length after ≤ LARGEST_FRAME
 
 -- what the answer to a command comes to, by its data
 abbrev pub reply_of : Reply → List ℕ → steps.Reply
@@ -181,6 +199,13 @@ FitsFrame command = length (body command) ≤ LARGEST_BODY
 pub record BringsNoData (command : Command) : Type 0 where
   pub fits : FitsFrame command
   pub quiet : shape command ≡ Bytes 0
+
+-- the commands of a step: only the last one's answer brings data, and so many bytes of them
+pub record StepBrings (count : ℕ) (first : List Command) (last : Command) : Type 0 where
+  pub quiet : All BringsNoData first
+  pub fits : FitsFrame last
+  pub counted : IsSizedShape (shape last)
+  pub size : data_count (shape last) ≡ count
 
 -- A call of a host that says and hears what ends so.
 pub record CallsBy {A : Type 0} (Ends : Position → LinkView → LinkView → Result A HostFault → Position → Type 0)

@@ -14,7 +14,7 @@ returns-in_default-clause-replies g c = record {
 pub returns-in_default-listen-clause-replies : goal.returns-in_default-listen-clause-replies
 returns-in_default-listen-clause-replies g c = record {
   ok = search rules;
-  err = rw (← c.self.view_is) (exchange_unheard _ _ c.in-Ok.ensures.sends.ok c.in_default-listen.ensures.err);
+  err = rw (← c.self.view_is) (exchange_unheard _ _ c.in-Ok.ensures.sends.ok c.in_default-listen.ensures.hears.err);
   sized = search rules;
   counts = search rules;
   bound = search rules;
@@ -22,7 +22,7 @@ returns-in_default-listen-clause-replies g c = record {
 
 pub returns-clause-replies : goal.returns-clause-replies
 returns-clause-replies g c = record {
-  ok = rw (← c.self.view_is) (rw c.reply_to.ensures.reply (exchange_done _ _ _ c.in-Ok.ensures.sends.ok c.in-Ok-listen.ensures.ok refl));
+  ok = rw (← c.self.view_is) (rw c.reply_to.ensures.reply (exchange_done _ _ _ c.in-Ok.ensures.sends.ok c.in-Ok-listen.ensures.hears.ok refl));
   err = search rules;
   sized = search rules;
   counts = search rules;
