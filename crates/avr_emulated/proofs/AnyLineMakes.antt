@@ -209,7 +209,7 @@ module _ (part : Part) (sound : IsPart part) where
     }
 
     abbrev GoesFrom : ℕ → Standing → Type 0
-    GoesFrom k s = GoesOn device d (unless_fault next) made after At p fates k (first.tally.count k) s
+    GoesFrom k s = GoesOn device At (along device k d p fates) (first.tally.count k) (made (k - 1) p fates) (unless_fault next s) (after s)
 
     -- the next one goes on
     goes_fine : (k : ℕ) → (along device k d p fates).dialog ≡ Done Fine → Settled part (effects part xs m) (along device k d p fates).programmer → GoesFrom k Fine

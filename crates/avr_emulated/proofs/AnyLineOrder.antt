@@ -1,5 +1,5 @@
 -- A session makes the strokes of its plan in their order.
-use Rattle.std.proofs.Common.{◌≡◌, ℕ, ◌+◌, ◌≤◌, List, [], ◌∷◌, ◌++◌, length, take, refl, sym, ◌∙◌, subst, arith, inr, Err, Result, Bool, true, false}
+use Rattle.std.proofs.Common.{◌≡◌, ℕ, ◌+◌, ◌-◌, ◌≤◌, List, [], ◌∷◌, ◌++◌, length, take, refl, sym, ◌∙◌, subst, arith, inr, Err, Result, Bool, true, false}
 use Rattle.std.proofs.lemmas.List.{append-nil}
 use Rattle.std.specs.Prelude.{All, ⊤, if◌then◌else◌}
 use Rattle.avr_cli.specs.declared.settings.Switches.{Switches}
@@ -120,7 +120,7 @@ module _ (plan : Plan) (sound : IsPart plan.part) (fitted : All (IsFitted plan.p
   At = Struck plan.part (items plan) m
 
   ends : (k : ℕ) (s : Standing) → (along device k all_phases p fates).dialog ≡ Done s
-      → GoesOn device all_phases (ending plan.part plan.switches) (made_by plan) (λ t. none_made) At p fates k (makes_actions.tally.count k) s
+      → GoesOn device At (along device k all_phases p fates) (makes_actions.tally.count k) (made_by plan (k - 1) p fates) (ending plan.part plan.switches s) none_made
   ends k s e =
       let part = plan.part in
       let z = along device k all_phases p fates in

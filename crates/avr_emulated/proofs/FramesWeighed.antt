@@ -1,8 +1,9 @@
 -- What goes out over a wire weighs no more than what a dialog asks.
-use Rattle.std.proofs.Common.{◌≡◌, ℕ, ◌+◌, ◌-◌, ◌≤◌, List, [], ◌∷◌, ◌++◌, map, length, length-append, ap, ◌∙◌, arith, Option, Some, None}
-use Rattle.std.proofs.lemmas.List.{map-append, take_at}
-use Rattle.stk_frame.specs.Frame.{frame, header, xor_all}
+use Rattle.std.proofs.Common.{◌≡◌, ℕ, ◌+◌, ◌-◌, ◌≤◌, List, [], ◌∷◌, ◌++◌, map, ap, ◌∙◌, arith, Option, Some, None}
+use Rattle.std.proofs.lemmas.List.{map-append}
+use Rattle.stk_frame.specs.Frame.{frame}
 use Rattle.stk_frame.specs.Cut.{body_of, frames}
+use Rattle.stk_frame.proofs.Laws.{body_of_frame}
 use Rattle.stk_host.specs.Tape.{Tape, Reading, answer}
 use Rattle.stk_host.specs.Dialog.{Dialog, Done, Say, Ask, Played, played, by_answer, next, bytes_sent, frames_in}
 use Rattle.stk_host.specs.Play.{IsPrefixOf}
@@ -10,14 +11,6 @@ use Rattle.stk_emu.specs.Along.{AsksBodies}
 use Rattle.stk_emu.proofs.Turning.{sends_whole, frames_front}
 use Rattle.avr_emulated.specs.AnyLine.{Weight, weighed}
 use Rattle.avr_emulated.proofs.Weighing.{WeighsAtMost, weighed_append}
-
-length_frame : (n : ℕ) (body : List ℕ) → length (frame n body) ≡ length body + 6
-length_frame n body = omega (arith, length-append body (xor_all (header n (length body) ++ body) ∷ []))
-
-body_of_frame : (n : ℕ) (body : List ℕ) → body_of (frame n body) ≡ body
-body_of_frame n body =
-    let last = xor_all (header n (length body) ++ body) in
-    take_at body (last ∷ []) (length (frame n body) - 1 - 5) (omega (arith, length_frame n body))
 
 module _ (w : Weight) where
   by_reading : {E R : Type 0} (n : ℕ) (go_on : Reading → Tape → Played E R) (got : Option (Reading × Tape))

@@ -12,7 +12,7 @@ use Rattle.stk_frame.specs.Frame.{frame}
 use Rattle.stk_frame.proofs.Cut.{chosen, refused, cut_joined}
 use Rattle.stk_host.specs.Bound.{AsksAtMost, commands_in}
 use Rattle.stk_host.specs.Dialog.{Dialog, Done, Say, Ask, Event, Frame, Played, behind, by_answer, next, played, frames_in}
-use Rattle.stk_host.specs.Play.{Plays, InTurn, IsDue, TurnsFrom}
+use Rattle.stk_host.specs.Play.{Position, Plays, InTurn, IsDue, TurnsFrom}
 use Rattle.stk_host.specs.Talk.{Talk, Sent, Got, sent, heard}
 use Rattle.stk_host.specs.Tape.{Tape, Reading, on_tape, bytes_in, answer, read_to, silence_or_end, first_answer, is_answer, further, limit, Babbled}
 use Rattle.stk_host.specs.declared.link.Item.TheVariants.{Byte, Silence, End}
@@ -223,46 +223,46 @@ turn_at d seq tape bytes (Got some ∷ before) after items turns =
 
 pub listens_at_most : {E R : Type 0} (n : ℕ) (d : Dialog E R) → AsksAtMost n d → AsksBodies d → ListensAtMost n d
 listens_at_most {E = E} {R = R} n d most bodies = record {
-  whole = λ seq unread talk events result next left p. whole seq unread talk events result next left p;
-  wherever = λ seq unread before after items turns. wherever seq unread before after items turns;
+  whole = λ first talk events result last p. whole first talk events result last p;
+  wherever = λ first before after items turns. wherever first before after items turns;
 }
   where
-    whole : (seq : ℕ) (unread : List ℕ) (talk : Talk) (events : List (Event E)) (result : R) (next : ℕ) (left : List ℕ) → Plays d seq unread talk events result next left
-        → (length (frames_in events) ≤ n) × ((silences (heard talk) ≤ length (frames_in events)) × (length unread + bytes_on (heard talk) ≤ limit * length (frames_in events) + length left))
-    whole seq unread talk events result next left p =
-        let tape = on_tape unread ++ (heard talk ++ []) in
-        let same : length (frames_in (played d seq tape).events) ≡ length (frames_in events) = ap (λ x. length (frames_in x.events)) (p.plays []) in
-        let l = (listens d seq tape).done result next (on_tape left ++ []) (ap (λ x. x.outcome) (p.plays [])) in
+    whole : (first : Position) (talk : Talk) (events : List (Event E)) (result : R) (last : Position) → Plays d first talk events result last
+        → (length (frames_in events) ≤ n) × ((silences (heard talk) ≤ length (frames_in events)) × (length first.unread + bytes_on (heard talk) ≤ limit * length (frames_in events) + length last.unread))
+    whole first talk events result last p =
+        let tape = on_tape first.unread ++ (heard talk ++ []) in
+        let same : length (frames_in (played d first.next tape).events) ≡ length (frames_in events) = ap (λ x. length (frames_in x.events)) (p.plays []) in
+        let l = (listens d first.next tape).done result last.next (on_tape last.unread ++ []) (ap (λ x. x.outcome) (p.plays [])) in
         let l0 = l.0 in
         let l1 = l.1 in
-        let sends = sends_most n d seq tape most in
-        let a0 = silences_on (on_tape unread) (heard talk ++ []) in
+        let sends = sends_most n d first.next tape most in
+        let a0 = silences_on (on_tape first.unread) (heard talk ++ []) in
         let a1 = silences_on (heard talk) [] in
-        let a2 = no_silences unread in
-        let a3 = silences_on (on_tape left) [] in
-        let a4 = no_silences left in
-        let b0 = bytes_append (on_tape unread) (heard talk ++ []) in
+        let a2 = no_silences first.unread in
+        let a3 = silences_on (on_tape last.unread) [] in
+        let a4 = no_silences last.unread in
+        let b0 = bytes_append (on_tape first.unread) (heard talk ++ []) in
         let b1 = bytes_append (heard talk) [] in
-        let b2 = all_bytes unread in
-        let b3 = bytes_append (on_tape left) [] in
-        let b4 = all_bytes left in
+        let b2 = all_bytes first.unread in
+        let b3 = bytes_append (on_tape last.unread) [] in
+        let b4 = all_bytes last.unread in
         (omega (arith, sends, same), (omega (arith, l0, same, a0, a1, a2, a3, a4), omega (arith, l1, same, b0, b1, b2, b3, b4)))
 
-    wherever : (seq : ℕ) (unread : List ℕ) (before after : Talk) (items : Tape) → InTurn d seq unread (before ++ Got items ∷ after)
-        → (length (frames (sent before)) ≤ n) × ((silences (heard before) < length (frames (sent before))) × (length unread + bytes_on (heard before) < limit * length (frames (sent before))))
-    wherever seq unread before after items turns =
-        let tape = on_tape unread ++ heard before in
-        let due = turn_at d seq (on_tape unread) [] before after items turns in
-        let same : length (frames_in (played d seq tape).events) ≡ length (frames (sent before)) =
-        sym (ap length (frames_sent (played d seq tape).events (sends_whole d seq tape bodies))) ∙ ap (λ b. length (frames b)) due.all_sent in
-        let l = (listens d seq tape).waiting due.waits in
+    wherever : (first : Position) (before after : Talk) (items : Tape) → InTurn d first (before ++ Got items ∷ after)
+        → (length (frames (sent before)) ≤ n) × ((silences (heard before) < length (frames (sent before))) × (length first.unread + bytes_on (heard before) < limit * length (frames (sent before))))
+    wherever first before after items turns =
+        let tape = on_tape first.unread ++ heard before in
+        let due = turn_at d first.next (on_tape first.unread) [] before after items turns in
+        let same : length (frames_in (played d first.next tape).events) ≡ length (frames (sent before)) =
+        sym (ap length (frames_sent (played d first.next tape).events (sends_whole d first.next tape bodies))) ∙ ap (λ b. length (frames b)) due.all_sent in
+        let l = (listens d first.next tape).waiting due.waits in
         let l0 = l.0 in
         let l1 = l.1 in
-        let sends = sends_most n d seq tape most in
-        let a0 = silences_on (on_tape unread) (heard before) in
-        let a2 = no_silences unread in
-        let b0 = bytes_append (on_tape unread) (heard before) in
-        let b2 = all_bytes unread in
+        let sends = sends_most n d first.next tape most in
+        let a0 = silences_on (on_tape first.unread) (heard before) in
+        let a2 = no_silences first.unread in
+        let b0 = bytes_append (on_tape first.unread) (heard before) in
+        let b2 = all_bytes first.unread in
         (omega (arith, sends, same), (omega (arith, l0, same, a0, a2), omega (arith, l1, same, b0, b2)))
 
 pub session_listens : (plan : Plan) → IsPart plan.part → All (IsFitted plan.part) plan.tasks → ListensAtMost (4 * commands_in (run_steps plan)) (session plan)

@@ -11,7 +11,7 @@ use Rattle.stk_host.specs.Dialog.{played, bytes_sent, sayings}
 use Rattle.stk_host.specs.Play.{Plays, Breaks, InTurn, IsPrefixOf}
 use Rattle.stk_host.specs.Talk.{Talk, Stays, sent, heard}
 use Rattle.avr_session.specs.Actions.{takes_memory}
-use Rattle.avr_session.specs.Runs.{devices, RunsTo}
+use Rattle.avr_session.specs.Runs.{start, devices, RunsTo}
 use Rattle.avr_session.specs.Session.{session}
 use Rattle.avr_session.specs.Stopping.{IsPlayed}
 use Rattle.stk_emu.specs.Along.{along, said_along, AsksBodies}
@@ -98,14 +98,14 @@ module _ (plan : Plan) (w v : WiredState) (fresh : IsFresh w) (stays : Stays Com
 
   -- a run that was played whole went along the line to its status
   module _ (whole : Whole) where
-    plays : Plays (session plan) 1 [] v.talk whole.1.events status whole.0.next whole.0.unread
-    plays = subst (λ talk. Plays (session plan) 1 [] talk whole.1.events status whole.0.next whole.0.unread) (all_passed w.talk v.talk whole.1.during fresh.silent whole.1.grows) whole.1.plays
+    plays : Plays (session plan) start v.talk whole.1.events status whole.0
+    plays = subst (λ talk. Plays (session plan) start talk whole.1.events status whole.0) (all_passed w.talk v.talk whole.1.during fresh.silent whole.1.grows) whole.1.plays
 
     goes : GoesAlong (session plan) begun w.wire.fates v status whole.0.unread
-    goes = whole_along (session plan) 1 begun w.wire.fates v asks fresh.lawful keeps plays.in_turn whole.1.events status whole.0.next whole.0.unread plays
+    goes = whole_along (session plan) 1 begun w.wire.fates v asks fresh.lawful keeps plays.in_turn whole.1.events status whole.0 plays
 
     says : sayings whole.1.events ≡ said_along device count (session plan) begun w.wire.fates
-    says = whole_said (session plan) 1 begun w.wire.fates v whole.1.events status whole.0.next whole.0.unread asks fresh.lawful keeps plays
+    says = whole_said (session plan) 1 begun w.wire.fates v whole.1.events status whole.0 asks fresh.lawful keeps plays
 
     ran_done : status ≡ 0 → IsDone plan before after
     ran_done zero = subst (λ (q : Programmer). IsDone plan before (memories_of q.chip)) (sym goes.programmer) (leads.after count status goes.result zero)
@@ -132,8 +132,8 @@ module _ (plan : Plan) (w v : WiredState) (fresh : IsFresh w) (stays : Stays Com
 
   -- one that stopped stands on the line all the same
   module _ (stopped : Stopped plan w v old now) where
-    breaks : Breaks SaidPart (session plan) 1 [] v.talk stopped.shown
-    breaks = subst (λ talk. Breaks SaidPart (session plan) 1 [] talk stopped.shown) (all_passed w.talk v.talk stopped.during fresh.silent stopped.grows) stopped.breaks
+    breaks : Breaks SaidPart (session plan) start v.talk stopped.shown
+    breaks = subst (λ talk. Breaks SaidPart (session plan) start talk stopped.shown) (all_passed w.talk v.talk stopped.during fresh.silent stopped.grows) stopped.breaks
 
     broke_stands : v.wire.programmer ≡ (along device count (session plan) begun w.wire.fates).programmer
     broke_stands = broken_along (session plan) 1 begun w.wire.fates v asks fresh.lawful keeps breaks.in_turn SaidPart stopped.shown breaks
@@ -184,7 +184,7 @@ module _ (plan : Plan) (w v : WiredState) (fresh : IsFresh w) (stays : Stays Com
   abbrev IsSaidTrue : Programmer → Saying → Type 0
   IsSaidTrue q saying = IsTrue plan before (memories_of q.chip) saying
 
-  in_turn : Either → InTurn (session plan) 1 [] v.talk
+  in_turn : Either → InTurn (session plan) start v.talk
   in_turn (inl whole) = (plays whole).in_turn
   in_turn (inr broke) = (breaks broke.0).in_turn
 

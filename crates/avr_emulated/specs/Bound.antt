@@ -7,7 +7,7 @@ use Rattle.stk_frame.specs.Cut.{frames}
 use Rattle.stk_frame.specs.declared.command.Command.{Command}
 use Rattle.stk_host.specs.Bound.{opening_steps, erasing_steps, closing_steps}
 use Rattle.stk_host.specs.Dialog.{Dialog, Event, frames_in}
-use Rattle.stk_host.specs.Play.{Plays, InTurn}
+use Rattle.stk_host.specs.Play.{Position, Plays, InTurn}
 use Rattle.stk_host.specs.ReadSteps.{read_steps}
 use Rattle.stk_host.specs.Talk.{Talk, Got, sent, heard}
 use Rattle.stk_host.specs.Tape.{Tape, limit}
@@ -48,12 +48,11 @@ bytes_on (End ∷ tape) = bytes_on tape
 -- frame, and 4,096 bytes, but for those that are left; and wherever it listens, also in a play that breaks off later,
 -- fewer came till then.
 pub record ListensAtMost {E R : Type 0} (n : ℕ) (dialog : Dialog E R) : Type 0 where
-  pub whole : (seq : ℕ) (unread : List ℕ) (talk : Talk) (events : List (Event E)) (result : R) (next : ℕ)
-      (left : List ℕ)
-      → Plays dialog seq unread talk events result next left
+  pub whole : (first : Position) (talk : Talk) (events : List (Event E)) (result : R) (last : Position)
+      → Plays dialog first talk events result last
       → (length (frames_in events) ≤ n) × ((silences (heard talk) ≤ length (frames_in events))
-      × (length unread + bytes_on (heard talk) ≤ limit * length (frames_in events) + length left))
-  pub wherever : (seq : ℕ) (unread : List ℕ) (before after : Talk) (items : Tape)
-      → InTurn dialog seq unread (before ++ Got items ∷ after)
+      × (length first.unread + bytes_on (heard talk) ≤ limit * length (frames_in events) + length last.unread))
+  pub wherever : (first : Position) (before after : Talk) (items : Tape)
+      → InTurn dialog first (before ++ Got items ∷ after)
       → (length (frames (sent before)) ≤ n) × ((silences (heard before) < length (frames (sent before)))
-      × (length unread + bytes_on (heard before) < limit * length (frames (sent before))))
+      × (length first.unread + bytes_on (heard before) < limit * length (frames (sent before))))

@@ -27,7 +27,7 @@ pub record Came {R : Type 0} (dialog : Dialog Saying R) (before : Position) (old
   pub during : Talk
   pub events : List (Event Saying)
   pub grows : Grows old.link.talk during new.link.talk
-  pub leads : TalkLeads dialog before.next before.unread during events rest after.next after.unread
+  pub leads : TalkLeads dialog before during events rest after
   pub few : length before.unread ≤ 281 → length after.unread ≤ 281
   pub kept : Passes (after_all (sayings events)) old.desk new.desk
 
@@ -44,7 +44,7 @@ after_both x y r = ap (λ ss. after_all ss r) (sayings_append x y) ∙ after_app
 -- how far a call has come
 
 pub came_here : {R : Type 0} (dialog : Dialog Saying R) (m : Position) (o : Devices) → Came dialog m o o dialog m
-came_here dialog m o = record { during = []; events = []; grows = grows_none o.link.talk; leads = leads_here dialog m.next m.unread; few = λ f. f; kept = kept_none o.desk.kept }
+came_here dialog m o = record { during = []; events = []; grows = grows_none o.link.talk; leads = leads_here dialog m; few = λ f. f; kept = kept_none o.desk.kept }
 
 pub came_on : {R : Type 0} {a b c : Dialog Saying R} {l m n : Position} {o p q : Devices} → Came a l o p b m → Came b m p q c n → Came a l o q c n
 came_on {o = o} {p = p} {q = q} x y = record {
@@ -68,9 +68,9 @@ came_lifted go_on d f few = record {
   kept = subst (λ ss. Passes (after_all ss) d d) (sym (sayings_raised f.events)) (kept_none d.kept);
 }
 
-leads_says : {R : Type 0} (xs : List Saying) (dialog : Dialog Saying R) (seq : ℕ) (u : List ℕ) → TalkLeads (says xs dialog) seq u [] (map Said xs) dialog seq u
-leads_says [] dialog seq u = leads_here dialog seq u
-leads_says (x ∷ xs) dialog seq u = leads_on (leads_say x (says xs dialog) seq u) (leads_says xs dialog seq u)
+leads_says : {R : Type 0} (xs : List Saying) (dialog : Dialog Saying R) (m : Position) → TalkLeads (says xs dialog) m [] (map Said xs) dialog m
+leads_says [] dialog m = leads_here dialog m
+leads_says (x ∷ xs) dialog m = leads_on (leads_say x (says xs dialog) m) (leads_says xs dialog m)
 
 -- what is said
 pub came_said : {R : Type 0} (xs : List Saying) (dialog : Dialog Saying R) (m : Position) (o : LinkView) {d e : DeskView} → Passes (after_all xs) d e → Came (says xs dialog) m (devices o d) (devices o e) dialog m
@@ -78,7 +78,7 @@ came_said xs dialog m o {d = d} {e = e} kept = record {
   during = [];
   events = map Said xs;
   grows = grows_none o.talk;
-  leads = leads_says xs dialog m.next m.unread;
+  leads = leads_says xs dialog m;
   few = λ f. f;
   kept = subst (λ ss. Passes (after_all ss) d e) (sym (sayings_said xs)) kept;
 }
@@ -238,7 +238,7 @@ ToldBy terms cause o p = (told : List ℕ) × StopsBehind terms o p [] cause tol
 
 broke_raised : {A : Type 0} (by : Broken) {dialog : Dialog ⊥ A} {m : Position} {o p : Devices} {terms : Terms} → FailsOver by dialog m o.link p.link → ToldBy terms (broken_cause by) o p → BrokeOff (lifted dialog) m o p terms
 broke_raised Send {dialog = dialog} {m = m} {o = o} {p = p} {terms = terms} f some =
-    let g = by_lifted Saying Send dialog m.next m.unread f.during f.shown f.breaks in
+    let g = by_lifted Saying Send dialog m f.during f.shown f.breaks in
     record {
       during = f.during;
       shown = raised f.shown;
@@ -263,7 +263,7 @@ broke_raised Send {dialog = dialog} {m = m} {o = o} {p = p} {terms = terms} f so
       kept = subst (λ ss. Passes (λ r. after_err some.0 (after_all ss r)) o.desk p.desk) (sym (sayings_raised f.shown)) some.2;
     }
 broke_raised Recv {dialog = dialog} {m = m} {o = o} {p = p} {terms = terms} f some =
-    let g = by_lifted Saying Recv dialog m.next m.unread f.during f.shown f.breaks in
+    let g = by_lifted Saying Recv dialog m f.during f.shown f.breaks in
     record {
       during = f.during;
       shown = raised f.shown;

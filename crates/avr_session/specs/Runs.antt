@@ -169,7 +169,7 @@ pub record Ran {R : Type 0} (dialog : Dialog Saying R) (before : Position) (old 
   pub during : Talk
   pub events : List (Event Saying)
   pub grows : Grows old.link.talk during new.link.talk
-  pub plays : Plays dialog before.next before.unread during events result after.next after.unread
+  pub plays : Plays dialog before during events result after
   pub few : length before.unread ≤ 281 → length after.unread ≤ 281
   pub kept : Passes (after_all (sayings events)) old.desk new.desk
 
@@ -182,7 +182,7 @@ pub record BrokeOff {R : Type 0} (dialog : Dialog Saying R) (before : Position) 
   pub cause : Cause
   pub told : Bytes
   pub grows : Grows old.link.talk during new.link.talk
-  pub breaks : Breaks SaidPart dialog before.next before.unread during shown
+  pub breaks : Breaks SaidPart dialog before during shown
   pub place : StopsAt cause breaks.front.whole breaks.front.begun breaks.front.later
   pub listens : Listens cause (played dialog before.next (on_tape before.unread ++ heard during)).outcome
   pub stops : StopsBehind terms old new (sayings shown) cause told

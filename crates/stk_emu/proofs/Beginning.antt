@@ -46,6 +46,6 @@ are_some part (commands ∷ steps) are = first commands steps are.0 (are_some pa
 
 pub steps_climb : (part : Part) (steps : List (List Command)) (m : Memories) (k : ℕ) (before : List ℕ) (p : Programmer) (fates : List Fate)
     → IsPart part → AreSteps part steps → Settled part m p
-    → Climbs device (λ j. Settled part (struck_by part j steps m)) 0 k steps p fates (along device k (play steps before) p fates)
+    → Climbs device (λ j. Settled part (struck_by part j steps m)) k steps p fates (along device k (play steps before) p fates)
 steps_climb part steps m k before p fates sound are s =
-    play_climbs device (λ j. Settled part (struck_by part j steps m)) steps 0 k before p fates (are_some part steps are) (all_fit part sound steps m are) s
+    play_climbs device (λ j. Settled part (struck_by part j steps m)) steps k before p fates (are_some part steps are) (all_fit part sound steps m are) s

@@ -373,11 +373,11 @@ module _ (part : Part) (sound : IsPart part) where
       → (along device k (play steps before) p fates).dialog ≡ Done (Ok got) → Ready part (struck_by part (length steps) steps m) (along device k (play steps before) p fates).programmer
   play_ready steps m k before got p fates are s few e =
       let same = along_steady k (play steps before) p fates (few_steady fates few) in
-      let climbs : Climbs steady (λ j. Ready part (struck_by part j steps m)) 0 k steps p fates (along steady k (play steps before) p fates) =
-      play_climbs steady (λ j. Ready part (struck_by part j steps m)) steps 0 k before p fates (are_some part steps are) (all_ready part sound steps m are) s in
+      let climbs : Climbs steady (λ j. Ready part (struck_by part j steps m)) k steps p fates (along steady k (play steps before) p fates) =
+      play_climbs steady (λ j. Ready part (struck_by part j steps m)) steps k before p fates (are_some part steps are) (all_ready part sound steps m are) s in
       let whole : climbs.count ≡ length steps = climbs.whole got (sym (ap (λ (z : Standing ⊥ Outcome Programmer). z.dialog) same) ∙ e) in
       subst (λ (z : Standing ⊥ Outcome Programmer). Ready part (struck_by part (length steps) steps m) z.programmer) (sym same)
-      (subst (λ count. Ready part (struck_by part count steps m) (along steady k (play steps before) p fates).programmer) (let n : 0 + climbs.count ≡ climbs.count = omega arith in n ∙ whole) climbs.stands)
+      (subst (λ count. Ready part (struck_by part count steps m) (along steady k (play steps before) p fates).programmer) whole climbs.stands)
 
 -- four bad frames of seven are too many, in a row and where each second one is bad
 pub four_too_many : (command : Command) (commands : List Command) (p : Programmer)

@@ -1,5 +1,5 @@
 -- Dialogs composed, by what holds during and after them.
-use Rattle.std.proofs.Common.{◌≡◌, ℕ, zero, suc, ◌+◌, arith, List, [], ◌∷◌, length, refl, sym, ap, ◌∙◌, subst, ◌⊎◌, inl, inr, Ok, Err, Result, Bool, true, false}
+use Rattle.std.proofs.Common.{◌≡◌, ℕ, zero, suc, arith, List, [], ◌∷◌, length, refl, sym, ap, ◌∙◌, subst, ◌⊎◌, inl, inr, Ok, Err, Result, Bool, true, false}
 use Rattle.std.specs.Prelude.{if◌then◌else◌}
 use Rattle.std.specs.Str.{bytes_eq}
 use Rattle.avr_part.specs.Part.{Part, IsPart}
@@ -108,9 +108,6 @@ module _ {P : Type 0} (m : Device P) where
       either q (inl b) = from q b
       either q (inr a) = to q a
 
-none_before : (n : ℕ) → 0 + n ≡ n
-none_before n = omega arith
-
 module _ (part : Part) (sound : IsPart part) where
   -- a play of steps
   pub leads_play : (steps : List (List Command)) (m : Memories) (before : List ℕ) (p : Programmer) (fates : List Fate) → AreSteps part steps → FitsPart part m → Settled part m p
@@ -120,15 +117,15 @@ module _ (part : Part) (sound : IsPart part) where
     after = λ k o e. after k o e;
   }
     where
-      climbs : (k : ℕ) → Climbs device (λ j. Settled part (struck_by part j steps m)) 0 k steps p fates (along device k (play steps before) p fates)
+      climbs : (k : ℕ) → Climbs device (λ j. Settled part (struck_by part j steps m)) k steps p fates (along device k (play steps before) p fates)
       climbs k = steps_climb part steps m k before p fates sound are s
 
       reached : (k : ℕ) → Reached part steps m (along device k (play steps before) p fates).programmer
-      reached k = record { count = 0 + (climbs k).count; stands = (climbs k).stands }
+      reached k = record { count = (climbs k).count; stands = (climbs k).stands }
 
       after : (k : ℕ) (o : Outcome) → (along device k (play steps before) p fates).dialog ≡ Done o → AfterSteps part steps m before o (along device k (play steps before) p fates).programmer
       after k (Ok got) e = (
-        subst (λ count. Settled part (struck_by part count steps m) (along device k (play steps before) p fates).programmer) (none_before (climbs k).count ∙ (climbs k).whole got e) (climbs k).stands,
+        subst (λ count. Settled part (struck_by part count steps m) (along device k (play steps before) p fates).programmer) ((climbs k).whole got e) (climbs k).stands,
         play_given part sound steps m k before p fates got are f s e,
       )
       after k (Err fault) e = reached k

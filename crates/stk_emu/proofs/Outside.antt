@@ -25,7 +25,7 @@ use Rattle.stk_emu.specs.Climbs.{AllFit}
 use Rattle.stk_emu.specs.Given.{on_data, reply_to, joined_reply}
 use Rattle.stk_emu.specs.Strokes.{struck, struck_by, IsStep, Erases, ProgramsPage, ProgramsRun, ProgramsFuse, ProgramsLock, ReadsFlash, ReadsEeprom, ReadsFuse, ReadsLock, ReadsSignature, ReadsCalibration, AreSteps}
 use Rattle.stk_emu.proofs.Obeying.{obeys, obeyed_none, steady, ready_settled, settled_ready, anew_settled}
-use Rattle.stk_emu.proofs.Striking.{step_ready, address_fits, shifted}
+use Rattle.stk_emu.proofs.Striking.{step_ready, address_fits}
 
 -- a command that fails and changes nothing
 pub record Fails (c : Command) (p : Programmer) : Type 0 where
@@ -210,7 +210,6 @@ module _ (part : Part) (sound : IsPart part) where
       ready = step_ready part sound commands m is
 
   -- each step of many, from the memories that those before it leave
-  pub all_fit : (steps : List (List Command)) (m : Memories) → AreSteps part steps → AllFit device (λ j. Settled part (struck_by part j steps m)) 0 steps
+  pub all_fit : (steps : List (List Command)) (m : Memories) → AreSteps part steps → AllFit device (λ j. Settled part (struck_by part j steps m)) steps
   all_fit [] m are = tt
-  all_fit (commands ∷ steps) m are =
-      (step_fits commands m are.0, shifted part sound device (λ j. Settled part (struck_by part j (commands ∷ steps) m)) 0 steps (all_fit steps (struck part commands m) are.1))
+  all_fit (commands ∷ steps) m are = (step_fits commands m are.0, all_fit steps (struck part commands m) are.1)

@@ -6,7 +6,7 @@ use Rattle.stk_frame.specs.Cut.{frames}
 use Rattle.stk_host.specs.Tape.{on_tape}
 use Rattle.stk_host.specs.Talk.{sent, heard}
 use Rattle.stk_host.specs.Dialog.{Dialog, Done, Say, Ask, ◌>>=◌, lifted, Event, played, by_answer, next, bytes_sent, sayings, frames_in}
-use Rattle.stk_host.specs.Play.{Plays}
+use Rattle.stk_host.specs.Play.{Position, position, Plays}
 use Rattle.stk_host.proofs.Tapes.{answer_waits}
 use Rattle.stk_emu.specs.declared.fate.Fate.{Fate}
 use Rattle.stk_emu.specs.Programmer.{Programmer}
@@ -71,12 +71,12 @@ module _ {P : Type 0} (m : Device P) (answers : AnswersBodies m) where
       ∙ ap (λ q. said_along m (length sent) d' q (other_fates w.fates)) leaves)
 
 -- where a talk over a wire was the whole play of a dialog, it said what the dialog says along the line
-pub whole_said : {E R : Type 0} (d : Dialog E R) (n : ℕ) (p : Programmer) (fates : List Fate) (w : WiredState) (events : List (Event E)) (r : R) (next : ℕ) (left : List ℕ)
-    → AsksBodies d → AreLawful fates → Keeps p fates w → Plays d n [] w.talk events r next left
+pub whole_said : {E R : Type 0} (d : Dialog E R) (n : ℕ) (p : Programmer) (fates : List Fate) (w : WiredState) (events : List (Event E)) (r : R) (after : Position)
+    → AsksBodies d → AreLawful fates → Keeps p fates w → Plays d (position n []) w.talk events r after
     → sayings events ≡ said_along device (length (frames (sent w.talk))) d p fates
-whole_said d n p fates w events r next left asks lawful keeps plays =
+whole_said d n p fates w events r after asks lawful keeps plays =
     let brings : brought p fates (sent w.talk) ≡ heard w.talk ++ w.waits = keeps.brings (never_idle d n p fates w.talk asks lawful plays.in_turn) in
-    let over : played d n (brought p fates (sent w.talk)) ≡ record { events = events; outcome = Some (r, next, on_tape left ++ w.waits) } =
+    let over : played d n (brought p fates (sent w.talk)) ≡ record { events = events; outcome = Some (r, after.next, on_tape after.unread ++ w.waits) } =
     ap (played d n) brings ∙ plays.plays w.waits in
     let whole = sends_whole d n (brought p fates (sent w.talk)) asks in
     let front = frames_front (played d n (brought p fates (sent w.talk))).events (sent w.talk) [] whole

@@ -1,13 +1,12 @@
 -- What a frame brings over the wire, as it is read.
-use Rattle.std.proofs.Common.{◌≡◌, ℕ, suc, ◌+◌, ◌-◌, ◌≤◌, ◌<◌, ◌≢◌, List, [], ◌∷◌, ◌++◌, length, refl, sym, ap, ◌∙◌, subst, append_assoc, arith, Bool, true, false, inl, inr, Option, Some, None, length-append}
+use Rattle.std.proofs.Common.{◌≡◌, ℕ, suc, ◌+◌, ◌≤◌, ◌<◌, ◌≢◌, List, [], ◌∷◌, ◌++◌, length, refl, sym, ap, ◌∙◌, subst, append_assoc, arith, Bool, true, false, inl, inr, Option, Some, None, length-append}
 use Rattle.std.proofs.lemmas.Bool.{cases_Bool, and_left, ne_eqb, eq-eqb, and_from}
-use Rattle.std.proofs.lemmas.List.{take_at}
 use Rattle.std.specs.Prelude.{filter, ◌==◌, ◌&&◌}
-use Rattle.stk_frame.specs.Frame.{frame, header, xor_all}
-use Rattle.stk_frame.specs.Cut.{cut, is_good, body_of}
+use Rattle.stk_frame.specs.Frame.{frame}
+use Rattle.stk_frame.specs.Cut.{cut, is_good}
 use Rattle.stk_frame.proofs.Cut.{chosen, refused}
 use Rattle.stk_frame.proofs.Feeding.{cut_whole}
-use Rattle.stk_frame.proofs.Laws.{cut_first, frame_is_piece, frame_is_good}
+use Rattle.stk_frame.proofs.Laws.{cut_first, frame_is_piece, frame_is_good, length_frame, body_of_frame}
 use Rattle.stk_host.specs.declared.link.Item.TheVariants.{Silence}
 use Rattle.stk_host.specs.Tape.{Tape, Answered, Silent, answer, on_tape, first_answer, is_answer, further, limit}
 use Rattle.stk_host.specs.Dialog.{next}
@@ -22,14 +21,6 @@ use Rattle.stk_emu.specs.Lawful.{IsLawful, IsBody, Late, none_late, behind_late,
 further_zero : (o : Option (List ℕ × ℕ)) → o ≡ further 0 o
 further_zero None = refl
 further_zero (Some (body, used)) = ap (λ n. Some (body, n)) (omega arith)
-
-length_frame : (n : ℕ) (body : List ℕ) → length (frame n body) ≡ length body + 6
-length_frame n body = omega (arith, length-append body (xor_all (header n (length body) ++ body) ∷ []))
-
-body_of_frame : (n : ℕ) (body : List ℕ) → body_of (frame n body) ≡ body
-body_of_frame n body =
-    let last = xor_all (header n (length body) ++ body) in
-    take_at body (last ∷ []) (length (frame n body) - 1 - 5) (omega (arith, length_frame n body))
 
 -- no good frame, no answer
 none_good : (n : ℕ) (pieces : List (List ℕ)) → filter is_good pieces ≡ [] → first_answer n pieces ≡ None

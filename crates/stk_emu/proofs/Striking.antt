@@ -1,5 +1,5 @@
 -- Each step leads from its memories to those that it leaves, also where it is cut short and begun again.
-use Rattle.std.proofs.Common.{◌≡◌, ℕ, suc, ◌+◌, ◌*◌, ◌/◌, ◌<◌, ◌^◌, List, [], ◌∷◌, length, refl, sym, ap, ap₂, subst, arith, Bool, true, false, cond, replicate, Option, Some, unwrap_or, inl, inr}
+use Rattle.std.proofs.Common.{◌≡◌, ℕ, ◌+◌, ◌*◌, ◌/◌, ◌<◌, ◌^◌, List, [], ◌∷◌, length, refl, sym, ap, ap₂, subst, arith, Bool, true, false, cond, replicate, Option, Some, unwrap_or, inl, inr}
 use Rattle.std.proofs.lemmas.List.{length-replicate}
 use Rattle.std.proofs.lemmas.Bool.{cases_Bool}
 use Rattle.std.specs.Prelude.{nat_lt}
@@ -17,7 +17,7 @@ use Rattle.stk_frame.specs.HostCommands.{enter, leave, erase, program_page, prog
 use Rattle.stk_frame.proofs.Cut.{chosen, refused}
 use Rattle.stk_host.specs.Places.{flash_address, load_flash, load_eeprom}
 use Rattle.stk_emu.specs.Programmer.{Programmer}
-use Rattle.stk_emu.specs.Device.{Device, device}
+use Rattle.stk_emu.specs.Device.{device}
 use Rattle.stk_emu.specs.Effect.{Memories, Item, Erase, Write, effect, write_effect, with_image, and_in, are_locked, erase_keeps_eeprom}
 use Rattle.stk_emu.specs.Settled.{Idle, Settled, Ready}
 use Rattle.stk_emu.specs.Fits.{Fits}
@@ -167,12 +167,7 @@ module _ (part : Part) where
     step_ready commands m (ReadsSignature place few e) = by_commands _ commands m e (quiet (read_signature place) m (λ p s. subst (Ready part m) (sym (signature_read_after place p s.mode)) s))
     step_ready commands m (ReadsCalibration e) = by_commands _ commands m e (quiet read_calibration m (λ p s. subst (Ready part m) (sym (calibration_read_after p s.mode)) s))
 
-    pub shifted : (m : Device Programmer) (At : ℕ → Programmer → Type 0) (i : ℕ) (steps : List (List Command)) → AllFit m (λ j. At (suc j)) i steps → AllFit m At (suc i) steps
-    shifted m At i [] fit = tt
-    shifted m At i (commands ∷ steps) fit = (fit.0, shifted m At (suc i) steps fit.1)
-
     -- each step of many, from the memories that those before it leave
-    pub all_ready : (steps : List (List Command)) (m : Memories) → AreSteps part steps → AllFit steady (λ j. Ready part (struck_by part j steps m)) 0 steps
+    pub all_ready : (steps : List (List Command)) (m : Memories) → AreSteps part steps → AllFit steady (λ j. Ready part (struck_by part j steps m)) steps
     all_ready [] m are = tt
-    all_ready (commands ∷ steps) m are =
-        (step_ready commands m are.0, shifted steady (λ j. Ready part (struck_by part j (commands ∷ steps) m)) 0 steps (all_ready steps (struck part commands m) are.1))
+    all_ready (commands ∷ steps) m are = (step_ready commands m are.0, all_ready steps (struck part commands m) are.1)

@@ -61,7 +61,7 @@ module _ {P : Type 0} (m : Device P) where
   }
 
   module _ {E A B : Type 0} (d : Dialog E A) (next : A → Dialog E B) (first : Count P) (more : A → Count P) (At : ℕ → P → Type 0) (p : P) (fates : List Fate) (t : Tallies m d first At p fates)
-      (follow : (k : ℕ) (a : A) → (along m k d p fates).dialog ≡ Done a → GoesOn m d next first more At p fates k (t.count k) a) where
+      (follow : (k : ℕ) (a : A) → (along m k d p fates).dialog ≡ Done a → GoesOn m At (along m k d p fates) (t.count k) (first (k - 1) p fates) (next a) (more a)) where
     abbrev total : (k : ℕ) (x : Dialog E A) → (along m k d p fates).dialog ≡ x → ℕ
     total k (Done a) e = t.count k + (follow k a e).rest.count (along m k d p fates).left
     total k (Say s dialog) e = t.count k
@@ -155,7 +155,7 @@ module _ {P : Type 0} (m : Device P) where
       (sym (ap (λ (t : Standing ⊥ Outcome P). t.dialog) (along_bind m k (step commands) (if_done go_on) p fates)) ∙ e)
 
 module _ (part : Part) (steps : List (List Command)) (m : Memories) (before : List ℕ) (p : Programmer) (fates : List Fate) (sound : IsPart part) (are : AreSteps part steps) (s : Settled part m p) where
-  climbs : (k : ℕ) → Climbs device (λ j. Settled part (struck_by part j steps m)) 0 k steps p fates (along device k (play steps before) p fates)
+  climbs : (k : ℕ) → Climbs device (λ j. Settled part (struck_by part j steps m)) k steps p fates (along device k (play steps before) p fates)
   climbs k = steps_climb part steps m k before p fates sound are s
 
   -- where it came to data, all its strokes had before the last question of what follows
@@ -177,10 +177,7 @@ module _ (part : Part) (steps : List (List Command)) (m : Memories) (before : Li
       none = (climbs 0).none refl;
       at_least = λ k. (climbs k).at_least;
       at_most = λ k. (climbs k).at_most;
-      stands = λ k. subst (λ j. Settled part (struck_by part j steps m) (along device k (play steps before) p fates).programmer) (none_before (climbs k).count) (climbs k).stands;
+      stands = λ k. (climbs k).stands;
     },
     λ k l got e n. play_sharp k l got e n,
   )
-    where
-      none_before : (n : ℕ) → 0 + n ≡ n
-      none_before n = omega arith

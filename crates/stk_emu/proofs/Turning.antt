@@ -10,7 +10,7 @@ use Rattle.stk_frame.proofs.Laws.{cut_first, frame_is_piece, frame_is_good}
 use Rattle.stk_host.specs.Tape.{Tape, Reading, answer, on_tape}
 use Rattle.stk_host.specs.Talk.{Talk, Sent, Got, sent, heard}
 use Rattle.stk_host.specs.Dialog.{Dialog, Done, Say, Ask, Event, Frame, Said, Played, played, by_answer, next, bytes_sent, frames_in}
-use Rattle.stk_host.specs.Play.{IsDue, TurnsFrom, InTurn, Plays, Breaks, IsFront, IsBegun, IsPrefixOf}
+use Rattle.stk_host.specs.Play.{Position, position, IsDue, TurnsFrom, InTurn, Plays, Breaks, IsFront, IsBegun, IsPrefixOf}
 use Rattle.stk_host.proofs.Leading.{bytes_append}
 use Rattle.stk_emu.specs.declared.fate.Fate.{Fate}
 use Rattle.stk_emu.specs.Programmer.{Programmer}
@@ -92,7 +92,7 @@ due_at d n tape bytes (Got got ∷ before) after items turns =
     subst (λ t. IsDue d n t (bytes ++ sent before)) (append_assoc tape got (heard before)) (due_at d n (tape ++ got) bytes before after items turns.1)
 
 -- a talk in turn never listens where nothing waits
-pub never_idle : {E R : Type 0} (d : Dialog E R) (n : ℕ) (p : Programmer) (fates : List Fate) (talk : Talk) → AsksBodies d → AreLawful fates → InTurn d n [] talk → NeverIdle p fates talk
+pub never_idle : {E R : Type 0} (d : Dialog E R) (n : ℕ) (p : Programmer) (fates : List Fate) (talk : Talk) → AsksBodies d → AreLawful fates → InTurn d (position n []) talk → NeverIdle p fates talk
 never_idle d n p fates talk asks lawful turns before after items split same =
     let due : IsDue d n (heard before) (sent before) = due_at d n [] [] before after items (subst (TurnsFrom d n [] []) split turns) in
     let here : IsDue d n (brought p fates (sent before)) (sent before) = subst (λ t. IsDue d n t (sent before)) (sym same) due in
@@ -177,7 +177,7 @@ shown_front SaidPart shown events f =
           ∙ (sym (bytes_append f.whole f.later) ∙ ap bytes_sent (sym f.events_are)))),
     )
 
-module _ {E R : Type 0} (d : Dialog E R) (n : ℕ) (p : Programmer) (fates : List Fate) (w : WiredState) (asks : AsksBodies d) (lawful : AreLawful fates) (keeps : Keeps p fates w) (turns : InTurn d n [] w.talk) where
+module _ {E R : Type 0} (d : Dialog E R) (n : ℕ) (p : Programmer) (fates : List Fate) (w : WiredState) (asks : AsksBodies d) (lawful : AreLawful fates) (keeps : Keeps p fates w) (turns : InTurn d (position n []) w.talk) where
   brings : brought p fates (sent w.talk) ≡ heard w.talk ++ w.waits
   brings = keeps.brings (never_idle d n p fates w.talk asks lawful turns)
 
@@ -190,24 +190,24 @@ module _ {E R : Type 0} (d : Dialog E R) (n : ℕ) (p : Programmer) (fates : Lis
       (ap (λ t. frames_in (played d n t).events) brings ∙ (g.1 ∙ (ap (λ fs. fs ++ g.0) f.1 ∙ append_assoc (frames (sent w.talk)) f.0 g.0)))
 
   -- where the talk broke off the programmer stands along the line
-  pub broken_along : (SaidPart : E → E → Type 0) (shown : List (Event E)) → Breaks SaidPart d n [] w.talk shown → w.wire.programmer ≡ (along device (length (frames (sent w.talk))) d p fates).programmer
+  pub broken_along : (SaidPart : E → E → Type 0) (shown : List (Event E)) → Breaks SaidPart d (position n []) w.talk shown → w.wire.programmer ≡ (along device (length (frames (sent w.talk))) d p fates).programmer
   broken_along SaidPart shown breaks =
       let front = shown_front SaidPart shown (played d n (heard w.talk)).events breaks.front in
       ap (λ x. x.programmer) keeps.stands ∙ (goes_along (front.0, ap (λ bs. bs ++ front.0) (sym breaks.all_sent) ∙ front.1)).programmer
 
   -- where it was whole the dialog has come to the same result there, and nothing is left
-  pub whole_along : (events : List (Event E)) (r : R) (next : ℕ) (left : List ℕ) → Plays d n [] w.talk events r next left
-      → GoesAlong d p fates w r left
-  whole_along events r next left plays =
-      let over : played d n (heard w.talk) ≡ record { events = events; outcome = Some (r, next, on_tape left ++ []) } =
+  pub whole_along : (events : List (Event E)) (r : R) (after : Position) → Plays d (position n []) w.talk events r after
+      → GoesAlong d p fates w r after.unread
+  whole_along events r after plays =
+      let over : played d n (heard w.talk) ≡ record { events = events; outcome = Some (r, after.next, on_tape after.unread ++ []) } =
       ap (played d n) (sym (append-nil (heard w.talk))) ∙ plays.plays [] in
       let f = goes_along ([], append-nil (sent w.talk) ∙ (sym plays.all_sent ∙ ap (λ x. bytes_sent x.events) (sym over))) in
-      let o = f.outcome r next (on_tape left ++ w.waits) (ap (λ t. (played d n t).outcome) brings ∙ ap (λ x. x.outcome) (plays.plays w.waits)) in
-      let none = none_before (on_tape left) w.waits o.1 in
+      let o = f.outcome r after.next (on_tape after.unread ++ w.waits) (ap (λ t. (played d n t).outcome) brings ∙ ap (λ x. x.outcome) (plays.plays w.waits)) in
+      let none = none_before (on_tape after.unread) w.waits o.1 in
       record {
         programmer = ap (λ x. x.programmer) keeps.stands ∙ f.programmer;
         result = o.0;
-        none_left = no_bytes left none.0;
+        none_left = no_bytes after.unread none.0;
         none_waits = none.1;
       }
     where

@@ -1,5 +1,5 @@
 -- How far a play of steps has come on a line.
-use Rattle.std.specs.Prelude.{ℕ, suc, ◌+◌, ◌-◌, ◌≤◌, ◌≡◌, List, [], ◌∷◌, length, Ok, Err}
+use Rattle.std.specs.Prelude.{ℕ, suc, ◌-◌, ◌≤◌, ◌≡◌, List, [], ◌∷◌, length, Ok, Err}
 use Rattle.stk_frame.specs.declared.command.Command.{Command}
 use Rattle.stk_host.specs.Dialog.{Dialog, Done, Say, Ask}
 use Rattle.stk_host.specs.Steps.{Outcome, step}
@@ -9,9 +9,9 @@ use Rattle.stk_emu.specs.Along.{Standing, along}
 use Rattle.stk_emu.specs.Fits.{Fits}
 
 -- each step leads from its own condition to the next one
-abbrev pub AllFit : {P : Type 0} → Device P → (ℕ → P → Type 0) → ℕ → List (List Command) → Type 0
-AllFit m At j [] = Unit {0}
-AllFit m At j (commands ∷ steps) = Fits m commands (At j) (At (suc j)) × AllFit m At (suc j) steps
+abbrev pub AllFit : {P : Type 0} → Device P → (ℕ → P → Type 0) → List (List Command) → Type 0
+AllFit m At [] = Unit {0}
+AllFit m At (commands ∷ steps) = Fits m commands (At 0) (At 1) × AllFit m (λ j. At (suc j)) steps
 
 -- no step is without a command
 abbrev pub AreSome : List (List Command) → Type 0
@@ -37,11 +37,11 @@ steps_done m (commands ∷ steps) k p fates =
 -- How a play of steps stands after k questions: under the condition of so many steps, which are those that came to data
 -- and perhaps one more. The one more is counted by the questions before the last, whose answer may not have come; and
 -- where the play came to data, they are all.
-pub record Climbs {P : Type 0} (m : Device P) (At : ℕ → P → Type 0) (j k : ℕ) (steps : List (List Command))
-    (p : P) (fates : List Fate) (s : Standing ⊥ Outcome P) : Type 0 where
+pub record Climbs {P : Type 0} (m : Device P) (At : ℕ → P → Type 0) (k : ℕ) (steps : List (List Command)) (p : P)
+    (fates : List Fate) (s : Standing ⊥ Outcome P) : Type 0 where
   pub count : ℕ
   pub at_least : steps_done m steps k p fates ≤ count
   pub at_most : count ≤ suc (steps_done m steps (k - 1) p fates)
   pub none : k ≡ 0 → count ≡ 0
-  pub stands : At (j + count) s.programmer
+  pub stands : At count s.programmer
   pub whole : (bytes : List ℕ) → s.dialog ≡ Done (Ok bytes) → count ≡ length steps

@@ -3,7 +3,7 @@ use Rattle.std.specs.Prelude.{ℕ, suc, ◌+◌, ◌-◌, ◌≤◌, ◌≡◌, 
 use Rattle.stk_host.specs.Dialog.{Dialog, Done, Say, Ask}
 use Rattle.stk_emu.specs.declared.fate.Fate.{Fate}
 use Rattle.stk_emu.specs.Device.{Device}
-use Rattle.stk_emu.specs.Along.{along}
+use Rattle.stk_emu.specs.Along.{Standing, along}
 
 -- how many have come to data after so many questions, from a programmer and the fates to come
 abbrev pub Count : Type 0 → Type 0
@@ -30,12 +30,9 @@ pub record Tallies {E R P : Type 0} (m : Device P) (d : Dialog E R) (done : Coun
   pub at_most : (k : ℕ) → count k ≤ suc (done (k - 1) p fates)
   pub stands : (k : ℕ) → At (count k) (along m k d p fates).programmer
 
--- How the next dialog goes on from a result: it makes its strokes behind those made; and either those had all come to
--- data before the last question, or it makes none.
-pub record GoesOn {E A B P : Type 0} (m : Device P) (d : Dialog E A) (next : A → Dialog E B) (first : Count P)
-    (more : A → Count P)
-    (At : ℕ → P → Type 0) (p : P) (fates : List Fate) (k made : ℕ) (a : A) : Type 0 where
-  pub rest : Tallies m (next a) (more a) (λ j. At (made + j)) (along m k d p fates).programmer
-      (along m k d p fates).fates
-  pub sharp : ((l : ℕ) → (along m k d p fates).left ≡ suc l → made ≤ first (k - 1) p fates)
-      ⊎ ((l : ℕ) → rest.count l ≡ 0)
+-- How the next dialog goes on from where one stands: it makes its strokes behind those made; and either so many had
+-- come to data earlier, before the last question, or it makes none.
+pub record GoesOn {E A B P : Type 0} (m : Device P) (At : ℕ → P → Type 0) (s : Standing E A P) (made earlier : ℕ)
+    (next : Dialog E B) (more : Count P) : Type 0 where
+  pub rest : Tallies m next more (λ j. At (made + j)) s.programmer s.fates
+  pub sharp : ((l : ℕ) → s.left ≡ suc l → made ≤ earlier) ⊎ ((l : ℕ) → rest.count l ≡ 0)

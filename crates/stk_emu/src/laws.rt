@@ -18,7 +18,7 @@ ghost use Rattle.stk_host.specs.ReadSteps.{read_steps};
 ghost use Rattle.stk_host.specs.declared.fault.HostFault.{HostFault};
 ghost use Rattle.stk_host.specs.Operations.{opening, operation, closing, difference_from};
 ghost use Rattle.stk_host.specs.Talk.{Talk, sent};
-ghost use Rattle.stk_host.specs.Play.{InTurn, Plays, Breaks, NoPart};
+ghost use Rattle.stk_host.specs.Play.{Position, position, InTurn, Plays, Breaks, NoPart};
 ghost use Rattle.stk_emu.specs.Programmer.{Programmer, fresh_programmer};
 ghost use Rattle.stk_emu.specs.Device.{device};
 ghost use Rattle.stk_emu.specs.Lawful.{IsBody, IsClear};
@@ -97,7 +97,7 @@ pub fn a_play_climbs_from_step_to_step()
     ensures { (part : Part) (steps : List (List Command)) (m : Memories) (k : ℕ) (before : List ℕ) (p : Programmer)
         (fates : List Fate)
         → IsPart part → AreSteps part steps → Settled part m p
-        → Climbs device (λ j. Settled part (struck_by part j steps m)) 0 k steps p fates
+        → Climbs device (λ j. Settled part (struck_by part j steps m)) k steps p fates
         (along device k (play steps before) p fates) }
 {}
 
@@ -183,7 +183,7 @@ pub fn a_session_is_led_from_call_to_call()
 /// Whoever talks in turn never listens where nothing comes.
 pub fn a_talk_in_turn_is_never_idle<E, R>()
     ensures { (d : Dialog E R) (n : ℕ) (p : Programmer) (fates : List Fate) (talk : Talk)
-        → AsksBodies d → AreLawful fates → InTurn d n [] talk → NeverIdle p fates talk }
+        → AsksBodies d → AreLawful fates → InTurn d (position n []) talk → NeverIdle p fates talk }
 {}
 
 /// What a talk says and comes to, and when a saying is a part of another: whatever these are, so that the law below
@@ -201,12 +201,12 @@ pub trait Talks {
 /// frame, the programmer stands there all the same.
 pub fn a_talk_over_a_wire_goes_along_the_line<T: Talks>()
     ensures whole { (d : Dialog T.Saying T.Outcome) (n : ℕ) (p : Programmer) (fates : List Fate) (w : WiredState)
-        (events : List (Event T.Saying)) (r : T.Outcome) (next : ℕ) (left : List ℕ)
-        → AsksBodies d → AreLawful fates → Keeps p fates w → Plays d n [] w.talk events r next left
-        → GoesAlong d p fates w r left }
+        (events : List (Event T.Saying)) (r : T.Outcome) (after : Position)
+        → AsksBodies d → AreLawful fates → Keeps p fates w → Plays d (position n []) w.talk events r after
+        → GoesAlong d p fates w r after.unread }
     ensures broken { (d : Dialog T.Saying T.Outcome) (n : ℕ) (p : Programmer) (fates : List Fate) (w : WiredState)
         (shown : List (Event T.Saying))
-        → AsksBodies d → AreLawful fates → Keeps p fates w → Breaks T.SaidPart d n [] w.talk shown
+        → AsksBodies d → AreLawful fates → Keeps p fates w → Breaks T.SaidPart d (position n []) w.talk shown
         → w.wire.programmer ≡ (along device (length (frames (sent w.talk))) d p fates).programmer }
 {}
 
@@ -218,8 +218,8 @@ pub fn what_is_said_over_a_wire_is_said_along_the_line<E, R>()
         → frames_in (played d n (tape_of device sent w)).events ≡ sent ++ more
         → sayings (played d n (tape_of device sent w)).events ≡ said_along device (length sent) d w.programmer w.fates }
     ensures whole { (d : Dialog E R) (n : ℕ) (p : Programmer) (fates : List Fate) (w : WiredState)
-        (events : List (Event E)) (r : R) (next : ℕ) (left : List ℕ)
-        → AsksBodies d → AreLawful fates → Keeps p fates w → Plays d n [] w.talk events r next left
+        (events : List (Event E)) (r : R) (after : Position)
+        → AsksBodies d → AreLawful fates → Keeps p fates w → Plays d (position n []) w.talk events r after
         → sayings events ≡ said_along device (length (frames (sent w.talk))) d p fates }
 {}
 

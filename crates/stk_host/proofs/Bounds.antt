@@ -95,11 +95,11 @@ front_most {SaidPart = SaidPart} {shown = shown} {events = events} f =
 pub sends_asked : {E R : Type 0} (SaidPart : E → E → Type 0) (n : ℕ) (d : Dialog E R) → AsksAtMost n d → SendsAtMost SaidPart n d
 sends_asked SaidPart n d f = record {
   over_tape = λ seq tape. sends_most n d seq tape f;
-  whole = λ seq u talk events result next left p.
-      rw (← ap (λ x. x.events) (p.plays [])) (sends_most n d seq (on_tape u ++ (heard talk ++ [])) f);
-  broken_off = λ seq u talk shown b.
+  whole = λ before talk events result after p.
+      rw (← ap (λ x. x.events) (p.plays [])) (sends_most n d before.next (on_tape before.unread ++ (heard talk ++ [])) f);
+  broken_off = λ before talk shown b.
       let front = front_most b.front in
-      let most = sends_most n d seq (on_tape u ++ heard talk) f in
+      let most = sends_most n d before.next (on_tape before.unread ++ heard talk) f in
       omega arith;
 }
 

@@ -3,20 +3,20 @@ use Rattle.std.proofs.Common.{◌≡◌, ℕ, ◌<◌, List, [], ◌∷◌, ◌+
 use Rattle.stk_host.specs.declared.fault.Broken.TheVariants as broken
 use Rattle.stk_host.specs.declared.fault.HostFault.TheVariants.{SendFailed, RecvFailed}
 use Rattle.stk_host.specs.declared.link.Item.TheVariants.{Silence}
-use Rattle.stk_host.specs.Tape.{on_tape, answer}
-use Rattle.stk_host.specs.Talk.{Talk, LinkView, Sent, Got, sent, heard}
-use Rattle.stk_host.specs.Dialog.{Dialog, Event, Frame, played, bytes_sent}
-use Rattle.stk_host.specs.Play.{InTurn, BreaksSending, BreaksListening, Position, FailsOver}
+use Rattle.stk_host.specs.Tape.{answer}
+use Rattle.stk_host.specs.Talk.{Talk, LinkView, Sent, Got, sent}
+use Rattle.stk_host.specs.Dialog.{Dialog, Event, Frame, bytes_sent}
+use Rattle.stk_host.specs.Play.{Position, position, InTurn, played_over, BreaksSending, BreaksListening, FailsOver}
 use Rattle.stk_host.specs.Steps.{exchange, attempt, tries}
 use Rattle.stk_host.specs.Operations.{closing}
 use Rattle.stk_host.specs.Calls.{EndsCall}
 use Rattle.stk_host.proofs.Leading.{bytes_append}
 
 -- what broke off in a frame has sent less than its play sends
-pub sent_less : {E R : Type 0} {dialog : Dialog E R} {seq : ℕ} {u : List ℕ} {talk : Talk} {shown : List (Event E)} → BreaksSending dialog seq u talk shown
-    → length (sent talk) < length (bytes_sent (played dialog seq (on_tape u ++ heard talk)).events)
-sent_less {dialog = dialog} {seq = seq} {u = u} {talk = talk} f =
-    let all : bytes_sent (played dialog seq (on_tape u ++ heard talk)).events ≡ bytes_sent f.whole ++ ((f.part ++ f.unsent) ++ bytes_sent f.later) =
+pub sent_less : {E R : Type 0} {dialog : Dialog E R} {before : Position} {talk : Talk} {shown : List (Event E)} → BreaksSending dialog before talk shown
+    → length (sent talk) < length (bytes_sent (played_over dialog before talk).events)
+sent_less {dialog = dialog} {before = before} {talk = talk} f =
+    let all : bytes_sent (played_over dialog before talk).events ≡ bytes_sent f.whole ++ ((f.part ++ f.unsent) ++ bytes_sent f.later) =
     ap bytes_sent f.events_are ∙ bytes_append f.whole (Frame (f.part ++ f.unsent) ∷ f.later) in
     let some : sent talk ≡ bytes_sent f.whole ++ (f.part ++ []) =
     sym f.all_sent ∙ (ap bytes_sent f.shown_is ∙ bytes_append f.whole (Frame f.part ∷ [])) in
@@ -32,8 +32,8 @@ sent_less {dialog = dialog} {seq = seq} {u = u} {talk = talk} f =
     ))
 
 -- so it doesn't listen
-pub never_both : {E R : Type 0} {dialog : Dialog E R} {seq : ℕ} {u : List ℕ} {talk : Talk} {some others : List (Event E)}
-    → BreaksSending dialog seq u talk some → BreaksListening dialog seq u talk others → ⊥
+pub never_both : {E R : Type 0} {dialog : Dialog E R} {before : Position} {talk : Talk} {some others : List (Event E)}
+    → BreaksSending dialog before talk some → BreaksListening dialog before talk others → ⊥
 never_both f g =
     let less = sent_less f in
     let all = ap length (sym g.all_sent ∙ ap bytes_sent g.shown_is) in
@@ -50,11 +50,11 @@ showing talk = record { talk = Some talk; failures = 0 }
 pub never_either : {R : Type 0} (dialog : Dialog ⊥ R) (before : Position) (talk : Talk) → FailsOver broken.Send dialog before (showing []) (showing talk) → FailsOver broken.Recv dialog before (showing []) (showing talk) → ⊥
 never_either dialog before talk f g =
     never_both
-    (subst (λ t. BreaksSending dialog before.next before.unread t f.shown) (grown talk f.during f.grows) f.breaks)
-    (subst (λ t. BreaksListening dialog before.next before.unread t g.shown) (grown talk g.during g.grows) g.breaks)
+    (subst (λ t. BreaksSending dialog before t f.shown) (grown talk f.during f.grows) f.breaks)
+    (subst (λ t. BreaksListening dialog before t g.shown) (grown talk g.during g.grows) g.breaks)
 
 abbrev sixth : Position
-sixth = record { next = 6; unread = [] }
+sixth = position 6 []
 
 abbrev leaving : List ℕ
 leaving = 0x1B ∷ 0x06 ∷ 0x00 ∷ 0x03 ∷ 0x0E ∷ 0x11 ∷ 0x01 ∷ 0x01 ∷ 0x01 ∷ []
@@ -111,6 +111,6 @@ pub not_unasked : (after : Position) → EndsCall closing sixth (showing []) (sh
 not_unasked after f = never_either closing sixth [] unsent_at_all f
 
 -- who listens before the frame is sent whole isn't in turn
-pub not_early : InTurn closing 6 [] (Sent (0x1B ∷ 0x06 ∷ []) ∷ (Got (Silence ∷ []) ∷ [])) → ⊥
+pub not_early : InTurn closing sixth (Sent (0x1B ∷ 0x06 ∷ []) ∷ (Got (Silence ∷ []) ∷ [])) → ⊥
 unfolding exchange attempt tries answer closing
 not_early in_turn = let all : leaving ≡ 0x1B ∷ 0x06 ∷ [] = in_turn.0.all_sent in absurd (cc)

@@ -61,7 +61,7 @@ judged_ends wanted found false true e = e
 judged_ends wanted found false false e = e
 
 pub opening_ends : (wanted : List ℕ) (force : Bool) (begun : Result (List ℕ) Stop) (m n : Position) (o p : LinkView)
-    → EndsSteps handshake m o p (λ found. found) begun n → EndsCall (opening wanted force) m o p (opening_result wanted force begun) n
+    → EndsSteps handshake (λ found. found) m o p begun n → EndsCall (opening wanted force) m o p (opening_result wanted force begun) n
 unfolding opening
 opening_ends wanted force (Ok found) m n o p e = judged_ends wanted found force (bytes_eq found wanted) (played_from (then_reaches (λ outcome. Done (signature_judged wanted force outcome)) e))
 opening_ends wanted force (Err (Fault of_step.NoAnswer)) m n o p e = played_from (then_reaches (λ outcome. Done (signature_judged wanted force outcome)) e)
@@ -73,7 +73,7 @@ opening_ends wanted force (Err (Link broken.Send)) m n o p e = broken_bind (λ o
 opening_ends wanted force (Err (Link broken.Recv)) m n o p e = broken_bind (λ outcome. Done (signature_judged wanted force outcome)) e
 
 pub closing_ends : (result : Result (Unit {0}) Stop) (m n : Position) (o p : LinkView)
-    → EndsSteps (step (leave ∷ [])) m o p (λ done. []) result n → EndsCall closing m o p (closing_result result) n
+    → EndsSteps (step (leave ∷ [])) (λ done. []) m o p result n → EndsCall closing m o p (closing_result result) n
 unfolding closing
 closing_ends (Ok done) m n o p e = played_from (then_reaches (λ outcome. Done (without_bytes outcome)) e)
 closing_ends (Err (Fault of_step.NoAnswer)) m n o p e = played_from (then_reaches (λ outcome. Done (without_bytes outcome)) e)

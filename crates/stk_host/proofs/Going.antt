@@ -48,21 +48,21 @@ stops_with commands before after m n o p stop e = λ steps. play_stops commands 
 
 -- a step that brings no data
 pub goes_quietly : (commands : List Command) (of : Shape) (bytes : List ℕ) (result : Result (Unit {0}) Stop) (m n : Position) (o p : LinkView)
-    → IsSizedShape of → data_count of ≡ 0 → OnOk result (SizedBy of bytes) → EndsSteps (step commands) m o p (λ done. bytes) result n → EndsInnerStep (with_step commands []) (without_step []) m o p result n
+    → IsSizedShape of → data_count of ≡ 0 → OnOk result (SizedBy of bytes) → EndsSteps (step commands) (λ done. bytes) m o p result n → EndsInnerStep (with_step commands []) (without_step []) m o p result n
 goes_quietly commands of bytes (Ok done) m n o p counted zero sized e =
     subst (λ bs. EndsInnerStep (with_step commands []) (without_step bs) m o p (Ok tt) n) (none_of bytes (counted_data of bytes counted sized ∙ zero)) (goes_with commands [] bytes e)
 goes_quietly commands of bytes (Err stop) m n o p counted zero sized e = stops_with commands [] [] m n o p stop e
 
 -- a step that nothing follows
 pub alone : (commands : List Command) (before after : List ℕ) (result : Result (Unit {0}) Stop) (m n : Position) (o p : LinkView)
-    → EndsInnerStep (with_step commands before) (without_step after) m o p result n → EndsSteps (play (commands ∷ []) before) m o p (λ done. after) result n
+    → EndsInnerStep (with_step commands before) (without_step after) m o p result n → EndsSteps (play (commands ∷ []) before) (λ done. after) m o p result n
 alone commands before after (Ok done) m n o p e = play_done after (e [])
 alone commands before after (Err stop) m n o p e = e []
 
 pub alone_first : (commands : List Command) (before after : List ℕ) (result : Result (Unit {0}) Stop) (m n : Position) (o p : LinkView)
-    → before ≡ [] → EndsInnerStep (with_step commands before) (without_step after) m o p result n → EndsSteps (play (commands ∷ []) []) m o p (λ done. after) result n
+    → before ≡ [] → EndsInnerStep (with_step commands before) (without_step after) m o p result n → EndsSteps (play (commands ∷ []) []) (λ done. after) m o p result n
 alone_first commands before after result m n o p is e =
-    subst (λ (b : List ℕ). EndsSteps (play (commands ∷ []) b) m o p (λ done. after) result n) is (alone commands before after result m n o p e)
+    subst (λ (b : List ℕ). EndsSteps (play (commands ∷ []) b) (λ done. after) m o p result n) is (alone commands before after result m n o p e)
 
 -- no step at all
 pub none_played : (m : Position) (o : LinkView) → PlaysOver (play [] []) m o o (Ok []) m
@@ -106,13 +106,13 @@ judged_from steps judge bytes e = played_from (then_reaches (λ outcome. Done (j
 
 -- an operation that reads nothing
 pub done_ends : (steps : List (List Command)) (result : Result (Unit {0}) Stop) (m n : Position) (o p : LinkView)
-    → EndsSteps (play steps []) m o p (λ done. []) result n → EndsCall (operation steps (λ bytes. Ok tt)) m o p (closing_result result) n
+    → EndsSteps (play steps []) (λ done. []) m o p result n → EndsCall (operation steps (λ bytes. Ok tt)) m o p (closing_result result) n
 done_ends steps (Ok done) m n o p e = judged_from steps (λ bytes. Ok tt) [] e
 done_ends steps (Err stop) m n o p e = told_ends steps (λ bytes. Ok tt) stop m n o p e
 
 -- a write
 pub writing_ends : (part : Part) (mem : Mem) (image : List (Option ℕ)) (result : Result (Unit {0}) Stop) (m n : Position) (o p : LinkView) → is_writable mem ≡ true
-    → EndsSteps (play (write_steps part mem image) []) m o p (λ done. []) result n → EndsCall (writing part mem image) m o p (closing_result result) n
+    → EndsSteps (play (write_steps part mem image) []) (λ done. []) m o p result n → EndsCall (writing part mem image) m o p (closing_result result) n
 writing_ends part mem image result m n o p can e =
     subst (λ (can : Bool). EndsCall (if can then operation (write_steps part mem image) (λ bytes. Ok tt) else Done (Err (ReadOnly mem))) m o p (closing_result result) n) (sym can)
     (done_ends (write_steps part mem image) result m n o p e)
@@ -135,7 +135,7 @@ not_lacking dialog (Link broken.Recv) m n o p e = e
 
 -- a read
 pub reading_ends : (steps : List (List Command)) (bytes : List ℕ) (result : Result (Unit {0}) Stop) (m n : Position) (o p : LinkView)
-    → EndsSteps (play steps []) m o p (λ done. bytes) result n → EndsOrLacks (operation steps Ok) m o p (given_or_fault (vector_after (closing_result result) bytes) (closing_result result)) n
+    → EndsSteps (play steps []) (λ done. bytes) m o p result n → EndsOrLacks (operation steps Ok) m o p (given_or_fault (vector_after (closing_result result) bytes) (closing_result result)) n
 reading_ends steps bytes (Ok done) m n o p e = judged_from steps Ok bytes e
 reading_ends steps bytes (Err stop) m n o p e = not_lacking (operation steps Ok) stop m n o p (told_ends steps Ok stop m n o p e)
 
@@ -146,7 +146,7 @@ differs_ends dialog mem None e = e
 differs_ends dialog mem (Some d) e = e
 
 pub verifying_ends : (steps : List (List Command)) (mem : Mem) (image : List (Option ℕ)) (bytes : List ℕ) (result : Result (Unit {0}) Stop) (m n : Position) (o p : LinkView)
-    → EndsSteps (play steps []) m o p (λ done. bytes) result n → EndsOrLacks (operation steps (comparison mem image)) m o p (verifying_result mem image bytes result) n
+    → EndsSteps (play steps []) (λ done. bytes) m o p result n → EndsOrLacks (operation steps (comparison mem image)) m o p (verifying_result mem image bytes result) n
 verifying_ends steps mem image bytes (Ok done) m n o p e =
     differs_ends (operation steps (comparison mem image)) mem (difference_from 0 image bytes) (judged_from steps (comparison mem image) bytes e)
 verifying_ends steps mem image bytes (Err stop) m n o p e =

@@ -7,7 +7,7 @@ use Rattle.stk_host.specs.declared.fault.Broken.TheVariants as broken
 use Rattle.stk_host.specs.Tape.{Tape, Reading, on_tape, answer}
 use Rattle.stk_host.specs.Talk.{Talk, Sent, Got, sent, heard}
 use Rattle.stk_host.specs.Dialog.{Dialog, Done, Say, Ask, ◌>>=◌, Event, Frame, Said, Played, played, behind, by_answer, next, bytes_sent}
-use Rattle.stk_host.specs.Play.{IsDue, TurnsFrom, InTurn, Plays, Breaks, BreaksSending, BreaksListening, BreaksBy, IsFront, IsBegun}
+use Rattle.stk_host.specs.Play.{Position, position, IsDue, TurnsFrom, InTurn, played_over, Plays, Breaks, BreaksSending, BreaksListening, BreaksBy, IsFront, IsBegun}
 use Rattle.stk_host.specs.Reach.{TalkLeads, IsQuiet, WaitsFrom}
 use Rattle.stk_host.proofs.Talks.{sent_append, heard_append, heard_both, heard_quiet, sent_waiting}
 
@@ -85,17 +85,17 @@ turns_behind dialog inner m n tape inner_tape before due talk f =
     (subst (λ t. TurnsFrom inner n t [] talk) (sym (append-nil inner_tape)) f)))
 
 -- what is due behind a talk
-due_behind : {E R : Type 0} {a b : Dialog E R} {m n : ℕ} {u v : List ℕ} {talk : Talk} {events : List (Event E)} (f : TalkLeads a m u talk events b n v) (x : Tape) (bytes : List ℕ)
-    → IsDue b n (on_tape v ++ x) bytes → IsDue a m ((on_tape u ++ heard talk) ++ x) (sent talk ++ bytes)
-due_behind {a = a} {b = b} {m = m} {n = n} {u = u} {v = v} {talk = talk} {events = events} f x bytes due =
-    let e : played a m ((on_tape u ++ heard talk) ++ x) ≡ behind events (played b n (on_tape v ++ x)) =
-    ap (played a m) (append_assoc (on_tape u) (heard talk) x) ∙ f.goes_on x in
+due_behind : {E R : Type 0} {a b : Dialog E R} {m n : Position} {talk : Talk} {events : List (Event E)} (f : TalkLeads a m talk events b n) (x : Tape) (bytes : List ℕ)
+    → IsDue b n.next (on_tape n.unread ++ x) bytes → IsDue a m.next ((on_tape m.unread ++ heard talk) ++ x) (sent talk ++ bytes)
+due_behind {a = a} {b = b} {m = m} {n = n} {talk = talk} {events = events} f x bytes due =
+    let e : played a m.next ((on_tape m.unread ++ heard talk) ++ x) ≡ behind events (played b n.next (on_tape n.unread ++ x)) =
+    ap (played a m.next) (append_assoc (on_tape m.unread) (heard talk) x) ∙ f.goes_on x in
     record {
       waits = ap (λ p. p.outcome) e ∙ due.waits;
       all_sent =
           ap (λ p. bytes_sent p.events) e
-          ∙ (bytes_append events (played b n (on_tape v ++ x)).events
-          ∙ (ap (λ bs. bs ++ bytes_sent (played b n (on_tape v ++ x)).events) f.all_sent ∙ ap (λ bs. sent talk ++ bs) due.all_sent));
+          ∙ (bytes_append events (played b n.next (on_tape n.unread ++ x)).events
+          ∙ (ap (λ bs. bs ++ bytes_sent (played b n.next (on_tape n.unread ++ x)).events) f.all_sent ∙ ap (λ bs. sent talk ++ bs) due.all_sent));
     }
 
 -- a play that waits, whatever follows its dialog
@@ -114,9 +114,9 @@ due_bind dialog go_on seq x bytes due =
       all_sent = ap (λ p. bytes_sent p.events) e ∙ due.all_sent;
     }
 
-turns_bind : {E A B : Type 0} (dialog : Dialog E A) (go_on : A → Dialog E B) (seq : ℕ) (u : List ℕ) (talk : Talk) → InTurn dialog seq u talk → InTurn (dialog >>= go_on) seq u talk
-turns_bind dialog go_on seq u talk f =
-    turns_behind (dialog >>= go_on) dialog seq seq (on_tape u) (on_tape u) [] (λ x bytes. due_bind dialog go_on seq (on_tape u ++ x) bytes) talk f
+turns_bind : {E A B : Type 0} (dialog : Dialog E A) (go_on : A → Dialog E B) (m : Position) (talk : Talk) → InTurn dialog m talk → InTurn (dialog >>= go_on) m talk
+turns_bind dialog go_on m talk f =
+    turns_behind (dialog >>= go_on) dialog m.next m.next (on_tape m.unread) (on_tape m.unread) [] (λ x bytes. due_bind dialog go_on m.next (on_tape m.unread ++ x) bytes) talk f
 
 -- while the answer is awaited it is in turn to listen
 due_asking : {E R : Type 0} (body : List ℕ) (answered : Reading → Dialog E R) (seq : ℕ) (tape : Tape) → answer seq tape ≡ None → IsDue (Ask body answered) seq tape (frame seq body)
@@ -132,7 +132,7 @@ turns_waiting body answered seq tape (Got items ∷ talk) waits = (due_asking bo
 
 -- a frame was sent whole, and its answer awaited
 turns_asking : {E R : Type 0} (body : List ℕ) (answered : Reading → Dialog E R) (seq : ℕ) (u : List ℕ) (x y : Talk)
-    → IsQuiet x → sent x ≡ frame seq body → WaitsFrom seq (on_tape u) y → InTurn (Ask body answered) seq u (x ++ y)
+    → IsQuiet x → sent x ≡ frame seq body → WaitsFrom seq (on_tape u) y → InTurn (Ask body answered) (position seq u) (x ++ y)
 turns_asking body answered seq u x y quiet is waits =
     turns_append (Ask body answered) seq (on_tape u) [] x y (turns_quiet (Ask body answered) seq (on_tape u) [] x quiet)
     (subst (λ t. TurnsFrom (Ask body answered) seq t (sent x) y) (sym (append-nil (on_tape u)) ∙ ap (λ t. on_tape u ++ t) (sym (heard_quiet x quiet)))
@@ -140,43 +140,43 @@ turns_asking body answered seq u x y quiet is waits =
 
 -- leading
 
-pub leads_here : {E R : Type 0} (dialog : Dialog E R) (seq : ℕ) (u : List ℕ) → TalkLeads dialog seq u [] [] dialog seq u
-leads_here dialog seq u = record { goes_on = λ more. refl; all_sent = refl; in_turn = tt }
+pub leads_here : {E R : Type 0} (dialog : Dialog E R) (m : Position) → TalkLeads dialog m [] [] dialog m
+leads_here dialog m = record { goes_on = λ more. refl; all_sent = refl; in_turn = tt }
 
-pub leads_on : {E R : Type 0} {a b c : Dialog E R} {l m n : ℕ} {u v w : List ℕ} {x y : Talk} {xs ys : List (Event E)}
-    → TalkLeads a l u x xs b m v → TalkLeads b m v y ys c n w → TalkLeads a l u (x ++ y) (xs ++ ys) c n w
-leads_on {a = a} {b = b} {c = c} {l = l} {m = m} {n = n} {u = u} {v = v} {w = w} {x = x} {y = y} {xs = xs} {ys = ys} f g = record {
+pub leads_on : {E R : Type 0} {a b c : Dialog E R} {l m n : Position} {x y : Talk} {xs ys : List (Event E)}
+    → TalkLeads a l x xs b m → TalkLeads b m y ys c n → TalkLeads a l (x ++ y) (xs ++ ys) c n
+leads_on {a = a} {b = b} {c = c} {l = l} {m = m} {n = n} {x = x} {y = y} {xs = xs} {ys = ys} f g = record {
   goes_on = λ more.
-      ap (played a l) (heard_both (on_tape u) x y more)
+      ap (played a l.next) (heard_both (on_tape l.unread) x y more)
       ∙ (f.goes_on (heard y ++ more)
       ∙ (ap (behind xs) (g.goes_on more)
-      ∙ behind_behind xs ys (played c n (on_tape w ++ more))));
+      ∙ behind_behind xs ys (played c n.next (on_tape n.unread ++ more))));
   all_sent = bytes_append xs ys ∙ (ap (λ bs. bs ++ bytes_sent ys) f.all_sent ∙ (ap (λ bs. sent x ++ bs) g.all_sent ∙ sym (sent_append x y)));
-  in_turn = turns_append a l (on_tape u) [] x y f.in_turn
-      (turns_behind a b l m (on_tape u ++ heard x) (on_tape v) (sent x) (due_behind f) y g.in_turn);
+  in_turn = turns_append a l.next (on_tape l.unread) [] x y f.in_turn
+      (turns_behind a b l.next m.next (on_tape l.unread ++ heard x) (on_tape m.unread) (sent x) (due_behind f) y g.in_turn);
 }
 
-pub leads_bind : {E A B : Type 0} {a b : Dialog E A} {m n : ℕ} {u v : List ℕ} {talk : Talk} {events : List (Event E)} (go_on : A → Dialog E B)
-    → TalkLeads a m u talk events b n v → TalkLeads (a >>= go_on) m u talk events (b >>= go_on) n v
-leads_bind {a = a} {b = b} {m = m} {n = n} {u = u} {v = v} {talk = talk} {events = events} go_on f = record {
+pub leads_bind : {E A B : Type 0} {a b : Dialog E A} {m n : Position} {talk : Talk} {events : List (Event E)} (go_on : A → Dialog E B)
+    → TalkLeads a m talk events b n → TalkLeads (a >>= go_on) m talk events (b >>= go_on) n
+leads_bind {a = a} {b = b} {m = m} {n = n} {talk = talk} {events = events} go_on f = record {
   goes_on = λ more.
-      played_bind a go_on m (on_tape u ++ (heard talk ++ more))
+      played_bind a go_on m.next (on_tape m.unread ++ (heard talk ++ more))
       ∙ (ap (λ q. followed q (λ r. played (go_on r))) (f.goes_on more)
-      ∙ (followed_behind events (played b n (on_tape v ++ more)) (λ r. played (go_on r))
-      ∙ ap (behind events) (sym (played_bind b go_on n (on_tape v ++ more)))));
+      ∙ (followed_behind events (played b n.next (on_tape n.unread ++ more)) (λ r. played (go_on r))
+      ∙ ap (behind events) (sym (played_bind b go_on n.next (on_tape n.unread ++ more)))));
   all_sent = f.all_sent;
-  in_turn = turns_bind a go_on m u talk f.in_turn;
+  in_turn = turns_bind a go_on m talk f.in_turn;
 }
 
 -- something is said beside the line
-pub leads_say : {E R : Type 0} (e : E) (dialog : Dialog E R) (seq : ℕ) (u : List ℕ) → TalkLeads (Say e dialog) seq u [] (Said e ∷ []) dialog seq u
-leads_say e dialog seq u = record { goes_on = λ more. refl; all_sent = refl; in_turn = tt }
+pub leads_say : {E R : Type 0} (e : E) (dialog : Dialog E R) (m : Position) → TalkLeads (Say e dialog) m [] (Said e ∷ []) dialog m
+leads_say e dialog m = record { goes_on = λ more. refl; all_sent = refl; in_turn = tt }
 
 -- a command is sent and its answer read
 pub leads_ask : {E R : Type 0} (body : List ℕ) (answered : Reading → Dialog E R) (seq : ℕ) (u v : List ℕ) (x y : Talk) (reading : Reading)
     → IsQuiet x → sent x ≡ frame seq body → WaitsFrom seq (on_tape u) y
     → ((more : Tape) → answer seq (on_tape u ++ (heard y ++ more)) ≡ Some (reading, on_tape v ++ more))
-    → TalkLeads (Ask body answered) seq u (x ++ y) (Frame (frame seq body) ∷ []) (answered reading) (next seq) v
+    → TalkLeads (Ask body answered) (position seq u) (x ++ y) (Frame (frame seq body) ∷ []) (answered reading) (position (next seq) v)
 leads_ask body answered seq u v x y reading quiet is waits answers = record {
   goes_on = λ more.
       ap (played (Ask body answered) seq) (heard_both (on_tape u) x y more ∙ ap (λ t. on_tape u ++ (t ++ (heard y ++ more))) (heard_quiet x quiet))
@@ -186,18 +186,18 @@ leads_ask body answered seq u v x y reading quiet is waits answers = record {
 }
 
 -- a result was reached
-pub plays_from : {E R : Type 0} {a : Dialog E R} {m n : ℕ} {u v : List ℕ} {talk : Talk} {events : List (Event E)} {result : R}
-    → TalkLeads a m u talk events (Done result) n v → Plays a m u talk events result n v
-plays_from {n = n} {v = v} {events = events} {result = result} f = record {
-  plays = λ more. f.goes_on more ∙ ap (λ es. record { events = es; outcome = Some (result, n, on_tape v ++ more) }) (append-nil events);
+pub plays_from : {E R : Type 0} {a : Dialog E R} {m n : Position} {talk : Talk} {events : List (Event E)} {result : R}
+    → TalkLeads a m talk events (Done result) n → Plays a m talk events result n
+plays_from {n = n} {events = events} {result = result} f = record {
+  plays = λ more. f.goes_on more ∙ ap (λ es. record { events = es; outcome = Some (result, n.next, on_tape n.unread ++ more) }) (append-nil events);
   all_sent = f.all_sent;
   in_turn = f.in_turn;
 }
 
-pub leads_from : {E R : Type 0} {a : Dialog E R} {m n : ℕ} {u v : List ℕ} {talk : Talk} {events : List (Event E)} {result : R}
-    → Plays a m u talk events result n v → TalkLeads a m u talk events (Done result) n v
-leads_from {n = n} {v = v} {events = events} {result = result} f = record {
-  goes_on = λ more. f.plays more ∙ ap (λ es. record { events = es; outcome = Some (result, n, on_tape v ++ more) }) (sym (append-nil events));
+pub leads_from : {E R : Type 0} {a : Dialog E R} {m n : Position} {talk : Talk} {events : List (Event E)} {result : R}
+    → Plays a m talk events result n → TalkLeads a m talk events (Done result) n
+leads_from {n = n} {events = events} {result = result} f = record {
+  goes_on = λ more. f.plays more ∙ ap (λ es. record { events = es; outcome = Some (result, n.next, on_tape n.unread ++ more) }) (sym (append-nil events));
   all_sent = f.all_sent;
   in_turn = f.in_turn;
 }
@@ -232,33 +232,33 @@ front_behind SaidPart before f = record {
   part = f.part;
 }
 
-pub breaks_on : {E R : Type 0} (SaidPart : E → E → Type 0) {a b : Dialog E R} {m n : ℕ} {u v : List ℕ} {x y : Talk} {events shown : List (Event E)}
-    → TalkLeads a m u x events b n v → Breaks SaidPart b n v y shown → Breaks SaidPart a m u (x ++ y) (events ++ shown)
-breaks_on SaidPart {a = a} {b = b} {m = m} {n = n} {u = u} {v = v} {x = x} {y = y} {events = events} {shown = shown} f g = record {
+pub breaks_on : {E R : Type 0} (SaidPart : E → E → Type 0) {a b : Dialog E R} {m n : Position} {x y : Talk} {events shown : List (Event E)}
+    → TalkLeads a m x events b n → Breaks SaidPart b n y shown → Breaks SaidPart a m (x ++ y) (events ++ shown)
+breaks_on SaidPart {a = a} {b = b} {m = m} {n = n} {x = x} {y = y} {events = events} {shown = shown} f g = record {
   front =
       subst (λ p. IsFront SaidPart (events ++ shown) p.events)
-      (sym (ap (λ t. played a m (on_tape u ++ t)) (heard_append x y) ∙ f.goes_on (heard y)))
+      (sym (ap (λ t. played a m.next (on_tape m.unread ++ t)) (heard_append x y) ∙ f.goes_on (heard y)))
       (front_behind SaidPart events g.front);
   all_sent = bytes_append events shown ∙ (ap (λ bs. bs ++ bytes_sent shown) f.all_sent ∙ (ap (λ bs. sent x ++ bs) g.all_sent ∙ sym (sent_append x y)));
-  in_turn = turns_append a m (on_tape u) [] x y f.in_turn
-      (turns_behind a b m n (on_tape u ++ heard x) (on_tape v) (sent x) (due_behind f) y g.in_turn);
+  in_turn = turns_append a m.next (on_tape m.unread) [] x y f.in_turn
+      (turns_behind a b m.next n.next (on_tape m.unread ++ heard x) (on_tape n.unread) (sent x) (due_behind f) y g.in_turn);
 }
 
-pub breaks_bind : {E A B : Type 0} (SaidPart : E → E → Type 0) {a : Dialog E A} {m : ℕ} {u : List ℕ} {talk : Talk} {shown : List (Event E)} (go_on : A → Dialog E B)
-    → Breaks SaidPart a m u talk shown → Breaks SaidPart (a >>= go_on) m u talk shown
-breaks_bind SaidPart {a = a} {m = m} {u = u} {talk = talk} {shown = shown} go_on f = record {
+pub breaks_bind : {E A B : Type 0} (SaidPart : E → E → Type 0) {a : Dialog E A} {m : Position} {talk : Talk} {shown : List (Event E)} (go_on : A → Dialog E B)
+    → Breaks SaidPart a m talk shown → Breaks SaidPart (a >>= go_on) m talk shown
+breaks_bind SaidPart {a = a} {m = m} {talk = talk} {shown = shown} go_on f = record {
   front =
-      let p = played a m (on_tape u ++ heard talk) in
-      subst (λ q. IsFront SaidPart shown q.events) (sym (played_bind a go_on m (on_tape u ++ heard talk)))
+      let p = played_over a m talk in
+      subst (λ q. IsFront SaidPart shown q.events) (sym (played_bind a go_on m.next (on_tape m.unread ++ heard talk)))
       (front_more SaidPart (continued p.outcome (λ r. played (go_on r))).events f.front);
   all_sent = f.all_sent;
-  in_turn = turns_bind a go_on m u talk f.in_turn;
+  in_turn = turns_bind a go_on m talk f.in_turn;
 }
 
 -- nothing of the dialog has happened
-pub breaks_here : {E R : Type 0} (SaidPart : E → E → Type 0) (dialog : Dialog E R) (seq : ℕ) (u : List ℕ) → Breaks SaidPart dialog seq u [] []
-breaks_here SaidPart dialog seq u = record {
-  front = record { whole = []; begun = []; later = (played dialog seq (on_tape u ++ [])).events; shown_is = refl; events_are = refl; part = tt };
+pub breaks_here : {E R : Type 0} (SaidPart : E → E → Type 0) (dialog : Dialog E R) (m : Position) → Breaks SaidPart dialog m [] []
+breaks_here SaidPart dialog m = record {
+  front = record { whole = []; begun = []; later = (played_over dialog m []).events; shown_is = refl; events_are = refl; part = tt };
   all_sent = refl;
   in_turn = tt;
 }
@@ -266,21 +266,21 @@ breaks_here SaidPart dialog seq u = record {
 -- breaking off as the link fails
 
 -- what is played over a talk that leads on, and what is played from there
-led : {E R : Type 0} {a b : Dialog E R} {m n : ℕ} {u v : List ℕ} {x : Talk} {events : List (Event E)} → TalkLeads a m u x events b n v → (y : Talk)
-    → played a m (on_tape u ++ heard (x ++ y)) ≡ behind events (played b n (on_tape v ++ heard y))
-led {a = a} {m = m} {u = u} {x = x} f y = ap (λ t. played a m (on_tape u ++ t)) (heard_append x y) ∙ f.goes_on (heard y)
+led : {E R : Type 0} {a b : Dialog E R} {m n : Position} {x : Talk} {events : List (Event E)} → TalkLeads a m x events b n → (y : Talk)
+    → played_over a m (x ++ y) ≡ behind events (played_over b n y)
+led {a = a} {m = m} {x = x} f y = ap (λ t. played a m.next (on_tape m.unread ++ t)) (heard_append x y) ∙ f.goes_on (heard y)
 
-led_turns : {E R : Type 0} {a b : Dialog E R} {m n : ℕ} {u v : List ℕ} {x : Talk} {events : List (Event E)} (f : TalkLeads a m u x events b n v) (y : Talk) → InTurn b n v y → InTurn a m u (x ++ y)
-led_turns {a = a} {b = b} {m = m} {n = n} {u = u} {v = v} {x = x} f y in_turn =
-    turns_append a m (on_tape u) [] x y f.in_turn (turns_behind a b m n (on_tape u ++ heard x) (on_tape v) (sent x) (due_behind f) y in_turn)
+led_turns : {E R : Type 0} {a b : Dialog E R} {m n : Position} {x : Talk} {events : List (Event E)} (f : TalkLeads a m x events b n) (y : Talk) → InTurn b n y → InTurn a m (x ++ y)
+led_turns {a = a} {b = b} {m = m} {n = n} {x = x} f y in_turn =
+    turns_append a m.next (on_tape m.unread) [] x y f.in_turn (turns_behind a b m.next n.next (on_tape m.unread ++ heard x) (on_tape n.unread) (sent x) (due_behind f) y in_turn)
 
-led_bytes : {E R : Type 0} {a b : Dialog E R} {m n : ℕ} {u v : List ℕ} {x : Talk} {events : List (Event E)} (f : TalkLeads a m u x events b n v) (y : Talk) (shown : List (Event E))
+led_bytes : {E R : Type 0} {a b : Dialog E R} {m n : Position} {x : Talk} {events : List (Event E)} (f : TalkLeads a m x events b n) (y : Talk) (shown : List (Event E))
     → bytes_sent shown ≡ sent y → bytes_sent (events ++ shown) ≡ sent (x ++ y)
 led_bytes {x = x} {events = events} f y shown is =
     bytes_append events shown ∙ (ap (λ bs. bs ++ bytes_sent shown) f.all_sent ∙ (ap (λ bs. sent x ++ bs) is ∙ sym (sent_append x y)))
 
-pub by_on : {E R : Type 0} (by : Broken) {a b : Dialog E R} {m n : ℕ} {u v : List ℕ} {x : Talk} {events : List (Event E)} (y : Talk) (shown : List (Event E))
-    → TalkLeads a m u x events b n v → BreaksBy by b n v y shown → BreaksBy by a m u (x ++ y) (events ++ shown)
+pub by_on : {E R : Type 0} (by : Broken) {a b : Dialog E R} {m n : Position} {x : Talk} {events : List (Event E)} (y : Talk) (shown : List (Event E))
+    → TalkLeads a m x events b n → BreaksBy by b n y shown → BreaksBy by a m (x ++ y) (events ++ shown)
 by_on broken.Send {events = events} y shown f g = record {
   whole = events ++ g.whole;
   part = g.part;
@@ -301,10 +301,10 @@ by_on broken.Recv {events = events} y shown f g = record {
   in_turn = led_turns f y g.in_turn;
 }
 
-pub by_bind : {E A B : Type 0} (by : Broken) (a : Dialog E A) (m : ℕ) (u : List ℕ) (talk : Talk) (shown : List (Event E)) (go_on : A → Dialog E B)
-    → BreaksBy by a m u talk shown → BreaksBy by (a >>= go_on) m u talk shown
-by_bind broken.Send a m u talk shown go_on f =
-    let p = played a m (on_tape u ++ heard talk) in
+pub by_bind : {E A B : Type 0} (by : Broken) (a : Dialog E A) (m : Position) (talk : Talk) (shown : List (Event E)) (go_on : A → Dialog E B)
+    → BreaksBy by a m talk shown → BreaksBy by (a >>= go_on) m talk shown
+by_bind broken.Send a m talk shown go_on f =
+    let p = played_over a m talk in
     let more = (continued p.outcome (λ r. played (go_on r))).events in
     record {
       whole = f.whole;
@@ -313,25 +313,25 @@ by_bind broken.Send a m u talk shown go_on f =
       later = f.later ++ more;
       shown_is = f.shown_is;
       events_are =
-          ap (λ q. q.events) (played_bind a go_on m (on_tape u ++ heard talk))
+          ap (λ q. q.events) (played_bind a go_on m.next (on_tape m.unread ++ heard talk))
           ∙ (ap (λ es. es ++ more) f.events_are ∙ append_assoc f.whole (Frame (f.part ++ f.unsent) ∷ f.later) more);
       not_whole = f.not_whole;
       all_sent = f.all_sent;
-      in_turn = turns_bind a go_on m u talk f.in_turn;
+      in_turn = turns_bind a go_on m talk f.in_turn;
     }
-by_bind broken.Recv a m u talk shown go_on f =
-    let e = waits_bind a go_on m (on_tape u ++ heard talk) f.waits in
+by_bind broken.Recv a m talk shown go_on f =
+    let e = waits_bind a go_on m.next (on_tape m.unread ++ heard talk) f.waits in
     record {
       waits = ap (λ p. p.outcome) e;
       shown_is = f.shown_is ∙ sym (ap (λ p. p.events) e);
       all_sent = f.all_sent;
-      in_turn = turns_bind a go_on m u talk f.in_turn;
+      in_turn = turns_bind a go_on m talk f.in_turn;
     }
 
 -- whatever broke it off, it broke off
-pub by_any : {E R : Type 0} (SaidPart : E → E → Type 0) (by : Broken) (a : Dialog E R) (m : ℕ) (u : List ℕ) (talk : Talk) (shown : List (Event E))
-    → BreaksBy by a m u talk shown → Breaks SaidPart a m u talk shown
-by_any SaidPart broken.Send a m u talk shown f = record {
+pub by_any : {E R : Type 0} (SaidPart : E → E → Type 0) (by : Broken) (a : Dialog E R) (m : Position) (talk : Talk) (shown : List (Event E))
+    → BreaksBy by a m talk shown → Breaks SaidPart a m talk shown
+by_any SaidPart broken.Send a m talk shown f = record {
   front = record {
     whole = f.whole;
     begun = Frame f.part ∷ [];
@@ -343,7 +343,7 @@ by_any SaidPart broken.Send a m u talk shown f = record {
   all_sent = f.all_sent;
   in_turn = f.in_turn;
 }
-by_any SaidPart broken.Recv a m u talk shown f = record {
+by_any SaidPart broken.Recv a m talk shown f = record {
   front = record {
     whole = shown;
     begun = [];
@@ -358,7 +358,7 @@ by_any SaidPart broken.Recv a m u talk shown f = record {
 
 -- a part of a frame was sent
 pub breaks_asking : {E R : Type 0} (body : List ℕ) (answered : Reading → Dialog E R) (seq : ℕ) (u part unsent : List ℕ) (x : Talk)
-    → IsQuiet x → sent x ≡ part → frame seq body ≡ part ++ unsent → 0 < length unsent → BreaksSending (Ask body answered) seq u x (Frame part ∷ [])
+    → IsQuiet x → sent x ≡ part → frame seq body ≡ part ++ unsent → 0 < length unsent → BreaksSending (Ask body answered) (position seq u) x (Frame part ∷ [])
 breaks_asking body answered seq u part unsent x quiet is frame_is not_whole =
     let later = (by_answer (λ r. played (answered r) (next seq)) (answer seq (on_tape u ++ heard x))).events in
     record {
@@ -376,7 +376,7 @@ breaks_asking body answered seq u part unsent x quiet is frame_is not_whole =
 -- a frame was sent, and listening broke off
 pub breaks_listening : {E R : Type 0} (body : List ℕ) (answered : Reading → Dialog E R) (seq : ℕ) (u : List ℕ) (x y : Talk)
     → IsQuiet x → sent x ≡ frame seq body → WaitsFrom seq (on_tape u) y → answer seq (on_tape u ++ heard y) ≡ None
-    → BreaksListening (Ask body answered) seq u (x ++ y) (Frame (frame seq body) ∷ [])
+    → BreaksListening (Ask body answered) (position seq u) (x ++ y) (Frame (frame seq body) ∷ [])
 breaks_listening body answered seq u x y quiet is waits none =
     let all : heard (x ++ y) ≡ heard y = heard_append x y ∙ ap (λ t. t ++ heard y) (heard_quiet x quiet) in
     let unheard : answer seq (on_tape u ++ heard (x ++ y)) ≡ None = ap (λ t. answer seq (on_tape u ++ t)) all ∙ none in

@@ -6,7 +6,7 @@ use Rattle.stk_host.specs.declared.fault.Broken.TheVariants as broken
 use Rattle.stk_host.specs.Tape.{Tape, on_tape, answer}
 use Rattle.stk_host.specs.Talk.{Talk, heard}
 use Rattle.stk_host.specs.Dialog.{Dialog, Done, Say, Ask, lifted, Event, Frame, Said, Played, played, behind, by_answer, next, bytes_sent, sayings}
-use Rattle.stk_host.specs.Play.{IsDue, InTurn, Plays, BreaksBy}
+use Rattle.stk_host.specs.Play.{Position, IsDue, InTurn, Plays, BreaksBy}
 use Rattle.stk_host.proofs.Leading.{turns_behind}
 
 -- events among which nothing is said
@@ -49,36 +49,36 @@ due_lifted {E = E} dialog seq tape bytes due = record {
   all_sent = ap (λ p. bytes_sent p.events) (played_lifted {E = E} dialog seq tape) ∙ (bytes_raised E (played dialog seq tape).events ∙ due.all_sent);
 }
 
-turns_lifted : {R : Type 0} (E : Type 0) (dialog : Dialog ⊥ R) (seq : ℕ) (u : List ℕ) (talk : Talk) → InTurn dialog seq u talk → InTurn {E = E} (lifted dialog) seq u talk
-turns_lifted E dialog seq u talk f =
-    turns_behind {E = E} (lifted dialog) dialog seq seq (on_tape u) (on_tape u) [] (λ x bytes. due_lifted {E = E} dialog seq (on_tape u ++ x) bytes) talk f
+turns_lifted : {R : Type 0} (E : Type 0) (dialog : Dialog ⊥ R) (m : Position) (talk : Talk) → InTurn dialog m talk → InTurn {E = E} (lifted dialog) m talk
+turns_lifted E dialog m talk f =
+    turns_behind {E = E} (lifted dialog) dialog m.next m.next (on_tape m.unread) (on_tape m.unread) [] (λ x bytes. due_lifted {E = E} dialog m.next (on_tape m.unread ++ x) bytes) talk f
 
-pub plays_lifted : {E R : Type 0} {dialog : Dialog ⊥ R} {m n : ℕ} {u v : List ℕ} {talk : Talk} {events : List (Event ⊥)} {result : R}
-    → Plays dialog m u talk events result n v → Plays {E = E} (lifted dialog) m u talk (raised events) result n v
-plays_lifted {E = E} {dialog = dialog} {m = m} {u = u} {talk = talk} {events = events} f = record {
-  plays = λ more. played_lifted {E = E} dialog m (on_tape u ++ (heard talk ++ more)) ∙ ap raised_play (f.plays more);
+pub plays_lifted : {E R : Type 0} {dialog : Dialog ⊥ R} {m n : Position} {talk : Talk} {events : List (Event ⊥)} {result : R}
+    → Plays dialog m talk events result n → Plays {E = E} (lifted dialog) m talk (raised events) result n
+plays_lifted {E = E} {dialog = dialog} {m = m} {talk = talk} {events = events} f = record {
+  plays = λ more. played_lifted {E = E} dialog m.next (on_tape m.unread ++ (heard talk ++ more)) ∙ ap raised_play (f.plays more);
   all_sent = bytes_raised E events ∙ f.all_sent;
-  in_turn = turns_lifted E dialog m u talk f.in_turn;
+  in_turn = turns_lifted E dialog m talk f.in_turn;
 }
 
-pub by_lifted : {R : Type 0} (E : Type 0) (by : Broken) (dialog : Dialog ⊥ R) (m : ℕ) (u : List ℕ) (talk : Talk) (shown : List (Event ⊥))
-    → BreaksBy by dialog m u talk shown → BreaksBy {E = E} by (lifted dialog) m u talk (raised shown)
-by_lifted E broken.Send dialog m u talk shown f = record {
+pub by_lifted : {R : Type 0} (E : Type 0) (by : Broken) (dialog : Dialog ⊥ R) (m : Position) (talk : Talk) (shown : List (Event ⊥))
+    → BreaksBy by dialog m talk shown → BreaksBy {E = E} by (lifted dialog) m talk (raised shown)
+by_lifted E broken.Send dialog m talk shown f = record {
   whole = raised f.whole;
   part = f.part;
   unsent = f.unsent;
   later = raised f.later;
   shown_is = ap raised f.shown_is ∙ raised_append f.whole (Frame f.part ∷ []);
   events_are =
-      ap (λ p. p.events) (played_lifted {E = E} dialog m (on_tape u ++ heard talk))
+      ap (λ p. p.events) (played_lifted {E = E} dialog m.next (on_tape m.unread ++ heard talk))
       ∙ (ap raised f.events_are ∙ raised_append f.whole (Frame (f.part ++ f.unsent) ∷ f.later));
   not_whole = f.not_whole;
   all_sent = bytes_raised E shown ∙ f.all_sent;
-  in_turn = turns_lifted E dialog m u talk f.in_turn;
+  in_turn = turns_lifted E dialog m talk f.in_turn;
 }
-by_lifted E broken.Recv dialog m u talk shown f = record {
-  waits = ap (λ p. p.outcome) (played_lifted {E = E} dialog m (on_tape u ++ heard talk)) ∙ f.waits;
-  shown_is = ap raised f.shown_is ∙ sym (ap (λ p. p.events) (played_lifted {E = E} dialog m (on_tape u ++ heard talk)));
+by_lifted E broken.Recv dialog m talk shown f = record {
+  waits = ap (λ p. p.outcome) (played_lifted {E = E} dialog m.next (on_tape m.unread ++ heard talk)) ∙ f.waits;
+  shown_is = ap raised f.shown_is ∙ sym (ap (λ p. p.events) (played_lifted {E = E} dialog m.next (on_tape m.unread ++ heard talk)));
   all_sent = bytes_raised E shown ∙ f.all_sent;
-  in_turn = turns_lifted E dialog m u talk f.in_turn;
+  in_turn = turns_lifted E dialog m talk f.in_turn;
 }

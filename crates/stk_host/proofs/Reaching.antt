@@ -9,7 +9,7 @@ use Rattle.stk_host.proofs.Talks.{grows_none, grows_on}
 use Rattle.stk_host.proofs.Leading.{leads_here, leads_on, leads_bind, leads_from, plays_from, by_on, by_bind}
 
 pub reaches_here : {R : Type 0} (dialog : Dialog ⊥ R) (before : Position) (o : LinkView) → Reaches dialog before o dialog before o
-reaches_here dialog before o = record { during = []; events = []; grows = grows_none o.talk; leads = leads_here dialog before.next before.unread }
+reaches_here dialog before o = record { during = []; events = []; grows = grows_none o.talk; leads = leads_here dialog before }
 
 pub reaches_on : {R : Type 0} {a b c : Dialog ⊥ R} {l m n : Position} {o p q : LinkView} → Reaches a l o b m p → Reaches b m p c n q → Reaches a l o c n q
 reaches_on {o = o} {p = p} {q = q} f g = record {
@@ -38,7 +38,7 @@ broken_on {by = by} {o = o} {p = p} {q = q} f g = record {
 }
 
 pub broken_bind : {A B : Type 0} {by : Broken} {a : Dialog ⊥ A} {m : Position} {o p : LinkView} (go_on : A → Dialog ⊥ B) → FailsOver by a m o p → FailsOver by (a >>= go_on) m o p
-broken_bind {by = by} {a = a} {m = m} go_on f = record { during = f.during; shown = f.shown; grows = f.grows; breaks = by_bind by a m.next m.unread f.during f.shown go_on f.breaks }
+broken_bind {by = by} {a = a} {m = m} go_on f = record { during = f.during; shown = f.shown; grows = f.grows; breaks = by_bind by a m f.during f.shown go_on f.breaks }
 
 -- a dialog played, and what follows it
 pub then_reaches : {A B : Type 0} {a : Dialog ⊥ A} {m n : Position} {o p : LinkView} {result : A} (go_on : A → Dialog ⊥ B) → PlaysOver a m o p result n → Reaches (a >>= go_on) m o (go_on result) n p

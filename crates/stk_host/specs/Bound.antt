@@ -6,7 +6,7 @@ use Rattle.stk_frame.specs.HostCommands.{enter, leave, erase}
 use Rattle.stk_host.specs.Tape.{Tape, Reading}
 use Rattle.stk_host.specs.Talk.{Talk}
 use Rattle.stk_host.specs.Dialog.{Dialog, Done, Say, Ask, Event, played, frames_in}
-use Rattle.stk_host.specs.Play.{Plays, Breaks, NoPart}
+use Rattle.stk_host.specs.Play.{Position, Plays, Breaks, NoPart}
 use Rattle.stk_host.specs.ReadSteps.{signature_steps}
 
 -- whatever is read, at most so many questions are asked
@@ -20,11 +20,10 @@ AsksAtMost (suc n) (Ask body answered) = (reading : Reading) → AsksAtMost n (a
 -- off.
 pub record SendsAtMost {E R : Type 0} (SaidPart : E → E → Type 0) (n : ℕ) (dialog : Dialog E R) : Type 0 where
   pub over_tape : (seq : ℕ) (tape : Tape) → length (frames_in (played dialog seq tape).events) ≤ n
-  pub whole : (seq : ℕ) (unread : List ℕ) (talk : Talk) (events : List (Event E)) (result : R) (next : ℕ)
-      (left : List ℕ)
-      → Plays dialog seq unread talk events result next left → length (frames_in events) ≤ n
-  pub broken_off : (seq : ℕ) (unread : List ℕ) (talk : Talk) (shown : List (Event E))
-      → Breaks SaidPart dialog seq unread talk shown → length (frames_in shown) ≤ n
+  pub whole : (before : Position) (talk : Talk) (events : List (Event E)) (result : R) (after : Position)
+      → Plays dialog before talk events result after → length (frames_in events) ≤ n
+  pub broken_off : (before : Position) (talk : Talk) (shown : List (Event E))
+      → Breaks SaidPart dialog before talk shown → length (frames_in shown) ≤ n
 
 -- how many commands steps have
 abbrev pub commands_in : List (List Command) → ℕ

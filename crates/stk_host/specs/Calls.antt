@@ -1,20 +1,22 @@
 -- Words for the contracts of calls.
-use Rattle.std.specs.Prelude.{ℕ, Bool, List, [], ◌∷◌, ◌≡◌, ◌<◌, ◌≤◌, length, Option, None, Some, Result, Ok, Err}
+use Rattle.std.specs.Prelude.{ℕ, Bool, List, [], ◌∷◌, ◌≡◌, ◌<◌, ◌≤◌, length, Option, None, Some, Result, Ok, Err, IfOk, IfErr, IsOkAnd, OnErr, All}
 use Rattle.avr_part.specs.declared.mem.Mem.{Mem}
 use Rattle.stk_frame.specs.declared.protocol.TheConstants.{LARGEST_BODY, LARGEST_FRAME}
 use Rattle.stk_frame.specs.declared.command.Command.{Command}
 use Rattle.stk_frame.specs.declared.answer.Shape.{Shape}
 use Rattle.stk_frame.specs.declared.answer.Shape.TheVariants.{Name, Bytes, Closed}
-use Rattle.stk_frame.specs.Commands.{body, shape}
+use Rattle.stk_frame.specs.Commands.{body, shape, SizedBy}
 use Rattle.stk_frame.specs.Cut.{body_of}
 use Rattle.stk_frame.specs.Reader.{HoldsFrame}
 use Rattle.stk_host.specs.declared.link.Heard.{Heard}
 use Rattle.stk_host.specs.declared.link.Heard.TheVariants as heard
 use Rattle.stk_host.specs.declared.link.Item.TheVariants as item
+use Rattle.stk_host.specs.declared.link.LinkFault.{LinkFault}
 use Rattle.stk_host.specs.declared.listen.Reading.{Reading}
 use Rattle.stk_host.specs.declared.listen.Reading.TheVariants as read
 use Rattle.stk_host.specs.declared.conversation.Reply.{Reply}
 use Rattle.stk_host.specs.declared.conversation.Reply.TheVariants as said
+use Rattle.stk_host.specs.declared.fault.Broken.{Broken}
 use Rattle.stk_host.specs.declared.fault.Broken.TheVariants as broken
 use Rattle.stk_host.specs.declared.fault.Stop.{Stop}
 use Rattle.stk_host.specs.declared.fault.Stop.TheVariants.{Fault, Link}
@@ -25,11 +27,11 @@ use Rattle.stk_host.specs.Tape.{on_tape}
 use Rattle.stk_host.specs.Steps as steps
 use Rattle.stk_host.specs.Steps.{play}
 use Rattle.stk_host.specs.Operations.{host_fault, signature_judged, comparison}
-use Rattle.stk_host.specs.Talk.{LinkView, Got, Grows, HasFailed}
+use Rattle.stk_host.specs.Talk.{LinkView, Got, Grows, HasFailed, LinkCounts}
 use Rattle.stk_host.specs.Dialog.{Dialog}
 use Rattle.stk_host.specs.Play.{Position, PlaysOver, FailsOver}
-use Rattle.stk_host.specs.Reach.{Reaches}
-use Rattle.stk_host.specs.State.{HostState, lasting_fault}
+use Rattle.stk_host.specs.Reach.{Reaches, Hears, HearsNone}
+use Rattle.stk_host.specs.State.{ConversationState, HostState, data_held, lasting_fault}
 
 -- of what was heard at most one piece is left
 abbrev pub HasFewUnread : Position → Type 0
@@ -40,6 +42,14 @@ abbrev pub HearsPiece : Heard → List ℕ → LinkView → LinkView → Type 0
 HearsPiece (heard.Bytes n) unread old new = (0 < length unread) × Grows old.talk (Got (on_tape unread) ∷ []) new.talk
 HearsPiece heard.Silence unread old new = (unread ≡ []) × Grows old.talk (Got (item.Silence ∷ []) ∷ []) new.talk
 HearsPiece heard.End unread old new = (unread ≡ []) × Grows old.talk (Got (item.End ∷ []) ∷ []) new.talk
+
+-- what was heard of the next piece, of at most so many bytes, which alone are unread then
+pub record HearsNext (most : ℕ) (old new : LinkView) (unread : List ℕ) (result : Result Heard LinkFault) : Type 0 where
+  pub within : length unread ≤ most
+  pub fits : length unread ≤ LARGEST_FRAME
+  pub ok : IfOk result (λ heard. HearsPiece heard unread old new)
+  pub err : OnErr result (Grows old.talk [] new.talk)
+  pub counts : LinkCounts old new result
 
 -- how listening ended, by the reader that holds the answer
 abbrev pub reading_of : Reading → List ℕ → tape.Reading
@@ -54,6 +64,15 @@ HoldsAnswer read.Silent held = Unit {0}
 HoldsAnswer read.Ended held = Unit {0}
 HoldsAnswer read.Babbled held = Unit {0}
 
+-- How listening for the answer to a frame ends, by what the reader holds and what is unread then.
+pub record HearsAnswer (seq : ℕ) (before : List ℕ) (old new : LinkView) (result : Result Reading LinkFault)
+    (held after : List ℕ) : Type 0 where
+  pub ok : IfOk result (λ reading. Hears seq before old new (reading_of reading held) after)
+  pub holds : IfOk result (λ reading. HoldsAnswer reading held)
+  pub err : OnErr result (HearsNone seq before old new)
+  pub counts : LinkCounts old new result
+  pub fits : length after ≤ LARGEST_FRAME
+
 -- what the answer to a command comes to, by its data
 abbrev pub reply_of : Reply → List ℕ → steps.Reply
 reply_of said.Data bytes = steps.Data bytes
@@ -66,10 +85,10 @@ StopsSteps dialog before old new (Fault fault) after = PlaysOver dialog before o
 StopsSteps dialog before old new (Link broken) after = FailsOver broken dialog before old new
 
 -- How steps end that were asked to give these data: they were played whole, or they stop.
-abbrev pub EndsSteps : {A : Type 0} → Dialog ⊥ steps.Outcome → Position → LinkView → LinkView → (A → List ℕ)
+abbrev pub EndsSteps : {A : Type 0} → Dialog ⊥ steps.Outcome → (A → List ℕ) → Position → LinkView → LinkView
     → Result A Stop → Position → Type 0
-EndsSteps dialog before old new bytes (Ok a) after = PlaysOver dialog before old new (Ok (bytes a)) after
-EndsSteps dialog before old new bytes (Err stop) after = StopsSteps dialog before old new stop after
+EndsSteps dialog bytes before old new (Ok a) after = PlaysOver dialog before old new (Ok (bytes a)) after
+EndsSteps dialog bytes before old new (Err stop) after = StopsSteps dialog before old new stop after
 
 -- the play of a list of steps behind such data, whatever steps they are
 abbrev pub Playing : Type 0
@@ -111,6 +130,32 @@ FailsByLink old new (Err (Link broken)) = HasFailed old new
 -- and it never falls
 abbrev pub CountsLink : {A : Type 0} → LinkView → LinkView → Result A Stop → Type 0
 CountsLink old new result = (old.failures ≤ new.failures) × FailsByLink old new result
+
+-- A call of a conversation that asks: it ends so, the failures of its link are counted, and of what was heard at most
+-- one piece is left.
+pub record Asks {A : Type 0} (Ends : Position → LinkView → LinkView → Result A Stop → Position → Type 0)
+    (before : Position) (old new : LinkView) (result : Result A Stop) (after : Position) : Type 0 where
+  pub played : Ends before old new result after
+  pub counted : CountsLink old new result
+  pub bound : HasFewUnread after
+
+-- And one that may have nothing to ask.
+pub record MayAsk {A : Type 0} (Ends : Position → LinkView → LinkView → Result A Stop → Position → Type 0)
+    (before : Position) (old new : LinkView) (result : Result A Stop) (after : Position) : Type 0 where
+  pub played : Ends before old new result after
+  pub counted : CountsLink old new result
+  pub bound : HasFewUnread before → HasFewUnread after
+
+-- How one command or more are answered, by what is held then: their play came to this reply, or it broke off as the link
+-- failed. Data have the size that the last command asks for.
+pub record Replies (dialog : Dialog ⊥ steps.Reply) (last : Command) (before : Position) (old new : LinkView)
+    (result : Result Reply Broken) (after : ConversationState) : Type 0 where
+  pub ok : IfOk result (λ reply. PlaysOver dialog before old new (reply_of reply (data_held last after.held))
+      after.progress)
+  pub err : IfErr result (λ broken. FailsOver broken dialog before old new)
+  pub sized : IsOkAnd result (λ reply. reply ≡ said.Data) → SizedBy (shape last) (data_held last after.held)
+  pub counts : LinkCounts old new result
+  pub bound : HasFewUnread after.progress
 
 -- How a call of a host ends: after a fault of the link its dialog broke off, in a frame that wasn't sent whole or where
 -- it listened; else it was played whole.
@@ -154,6 +199,13 @@ FitsFrame command = length (body command) ≤ LARGEST_BODY
 pub record BringsNoData (command : Command) : Type 0 where
   pub fits : FitsFrame command
   pub quiet : shape command ≡ Bytes 0
+
+-- the commands of a step: only the last one's answer brings data, and so many bytes of them
+pub record StepBrings (count : ℕ) (first : List Command) (last : Command) : Type 0 where
+  pub quiet : All BringsNoData first
+  pub fits : FitsFrame last
+  pub counted : IsSizedShape (shape last)
+  pub size : data_count (shape last) ≡ count
 
 -- A call of a host that says and hears what ends so.
 pub record CallsBy {A : Type 0} (Ends : Position → LinkView → LinkView → Result A HostFault → Position → Type 0)

@@ -4,7 +4,16 @@ use Rattle.stk_host.specs.declared.fault.Broken.{Broken}
 use Rattle.stk_host.specs.declared.fault.Broken.TheVariants.{Send, Recv}
 use Rattle.stk_host.specs.Tape.{Tape, on_tape}
 use Rattle.stk_host.specs.Talk.{Talk, LinkView, Sent, Got, sent, heard, Grows}
-use Rattle.stk_host.specs.Dialog.{Dialog, Event, Frame, Said, played, bytes_sent}
+use Rattle.stk_host.specs.Dialog.{Dialog, Event, Frame, Said, Played, played, bytes_sent}
+
+-- how far a conversation is: the next sequence number, and the bytes that were heard and not read yet
+pub record Position : Type 0 where
+  pub next : ℕ
+  pub unread : List ℕ
+
+-- such a position
+abbrev pub position : ℕ → List ℕ → Position
+position next unread = record { next = next; unread = unread }
 
 -- The dialog waits, and its frames are exactly these bytes: so it is due to listen.
 pub record IsDue {E R : Type 0} (dialog : Dialog E R) (seq : ℕ) (tape : Tape) (bytes : List ℕ) : Type 0 where
@@ -18,18 +27,22 @@ TurnsFrom dialog seq tape bytes (Sent more ∷ talk) = TurnsFrom dialog seq tape
 TurnsFrom dialog seq tape bytes (Got items ∷ talk) =
     IsDue dialog seq tape bytes × TurnsFrom dialog seq (tape ++ items) bytes talk
 
--- a talk in turn, by one that had these bytes unread before it
-abbrev pub InTurn : {E R : Type 0} → Dialog E R → ℕ → List ℕ → Talk → Type 0
-InTurn dialog seq unread talk = TurnsFrom dialog seq (on_tape unread) [] talk
+-- a talk in turn, from a position on
+abbrev pub InTurn : {E R : Type 0} → Dialog E R → Position → Talk → Type 0
+InTurn dialog before talk = TurnsFrom dialog before.next (on_tape before.unread) [] talk
+
+-- the play of a dialog over what was unread and what a talk heard
+abbrev pub played_over : {E R : Type 0} → Dialog E R → Position → Talk → Played E R
+played_over dialog before talk = played dialog before.next (on_tape before.unread ++ heard talk)
 
 -- The talk is the whole play of the dialog over what was unread before it and what it heard: these events happened and
--- no others, and it came to this result with these bytes left unread, whatever may follow on the tape.
-pub record Plays {E R : Type 0} (dialog : Dialog E R) (seq : ℕ) (unread : List ℕ) (talk : Talk)
-    (events : List (Event E)) (result : R) (next : ℕ) (left : List ℕ) : Type 0 where
-  pub plays : (more : Tape) → played dialog seq (on_tape unread ++ (heard talk ++ more))
-      ≡ record { events = events; outcome = Some (result, next, on_tape left ++ more) }
+-- no others, and it came to this result at this position, whatever may follow on the tape.
+pub record Plays {E R : Type 0} (dialog : Dialog E R) (before : Position) (talk : Talk) (events : List (Event E))
+    (result : R) (after : Position) : Type 0 where
+  pub plays : (more : Tape) → played dialog before.next (on_tape before.unread ++ (heard talk ++ more))
+      ≡ record { events = events; outcome = Some (result, after.next, on_tape after.unread ++ more) }
   pub all_sent : bytes_sent events ≡ sent talk
-  pub in_turn : InTurn dialog seq unread talk
+  pub in_turn : InTurn dialog before talk
 
 -- these bytes are a front of those
 abbrev pub IsPrefixOf : List ℕ → List ℕ → Type 0
@@ -57,47 +70,42 @@ pub record IsFront {E : Type 0} (SaidPart : E → E → Type 0) (shown events : 
   pub part : IsBegun SaidPart begun later
 
 -- The talk broke off in the play of the dialog: what happened is a front of its events over what was heard.
-pub record Breaks {E R : Type 0} (SaidPart : E → E → Type 0) (dialog : Dialog E R) (seq : ℕ) (unread : List ℕ)
-    (talk : Talk) (shown : List (Event E)) : Type 0 where
-  pub front : IsFront SaidPart shown (played dialog seq (on_tape unread ++ heard talk)).events
+pub record Breaks {E R : Type 0} (SaidPart : E → E → Type 0) (dialog : Dialog E R) (before : Position) (talk : Talk)
+    (shown : List (Event E)) : Type 0 where
+  pub front : IsFront SaidPart shown (played_over dialog before talk).events
   pub all_sent : bytes_sent shown ≡ sent talk
-  pub in_turn : InTurn dialog seq unread talk
+  pub in_turn : InTurn dialog before talk
 
 -- The talk broke off in a frame: what happened is a front of the events over what was heard, up to a frame of which
 -- only a part was sent, perhaps nothing.
-pub record BreaksSending {E R : Type 0} (dialog : Dialog E R) (seq : ℕ) (unread : List ℕ) (talk : Talk)
+pub record BreaksSending {E R : Type 0} (dialog : Dialog E R) (before : Position) (talk : Talk)
     (shown : List (Event E)) : Type 0 where
   pub whole : List (Event E)
   pub part : List ℕ
   pub unsent : List ℕ
   pub later : List (Event E)
   pub shown_is : shown ≡ whole ++ Frame part ∷ []
-  pub events_are : (played dialog seq (on_tape unread ++ heard talk)).events ≡ whole ++ Frame (part ++ unsent) ∷ later
+  pub events_are : (played_over dialog before talk).events ≡ whole ++ Frame (part ++ unsent) ∷ later
   pub not_whole : 0 < length unsent
   pub all_sent : bytes_sent shown ≡ sent talk
-  pub in_turn : InTurn dialog seq unread talk
+  pub in_turn : InTurn dialog before talk
 
 -- The talk broke off in listening: the play over what was heard waits, and all its events have happened.
-pub record BreaksListening {E R : Type 0} (dialog : Dialog E R) (seq : ℕ) (unread : List ℕ) (talk : Talk)
+pub record BreaksListening {E R : Type 0} (dialog : Dialog E R) (before : Position) (talk : Talk)
     (shown : List (Event E)) : Type 0 where
-  pub waits : (played dialog seq (on_tape unread ++ heard talk)).outcome ≡ None
-  pub shown_is : shown ≡ (played dialog seq (on_tape unread ++ heard talk)).events
+  pub waits : (played_over dialog before talk).outcome ≡ None
+  pub shown_is : shown ≡ (played_over dialog before talk).events
   pub all_sent : bytes_sent shown ≡ sent talk
-  pub in_turn : InTurn dialog seq unread talk
+  pub in_turn : InTurn dialog before talk
 
 -- the talk broke off as the link failed at this
-abbrev pub BreaksBy : {E R : Type 0} → Broken → Dialog E R → ℕ → List ℕ → Talk → List (Event E) → Type 0
-BreaksBy Send dialog seq unread talk shown = BreaksSending dialog seq unread talk shown
-BreaksBy Recv dialog seq unread talk shown = BreaksListening dialog seq unread talk shown
+abbrev pub BreaksBy : {E R : Type 0} → Broken → Dialog E R → Position → Talk → List (Event E) → Type 0
+BreaksBy Send dialog before talk shown = BreaksSending dialog before talk shown
+BreaksBy Recv dialog before talk shown = BreaksListening dialog before talk shown
 
 -- where nothing is said beside the line
 abbrev pub NoPart : ⊥ → ⊥ → Type 0
 NoPart part whole = ⊥
-
--- how far a conversation is: the next sequence number, and the bytes that were heard and not read yet
-pub record Position : Type 0 where
-  pub next : ℕ
-  pub unread : List ℕ
 
 -- a call that played a dialog whole, over a link that showed this before and after it
 pub record PlaysOver {R : Type 0} (dialog : Dialog ⊥ R) (before : Position) (old new : LinkView) (result : R)
@@ -105,7 +113,7 @@ pub record PlaysOver {R : Type 0} (dialog : Dialog ⊥ R) (before : Position) (o
   pub during : Talk
   pub events : List (Event ⊥)
   pub grows : Grows old.talk during new.talk
-  pub plays : Plays dialog before.next before.unread during events result after.next after.unread
+  pub plays : Plays dialog before during events result after
 
 -- a call that broke off as the link failed at this
 pub record FailsOver {R : Type 0} (broken : Broken) (dialog : Dialog ⊥ R) (before : Position)
@@ -113,4 +121,4 @@ pub record FailsOver {R : Type 0} (broken : Broken) (dialog : Dialog ⊥ R) (bef
   pub during : Talk
   pub shown : List (Event ⊥)
   pub grows : Grows old.talk during new.talk
-  pub breaks : BreaksBy broken dialog before.next before.unread during shown
+  pub breaks : BreaksBy broken dialog before during shown

@@ -8,12 +8,12 @@ use Rattle.stk_host.specs.Play.{InTurn, Position}
 
 -- A talk leads from one dialog to what is left of it: whatever follows on the tape, the one plays as the other does
 -- from there, behind these events.
-pub record TalkLeads {E R : Type 0} (dialog : Dialog E R) (seq : ℕ) (unread : List ℕ) (talk : Talk)
-    (events : List (Event E)) (rest : Dialog E R) (next : ℕ) (left : List ℕ) : Type 0 where
-  pub goes_on : (more : Tape) → played dialog seq (on_tape unread ++ (heard talk ++ more))
-      ≡ behind events (played rest next (on_tape left ++ more))
+pub record TalkLeads {E R : Type 0} (dialog : Dialog E R) (before : Position) (talk : Talk)
+    (events : List (Event E)) (rest : Dialog E R) (after : Position) : Type 0 where
+  pub goes_on : (more : Tape) → played dialog before.next (on_tape before.unread ++ (heard talk ++ more))
+      ≡ behind events (played rest after.next (on_tape after.unread ++ more))
   pub all_sent : bytes_sent events ≡ sent talk
-  pub in_turn : InTurn dialog seq unread talk
+  pub in_turn : InTurn dialog before talk
 
 -- a call has come so far, over a link that showed this before and after it
 pub record Reaches {R : Type 0} (dialog : Dialog ⊥ R) (before : Position) (old : LinkView)
@@ -21,7 +21,7 @@ pub record Reaches {R : Type 0} (dialog : Dialog ⊥ R) (before : Position) (old
   pub during : Talk
   pub events : List (Event ⊥)
   pub grows : Grows old.talk during new.talk
-  pub leads : TalkLeads dialog before.next before.unread during events rest after.next after.unread
+  pub leads : TalkLeads dialog before during events rest after
 
 -- nothing was heard
 abbrev pub IsQuiet : Talk → Type 0

@@ -2,12 +2,11 @@
 ghost use Rattle.std.specs.Prelude.{◌≡◌, ◌<◌, ◌≤◌, ◌++◌, ◌∷◌, [], length, IfOk, IfErr, IsOkAnd, OnOk, OnErr, All};
 ghost use Rattle.stk_frame.specs.Frame.{frame};
 ghost use Rattle.stk_frame.specs.Commands.{body, judge, shape, SizedBy};
-ghost use Rattle.stk_host.specs.Talk.{LinkCounts, Stays};
-ghost use Rattle.stk_host.specs.Play.{PlaysOver, FailsOver};
+ghost use Rattle.stk_host.specs.Talk.{Stays};
 ghost use Rattle.stk_host.specs.Reach.{SendsAll};
 ghost use Rattle.stk_host.specs.Steps.{exchange, attempt, step, answer_reply, reading_reply};
 ghost use Rattle.stk_host.specs.State.{data_in, data_held};
-ghost use Rattle.stk_host.specs.Calls.{HoldsAnswer, reading_of, reply_of, EndsSteps, CountsLink, HasFewUnread, FitsFrame, BringsNoData};
+ghost use Rattle.stk_host.specs.Calls.{reading_of, reply_of, EndsSteps, Asks, Replies, FitsFrame, BringsNoData};
 
 use crate::fault::{Broken, StepFault, Stop};
 use crate::link::{Link, LinkFault};
@@ -124,18 +123,11 @@ impl Conversation {
     /// Sends a command and reads its answer.
     fn exchange<L: Link>(&mut self, link: &mut L, command: &Command<'_>) -> Result<Reply, Broken>
         requires { FitsFrame command.now }
-        ensures ok { IfOk result (λ reply. PlaysOver (exchange command.now) self.old.progress
-            (L.view link.old) (L.view link.new) (reply_of reply (data_held command.now self.new.held))
-            self.new.progress) }
-        ensures sized { IsOkAnd result (λ reply. reply ≡ Reply.Data)
-            → SizedBy (shape command.now) (data_held command.now self.new.held) }
+        ensures replies { Replies (exchange command.now) command.now self.old.progress
+            (L.view link.old) (L.view link.new) result self.new }
         ensures quiet { BringsNoData command.now → IsOkAnd result (λ reply. reply ≡ Reply.Data)
             → data_held command.now self.new.held ≡ [] }
-        ensures err { IfErr result
-            (λ broken. FailsOver broken (exchange command.now) self.old.progress (L.view link.old) (L.view link.new)) }
-        ensures counts { LinkCounts (L.view link.old) (L.view link.new) result }
         ensures comes { Stays L.comes_of link.old link.new }
-        ensures bound { HasFewUnread self.new.progress }
     {
         let seq = self.next;
         let Ok(()) = send_command(link, seq, command) else {
@@ -157,16 +149,9 @@ impl Conversation {
     ) -> Result<Reply, Broken>
         requires quiet { All BringsNoData first.now }
         requires fits { FitsFrame last.now }
-        ensures ok { IfOk result (λ reply. PlaysOver (attempt (first.now ++ last.now ∷ []) []) self.old.progress
-            (L.view link.old) (L.view link.new) (reply_of reply (data_held last.now self.new.held))
-            self.new.progress) }
-        ensures err { IfErr result (λ broken. FailsOver broken (attempt (first.now ++ last.now ∷ []) [])
-            self.old.progress (L.view link.old) (L.view link.new)) }
-        ensures sized { IsOkAnd result (λ reply. reply ≡ Reply.Data)
-            → SizedBy (shape last.now) (data_held last.now self.new.held) }
-        ensures counts { LinkCounts (L.view link.old) (L.view link.new) result }
+        ensures replies { Replies (attempt (first.now ++ last.now ∷ []) []) last.now self.old.progress
+            (L.view link.old) (L.view link.new) result self.new }
         ensures comes { Stays L.comes_of link.old link.new }
-        ensures bound { HasFewUnread self.new.progress }
     {
         for command in first {
             match self.exchange(link, command)? {
@@ -189,12 +174,10 @@ impl Conversation {
     ) -> Result<(), Stop>
         requires quiet { All BringsNoData first.now }
         requires fits { FitsFrame last.now }
-        ensures played { EndsSteps (step (first.now ++ last.now ∷ [])) self.old.progress
-            (L.view link.old) (L.view link.new) (λ done. data_held last.now self.new.held) result self.new.progress }
+        ensures asks { Asks (EndsSteps (step (first.now ++ last.now ∷ [])) (λ done. data_held last.now self.new.held))
+            self.old.progress (L.view link.old) (L.view link.new) result self.new.progress }
         ensures sized { OnOk result (SizedBy (shape last.now) (data_held last.now self.new.held)) }
-        ensures counted { CountsLink (L.view link.old) (L.view link.new) result }
         ensures comes { Stays L.comes_of link.old link.new }
-        ensures bound { HasFewUnread self.new.progress }
     {
         let mut fault = StepFault::NoAnswer;
         for tried in 0..ATTEMPTS {

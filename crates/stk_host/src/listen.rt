@@ -3,9 +3,8 @@ ghost use Rattle.std.specs.Prelude.{◌≡◌, ◌<◌, ◌≤◌, ◌++◌, ℕ
 ghost use Rattle.stk_frame.specs.declared.protocol.TheConstants.{LARGEST_FRAME};
 ghost use Rattle.stk_frame.specs.Reader.{Fed, frames_of_event, TellsEvent, HoldsFrame};
 ghost use Rattle.stk_host.specs.Tape.{is_answer, first_answer};
-ghost use Rattle.stk_host.specs.Talk.{LinkCounts, Stays};
-ghost use Rattle.stk_host.specs.Reach.{Hears, HearsNone};
-ghost use Rattle.stk_host.specs.Calls.{reading_of, HoldsAnswer};
+ghost use Rattle.stk_host.specs.Talk.{Stays};
+ghost use Rattle.stk_host.specs.Calls.{HearsAnswer};
 
 use crate::link::{Heard, Link, LinkFault};
 use crate::unread::Unread;
@@ -61,12 +60,7 @@ pub(crate) fn listen<L: Link>(
     seq: u8,
 ) -> Result<Reading, LinkFault>
     requires few { length unread.old ≤ LARGEST_FRAME }
-    ensures ok { IfOk result (λ reading. Hears seq unread.old (L.view link.old) (L.view link.new)
-        (reading_of reading reader.new) unread.new) }
-    ensures fits { length unread.new ≤ LARGEST_FRAME }
-    ensures holds { IfOk result (λ reading. HoldsAnswer reading reader.new) }
-    ensures err { OnErr result (HearsNone seq unread.old (L.view link.old) (L.view link.new)) }
-    ensures counts { LinkCounts (L.view link.old) (L.view link.new) result }
+    ensures hears { HearsAnswer seq unread.old (L.view link.old) (L.view link.new) result reader.new unread.new }
     ensures comes { Stays L.comes_of link.old link.new }
 {
     reader.reset();

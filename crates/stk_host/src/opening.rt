@@ -3,7 +3,7 @@ ghost use Rattle.std.specs.Prelude.{◌≡◌, ◌≤◌, ◌∷◌, [], length}
 ghost use Rattle.stk_frame.specs.HostCommands.{leave, read_signature};
 ghost use Rattle.stk_host.specs.Steps.{step};
 ghost use Rattle.stk_host.specs.Operations.{handshake};
-ghost use Rattle.stk_host.specs.Calls.{EndsSteps, CountsLink, HasFewUnread};
+ghost use Rattle.stk_host.specs.Calls.{EndsSteps, Asks};
 ghost use Rattle.stk_host.specs.Talk.{Stays};
 
 use crate::conversation::Conversation;
@@ -17,11 +17,9 @@ fn signature_byte<L: Link>(
     link: &mut L,
     place: u8,
 ) -> Result<u8, Stop>
-    ensures played { EndsSteps (step (read_signature place ∷ [])) conversation.old.progress
-        (L.view link.old) (L.view link.new) (λ byte. byte ∷ []) result conversation.new.progress }
-    ensures counted { CountsLink (L.view link.old) (L.view link.new) result }
+    ensures asks { Asks (EndsSteps (step (read_signature place ∷ [])) (λ byte. byte ∷ [])) conversation.old.progress
+        (L.view link.old) (L.view link.new) result conversation.new.progress }
     ensures comes { Stays L.comes_of link.old link.new }
-    ensures bound { HasFewUnread conversation.new.progress }
 {
     let command = Command::read_signature(place);
     conversation.step(link, &[], &command)?;
@@ -30,11 +28,9 @@ fn signature_byte<L: Link>(
 
 /// Signs on, enters programming mode and reads the signature, byte 0 first.
 pub(crate) fn begin<L: Link>(conversation: &mut Conversation, link: &mut L) -> Result<[u8; 3], Stop>
-    ensures played { EndsSteps handshake conversation.old.progress (L.view link.old) (L.view link.new) (λ found. found)
-        result conversation.new.progress }
-    ensures counted { CountsLink (L.view link.old) (L.view link.new) result }
+    ensures asks { Asks (EndsSteps handshake (λ found. found)) conversation.old.progress
+        (L.view link.old) (L.view link.new) result conversation.new.progress }
     ensures comes { Stays L.comes_of link.old link.new }
-    ensures bound { HasFewUnread conversation.new.progress }
 {
     conversation.step(link, &[], &Command::SignOn)?;
     conversation.step(link, &[], &Command::enter())?;
@@ -46,11 +42,9 @@ pub(crate) fn begin<L: Link>(conversation: &mut Conversation, link: &mut L) -> R
 
 /// Leaves programming mode.
 pub(crate) fn end<L: Link>(conversation: &mut Conversation, link: &mut L) -> Result<(), Stop>
-    ensures played { EndsSteps (step (leave ∷ [])) conversation.old.progress (L.view link.old) (L.view link.new)
-        (λ done. []) result conversation.new.progress }
-    ensures counted { CountsLink (L.view link.old) (L.view link.new) result }
+    ensures asks { Asks (EndsSteps (step (leave ∷ [])) (λ done. [])) conversation.old.progress
+        (L.view link.old) (L.view link.new) result conversation.new.progress }
     ensures comes { Stays L.comes_of link.old link.new }
-    ensures bound { HasFewUnread conversation.new.progress }
 {
     conversation.step(link, &[], &Command::leave())
 }

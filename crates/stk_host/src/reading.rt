@@ -5,7 +5,7 @@ ghost use Rattle.stk_frame.specs.Commands.{shape};
 ghost use Rattle.stk_host.specs.Places.{each_from};
 ghost use Rattle.stk_host.specs.ReadSteps.{block_count, block_size, load_block_address, read_block, block_steps, signature_steps, read_steps};
 ghost use Rattle.stk_host.specs.Steps.{play};
-ghost use Rattle.stk_host.specs.Calls.{EndsSteps, CountsLink, HasFewUnread, FitsFrame, BringsNoData, IsSizedShape, data_count};
+ghost use Rattle.stk_host.specs.Calls.{EndsSteps, Asks, MayAsk, StepBrings, FitsFrame, BringsNoData, IsSizedShape, data_count};
 ghost use Rattle.stk_host.specs.Talk.{Stays};
 
 use crate::conversation::Conversation;
@@ -62,13 +62,11 @@ fn read_blocks<L: Link>(
 ) -> Result<(), Stop>
     requires empty { out.old.items ≡ [] }
     requires room { parts.size_of mem part.now ≤ vec_capacity out.old }
-    ensures played { EndsSteps
+    ensures asks { MayAsk (EndsSteps
         (play (each_from (block_steps part.now mem) 0 (block_count (parts.size_of mem part.now))) [])
-        conversation.old.progress (L.view link.old) (L.view link.new) (λ done. out.new.items) result
-        conversation.new.progress }
-    ensures counted { CountsLink (L.view link.old) (L.view link.new) result }
+        (λ done. out.new.items))
+        conversation.old.progress (L.view link.old) (L.view link.new) result conversation.new.progress }
     ensures comes { Stays L.comes_of link.old link.new }
-    ensures bound { HasFewUnread conversation.old.progress → HasFewUnread conversation.new.progress }
     ensures size { OnOk result (length out.new.items ≡ parts.size_of mem part.now) }
 {
     let size = part.size_of(mem);
@@ -89,11 +87,9 @@ fn read_signature<L: Link>(
 ) -> Result<(), Stop>
     requires empty { out.old.items ≡ [] }
     requires room { 3 ≤ vec_capacity out.old }
-    ensures played { EndsSteps (play signature_steps []) conversation.old.progress (L.view link.old) (L.view link.new)
-        (λ done. out.new.items) result conversation.new.progress }
-    ensures counted { CountsLink (L.view link.old) (L.view link.new) result }
+    ensures asks { MayAsk (EndsSteps (play signature_steps []) (λ done. out.new.items)) conversation.old.progress
+        (L.view link.old) (L.view link.new) result conversation.new.progress }
     ensures comes { Stays L.comes_of link.old link.new }
-    ensures bound { HasFewUnread conversation.old.progress → HasFewUnread conversation.new.progress }
     ensures size { OnOk result (length out.new.items ≡ 3) }
 {
     for place in 0..3 {
@@ -115,16 +111,12 @@ fn read_byte<L: Link>(
     command: &Command<'_>,
     out: &mut Vec<u8>,
 ) -> Result<(), Stop>
-    requires fits { FitsFrame command.now }
-    requires counted { IsSizedShape (shape command.now) }
-    requires one { data_count (shape command.now) ≡ 1 }
+    requires brings { StepBrings 1 [] command.now }
     requires empty { out.old.items ≡ [] }
     requires room { 1 ≤ vec_capacity out.old }
-    ensures played { EndsSteps (play ((command.now ∷ []) ∷ []) []) conversation.old.progress
-        (L.view link.old) (L.view link.new) (λ done. out.new.items) result conversation.new.progress }
-    ensures counted { CountsLink (L.view link.old) (L.view link.new) result }
+    ensures asks { Asks (EndsSteps (play ((command.now ∷ []) ∷ []) []) (λ done. out.new.items))
+        conversation.old.progress (L.view link.old) (L.view link.new) result conversation.new.progress }
     ensures comes { Stays L.comes_of link.old link.new }
-    ensures bound { HasFewUnread conversation.new.progress }
     ensures size { OnOk result (length out.new.items ≡ 1) }
 {
     read_step(conversation, link, &[], command, out)
@@ -140,11 +132,9 @@ pub(crate) fn read_memory<L: Link>(
 ) -> Result<(), Stop>
     requires empty { out.old.items ≡ [] }
     requires room { parts.size_of mem part.now ≤ vec_capacity out.old }
-    ensures played { EndsSteps (play (read_steps part.now mem) []) conversation.old.progress
-        (L.view link.old) (L.view link.new) (λ done. out.new.items) result conversation.new.progress }
-    ensures counted { CountsLink (L.view link.old) (L.view link.new) result }
+    ensures asks { MayAsk (EndsSteps (play (read_steps part.now mem) []) (λ done. out.new.items))
+        conversation.old.progress (L.view link.old) (L.view link.new) result conversation.new.progress }
     ensures comes { Stays L.comes_of link.old link.new }
-    ensures bound { HasFewUnread conversation.old.progress → HasFewUnread conversation.new.progress }
     ensures size { OnOk result (length out.new.items ≡ parts.size_of mem part.now) }
 {
     let command = match mem {

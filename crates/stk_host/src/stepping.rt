@@ -1,7 +1,7 @@
 //! A step among the steps of an operation.
 ghost use Rattle.std.specs.Prelude.{◌≡◌, ◌+◌, ◌≤◌, ◌++◌, ◌∷◌, [], length, All, OnOk, vec_capacity};
 ghost use Rattle.stk_frame.specs.Commands.{shape};
-ghost use Rattle.stk_host.specs.Calls.{with_step, without_step, EndsInnerStep, CountsLink, HasFewUnread, FitsFrame, BringsNoData, IsSizedShape, data_count};
+ghost use Rattle.stk_host.specs.Calls.{with_step, without_step, EndsInnerStep, Asks, StepBrings, data_count};
 ghost use Rattle.stk_host.specs.Talk.{Stays};
 
 use crate::conversation::Conversation;
@@ -25,15 +25,10 @@ pub(crate) fn play_step<L: Link>(
     first: &[Command<'_>],
     last: &Command<'_>,
 ) -> Result<(), Stop>
-    requires quiet { All BringsNoData first.now }
-    requires fits { FitsFrame last.now }
-    requires counted { IsSizedShape (shape last.now) }
-    requires no_data { data_count (shape last.now) ≡ 0 }
-    ensures played { EndsInnerStep (with_step (first.now ++ last.now ∷ []) []) (without_step [])
+    requires brings { StepBrings 0 first.now last.now }
+    ensures asks { Asks (EndsInnerStep (with_step (first.now ++ last.now ∷ []) []) (without_step []))
         conversation.old.progress (L.view link.old) (L.view link.new) result conversation.new.progress }
-    ensures counted { CountsLink (L.view link.old) (L.view link.new) result }
     ensures comes { Stays L.comes_of link.old link.new }
-    ensures bound { HasFewUnread conversation.new.progress }
 {
     conversation.step(link, first, last)
 }
@@ -46,15 +41,12 @@ pub(crate) fn read_step<L: Link>(
     last: &Command<'_>,
     out: &mut Vec<u8>,
 ) -> Result<(), Stop>
-    requires quiet { All BringsNoData first.now }
-    requires fits { FitsFrame last.now }
-    requires counted { IsSizedShape (shape last.now) }
+    requires brings { StepBrings (data_count (shape last.now)) first.now last.now }
     requires room { length out.old.items + data_count (shape last.now) ≤ vec_capacity out.old }
-    ensures played { EndsInnerStep (with_step (first.now ++ last.now ∷ []) out.old.items) (without_step out.new.items)
+    ensures asks { Asks
+        (EndsInnerStep (with_step (first.now ++ last.now ∷ []) out.old.items) (without_step out.new.items))
         conversation.old.progress (L.view link.old) (L.view link.new) result conversation.new.progress }
-    ensures counted { CountsLink (L.view link.old) (L.view link.new) result }
     ensures comes { Stays L.comes_of link.old link.new }
-    ensures bound { HasFewUnread conversation.new.progress }
     ensures size { OnOk result (length out.new.items ≡ length out.old.items + data_count (shape last.now)) }
     ensures room { vec_capacity out.old ≤ vec_capacity out.new }
 {

@@ -1,7 +1,7 @@
 //! The bytes that were heard and not read yet.
 ghost use Rattle.std.specs.Prelude.{◌≡◌, ◌<◌, ◌≤◌, ◌↔◌, IsTrue, ℕ, length, take, drop, [], ◌∷◌, ◌++◌, IfOk, OnOk, OnErr};
-ghost use Rattle.stk_host.specs.Talk.{Grows, LinkCounts, Stays};
-ghost use Rattle.stk_host.specs.Calls.{HearsPiece};
+ghost use Rattle.stk_host.specs.Talk.{Stays};
+ghost use Rattle.stk_host.specs.Calls.{HearsNext};
 
 use crate::link::{Heard, Link, LinkFault};
 use std::marker::Model;
@@ -73,11 +73,7 @@ impl Unread {
     pub fn hear<L: Link>(&mut self, link: &mut L, most: usize) -> Result<Heard, LinkFault>
         requires empty { length self.old ≡ 0 }
         requires room { 0 < most }
-        ensures within { length self.new ≤ most }
-        ensures fits { length self.new ≤ LARGEST_FRAME }
-        ensures ok { IfOk result (λ heard. HearsPiece heard self.new (L.view link.old) (L.view link.new)) }
-        ensures err { OnErr result (Grows (L.view link.old).talk [] (L.view link.new).talk) }
-        ensures counts { LinkCounts (L.view link.old) (L.view link.new) result }
+        ensures hears { HearsNext most (L.view link.old) (L.view link.new) self.new result }
         ensures comes { Stays L.comes_of link.old link.new }
     {
         self.start = 0;

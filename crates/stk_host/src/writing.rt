@@ -6,7 +6,7 @@ ghost use Rattle.stk_frame.specs.HostCommands as host;
 ghost use Rattle.stk_host.specs.Places as places;
 ghost use Rattle.stk_host.specs.WriteSteps.{page_step, byte_steps, write_steps};
 ghost use Rattle.stk_host.specs.Steps.{play};
-ghost use Rattle.stk_host.specs.Calls.{with_step, without_step, EndsInnerStep, EndsSteps, CountsLink, HasFewUnread};
+ghost use Rattle.stk_host.specs.Calls.{with_step, without_step, EndsInnerStep, EndsSteps, Asks, MayAsk};
 ghost use Rattle.stk_host.specs.Talk.{Stays};
 
 use crate::conversation::Conversation;
@@ -30,11 +30,9 @@ fn program_page<L: Link>(
     start: u32,
 ) -> Result<(), Stop>
     requires { start < 2 ^ 20 }
-    ensures played { EndsInnerStep (with_step (page_step part.now image.now start) []) (without_step [])
+    ensures asks { Asks (EndsInnerStep (with_step (page_step part.now image.now start) []) (without_step []))
         conversation.old.progress (L.view link.old) (L.view link.new) result conversation.new.progress }
-    ensures counted { CountsLink (L.view link.old) (L.view link.new) result }
     ensures comes { Stays L.comes_of link.old link.new }
-    ensures bound { HasFewUnread conversation.new.progress }
 {
     let size = page_size(part, Mem::Flash) as usize;
     let mut page = [0; LARGEST_PAGE];
@@ -52,11 +50,9 @@ fn write_flash<L: Link>(
     image: &Image,
 ) -> Result<(), Stop>
     requires { length image.now ≤ size_of Mem.Flash part.now }
-    ensures played { EndsSteps (play (write_steps part.now Mem.Flash image.now) []) conversation.old.progress
-        (L.view link.old) (L.view link.new) (λ done. []) result conversation.new.progress }
-    ensures counted { CountsLink (L.view link.old) (L.view link.new) result }
+    ensures asks { MayAsk (EndsSteps (play (write_steps part.now Mem.Flash image.now) []) (λ done. []))
+        conversation.old.progress (L.view link.old) (L.view link.new) result conversation.new.progress }
     ensures comes { Stays L.comes_of link.old link.new }
-    ensures bound { HasFewUnread conversation.old.progress → HasFewUnread conversation.new.progress }
 {
     let size = page_size(part, Mem::Flash);
     let mut next = 0;
@@ -78,14 +74,12 @@ fn program_run<L: Link>(
 ) -> Result<(), Stop>
     requires order { start ≤ end }
     requires fits { end - start ≤ 256 }
-    ensures played { EndsInnerStep
+    ensures asks { Asks (EndsInnerStep
         (with_step (places.load_eeprom start ∷ host.program_eeprom_block (filled_bytes image.now start (end - start))
         ∷ []) [])
-        (without_step []) conversation.old.progress (L.view link.old) (L.view link.new) result
-        conversation.new.progress }
-    ensures counted { CountsLink (L.view link.old) (L.view link.new) result }
+        (without_step []))
+        conversation.old.progress (L.view link.old) (L.view link.new) result conversation.new.progress }
     ensures comes { Stays L.comes_of link.old link.new }
-    ensures bound { HasFewUnread conversation.new.progress }
 {
     let size = (end - start) as usize;
     let mut run = [0; LARGEST_PAGE];
@@ -103,11 +97,9 @@ fn write_eeprom<L: Link>(
     image: &Image,
 ) -> Result<(), Stop>
     requires { length image.now ≤ size_of Mem.Eeprom part.now }
-    ensures played { EndsSteps (play (write_steps part.now Mem.Eeprom image.now) []) conversation.old.progress
-        (L.view link.old) (L.view link.new) (λ done. []) result conversation.new.progress }
-    ensures counted { CountsLink (L.view link.old) (L.view link.new) result }
+    ensures asks { MayAsk (EndsSteps (play (write_steps part.now Mem.Eeprom image.now) []) (λ done. []))
+        conversation.old.progress (L.view link.old) (L.view link.new) result conversation.new.progress }
     ensures comes { Stays L.comes_of link.old link.new }
-    ensures bound { HasFewUnread conversation.old.progress → HasFewUnread conversation.new.progress }
 {
     let size = page_size(part, Mem::Eeprom);
     let mut next = 0;
@@ -126,11 +118,9 @@ fn write_fuse<L: Link>(
     fuse: Fuse,
     byte: Option<u8>,
 ) -> Result<(), Stop>
-    ensures played { EndsSteps (play (byte_steps (host.program_fuse fuse) byte) []) conversation.old.progress
-        (L.view link.old) (L.view link.new) (λ done. []) result conversation.new.progress }
-    ensures counted { CountsLink (L.view link.old) (L.view link.new) result }
+    ensures asks { MayAsk (EndsSteps (play (byte_steps (host.program_fuse fuse) byte) []) (λ done. []))
+        conversation.old.progress (L.view link.old) (L.view link.new) result conversation.new.progress }
     ensures comes { Stays L.comes_of link.old link.new }
-    ensures bound { HasFewUnread conversation.old.progress → HasFewUnread conversation.new.progress }
 {
     match byte {
         Some(value) => play_step(conversation, link, &[], &Command::program_fuse(fuse, value)),
@@ -144,11 +134,9 @@ fn write_lock<L: Link>(
     link: &mut L,
     byte: Option<u8>,
 ) -> Result<(), Stop>
-    ensures played { EndsSteps (play (byte_steps host.program_lock byte) []) conversation.old.progress
-        (L.view link.old) (L.view link.new) (λ done. []) result conversation.new.progress }
-    ensures counted { CountsLink (L.view link.old) (L.view link.new) result }
+    ensures asks { MayAsk (EndsSteps (play (byte_steps host.program_lock byte) []) (λ done. []))
+        conversation.old.progress (L.view link.old) (L.view link.new) result conversation.new.progress }
     ensures comes { Stays L.comes_of link.old link.new }
-    ensures bound { HasFewUnread conversation.old.progress → HasFewUnread conversation.new.progress }
 {
     match byte {
         Some(value) => play_step(conversation, link, &[], &Command::program_lock(value)),
@@ -165,11 +153,9 @@ pub(crate) fn write_memory<L: Link>(
     image: &Image,
 ) -> Result<(), Stop>
     requires { length image.now ≤ size_of mem part.now }
-    ensures played { EndsSteps (play (write_steps part.now mem image.now) []) conversation.old.progress
-        (L.view link.old) (L.view link.new) (λ done. []) result conversation.new.progress }
-    ensures counted { CountsLink (L.view link.old) (L.view link.new) result }
+    ensures asks { MayAsk (EndsSteps (play (write_steps part.now mem image.now) []) (λ done. []))
+        conversation.old.progress (L.view link.old) (L.view link.new) result conversation.new.progress }
     ensures comes { Stays L.comes_of link.old link.new }
-    ensures bound { HasFewUnread conversation.old.progress → HasFewUnread conversation.new.progress }
 {
     match mem {
         Mem::Flash => write_flash(conversation, link, part, image),

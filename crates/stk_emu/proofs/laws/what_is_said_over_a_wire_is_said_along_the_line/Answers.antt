@@ -7,4 +7,4 @@ pub returns-clause-over : goal.returns-clause-over
 returns-clause-over g c = λ d n w sent more asks clear lawful e. said_over device answers_bodies d n w sent more asks clear lawful e
 
 pub returns-clause-whole : goal.returns-clause-whole
-returns-clause-whole g c = λ d n p fates w events r next left asks lawful keeps plays. whole_said d n p fates w events r next left asks lawful keeps plays
+returns-clause-whole g c = λ d n p fates w events r after asks lawful keeps plays. whole_said d n p fates w events r after asks lawful keeps plays

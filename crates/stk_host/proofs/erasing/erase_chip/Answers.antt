@@ -1,7 +1,11 @@
-use Rattle.std.proofs.Common.{[], ◌∷◌}
+use Rattle.std.proofs.Common.{[], ◌∷◌, rules}
 use Rattle.stk_frame.specs.HostCommands.{erase}
 use Rattle.stk_host.proofs.Going.{alone}
 use Rattle.stk_host.proofs.erasing.erase_chip.Goals as goal
 
-pub returns-clause-played : goal.returns-clause-played
-returns-clause-played g c = alone (erase ∷ []) [] [] _ _ _ _ _ (rw c.erase.ensures.value at c.play_step.ensures.played)
+pub returns-clause-asks : goal.returns-clause-asks
+returns-clause-asks g c = record {
+  played = alone (erase ∷ []) [] [] _ _ _ _ _ (rw c.erase.ensures.value at c.play_step.ensures.asks.played);
+  counted = search rules;
+  bound = search rules;
+}

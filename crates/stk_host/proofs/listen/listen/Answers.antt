@@ -1,4 +1,4 @@
-use Rattle.std.proofs.Common.{refl, arith}
+use Rattle.std.proofs.Common.{refl, arith, rules}
 use Rattle.std.proofs.lemmas.Result.{err_from_is_err_and}
 use Rattle.stk_host.proofs.Listens.{Listening, begins, heard_bytes, heard_silence, heard_end, reads_on, finds, babbles, hears_none}
 use Rattle.stk_host.proofs.listen.listen.Goals as goal
@@ -13,33 +13,55 @@ loop-count-init g c = record {
   comes = λ start of. of;
 }
 
-pub returns-in-Silence-clause-ok : goal.returns-in-Silence-clause-ok
-returns-in-Silence-clause-ok g c =
-    heard_silence _ _ _ c.loop-count.invariant.listening (c.is_empty.ensures.0 c.if-is_empty.true) (omega arith) c.in-Silence.is c.in_ok-hear.ensures.ok
+pub returns-in-Silence-clause-hears : goal.returns-in-Silence-clause-hears
+returns-in-Silence-clause-hears g c = record {
+  ok = heard_silence _ _ _ c.loop-count.invariant.listening (c.is_empty.ensures.0 c.if-is_empty.true) (omega arith) c.in-Silence.is c.in_ok-hear.ensures.hears.ok;
+  holds = search rules;
+  err = search rules;
+  counts = search rules;
+  fits = search rules;
+}
 
-pub returns-in-End-clause-ok : goal.returns-in-End-clause-ok
-returns-in-End-clause-ok g c =
-    heard_end _ _ _ c.loop-count.invariant.listening (c.is_empty.ensures.0 c.if-is_empty.true) (omega arith) c.in-End.is c.in_ok-hear.ensures.ok
+pub returns-in-End-clause-hears : goal.returns-in-End-clause-hears
+returns-in-End-clause-hears g c = record {
+  ok = heard_end _ _ _ c.loop-count.invariant.listening (c.is_empty.ensures.0 c.if-is_empty.true) (omega arith) c.in-End.is c.in_ok-hear.ensures.hears.ok;
+  holds = search rules;
+  err = search rules;
+  counts = search rules;
+  fits = search rules;
+}
 
-pub returns-in_err-hear-clause-err : goal.returns-in_err-hear-clause-err
-returns-in_err-hear-clause-err g c =
-    let p = err_from_is_err_and c.from_residual.result c.from_residual.ensures.1 in
-    rw p.1 (hears_none _ c.loop-count.invariant.listening (c.is_empty.ensures.0 c.if-is_empty.true) (omega arith) c.in_err-hear.ensures.err)
+pub returns-in_err-hear-clause-hears : goal.returns-in_err-hear-clause-hears
+returns-in_err-hear-clause-hears g c = record {
+  ok = search rules;
+  holds = search rules;
+  err =
+      let p = err_from_is_err_and c.from_residual.result c.from_residual.ensures.1 in
+      rw p.1 (hears_none _ c.loop-count.invariant.listening (c.is_empty.ensures.0 c.if-is_empty.true) (omega arith) c.in_err-hear.ensures.hears.err);
+  counts = search rules;
+  fits = search rules;
+}
 
-pub returns-then-is_answer-clause-ok : goal.returns-then-is_answer-clause-ok
-returns-then-is_answer-clause-ok g c =
-    let l : Listening c.args.seq c.args.unread.now (g.L.Link.view c.args.link.now) c.loop-count.reader c.loop-count.count c.if-is_empty.unread (g.L.Link.view c.if-is_empty.link) =
-    elim c.if-is_empty.branch [
-      | then-is_empty+in_ok-hear+in-Bytes w ↦ rw (w.unread-is, w.link-is) (heard_bytes _ _ _ _ c.loop-count.invariant.listening (c.is_empty.ensures.0 w.if-is_empty.true) (omega arith) (omega (arith, w.in_ok-hear.ensures.within)) w.in-Bytes.is w.in_ok-hear.ensures.ok)
-      | else-is_empty w ↦ rw (w.unread-is, w.link-is) c.loop-count.invariant.listening
-    ] in
-    finds _ _ _ _ l c.read_on-used.ensures.fed (c.is_answer.ensures.yes c.if-is_answer.true) (omega (arith, c.read_on-used.ensures.within))
+pub returns-then-is_answer-clause-hears : goal.returns-then-is_answer-clause-hears
+returns-then-is_answer-clause-hears g c = record {
+  ok =
+      let l : Listening c.args.seq c.args.unread.now (g.L.Link.view c.args.link.now) c.loop-count.reader c.loop-count.count c.if-is_empty.unread (g.L.Link.view c.if-is_empty.link) =
+      elim c.if-is_empty.branch [
+        | then-is_empty+in_ok-hear+in-Bytes w ↦ rw (w.unread-is, w.link-is) (heard_bytes _ _ _ _ c.loop-count.invariant.listening (c.is_empty.ensures.0 w.if-is_empty.true) (omega arith) (omega (arith, w.in_ok-hear.ensures.hears.within)) w.in-Bytes.is w.in_ok-hear.ensures.hears.ok)
+        | else-is_empty w ↦ rw (w.unread-is, w.link-is) c.loop-count.invariant.listening
+      ] in
+      finds _ _ _ _ l c.read_on-used.ensures.fed (c.is_answer.ensures.yes c.if-is_answer.true) (omega (arith, c.read_on-used.ensures.within));
+  holds = search rules;
+  err = search rules;
+  counts = search rules;
+  fits = search rules;
+}
 
 pub loop-count-preserved : goal.loop-count-preserved
 loop-count-preserved g c =
     let l : Listening c.args.seq c.args.unread.now (g.L.Link.view c.args.link.now) c.loop-count.reader c.loop-count.count c.if-is_empty.unread (g.L.Link.view c.if-is_empty.link) =
     elim c.if-is_empty.branch [
-      | then-is_empty+in_ok-hear+in-Bytes w ↦ rw (w.unread-is, w.link-is) (heard_bytes _ _ _ _ c.loop-count.invariant.listening (c.is_empty.ensures.0 w.if-is_empty.true) (omega arith) (omega (arith, w.in_ok-hear.ensures.within)) w.in-Bytes.is w.in_ok-hear.ensures.ok)
+      | then-is_empty+in_ok-hear+in-Bytes w ↦ rw (w.unread-is, w.link-is) (heard_bytes _ _ _ _ c.loop-count.invariant.listening (c.is_empty.ensures.0 w.if-is_empty.true) (omega arith) (omega (arith, w.in_ok-hear.ensures.hears.within)) w.in-Bytes.is w.in_ok-hear.ensures.hears.ok)
       | else-is_empty w ↦ rw (w.unread-is, w.link-is) c.loop-count.invariant.listening
     ] in
     record {
@@ -47,7 +69,7 @@ loop-count-preserved g c =
       fits = c.read_on-used.ensures.fits;
       listening = reads_on _ _ _ _ l c.read_on-used.ensures.fed (c.is_answer.ensures.no c.if-is_answer.false);
       counted = elim c.if-is_empty.branch [
-        | then-is_empty+in_ok-hear+in-Bytes w ↦ rw w.link-is (omega (arith, w.in_ok-hear.ensures.counts.sound, c.loop-count.invariant.counted))
+        | then-is_empty+in_ok-hear+in-Bytes w ↦ rw w.link-is (omega (arith, w.in_ok-hear.ensures.hears.counts.sound, c.loop-count.invariant.counted))
         | else-is_empty w ↦ rw w.link-is c.loop-count.invariant.counted
       ];
       comes = elim c.if-is_empty.branch [
@@ -56,5 +78,11 @@ loop-count-preserved g c =
       ];
     }
 
-pub returns-clause-ok : goal.returns-clause-ok
-returns-clause-ok g c = babbles c.loop-count.invariant.listening (omega arith)
+pub returns-clause-hears : goal.returns-clause-hears
+returns-clause-hears g c = record {
+  ok = babbles c.loop-count.invariant.listening (omega arith);
+  holds = search rules;
+  err = search rules;
+  counts = search rules;
+  fits = search rules;
+}

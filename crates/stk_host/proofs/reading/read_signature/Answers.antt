@@ -1,4 +1,4 @@
-use Rattle.std.proofs.Common.{refl, ap, arith, length, []}
+use Rattle.std.proofs.Common.{refl, ap, arith, length, [], rules}
 use Rattle.std.proofs.lemmas.Result.{err_from_is_err_and}
 use Rattle.stk_host.specs.ReadSteps.{signature_step}
 use Rattle.stk_host.proofs.Reaching.{reaches_here}
@@ -16,22 +16,30 @@ loop-place-init g c = record {
   bound = λ bound. bound;
 }
 
-pub returns-in_err-read_step-clause-played : goal.returns-in_err-read_step-clause-played
-returns-in_err-read_step-clause-played g c =
-    let p = err_from_is_err_and c.from_residual.result c.from_residual.ensures.1 in
-    rw (p.1, p.2) (stops_next _ _ _ _ _ _ [] _ c.loop-place.invariant.reaches (next_signature _ _ c.loop-place-test.true c.read_signature.ensures.value) c.in_err-read_step.ensures.played)
+pub returns-in_err-read_step-clause-asks : goal.returns-in_err-read_step-clause-asks
+returns-in_err-read_step-clause-asks g c = record {
+  played =
+      let p = err_from_is_err_and c.from_residual.result c.from_residual.ensures.1 in
+      rw (p.1, p.2) (stops_next _ _ _ _ _ _ [] _ c.loop-place.invariant.reaches (next_signature _ _ c.loop-place-test.true c.read_signature.ensures.value) c.in_err-read_step.ensures.asks.played);
+  counted = search rules;
+  bound = search rules;
+}
 
 pub loop-place-preserved : goal.loop-place-preserved
 loop-place-preserved g c =
     let one = rw c.read_signature.ensures.value at c.in_ok-read_step.ensures.size in
     record {
-      reaches = reaches_next _ _ _ _ _ c.loop-place.invariant.reaches (next_signature _ _ c.loop-place-test.true c.read_signature.ensures.value) c.in_ok-read_step.ensures.played;
+      reaches = reaches_next _ _ _ _ _ c.loop-place.invariant.reaches (next_signature _ _ c.loop-place-test.true c.read_signature.ensures.value) c.in_ok-read_step.ensures.asks.played;
       size = omega (arith, one, c.loop-place.invariant.size);
       room = omega (arith, c.read_step.ensures.room, c.loop-place.invariant.room);
-      counted = omega (arith, c.in_ok-read_step.ensures.counted.1, c.loop-place.invariant.counted);
+      counted = omega (arith, c.in_ok-read_step.ensures.asks.counted.1, c.loop-place.invariant.counted);
       comes = λ start of. c.read_step.ensures.comes start (c.loop-place.invariant.comes start of);
-      bound = λ bound. c.read_step.ensures.bound;
+      bound = λ bound. c.read_step.ensures.asks.bound;
     }
 
-pub returns-clause-played : goal.returns-clause-played
-returns-clause-played g c = plays_all _ _ c.loop-place.invariant.reaches (no_more signature_step _ _ c.loop-place-test.false)
+pub returns-clause-asks : goal.returns-clause-asks
+returns-clause-asks g c = record {
+  played = plays_all _ _ c.loop-place.invariant.reaches (no_more signature_step _ _ c.loop-place-test.false);
+  counted = search rules;
+  bound = search rules;
+}

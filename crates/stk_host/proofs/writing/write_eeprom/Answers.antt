@@ -1,4 +1,4 @@
-use Rattle.std.proofs.Common.{refl, ◌∙◌, sym, arith, inl, []}
+use Rattle.std.proofs.Common.{refl, ◌∙◌, sym, arith, inl, [], rules}
 use Rattle.std.proofs.lemmas.Result.{err_from_is_err_and}
 use Rattle.avr_image.proofs.Walking.{next_held}
 use Rattle.stk_host.specs.WriteSteps.{run_steps_at}
@@ -26,11 +26,15 @@ program_run-requires-clause-fits g c =
     let walk = walks_to_run c.args.part.now c.args.image.now c.loop-start.next c.in-Some.start c.run_from-end.result c.page_size-size.result c.page_size-size.ensures.is_part c.page_size-size.ensures.value c.requires c.loop-start.invariant.border (sym c.first_from.ensures ∙ c.in-Some.is) c.run_from-end.ensures in
     walk.short
 
-pub returns-in_err-program_run-clause-played : goal.returns-in_err-program_run-clause-played
-returns-in_err-program_run-clause-played g c =
-    let walk = walks_to_run c.args.part.now c.args.image.now c.loop-start.next c.in-Some.start c.run_from-end.result c.page_size-size.result c.page_size-size.ensures.is_part c.page_size-size.ensures.value c.requires c.loop-start.invariant.border (sym c.first_from.ensures ∙ c.in-Some.is) c.run_from-end.ensures in
-    let p = err_from_is_err_and c.from_residual.result c.from_residual.ensures.1 in
-    rw (p.1, p.2) (stops_next _ _ _ _ _ _ [] _ c.loop-start.invariant.reaches walk.steps c.in_err-program_run.ensures.played)
+pub returns-in_err-program_run-clause-asks : goal.returns-in_err-program_run-clause-asks
+returns-in_err-program_run-clause-asks g c = record {
+  played =
+      let walk = walks_to_run c.args.part.now c.args.image.now c.loop-start.next c.in-Some.start c.run_from-end.result c.page_size-size.result c.page_size-size.ensures.is_part c.page_size-size.ensures.value c.requires c.loop-start.invariant.border (sym c.first_from.ensures ∙ c.in-Some.is) c.run_from-end.ensures in
+      let p = err_from_is_err_and c.from_residual.result c.from_residual.ensures.1 in
+      rw (p.1, p.2) (stops_next _ _ _ _ _ _ [] _ c.loop-start.invariant.reaches walk.steps c.in_err-program_run.ensures.asks.played);
+  counted = search rules;
+  bound = search rules;
+}
 
 pub loop-start-smaller : goal.loop-start-smaller
 loop-start-smaller g c =
@@ -41,14 +45,17 @@ pub loop-start-preserved : goal.loop-start-preserved
 loop-start-preserved g c =
     let walk = walks_to_run c.args.part.now c.args.image.now c.loop-start.next c.in-Some.start c.run_from-end.result c.page_size-size.result c.page_size-size.ensures.is_part c.page_size-size.ensures.value c.requires c.loop-start.invariant.border (sym c.first_from.ensures ∙ c.in-Some.is) c.run_from-end.ensures in
     record {
-      reaches = reaches_next _ _ _ _ _ c.loop-start.invariant.reaches walk.steps c.in_ok-program_run.ensures.played;
+      reaches = reaches_next _ _ _ _ _ c.loop-start.invariant.reaches walk.steps c.in_ok-program_run.ensures.asks.played;
       within = walk.within;
       border = walk.border;
-      counted = omega (arith, c.in_ok-program_run.ensures.counted.1, c.loop-start.invariant.counted);
+      counted = omega (arith, c.in_ok-program_run.ensures.asks.counted.1, c.loop-start.invariant.counted);
       comes = λ start of. c.program_run.ensures.comes start (c.loop-start.invariant.comes start of);
-      bound = λ bound. c.program_run.ensures.bound;
+      bound = λ bound. c.program_run.ensures.asks.bound;
     }
 
-pub returns-clause-played : goal.returns-clause-played
-returns-clause-played g c =
-    plays_all _ _ c.loop-start.invariant.reaches (walked_runs c.args.part.now c.args.image.now c.loop-start.next _ (sym c.first_from.ensures ∙ c.in_default.is))
+pub returns-clause-asks : goal.returns-clause-asks
+returns-clause-asks g c = record {
+  played = plays_all _ _ c.loop-start.invariant.reaches (walked_runs c.args.part.now c.args.image.now c.loop-start.next _ (sym c.first_from.ensures ∙ c.in_default.is));
+  counted = search rules;
+  bound = search rules;
+}

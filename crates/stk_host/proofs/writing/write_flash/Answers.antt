@@ -1,4 +1,4 @@
-use Rattle.std.proofs.Common.{refl, ◌/◌, ◌∙◌, sym, arith, []}
+use Rattle.std.proofs.Common.{refl, ◌/◌, ◌∙◌, sym, arith, [], rules}
 use Rattle.std.proofs.lemmas.Result.{err_from_is_err_and}
 use Rattle.stk_host.specs.WriteSteps.{page_steps}
 use Rattle.stk_host.proofs.Going.{begins_at, reaches_next, stops_next, plays_all}
@@ -19,11 +19,15 @@ program_page-requires g c =
     let walk = walks_to_page c.args.part.now c.args.image.now c.loop-addr.next c.in-Some.addr c.page_size-size.result c.page_size-size.ensures.is_part c.page_size-size.ensures.value c.requires (sym c.first_from.ensures ∙ c.in-Some.is) in
     walk.small
 
-pub returns-in_err-program_page-clause-played : goal.returns-in_err-program_page-clause-played
-returns-in_err-program_page-clause-played g c =
-    let walk = walks_to_page c.args.part.now c.args.image.now c.loop-addr.next c.in-Some.addr c.page_size-size.result c.page_size-size.ensures.is_part c.page_size-size.ensures.value c.requires (sym c.first_from.ensures ∙ c.in-Some.is) in
-    let p = err_from_is_err_and c.from_residual.result c.from_residual.ensures.1 in
-    rw (p.1, p.2) (stops_next _ _ _ _ _ _ [] _ c.loop-addr.invariant.reaches walk.steps c.in_err-program_page.ensures.played)
+pub returns-in_err-program_page-clause-asks : goal.returns-in_err-program_page-clause-asks
+returns-in_err-program_page-clause-asks g c = record {
+  played =
+      let walk = walks_to_page c.args.part.now c.args.image.now c.loop-addr.next c.in-Some.addr c.page_size-size.result c.page_size-size.ensures.is_part c.page_size-size.ensures.value c.requires (sym c.first_from.ensures ∙ c.in-Some.is) in
+      let p = err_from_is_err_and c.from_residual.result c.from_residual.ensures.1 in
+      rw (p.1, p.2) (stops_next _ _ _ _ _ _ [] _ c.loop-addr.invariant.reaches walk.steps c.in_err-program_page.ensures.asks.played);
+  counted = search rules;
+  bound = search rules;
+}
 
 pub loop-addr-smaller : goal.loop-addr-smaller
 loop-addr-smaller g c =
@@ -34,13 +38,16 @@ pub loop-addr-preserved : goal.loop-addr-preserved
 loop-addr-preserved g c =
     let walk = walks_to_page c.args.part.now c.args.image.now c.loop-addr.next c.in-Some.addr c.page_size-size.result c.page_size-size.ensures.is_part c.page_size-size.ensures.value c.requires (sym c.first_from.ensures ∙ c.in-Some.is) in
     record {
-      reaches = reaches_next _ _ _ _ _ c.loop-addr.invariant.reaches walk.steps c.in_ok-program_page.ensures.played;
+      reaches = reaches_next _ _ _ _ _ c.loop-addr.invariant.reaches walk.steps c.in_ok-program_page.ensures.asks.played;
       within = omega (arith, walk.within);
-      counted = omega (arith, c.in_ok-program_page.ensures.counted.1, c.loop-addr.invariant.counted);
+      counted = omega (arith, c.in_ok-program_page.ensures.asks.counted.1, c.loop-addr.invariant.counted);
       comes = λ start of. c.program_page.ensures.comes start (c.loop-addr.invariant.comes start of);
-      bound = λ bound. c.program_page.ensures.bound;
+      bound = λ bound. c.program_page.ensures.asks.bound;
     }
 
-pub returns-clause-played : goal.returns-clause-played
-returns-clause-played g c =
-    plays_all _ _ c.loop-addr.invariant.reaches (walked_pages c.args.part.now c.args.image.now c.loop-addr.next c.page_size-size.result _ c.page_size-size.ensures.value (sym c.first_from.ensures ∙ c.in_default.is))
+pub returns-clause-asks : goal.returns-clause-asks
+returns-clause-asks g c = record {
+  played = plays_all _ _ c.loop-addr.invariant.reaches (walked_pages c.args.part.now c.args.image.now c.loop-addr.next c.page_size-size.result _ c.page_size-size.ensures.value (sym c.first_from.ensures ∙ c.in_default.is));
+  counted = search rules;
+  bound = search rules;
+}

@@ -1,10 +1,18 @@
-use Rattle.std.proofs.Common.{[], ◌∷◌}
+use Rattle.std.proofs.Common.{[], ◌∷◌, rules}
 use Rattle.stk_frame.specs.HostCommands.{program_lock}
 use Rattle.stk_host.proofs.Going.{alone, none_played}
 use Rattle.stk_host.proofs.writing.write_lock.Goals as goal
 
-pub returns-in-Some-clause-played : goal.returns-in-Some-clause-played
-returns-in-Some-clause-played g c = rw c.in-Some.is (alone (program_lock c.in-Some.value ∷ []) [] [] _ _ _ _ _ (rw c.program_lock.ensures.value at c.play_step.ensures.played))
+pub returns-in-Some-clause-asks : goal.returns-in-Some-clause-asks
+returns-in-Some-clause-asks g c = record {
+  played = rw c.in-Some.is (alone (program_lock c.in-Some.value ∷ []) [] [] _ _ _ _ _ (rw c.program_lock.ensures.value at c.play_step.ensures.asks.played));
+  counted = search rules;
+  bound = search rules;
+}
 
-pub returns-in-None-clause-played : goal.returns-in-None-clause-played
-returns-in-None-clause-played g c = rw c.in-None.is (none_played _ _)
+pub returns-in-None-clause-asks : goal.returns-in-None-clause-asks
+returns-in-None-clause-asks g c = record {
+  played = rw c.in-None.is (none_played _ _);
+  counted = search rules;
+  bound = search rules;
+}

@@ -1,6 +1,10 @@
-use Rattle.std.proofs.Common.{inl, inr}
+use Rattle.std.proofs.Common.{inl, inr, rules}
 use Rattle.stk_host.proofs.Going.{none_played}
 use Rattle.stk_host.proofs.writing.write_memory.Goals as goal
 
-pub returns-in-Signature-clause-played : goal.returns-in-Signature-clause-played
-returns-in-Signature-clause-played g c = elim c.in-Signature.is [ inl is ↦ rw is (none_played _ _) | inr is ↦ rw is (none_played _ _) ]
+pub returns-in-Signature-clause-asks : goal.returns-in-Signature-clause-asks
+returns-in-Signature-clause-asks g c = record {
+  played = elim c.in-Signature.is [ inl is ↦ rw is (none_played _ _) | inr is ↦ rw is (none_played _ _) ];
+  counted = search rules;
+  bound = search rules;
+}

@@ -1,4 +1,4 @@
-use Rattle.std.proofs.Common.{refl, All, ◌≡◌, ◌<◌, ◌∙◌, ℕ, sym, subst, List, length, ap, arith, drop, [], ◌∷◌, ◌++◌, suc, drop-cons, add-one, get_or}
+use Rattle.std.proofs.Common.{refl, All, ◌≡◌, ◌<◌, ◌∙◌, ℕ, sym, subst, List, length, ap, arith, drop, [], ◌∷◌, ◌++◌, suc, drop-cons, add-one, get_or, rules}
 use Rattle.std.proofs.lemmas.Result.{err_from_is_err_and}
 use Rattle.std.proofs.lemmas.List.{drop_all}
 use Rattle.std.proofs.lemmas.List.Elements.{All-get_or}
@@ -26,32 +26,59 @@ loop-command-init g c = record {
 pub exchange-requires : goal.exchange-requires
 exchange-requires g c = (its_own c.args.first.now _ c.loop-command.command-index c.loop-command-test.true c.command-item.is c.requires.quiet).fits
 
-pub returns-in_err-exchange-clause-err : goal.returns-in_err-exchange-clause-err
-returns-in_err-exchange-clause-err g c =
-    let p = err_from_is_err_and c.from_residual.result c.from_residual.ensures.1 in
-    rw (p.1, p.2) (turn_breaks _ _ _ c.loop-command.invariant.reaches (next_command c.args.first.now c.args.last.now _ c.loop-command.command-index c.loop-command-test.true c.command-item.is) c.in_err-exchange.ensures.err)
+pub returns-in_err-exchange-clause-replies : goal.returns-in_err-exchange-clause-replies
+returns-in_err-exchange-clause-replies g c = record {
+  ok = search rules;
+  err =
+      let p = err_from_is_err_and c.from_residual.result c.from_residual.ensures.1 in
+      rw (p.1, p.2) (turn_breaks _ _ _ c.loop-command.invariant.reaches (next_command c.args.first.now c.args.last.now _ c.loop-command.command-index c.loop-command-test.true c.command-item.is) c.in_err-exchange.ensures.replies.err);
+  sized = search rules;
+  counts = search rules;
+  bound = search rules;
+}
 
-pub returns-in-Again-clause-ok : goal.returns-in-Again-clause-ok
-returns-in-Again-clause-ok g c =
-    turn_again _ _ _ _ _ _ c.loop-command.invariant.reaches (next_command c.args.first.now c.args.last.now _ c.loop-command.command-index c.loop-command-test.true c.command-item.is) c.in_ok-exchange.ensures.ok c.in-Again.is
+pub returns-in-Again-clause-replies : goal.returns-in-Again-clause-replies
+returns-in-Again-clause-replies g c = record {
+  ok = turn_again _ _ _ _ _ _ c.loop-command.invariant.reaches (next_command c.args.first.now c.args.last.now _ c.loop-command.command-index c.loop-command-test.true c.command-item.is) c.in_ok-exchange.ensures.replies.ok c.in-Again.is;
+  err = search rules;
+  sized = search rules;
+  counts = search rules;
+  bound = search rules;
+}
 
-pub returns-in-Stop-clause-ok : goal.returns-in-Stop-clause-ok
-returns-in-Stop-clause-ok g c =
-    turn_stop _ _ _ _ _ _ c.loop-command.invariant.reaches (next_command c.args.first.now c.args.last.now _ c.loop-command.command-index c.loop-command-test.true c.command-item.is) c.in_ok-exchange.ensures.ok c.in-Stop.is
+pub returns-in-Stop-clause-replies : goal.returns-in-Stop-clause-replies
+returns-in-Stop-clause-replies g c = record {
+  ok = turn_stop _ _ _ _ _ _ c.loop-command.invariant.reaches (next_command c.args.first.now c.args.last.now _ c.loop-command.command-index c.loop-command-test.true c.command-item.is) c.in_ok-exchange.ensures.replies.ok c.in-Stop.is;
+  err = search rules;
+  sized = search rules;
+  counts = search rules;
+  bound = search rules;
+}
 
 pub loop-command-preserved : goal.loop-command-preserved
 loop-command-preserved g c = record {
-  reaches = rw add-one (turn_data _ _ _ _ _ c.loop-command.invariant.reaches (next_command c.args.first.now c.args.last.now _ c.loop-command.command-index c.loop-command-test.true c.command-item.is) c.in_ok-exchange.ensures.ok c.in-Data.is
+  reaches = rw add-one (turn_data _ _ _ _ _ c.loop-command.invariant.reaches (next_command c.args.first.now c.args.last.now _ c.loop-command.command-index c.loop-command-test.true c.command-item.is) c.in_ok-exchange.ensures.replies.ok c.in-Data.is
       (c.in_ok-exchange.ensures.quiet (its_own c.args.first.now _ c.loop-command.command-index c.loop-command-test.true c.command-item.is c.requires.quiet) c.in-Data.is));
-  counted = omega (arith, c.in_ok-exchange.ensures.counts.sound, c.loop-command.invariant.counted);
+  counted = omega (arith, c.in_ok-exchange.ensures.replies.counts.sound, c.loop-command.invariant.counted);
   comes = λ start of. c.exchange.ensures.comes start (c.loop-command.invariant.comes start of);
 }
 
-pub returns-in_err-reply-clause-err : goal.returns-in_err-reply-clause-err
-returns-in_err-reply-clause-err g c =
-    let p = err_from_is_err_and c.from_residual-in_err-reply.result c.from_residual-in_err-reply.ensures.1 in
-    rw (p.1, p.2) (turn_breaks _ _ _ c.loop-command.invariant.reaches (ap (λ cs. cs ++ c.args.last.now ∷ []) (drop_all c.loop-command.command-index c.args.first.now (omega arith))) c.in_err-reply.ensures.err)
+pub returns-in_err-reply-clause-replies : goal.returns-in_err-reply-clause-replies
+returns-in_err-reply-clause-replies g c = record {
+  ok = search rules;
+  err =
+      let p = err_from_is_err_and c.from_residual-in_err-reply.result c.from_residual-in_err-reply.ensures.1 in
+      rw (p.1, p.2) (turn_breaks _ _ _ c.loop-command.invariant.reaches (ap (λ cs. cs ++ c.args.last.now ∷ []) (drop_all c.loop-command.command-index c.args.first.now (omega arith))) c.in_err-reply.ensures.replies.err);
+  sized = search rules;
+  counts = search rules;
+  bound = search rules;
+}
 
-pub returns-clause-ok : goal.returns-clause-ok
-returns-clause-ok g c =
-    turn_last _ _ _ _ c.loop-command.invariant.reaches (ap (λ cs. cs ++ c.args.last.now ∷ []) (drop_all c.loop-command.command-index c.args.first.now (omega arith))) c.in_ok-reply.ensures.ok
+pub returns-clause-replies : goal.returns-clause-replies
+returns-clause-replies g c = record {
+  ok = turn_last _ _ _ _ c.loop-command.invariant.reaches (ap (λ cs. cs ++ c.args.last.now ∷ []) (drop_all c.loop-command.command-index c.args.first.now (omega arith))) c.in_ok-reply.ensures.replies.ok;
+  err = search rules;
+  sized = search rules;
+  counts = search rules;
+  bound = search rules;
+}

@@ -5,7 +5,7 @@ use Rattle.stk_host.proofs.host.Host.read.Goals as goal
 pub returns-clause-calls : goal.returns-clause-calls
 returns-clause-calls g c = record {
   stays = search rules;
-  played = λ sound. rw (← c.self.view_is) (rw (c.keep.ensures, c.judge_end-outcome.ensures) (reading_ends _ c.read_memory-taken.new.out.items _ _ _ _ _ c.read_memory-taken.ensures.played));
+  played = λ sound. rw (← c.self.view_is) (rw (c.keep.ensures, c.judge_end-outcome.ensures) (reading_ends _ c.read_memory-taken.new.out.items _ _ _ _ _ c.read_memory-taken.ensures.asks.played));
   lasts = search rules;
   part = search rules;
   failed = search rules;
