@@ -12,7 +12,7 @@
 #![tactic(auto)]
 
 mod loading;
-mod refusal;
+mod messages;
 mod saving;
 
 pub use loading::load_chip;

@@ -9,10 +9,11 @@ ghost use Rattle.avr_desk.specs.Playing.{Goes};
 ghost use Rattle.avr_desk.specs.Stage.{verdict_stage};
 ghost use Rattle.avr_chip.specs.Loading.{chip_or_line, chip_stage};
 
-use crate::refusal::refuse_length;
-use avr_desk::{Desk, FileFault, read_file};
+use crate::messages::length_message;
+use avr_desk::{
+    Desk, FileFault, file_message, memory_message, read_file, refuse, too_long_message,
+};
 use avr_part::{Chip, Mem, Part, PartFault};
-use avr_plan::{refuse_file, refuse_memory, refuse_too_long};
 use std::alloc::Global;
 
 /// The most bytes that are read of a file.
@@ -32,7 +33,7 @@ fn fresh_chip<D: Desk>(alloc: Global, part: &Part, desk: &mut D) -> Result<Chip,
 {
     match Chip::fresh(alloc, part.copied()) {
         Ok(chip) => Ok(chip),
-        Err(_) => Err(refuse_memory(desk)),
+        Err(_) => Err(refuse(desk, &memory_message())),
     }
 }
 
@@ -53,10 +54,10 @@ fn chip_of<D: Desk>(
         Ok(chip) => Ok(chip),
         Err(PartFault::BadChipFile(_)) => {
             let found = bytes.len() as u32;
-            Err(refuse_length(desk, file, found, file_size(part)))
+            Err(refuse(desk, &length_message(file, found, file_size(part))))
         }
         // the only other one is the want of memory
-        Err(_) => Err(refuse_memory(desk)),
+        Err(_) => Err(refuse(desk, &memory_message())),
     }
 }
 
@@ -76,7 +77,7 @@ fn unread_chip<D: Desk>(
 {
     match fault {
         FileFault::Absent => fresh_chip(alloc, part, desk),
-        _ => Err(refuse_file(desk, file, fault)),
+        _ => Err(refuse(desk, &file_message(file, fault))),
     }
 }
 
@@ -96,7 +97,7 @@ pub fn load_chip<D: Desk>(alloc: Global, part: &Part, file: &str, desk: &mut D) 
         Err(fault) => return unread_chip(alloc, part, file, fault, desk),
     };
     if !contents.ended {
-        return Err(refuse_too_long(desk, file, LIMIT as u32));
+        return Err(refuse(desk, &too_long_message(file, LIMIT as u32)));
     }
     chip_of(alloc, part, file, contents.bytes.as_slice(), desk)
 }

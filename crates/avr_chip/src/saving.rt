@@ -3,10 +3,10 @@ ghost use Rattle.avr_desk.specs.Fault.{Follows};
 ghost use Rattle.avr_part.specs.ChipFile.{chip_file};
 ghost use Rattle.avr_chip.specs.Saving.{Saves};
 
-use crate::refusal::refuse_saving;
-use avr_desk::{Desk, Stream, write_all};
+use avr_desk::{
+    Desk, Stream, memory_message, not_created_message, not_written_message, refuse, write_all,
+};
 use avr_part::Chip;
-use avr_plan::refuse_memory;
 use std::alloc::Global;
 
 /// Creates the file of this name and writes these bytes.
@@ -15,11 +15,11 @@ fn save_bytes<D: Desk>(file: &str, bytes: &[u8], desk: &mut D) -> Result<(), u8>
     ensures rises { Follows (D.view desk.old) (D.view desk.new) }
 {
     if desk.create(file).is_err() {
-        return Err(refuse_saving(desk, file, ": cannot be created"));
+        return Err(refuse(desk, &not_created_message(file)));
     }
     match write_all(desk, Stream::File, bytes) {
         Ok(()) => Ok(()),
-        Err(_) => Err(refuse_saving(desk, file, ": cannot be written")),
+        Err(_) => Err(refuse(desk, &not_written_message(file))),
     }
 }
 
@@ -35,6 +35,6 @@ pub fn save_chip<D: Desk>(alloc: Global, chip: &Chip, file: &str, desk: &mut D) 
 {
     match chip.to_bytes(alloc) {
         Ok(bytes) => save_bytes(file, bytes.as_slice(), desk),
-        Err(_) => Err(refuse_memory(desk)),
+        Err(_) => Err(refuse(desk, &memory_message())),
     }
 }

@@ -64,20 +64,20 @@ pub struct Settings {
 #[derive(Debug, Drop, Error)]
 pub enum SettingsFault {
     /// No `-p`.
-    #[error("no part is given")]
+    #[error("no part given (-p)")]
     NoPart,
     /// `-c` with another name than `stk500v2`: that name.
-    #[error("the programmer is not known")]
+    #[error("programmer {} is not known", .0.as_str())]
     BadProgrammer(Text),
     /// `-P` with a text that names no port, or `--serve` with no number of one: that text; or none
     /// where neither is given.
-    #[error("the port is not known")]
+    #[error("port is not known")]
     BadPort(Option<Text>),
     /// `--serve` without `--chip`.
-    #[error("no chip file is given")]
+    #[error("no chip file given (--chip)")]
     NoChip,
     /// More than 16 updates.
-    #[error("too many updates")]
+    #[error("more than 16 updates")]
     TooMany,
     /// The update of this number, from 1 on, is none.
     #[error("update {0}: {1}")]

@@ -15,13 +15,13 @@ const PIECE: usize = 4096;
 #[derive(Clone, Copy, Debug, PartialEq, Eq, Error)]
 pub enum FileFault {
     /// The desk has no such file.
-    #[error("no such file")]
+    #[error("cannot be opened")]
     Absent,
     /// The desk failed as it opened the file.
-    #[error("it can't be opened")]
+    #[error("cannot be opened")]
     NotOpened,
     /// The desk failed as it read the file.
-    #[error("it can't be read")]
+    #[error("cannot be read")]
     NotRead,
     /// There was no memory for the bytes.
     #[error("out of memory")]

@@ -14,13 +14,13 @@ use thiserror::Error;
 #[derive(Clone, Copy, Debug, Drop, PartialEq, Eq, Error)]
 pub enum ImageFault {
     /// This byte address lies outside the memory. Of a raw file it is the memory's size.
-    #[error("address {0} is outside the memory")]
+    #[error("address {0:08X} out of range")]
     OutOfRange(u32),
     /// The value at this place, counted from 1, is no number.
-    #[error("value {0} is not a number")]
+    #[error("value {0}: not a number")]
     BadNumber(u32),
     /// The value at this place, counted from 1, is above 255.
-    #[error("value {0} is above 255")]
+    #[error("value {0}: above 255")]
     TooLarge(u32),
     /// The reader met a fault before.
     #[error("the reader has failed before")]

@@ -63,7 +63,7 @@ impl fmt::Display for Field {
 #[derive(Clone, Copy, Debug, PartialEq, Eq, Error)]
 pub enum PartFault {
     /// The part file is no TOML, or not UTF-8.
-    #[error("the part file is not TOML")]
+    #[error("not TOML")]
     NotToml,
     /// The part file lacks a field.
     #[error("{0} is missing")]
@@ -72,13 +72,13 @@ pub enum PartFault {
     #[error("{0} has a bad value")]
     BadValue(Field),
     /// A memory is not whole pages.
-    #[error("a size is no multiple of its page")]
+    #[error("sizes do not fit")]
     BadSizes,
     /// Neither the part file nor the built-in list has a part of this id.
-    #[error("there is no such part")]
+    #[error("no part of this id")]
     NoSuchPart,
     /// A chip file has this many bytes, and another number is wanted for the part.
-    #[error("a chip file of {0} bytes does not fit the part")]
+    #[error("{0} bytes, another number expected")]
     BadChipFile(usize),
     /// Memory was refused.
     #[error("out of memory")]

@@ -19,7 +19,7 @@ pub enum BadFile {
     #[error("ELF is not read")]
     Elf,
     /// It has more than 4,194,304 bytes.
-    #[error("too long")]
+    #[error("longer than 4194304 bytes")]
     TooLong,
 }
 

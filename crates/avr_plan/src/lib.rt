@@ -33,6 +33,7 @@ mod laws;
 pub use bad_file::BadFile;
 pub use image_file::{ReadFault, read_image};
 pub use laws::{a_plan_only_reads_and_warns, a_sound_plan_is_refused_aloud};
+pub use messages::read_only_message;
 pub use part_choice::{chosen_part, given_parts};
 pub use planned::Plan;
 pub use planning::plan;

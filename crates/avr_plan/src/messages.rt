@@ -156,9 +156,9 @@ pub(crate) fn values_message(memory: Mem, fault: ImageFault) -> Message<'static>
     }
 }
 
-/// A memory can't be written.
-pub(crate) fn read_only_message(memory: Mem) -> Message<'static>
+/// A memory can't be written: `signature is read-only`.
+pub fn read_only_message<'a>(memory: Mem) -> Message<'a>
     ensures { result ≡ read_only_pieces memory }
 {
-    Message::about(memory.name(), " is read-only")
+    Message::new(&[Piece::Text(memory.name()), Piece::Text(" is read-only")])
 }

@@ -32,12 +32,9 @@ fn an_image_and_a_fault_tell_what_they_are(rt: HostRuntime) -> Result<(), Fail> 
     let shown = format!(in alloc; "{image:?}")?;
     assert_eq!(rt; shown.as_str(), "Image { size: 64, len: 2, .. }");
     for (fault, want) in [
-        (
-            ImageFault::OutOfRange(64),
-            "address 64 is outside the memory",
-        ),
-        (ImageFault::BadNumber(2), "value 2 is not a number"),
-        (ImageFault::TooLarge(3), "value 3 is above 255"),
+        (ImageFault::OutOfRange(64), "address 00000040 out of range"),
+        (ImageFault::BadNumber(2), "value 2: not a number"),
+        (ImageFault::TooLarge(3), "value 3: above 255"),
         (ImageFault::Failed, "the reader has failed before"),
         (ImageFault::Memory, "out of memory"),
     ] {

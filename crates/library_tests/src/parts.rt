@@ -161,7 +161,7 @@ fn damaged_part_files(rt: HostRuntime) -> Result<(), Fail> {
 #[test]
 fn faults_have_numbers_and_texts(rt: HostRuntime) -> Result<(), Fail> {
     for (fault, number, text) in [
-        (PartFault::NotToml, 1, "the part file is not TOML"),
+        (PartFault::NotToml, 1, "not TOML"),
         (
             PartFault::Missing(Field::EepromPage),
             2,
@@ -172,12 +172,12 @@ fn faults_have_numbers_and_texts(rt: HostRuntime) -> Result<(), Fail> {
             3,
             "signature has a bad value",
         ),
-        (PartFault::BadSizes, 4, "a size is no multiple of its page"),
-        (PartFault::NoSuchPart, 5, "there is no such part"),
+        (PartFault::BadSizes, 4, "sizes do not fit"),
+        (PartFault::NoSuchPart, 5, "no part of this id"),
         (
             PartFault::BadChipFile(100),
             6,
-            "a chip file of 100 bytes does not fit the part",
+            "100 bytes, another number expected",
         ),
         (PartFault::Memory, 7, "out of memory"),
     ] {

@@ -60,10 +60,10 @@ pub enum HostFault {
     #[error("no answer")]
     NoAnswer,
     /// The line is at its end: nothing more can be asked.
-    #[error("the link ended")]
+    #[error("link ended")]
     LinkEnded,
     /// The link failed at sending: the frames before went out whole, and of the next one a part, perhaps nothing.
-    #[error("the link cannot be written")]
+    #[error("link cannot be written")]
     SendFailed,
     /// 4,096 bytes came to the last of four attempts, and no answer was among them.
     #[error("no answer in 4096 bytes")]
@@ -75,20 +75,20 @@ pub enum HostFault {
     #[error("command {0:02X}: bad answer")]
     BadAnswer(u8),
     /// The part has this signature, and not that of the part asked for.
-    #[error("another signature was found")]
+    #[error("signature is {:02X} {:02X} {:02X}", .0[0], .0[1], .0[2])]
     WrongSignature([u8; 3]),
     /// The memory has at this address another byte than the image: the memory, the address in bytes, the image's byte,
     /// the memory's byte. No lower address differs.
-    #[error("address {1:08X}: {2:02X} expected, {3:02X} found")]
+    #[error("{}: address {:08X}: {:02X} expected, {:02X} found", .0.name(), .1, .2, .3)]
     Differs(Mem, u32, u8, u8),
     /// The memory can't be written: the signature or the calibration.
-    #[error("the memory is read-only")]
+    #[error("{} is read-only", .0.name())]
     ReadOnly(Mem),
     /// Memory was refused.
     #[error("out of memory")]
     Memory,
     /// The link failed at listening, where the answer to a frame that had gone out whole was due.
-    #[error("the link cannot be read")]
+    #[error("link cannot be read")]
     RecvFailed,
 }
 

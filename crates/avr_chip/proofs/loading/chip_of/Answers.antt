@@ -15,12 +15,12 @@ returns-in-Ok-clause-part g c =
 pub returns-in-Err-BadChipFile-clause-goes : goal.returns-in-Err-BadChipFile-clause-goes
 returns-in-Err-BadChipFile-clause-goes g c =
     let gives = c.in-Err-BadChipFile.ensures in
-    let told = c.refuse_length.ensures.told in
-    goes_wrong_length c.args.part.now c.args.file.now c.args.bytes.now _ _ _ _ (rw (c.in-Err-BadChipFile.field-0-is, c.copied.ensures.value) at gives) c.refuse_length.ensures.status
+    let told = rw c.length_message.ensures at c.refuse.ensures.told in
+    goes_wrong_length c.args.part.now c.args.file.now c.args.bytes.now _ _ _ _ (rw (c.in-Err-BadChipFile.field-0-is, c.copied.ensures.value) at gives) c.refuse.ensures.status
     (rw c.file_size.ensures at told)
 
 pub returns-in-Err : goal.returns-in-Err
 returns-in-Err g c = record {
-  goes = goes_without_memory (verdict_stage (chip_or_line c.args.part.now c.args.file.now c.args.bytes.now)) _ _ _ c.refuse_memory.ensures.status c.refuse_memory.ensures.told;
+  goes = goes_without_memory (verdict_stage (chip_or_line c.args.part.now c.args.file.now c.args.bytes.now)) _ _ _ c.refuse-in-Err.ensures.status (rw c.memory_message.ensures at c.refuse-in-Err.ensures.told);
   part = tt;
 }

@@ -10,4 +10,4 @@ returns-in-Ok-clause-goes g c = let gives = c.in-Ok.ensures in went_fresh c.args
 
 pub returns-in-Err-clause-goes : goal.returns-in-Err-clause-goes
 returns-in-Err-clause-goes g c =
-    goes_without_memory (verdict_stage (Ok (fresh_state c.args.part.now))) _ _ _ c.refuse_memory.ensures.status c.refuse_memory.ensures.told
+    goes_without_memory (verdict_stage (Ok (fresh_state c.args.part.now))) _ _ _ c.refuse.ensures.status (rw c.memory_message.ensures at c.refuse.ensures.told)
