@@ -26,7 +26,7 @@ same_record (Some r) file fault = refl
 
 -- the file was not created
 pub not_created : (old mid new : DeskView) (file bytes : Bytes) (status : ℕ) (created : Result ⊤ DeskFault)
-    → is_err created ≡ true → IfErr created (λ e. e ≡ Failed) → Passes (after_create file created) old mid → Counts old mid created
+    → is_err created ≡ true → IfErr created (λ e. e ≡ Failed) → Passes (after_create file created) old mid → Counts File old mid created
     → status ≡ 1 → Tells mid new (not_created_line file) → Saves old new file bytes (Err status)
 not_created old mid new file bytes status (Ok done) is only kept counts one told = cc
 not_created old mid new file bytes status (Err NotFound) is only kept counts one told = cc
@@ -37,7 +37,7 @@ not_created old mid new file bytes status (Err Failed) is only kept counts one t
         trouble = NotCreated;
         told = told.told;
         front = tt;
-        tells = failure_told old mid new (not_created_line file) counts.0 counts.1 told;
+        tells = failure_told old mid new (not_created_line file) counts.0 counts.1.0 told;
         kept = subst (λ (r : Option Record). new.kept ≡ option_map (after_err told.told) r) same told.kept;
       },
     )
@@ -45,7 +45,7 @@ not_created old mid new file bytes status (Err Failed) is only kept counts one t
 -- the file was created, and not written whole
 pub not_written : (old mid end new : DeskView) (file bytes : Bytes) (status : ℕ) (created : Result ⊤ DeskFault) (fault : DeskFault)
     → is_err created ≡ false → Passes (after_create file created) old mid → Follows old mid
-    → SendsPart File mid end bytes → Counts {T = ⊤} mid end (Err fault) → fault ≡ Failed
+    → SendsPart File mid end bytes → Counts {T = ⊤} File mid end (Err fault) → fault ≡ Failed
     → status ≡ 1 → Tells end new (not_written_line file) → Saves old new file bytes (Err status)
 not_written old mid end new file bytes status (Err trouble) fault is kept rose part counts only one told = cc
 not_written old mid end new file bytes status (Ok done) NotFound is kept rose part counts only one told = cc
@@ -56,7 +56,7 @@ not_written old mid end new file bytes status (Ok done) Failed is kept rose part
         trouble = NotWritten front;
         told = told.told;
         front = (drop part.0 bytes, take-append-drop part.0 bytes);
-        tells = failure_told old end new (not_written_line file) (follows_on old mid end rose counts.0) (failed_later old mid end rose counts.1) told;
+        tells = failure_told old end new (not_written_line file) (follows_on old mid end rose counts.0) (failed_later old mid end rose counts.1.0) told;
         kept = kept_append (Creates file ∷ Writes front ∷ []) (Line told.told ∷ []) old.kept end.kept new.kept
             (kept_append (Creates file ∷ []) (Writes front ∷ []) old.kept mid.kept end.kept kept part.2) told.kept;
       },

@@ -31,7 +31,7 @@ use Rattle.avr_session.specs.Runs.{Cause, OfSending, OfListening, OfFile, OfPrin
 use Rattle.avr_session.specs.Phases.{is_told, PerformsBehind, Performs, Does, LeavesOut}
 use Rattle.avr_session.proofs.Reporting.{told_some, kept_nothing}
 use Rattle.avr_desk.proofs.Saying.{kept_none}
-use Rattle.avr_desk.proofs.Telling.{follows_on}
+use Rattle.avr_desk.proofs.Telling.{follows_here, follows_on}
 use Rattle.avr_session.proofs.Running.{came_here, came_said, came_part, ran_from, ran_on, stops_in, stops_since, broke_after, broke_part, broke_saying, StopsReport, ToldBy}
 use Rattle.avr_session.proofs.Foretelling.{Foretells, foretold, front_tells_none, read_none, phases_foretells}
 use Rattle.avr_session.proofs.Actions.{phases-one, phases-append}
@@ -47,7 +47,7 @@ pub print_stops_run : (terms : Terms) (o : LinkView) (d e : DeskView) → Follow
 print_stops_run terms o d e le said OfSending told stops = absurd stops
 print_stops_run terms o d e le said OfListening told stops = absurd stops
 print_stops_run terms o d e le said (OfFile file trouble) told stops = absurd stops
-print_stops_run terms o d e le said OfPrinting told stops = record { between = e; has_come = stops.0; tells = printing_tells (terms.was_told || tells_fault said) told e e stops.1; since = le; until = omega arith }
+print_stops_run terms o d e le said OfPrinting told stops = record { between = e; has_come = stops.0; tells = printing_tells (terms.was_told || tells_fault said) told e e stops.1; since = le; until = follows_here e }
 print_stops_run terms o d e le said OfMemory told stops = absurd stops
 
 -- at a file too, where no fault was told
@@ -108,7 +108,7 @@ serves_after outcome (Err stopped) broken is = tt
 -- a cause that was told
 told_by : {A : Type 0} (takes : Bool) (outcome : Result A HostFault) (o p : LinkView) (d e : DeskView) → (IsBroken outcome → link.HasFailed o p) → (IsMemory outcome → takes ≡ true) → IsStop outcome → Tells d e (cause_line (cause_of outcome))
     → ToldBy (untold takes) (cause_of outcome) (devices o d) (devices p e)
-told_by takes outcome o p d e failed lacks stop some = (some.told, record { between = d; has_come = stop_is outcome takes (devices o d) (devices p d) failed lacks stop; tells = some.tells; since = omega arith; until = some.follows }, some.kept)
+told_by takes outcome o p d e failed lacks stop some = (some.told, record { between = d; has_come = stop_is outcome takes (devices o d) (devices p d) failed lacks stop; tells = some.tells; since = follows_here d; until = some.follows }, some.kept)
 
 -- an operation of the host and its report
 pub operation_performs : {A : Type 0} {Ends : Position → LinkView → LinkView → Result A HostFault → Position → Type 0} (takes : Bool) (operation : Dialog ⊥ (Result A HostFault)) (outcome_says : Result A HostFault → List Saying) {old new : HostState} {o p : LinkView} {d e : DeskView} (outcome : Result A HostFault)
@@ -155,7 +155,7 @@ nothing_performs takes host o sound = record {
   serves = sound;
   part = refl;
   link = omega arith;
-  desk = omega arith;
+  desk = follows_here o.desk;
 }
 
 -- any phase goes on as its result chooses
@@ -202,7 +202,7 @@ performs_last takes more_takes more (Ok Fine) not done = absurd (not refl)
 performs_last takes more_takes more (Ok Faulty) not done = record { runs = ran_from (came_part (unless_fault more) done.runs); serves = done.serves; part = done.part; link = done.link; desk = done.desk }
 performs_last takes more_takes more (Ok Over) not done = record { runs = ran_from (came_part (unless_fault more) done.runs); serves = done.serves; part = done.part; link = done.link; desk = done.desk }
 performs_last takes more_takes more {o = o} {p = p} (Err stopped) not done = record {
-  runs = broke_part (unless_fault more) (stops_since takes (takes || more_takes) false o o p (or_first takes more_takes) (omega arith) (omega arith)) done.runs;
+  runs = broke_part (unless_fault more) (stops_since takes (takes || more_takes) false o o p (or_first takes more_takes) (omega arith) (follows_here o.desk)) done.runs;
   serves = done.serves;
   part = done.part;
   link = done.link;
@@ -294,7 +294,7 @@ over_performs terms host o = record {
   serves = tt;
   part = refl;
   link = omega arith;
-  desk = omega arith;
+  desk = follows_here o.desk;
 }
 
 -- behind a fault that was told
@@ -306,7 +306,7 @@ told_nothing : {A : Type 0} (outcome : Result A HostFault) {o p : LinkView} (d :
 told_nothing (Ok x) d failed broken = absurd broken
 told_nothing (Err NoAnswer) d failed broken = absurd broken
 told_nothing (Err LinkEnded) d failed broken = absurd broken
-told_nothing (Err SendFailed) d failed broken = ([], record { between = d; has_come = failed tt; tells = refl; since = omega arith; until = omega arith }, kept_nothing d.kept)
+told_nothing (Err SendFailed) d failed broken = ([], record { between = d; has_come = failed tt; tells = refl; since = follows_here d; until = follows_here d }, kept_nothing d.kept)
 told_nothing (Err Babble) d failed broken = absurd broken
 told_nothing (Err (Refused command status)) d failed broken = absurd broken
 told_nothing (Err (BadAnswer command)) d failed broken = absurd broken
@@ -314,7 +314,7 @@ told_nothing (Err (WrongSignature found)) d failed broken = absurd broken
 told_nothing (Err (Differs mem address want found)) d failed broken = absurd broken
 told_nothing (Err (ReadOnly mem)) d failed broken = absurd broken
 told_nothing (Err Memory) d failed broken = absurd broken
-told_nothing (Err RecvFailed) d failed broken = ([], record { between = d; has_come = failed tt; tells = refl; since = omega arith; until = omega arith }, kept_nothing d.kept)
+told_nothing (Err RecvFailed) d failed broken = ([], record { between = d; has_come = failed tt; tells = refl; since = follows_here d; until = follows_here d }, kept_nothing d.kept)
 
 -- an operation of which nothing is told
 pub quietly_performs : (operation : Dialog ⊥ (Result (Unit {0}) HostFault)) {old new : HostState} {o p : LinkView} (d : DeskView) (outcome : Result (Unit {0}) HostFault) (result : Result Standing Stopped)
@@ -326,11 +326,11 @@ quietly_performs operation {old = old} {new = new} {o = o} {p = p} d outcome res
     record {
       runs = subst (λ r. Runs (reported operation (λ _. [])) old.progress (devices o d) (devices p d) told_before r new.progress) (sym is)
           (operation_runs false (λ _. []) outcome (Ok tt) told_before PrintStops
-          (λ mid cause front told stops. print_stops_run told_before p d d (omega arith) (front.whole ++ front.begun) cause told stops) ended (calls.bound sound) calls.counted (kept_none d.kept) (λ stop. told_nothing outcome d (calls.failed sound) (only stop)));
+          (λ mid cause front told stops. print_stops_run told_before p d d (follows_here d) (front.whole ++ front.begun) cause told stops) ended (calls.bound sound) calls.counted (kept_none d.kept) (λ stop. told_nothing outcome d (calls.failed sound) (only stop)));
       serves = subst (λ r. HostServes r new.broken) (sym is) (serves_after outcome (Ok tt) new.broken (calls.lasts sound));
       part = calls.part;
       link = calls.counted;
-      desk = omega arith;
+      desk = follows_here d;
     }
 
 -- what follows a quiet operation is done

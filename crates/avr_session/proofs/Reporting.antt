@@ -2,13 +2,14 @@
 use Rattle.std.proofs.Common.{◌≡◌, ◌≤◌, ℕ, arith, List, [], ◌∷◌, ◌++◌, Option, option_map, Result, Ok, Err, refl, sym, ap, ◌∙◌, subst, inl, inr, IfErr, append-nil, Some, None, nat_lt, false}
 use Rattle.std.proofs.lemmas.Bool.Decides.{nat_tests}
 use Rattle.avr_desk.specs.Record.{Record, DeskView, Passes, after_err}
-use Rattle.avr_desk.specs.Fault.{Counts, Follows, HasFailed}
+use Rattle.avr_desk.specs.Fault.{Counts, Follows, HasFailed, HasFailedToSay}
 use Rattle.avr_desk.specs.declared.fault.DeskFault.{DeskFault}
 use Rattle.avr_desk.specs.declared.fault.DeskFault.TheVariants.{NotFound, Failed}
+use Rattle.avr_desk.specs.declared.stream.Stream.TheVariants.{Messages}
 use Rattle.stk_host.specs.Dialog.{sayings}
 use Rattle.avr_desk.specs.Said.{Saying, Line, IsPrefixOf, IsPrinted, Tells, after_all}
 use Rattle.avr_desk.proofs.Saying.{kept_append, kept_none}
-use Rattle.avr_desk.proofs.Telling.{failed_later, failure_in, failure_told, follows_on}
+use Rattle.avr_desk.proofs.Telling.{failure_in, failure_told, follows_here, follows_on, unsaid_later}
 use Rattle.avr_session.specs.Runs.{cause_line, Cause, OfSending, OfListening, OfFile, OfPrinting, OfMemory, FileTrouble, SaysFront, SaidSome, SaysOrStops, Reports, PrintStops, FileStops, DeskStops}
 use Rattle.avr_session.specs.declared.standing.Stopped.{Stopped}
 use Rattle.avr_session.specs.Concluding.{stopped_of}
@@ -19,7 +20,7 @@ pub print_stops_later : (a b c : DeskView) → Follows a b → (cause : Cause) (
 print_stops_later a b c le OfSending told stops = absurd stops
 print_stops_later a b c le OfListening told stops = absurd stops
 print_stops_later a b c le (OfFile file trouble) told stops = absurd stops
-print_stops_later a b c le OfPrinting told stops = (failed_later a b c le stops.0, stops.1)
+print_stops_later a b c le OfPrinting told stops = (unsaid_later a b c le stops.0, stops.1)
 print_stops_later a b c le OfMemory told stops = absurd stops
 
 pub print_is_desk : (a b : DeskView) (cause : Cause) (told : List ℕ) → PrintStops a b cause told → DeskStops a b cause told
@@ -40,7 +41,7 @@ kept_nothing None = refl
 kept_nothing (Some r) = ap Some (sym (nothing_printed r))
 
 -- nothing more is printed where printing failed
-said_until : (old new : DeskView) (sayings : List Saying) → SaysFront OfPrinting old new sayings → HasFailed old new → SaidSome PrintStops old new sayings
+said_until : (old new : DeskView) (sayings : List Saying) → SaysFront OfPrinting old new sayings → HasFailedToSay old new → SaidSome PrintStops old new sayings
 said_until old new sayings front failed = record {
   between = new;
   cause = OfPrinting;
@@ -51,7 +52,7 @@ said_until old new sayings front failed = record {
 }
 
 line_said : (old new : DeskView) (bytes : List ℕ) (printed : Result (Unit {0}) DeskFault) (result : Result (Unit {0}) Stopped)
-    → IsPrinted old new bytes printed → Counts old new printed → IfErr printed (λ e. e ≡ Failed) → result ≡ stopped_of printed → SaysOrStops PrintStops old new (Line bytes ∷ []) result
+    → IsPrinted old new bytes printed → Counts Messages old new printed → IfErr printed (λ e. e ≡ Failed) → result ≡ stopped_of printed → SaysOrStops PrintStops old new (Line bytes ∷ []) result
 line_said old new bytes (Ok done) (Ok ok) is counts only same = is
 line_said old new bytes (Ok done) (Err stopped) is counts only same = cc
 line_said old new bytes (Err fault) (Ok ok) is counts only same = cc
@@ -60,12 +61,12 @@ line_said old new bytes (Err Failed) (Err stopped) is counts only same = said_un
 
 -- a line that was printed, or not
 pub reports_line : (old new : DeskView) (bytes : List ℕ) (printed : Result (Unit {0}) DeskFault) (result : Result (Unit {0}) Stopped)
-    → IsPrinted old new bytes printed → Counts old new printed → IfErr printed (λ e. e ≡ Failed) → result ≡ stopped_of printed → Reports PrintStops old new (Line bytes ∷ []) result
+    → IsPrinted old new bytes printed → Counts Messages old new printed → IfErr printed (λ e. e ≡ Failed) → result ≡ stopped_of printed → Reports PrintStops old new (Line bytes ∷ []) result
 reports_line old new bytes printed result is counts only same = record { says = line_said old new bytes printed result is counts only same; follows = counts.0 }
 
 -- nothing is said
 pub reports_none : (By : DeskView → DeskView → Cause → List ℕ → Type 0) (desk : DeskView) → Reports By desk desk [] (Ok tt)
-reports_none By desk = record { says = kept_none desk.kept; follows = omega arith }
+reports_none By desk = record { says = kept_none desk.kept; follows = follows_here desk }
 
 -- a report and then a line, where a cause that stops the line stops both
 said_then : (By : DeskView → DeskView → Cause → List ℕ → Type 0) (old mid new : DeskView) (first more : List Saying) (result : Result (Unit {0}) Stopped)

@@ -1,5 +1,5 @@
 -- How a call over a link and a desk goes on in its dialog.
-use Rattle.std.proofs.Common.{◌≡◌, ℕ, ◌≤◌, Bool, true, ◌||◌, arith, List, [], ◌∷◌, ◌++◌, append_assoc, append-nil, length, map, refl, sym, ap, ◌∙◌, subst, Option, None}
+use Rattle.std.proofs.Common.{◌≡◌, ℕ, ◌≤◌, Bool, true, ◌||◌, List, [], ◌∷◌, ◌++◌, append_assoc, append-nil, length, map, refl, sym, ap, ◌∙◌, subst, Option, None}
 use Rattle.std.proofs.Math.Bool.{or_assoc}
 use Rattle.std.proofs.lemmas.List.Folds.{list_any-append}
 use Rattle.avr_desk.specs.Fault.{Follows}
@@ -17,7 +17,7 @@ use Rattle.stk_host.proofs.Lifting.{raised, plays_lifted, by_lifted, sayings_rai
 use Rattle.stk_host.proofs.Talks.{heard_append}
 use Rattle.avr_desk.specs.Said.{Saying, SaidPart, after_all}
 use Rattle.avr_desk.proofs.Saying.{kept_on, kept_none, after_append}
-use Rattle.avr_desk.proofs.Telling.{risen_later, failed_later, follows_on}
+use Rattle.avr_desk.proofs.Telling.{risen_later, failed_later, follows_here, follows_on, unsaid_later}
 use Rattle.avr_session.specs.Session.{says}
 use Rattle.avr_session.specs.Runs.{Devices, devices, Cause, OfSending, OfListening, OfFile, OfPrinting, OfMemory, is_error, tells_fault, HasCome, TellsCause, Listens, Terms, StopsBehind, SaysFront, Ran, BrokeOff, SaidSome}
 use Rattle.avr_session.proofs.Places.{place_more, place_behind, place_part, desk_says, desk_listens, sayings_said, map_append}
@@ -107,7 +107,7 @@ has_come_in : (some all : Bool) (o p then : Devices) → (some ≡ true → all 
 has_come_in some all o p then takes link desk OfSending come = risen_later o.link.failures p.link.failures then.link.failures link come
 has_come_in some all o p then takes link desk OfListening come = risen_later o.link.failures p.link.failures then.link.failures link come
 has_come_in some all o p then takes link desk (OfFile file trouble) come = failed_later o.desk p.desk then.desk desk come
-has_come_in some all o p then takes link desk OfPrinting come = failed_later o.desk p.desk then.desk desk come
+has_come_in some all o p then takes link desk OfPrinting come = unsaid_later o.desk p.desk then.desk desk come
 has_come_in some all o p then takes link desk OfMemory come = takes come
 
 -- behind other sayings, where they tell what is taken to be told
@@ -172,7 +172,7 @@ pub broke_lifted : {A R : Type 0} {dialog : Dialog ⊥ A} {m n : Position} {o p 
 unfolding came_lifted
 broke_lifted {o = o} {p = p} {d = d} {e = e} {terms = terms} go_on f few link y =
     broke_on (came_lifted go_on d f few) (λ said cause told s. subst (λ (ss : List Saying). StopsBehind terms (devices o d) (devices p e) (ss ++ said) cause told) (sym (sayings_raised f.events))
-    (stops_since terms.takes terms.takes terms.was_told (devices o d) (devices p d) (devices p e) (λ t. t) link (omega arith) said cause told s)) y
+    (stops_since terms.takes terms.takes terms.was_told (devices o d) (devices p d) (devices p e) (λ t. t) link (follows_here d) said cause told s)) y
 
 -- behind a part that was played whole
 pub broke_after : {A R : Type 0} {a : Dialog Saying A} {m n : Position} {o p q : Devices} {result : A} {some all : Terms} (go_on : A → Dialog Saying R) (ran : Ran a m o p result n)

@@ -1,5 +1,5 @@
 -- Files that are created and written.
-use Rattle.std.proofs.Common.{◌≡◌, ℕ, true, List, [], ◌∷◌, map, bytes_eq, codes, Option, option_map, Result, Ok, Err, ◌∙◌, refl, arith, Some, None}
+use Rattle.std.proofs.Common.{◌≡◌, ℕ, true, List, [], ◌∷◌, map, bytes_eq, codes, Option, option_map, Result, Ok, Err, ◌∙◌, refl, Some, None}
 use Rattle.std.proofs.lemmas.Slice.Eq.{bytes_eq-Decides}
 use Rattle.avr_desk.specs.Record.{Record, DeskView, Passes, after_create}
 use Rattle.avr_desk.specs.Fault.{Follows, HasFailed}
@@ -10,7 +10,7 @@ use Rattle.avr_desk.specs.declared.fault.DeskFault.{DeskFault}
 use Rattle.stk_host.specs.Dialog.{Said}
 use Rattle.avr_desk.specs.Said.{Saying, Creates, Writes, Outs, Tells, after_all}
 use Rattle.avr_desk.proofs.Saying.{kept_append, kept_none}
-use Rattle.avr_desk.proofs.Telling.{failure_told, follows_on}
+use Rattle.avr_desk.proofs.Telling.{failure_told, follows_here, follows_on}
 use Rattle.avr_session.specs.Runs.{Cause, OfSending, OfListening, OfFile, OfPrinting, OfMemory, NotCreated, NotWritten, SaysFront, SaysOrStops, Reports, DeskStops, cause_line}
 use Rattle.avr_session.specs.Session.{saving_says}
 use Rattle.avr_session.specs.Saving.{SaveStops, WritesSome, WritesAll}
@@ -53,7 +53,7 @@ text_then old mid new file text (Err stopped) kept le writes = record {
   cause = OfFile file NotWritten;
   front = file_part old mid writes.between file text kept writes.part;
   told = writes.told;
-  stops = (refl, file_stops_in old mid new new file NotWritten writes.told le (omega arith) writes.stops);
+  stops = (refl, file_stops_in old mid new new file NotWritten writes.told le (follows_here new) writes.stops);
   kept = writes.kept;
 }
 

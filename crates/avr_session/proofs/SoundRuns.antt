@@ -22,14 +22,14 @@ use Rattle.avr_desk.proofs.Telling.{failed_later, failed_before}
 -- of sound devices only memory is left, and its line was told whole
 told_of_memory : (flag : Bool) (told : Bytes) (a between b : DeskView) → Follows a between → (HasFailed a b → ⊥) → TellsCause flag OfMemory told between b → told ≡ cause_line OfMemory
 told_of_memory false told a between b since sound (inl whole) = whole
-told_of_memory false told a between b since sound (inr part) = absurd (sound (failed_later a between b since part.1))
+told_of_memory false told a between b since sound (inr part) = absurd (sound (failed_later a between b since part.1.0))
 told_of_memory true told a between b since sound tells = absurd tells
 
 lacks : {takes : Bool} {old new : Devices} {said : List Saying} {told : Bytes} (cause : Cause) → IsSound old new → StopsBehind (untold takes) old new said cause told → told ≡ cause_line OfMemory
 lacks OfSending sound stops = absurd (sound.link stops.has_come)
 lacks OfListening sound stops = absurd (sound.link stops.has_come)
 lacks {old = old} {new = new} (OfFile file trouble) sound stops = absurd (sound.desk (failed_before old.desk stops.between new.desk stops.since stops.until stops.has_come))
-lacks {old = old} {new = new} OfPrinting sound stops = absurd (sound.desk (failed_before old.desk stops.between new.desk stops.since stops.until stops.has_come))
+lacks {old = old} {new = new} OfPrinting sound stops = absurd (sound.desk (failed_before old.desk stops.between new.desk stops.since stops.until stops.has_come.0))
 lacks {old = old} {new = new} {said = said} {told = told} OfMemory sound stops = told_of_memory (tells_fault said) told old.desk stops.between new.desk stops.since sound.desk stops.tells
 
 -- a line told stands at the end of the messages
@@ -40,12 +40,12 @@ told_last before after said told line whole kept =
     (r.messages, ap (λ (x : Record). x.messages) same ∙ ap (λ (xs : Bytes). r.messages ++ xs) whole)
 
 -- so what broke off says so
-pub broke_lacks : {R : Type 0} (dialog : Dialog Saying R) (m : Position) (o p : LinkView) (before after : Record) (a b : ℕ) (takes : Bool) → IsSound (devices o (keeping before a)) (devices p (keeping after b))
+pub broke_lacks : {R : Type 0} (dialog : Dialog Saying R) (m : Position) (o p : LinkView) (before after : Record) (a b : ℕ × ℕ) (takes : Bool) → IsSound (devices o (keeping before a)) (devices p (keeping after b))
     → BrokeOff dialog m (devices o (keeping before a)) (devices p (keeping after b)) (untold takes) → LacksMemory after.messages
 broke_lacks dialog m o p before after a b takes sound f = told_last before after (sayings f.shown) f.told (cause_line OfMemory) (lacks f.cause sound f.stops) f.kept
 
 -- and a run is played whole where no device failed and memory was not refused, by its messages.
-pub sound_run : (dialog : Dialog Saying ℕ) (o p : LinkView) (before after : Record) (a b : ℕ) (takes : Bool) (status : ℕ) → IsSound (devices o (keeping before a)) (devices p (keeping after b)) → (LacksMemory after.messages → ⊥)
+pub sound_run : (dialog : Dialog Saying ℕ) (o p : LinkView) (before after : Record) (a b : ℕ × ℕ) (takes : Bool) (status : ℕ) → IsSound (devices o (keeping before a)) (devices p (keeping after b)) → (LacksMemory after.messages → ⊥)
     → RunsTo dialog (devices o (keeping before a)) (devices p (keeping after b)) takes status → IsPlayed dialog (devices o (keeping before a)) (devices p (keeping after b)) status
 sound_run dialog o p before after a b takes status sound has_memory (inl ran) = ran
 sound_run dialog o p before after a b takes status sound has_memory (inr broke) = absurd (has_memory (broke_lacks dialog start o p before after a b takes sound broke.0))
@@ -55,7 +55,7 @@ never_lacks : {old new : Devices} {said : List Saying} {told : Bytes} (cause : C
 never_lacks OfSending sound stops = sound.link stops.has_come
 never_lacks OfListening sound stops = sound.link stops.has_come
 never_lacks {old = old} {new = new} (OfFile file trouble) sound stops = absurd (sound.desk (failed_before old.desk stops.between new.desk stops.since stops.until stops.has_come))
-never_lacks {old = old} {new = new} OfPrinting sound stops = absurd (sound.desk (failed_before old.desk stops.between new.desk stops.since stops.until stops.has_come))
+never_lacks {old = old} {new = new} OfPrinting sound stops = absurd (sound.desk (failed_before old.desk stops.between new.desk stops.since stops.until stops.has_come.0))
 never_lacks OfMemory sound stops = let e = stops.has_come in absurd (cc)
 
 abbrev pub Exact : Bool → Plan → Devices → Devices → ℕ → Type 0
@@ -93,7 +93,7 @@ one_status dialog old new k l d e m n x y =
     ap_status p = status_in p.outcome
 
 -- a session that was played to status 0 has no other
-pub perfect_is_0 : (dialog : Dialog Saying ℕ) (old new : Talk) (k l : ℕ) (before after : Record) (a b : ℕ) (takes : Bool) → IsSound (devices (talking old k) (keeping before a)) (devices (talking new l) (keeping after b)) → (LacksMemory after.messages → ⊥)
+pub perfect_is_0 : (dialog : Dialog Saying ℕ) (old new : Talk) (k l : ℕ) (before after : Record) (a b : ℕ × ℕ) (takes : Bool) → IsSound (devices (talking old k) (keeping before a)) (devices (talking new l) (keeping after b)) → (LacksMemory after.messages → ⊥)
     → IsPlayed dialog (devices (talking old k) (keeping before a)) (devices (talking new l) (keeping after b)) 0 → RunsTo dialog (devices (talking old k) (keeping before a)) (devices (talking new l) (keeping after b)) takes 1 → ⊥
 perfect_is_0 dialog old new k l before after a b takes sound has_memory ran other =
     let e : ◌≡◌ {A = ℕ} 0 1 = one_status dialog old new k l (keeping before a) (keeping after b) 0 1 ran (sound_run dialog (talking old k) (talking new l) before after a b takes 1 sound has_memory other) in
@@ -105,7 +105,7 @@ grown talk x y is =
     let inner : talk ++ y ≡ talk ++ x = cc in
     append_cancel_left talk x y (sym inner)
 
-pub waiting_is_no_run : (dialog : Dialog Saying ℕ) (talk during : Talk) (k l : ℕ) (before after : Record) (a b : ℕ) (takes : Bool) (status : ℕ) → IsSound (devices (talking talk k) (keeping before a)) (devices (talking (talk ++ during) l) (keeping after b))
+pub waiting_is_no_run : (dialog : Dialog Saying ℕ) (talk during : Talk) (k l : ℕ) (before after : Record) (a b : ℕ × ℕ) (takes : Bool) (status : ℕ) → IsSound (devices (talking talk k) (keeping before a)) (devices (talking (talk ++ during) l) (keeping after b))
     → (LacksMemory after.messages → ⊥) → (played dialog 1 (heard during)).outcome ≡ None → RunsTo dialog (devices (talking talk k) (keeping before a)) (devices (talking (talk ++ during) l) (keeping after b)) takes status → ⊥
 waiting_is_no_run dialog talk during k l before after a b takes status sound has_memory waits runs =
     let p = sound_run dialog (talking talk k) (talking (talk ++ during) l) before after a b takes status sound has_memory runs in
@@ -120,7 +120,7 @@ waits_at_once : (plan : Plan) → (played (session plan) 1 []).outcome ≡ None
 unfolding session opening operations.handshake tries attempt exchange answer
 waits_at_once plan = refl
 
-pub nothing_is_no_run : (plan : Plan) (talk : Talk) (k l : ℕ) (r : Record) (a b : ℕ) (takes : Bool) (status : ℕ) → IsSound (devices (talking talk k) (keeping r a)) (devices (talking talk l) (keeping r b)) → (LacksMemory r.messages → ⊥)
+pub nothing_is_no_run : (plan : Plan) (talk : Talk) (k l : ℕ) (r : Record) (a b : ℕ × ℕ) (takes : Bool) (status : ℕ) → IsSound (devices (talking talk k) (keeping r a)) (devices (talking talk l) (keeping r b)) → (LacksMemory r.messages → ⊥)
     → RunsTo (session plan) (devices (talking talk k) (keeping r a)) (devices (talking talk l) (keeping r b)) takes status → ⊥
 nothing_is_no_run plan talk k l r a b takes status sound has_memory runs =
     waiting_is_no_run (session plan) talk [] k l r r a b takes status

@@ -126,12 +126,13 @@ IsOfDesk (OfFile file trouble) = Unit {0}
 IsOfDesk OfPrinting = Unit {0}
 IsOfDesk cause = ⊥
 
--- The cause has come: a device has failed, by the counts of their failures before and then. No count shows that memory
--- was refused; that comes only where memory is taken (`takes`).
+-- The cause has come: a device has failed, by the counts of their failures before and then, and where printing failed a
+-- write to the messages has. No count shows that memory was refused; that comes only where memory is taken (`takes`).
 abbrev pub HasCome : Bool → Devices → Devices → Cause → Type 0
 HasCome takes old then OfSending = link.HasFailed old.link then.link
 HasCome takes old then OfListening = link.HasFailed old.link then.link
 HasCome takes old then OfMemory = takes ≡ true
+HasCome takes old then OfPrinting = desk.HasFailedToSay old.desk then.desk
 HasCome takes old then cause = desk.HasFailed old.desk then.desk
 
 -- The cause's line was told. But behind the line of a fault only the link or the printing fails, and nothing more is
@@ -232,9 +233,9 @@ pub record Reports (By : DeskView → DeskView → Cause → Bytes → Type 0) (
   pub says : SaysOrStops By old new sayings result
   pub follows : Follows old new
 
--- the desk failed as it printed, and nothing is told of that
+-- a write to the messages failed, and nothing is told of that
 abbrev pub PrintStops : DeskView → DeskView → Cause → Bytes → Type 0
-PrintStops old new OfPrinting told = desk.HasFailed old new × (told ≡ [])
+PrintStops old new OfPrinting told = desk.HasFailedToSay old new × (told ≡ [])
 PrintStops old new cause told = ⊥
 
 -- the desk failed at a file, and from then on that was told

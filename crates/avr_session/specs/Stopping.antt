@@ -10,9 +10,9 @@ use Rattle.avr_desk.specs.Lines.{Bytes}
 use Rattle.avr_desk.specs.Said.{Saying}
 use Rattle.avr_session.specs.Runs.{Devices, OfMemory, cause_line, start, Ran}
 
--- what a desk shows that keeps this, and has failed so often
-abbrev pub keeping : Record → ℕ → DeskView
-keeping kept failures = showing (Some kept) failures
+-- what a desk shows that keeps this, and has failed so often, by its two counts
+abbrev pub keeping : Record → ℕ × ℕ → DeskView
+keeping kept counts = showing (Some kept) counts.0 counts.1
 
 -- what a link shows over which this passed, and which has failed so often
 abbrev pub talking : Talk → ℕ → LinkView

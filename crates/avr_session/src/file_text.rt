@@ -24,7 +24,7 @@ fn make_room<D: Desk>(
         (SendsFront stream (D.view desk.old) (D.view desk.new) waiting.old.items waiting.new.items) }
     ensures room { OnOk result (length waiting.new.items + count ≤ 4096) }
     ensures part { OnErr result (SendsPart stream (D.view desk.old) (D.view desk.new) waiting.old.items) }
-    ensures counts { Counts (D.view desk.old) (D.view desk.new) result }
+    ensures counts { Counts stream (D.view desk.old) (D.view desk.new) result }
     ensures fault { IfErr result (λ e. e ≡ DeskFault.Failed) }
 {
     let room = waiting.remaining_capacity();
@@ -44,7 +44,7 @@ fn write_pieces<D: Desk, P: Pieces + Drop>(
 ) -> Result<(), DeskFault>
     ensures all { OnOk result (Passes (after_sent stream (P.rest text)) (D.view desk.old) (D.view desk.new)) }
     ensures part { OnErr result (SendsPart stream (D.view desk.old) (D.view desk.new) (P.rest text)) }
-    ensures counts { Counts (D.view desk.old) (D.view desk.new) result }
+    ensures counts { Counts stream (D.view desk.old) (D.view desk.new) result }
     ensures fault { IfErr result (λ e. e ≡ DeskFault.Failed) }
 {
     let mut text = text;
@@ -70,7 +70,7 @@ pub(crate) fn write_text<D: Desk>(
     ensures all { OnOk result
         (Passes (after_sent stream (file_text format bytes.now)) (D.view desk.old) (D.view desk.new)) }
     ensures part { OnErr result (SendsPart stream (D.view desk.old) (D.view desk.new) (file_text format bytes.now)) }
-    ensures counts { Counts (D.view desk.old) (D.view desk.new) result }
+    ensures counts { Counts stream (D.view desk.old) (D.view desk.new) result }
     ensures fault { IfErr result (λ e. e ≡ DeskFault.Failed) }
 {
     match format {

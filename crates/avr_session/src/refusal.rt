@@ -3,6 +3,7 @@ ghost use Rattle.std.specs.Prelude.{◌≡◌, ◌∷◌, [], codes, decimal, If
 ghost use Rattle.avr_desk.specs.Fault.{Counts};
 ghost use Rattle.avr_desk.specs.Lines.{error};
 ghost use Rattle.avr_desk.specs.Said.{IsPrinted, Tells};
+ghost use Rattle.avr_desk.specs.declared.stream.Stream.TheVariants.{Messages};
 ghost use Rattle.avr_session.specs.Refusal.{update_pieces, port_pieces, refusal_line};
 
 use avr_cli::{SettingsFault, Text, UpdateFault};
@@ -15,7 +16,7 @@ const REFUSED: u8 = 1;
 fn print_update<D: Desk>(desk: &mut D, number: u8, text: &str) -> Result<(), DeskFault>
     ensures printed { IsPrinted (D.view desk.old) (D.view desk.new)
         (error (codes "update " ∷ decimal number ∷ text.now ∷ [])) result }
-    ensures counts { Counts (D.view desk.old) (D.view desk.new) result }
+    ensures counts { Counts Messages (D.view desk.old) (D.view desk.new) result }
     ensures fault { IfErr result (λ e. e ≡ DeskFault.Failed) }
 {
     print_error(
@@ -31,7 +32,7 @@ fn print_update<D: Desk>(desk: &mut D, number: u8, text: &str) -> Result<(), Des
 /// Prints an error of one text.
 fn print_text<D: Desk>(desk: &mut D, text: &str) -> Result<(), DeskFault>
     ensures printed { IsPrinted (D.view desk.old) (D.view desk.new) (error (text.now ∷ [])) result }
-    ensures counts { Counts (D.view desk.old) (D.view desk.new) result }
+    ensures counts { Counts Messages (D.view desk.old) (D.view desk.new) result }
     ensures fault { IfErr result (λ e. e ≡ DeskFault.Failed) }
 {
     print_error(desk, &[Piece::Text(text)])
@@ -41,7 +42,7 @@ fn print_text<D: Desk>(desk: &mut D, text: &str) -> Result<(), DeskFault>
 fn print_unknown<'a, D: Desk>(desk: &mut D, what: &'a str, name: &'a str) -> Result<(), DeskFault>
     ensures printed { IsPrinted (D.view desk.old) (D.view desk.new)
         (error (what.now ∷ name.now ∷ codes " is not known" ∷ [])) result }
-    ensures counts { Counts (D.view desk.old) (D.view desk.new) result }
+    ensures counts { Counts Messages (D.view desk.old) (D.view desk.new) result }
     ensures fault { IfErr result (λ e. e ≡ DeskFault.Failed) }
 {
     print_error(
@@ -61,7 +62,7 @@ fn print_update_fault<D: Desk>(
     fault: UpdateFault,
 ) -> Result<(), DeskFault>
     ensures printed { IsPrinted (D.view desk.old) (D.view desk.new) (error (update_pieces number fault)) result }
-    ensures counts { Counts (D.view desk.old) (D.view desk.new) result }
+    ensures counts { Counts Messages (D.view desk.old) (D.view desk.new) result }
     ensures fault { IfErr result (λ e. e ≡ DeskFault.Failed) }
 {
     match fault {
@@ -76,7 +77,7 @@ fn print_update_fault<D: Desk>(
 /// Prints that a port is not known, or that none is given.
 fn print_bad_port<D: Desk>(desk: &mut D, port: &Option<Text>) -> Result<(), DeskFault>
     ensures printed { IsPrinted (D.view desk.old) (D.view desk.new) (error (port_pieces port.now)) result }
-    ensures counts { Counts (D.view desk.old) (D.view desk.new) result }
+    ensures counts { Counts Messages (D.view desk.old) (D.view desk.new) result }
     ensures fault { IfErr result (λ e. e ≡ DeskFault.Failed) }
 {
     match port {
@@ -89,7 +90,7 @@ fn print_bad_port<D: Desk>(desk: &mut D, port: &Option<Text>) -> Result<(), Desk
 #[tactic(auto, unfolding(crate::specs::Refusal::refusal_line))]
 fn print_refusal<D: Desk>(desk: &mut D, fault: &SettingsFault) -> Result<(), DeskFault>
     ensures printed { IsPrinted (D.view desk.old) (D.view desk.new) (refusal_line fault.now) result }
-    ensures counts { Counts (D.view desk.old) (D.view desk.new) result }
+    ensures counts { Counts Messages (D.view desk.old) (D.view desk.new) result }
     ensures fault { IfErr result (λ e. e ≡ DeskFault.Failed) }
 {
     match fault {

@@ -14,7 +14,7 @@ ghost use Rattle.avr_session.specs.Stopping.{IsSound, LacksMemory, IsPlayed, kee
 /// Where no device failed, a run was played whole, if the messages do not say that memory was refused, or if its plan
 /// takes none.
 pub fn a_sound_run_is_played()
-    ensures played { (dialog : Dialog Saying ℕ) (o p : LinkView) (before after : Record) (a b : ℕ) (takes : Bool)
+    ensures played { (dialog : Dialog Saying ℕ) (o p : LinkView) (before after : Record) (a b : ℕ × ℕ) (takes : Bool)
         (status : ℕ)
         → IsSound (devices o (keeping before a)) (devices p (keeping after b)) → (LacksMemory after.messages → ⊥)
         → RunsTo dialog (devices o (keeping before a)) (devices p (keeping after b)) takes status
@@ -26,21 +26,21 @@ pub fn a_sound_run_is_played()
 /// Wrong ends. Where no device failed and no message tells of memory: status 1 after a session that was played to 0; an
 /// end while the play waits, as behind an erase or before LEAVE; no session at all.
 pub fn a_sound_run_has_no_other_end()
-    ensures perfect { (dialog : Dialog Saying ℕ) (old new : Talk) (k l : ℕ) (before after : Record) (a b : ℕ)
+    ensures perfect { (dialog : Dialog Saying ℕ) (old new : Talk) (k l : ℕ) (before after : Record) (a b : ℕ × ℕ)
         (takes : Bool)
         → IsSound (devices (talking old k) (keeping before a)) (devices (talking new l) (keeping after b))
         → (LacksMemory after.messages → ⊥)
         → IsPlayed dialog (devices (talking old k) (keeping before a)) (devices (talking new l) (keeping after b)) 0
         → RunsTo dialog (devices (talking old k) (keeping before a)) (devices (talking new l) (keeping after b)) takes
         1 → ⊥ }
-    ensures waiting { (dialog : Dialog Saying ℕ) (talk during : Talk) (k l : ℕ) (before after : Record) (a b : ℕ)
+    ensures waiting { (dialog : Dialog Saying ℕ) (talk during : Talk) (k l : ℕ) (before after : Record) (a b : ℕ × ℕ)
         (takes : Bool) (status : ℕ)
         → IsSound (devices (talking talk k) (keeping before a))
         (devices (talking (talk ++ during) l) (keeping after b))
         → (LacksMemory after.messages → ⊥) → (played dialog 1 (heard during)).outcome ≡ None
         → RunsTo dialog (devices (talking talk k) (keeping before a))
         (devices (talking (talk ++ during) l) (keeping after b)) takes status → ⊥ }
-    ensures nothing { (plan : Plan) (talk : Talk) (k l : ℕ) (r : Record) (a b : ℕ) (takes : Bool) (status : ℕ)
+    ensures nothing { (plan : Plan) (talk : Talk) (k l : ℕ) (r : Record) (a b : ℕ × ℕ) (takes : Bool) (status : ℕ)
         → IsSound (devices (talking talk k) (keeping r a)) (devices (talking talk l) (keeping r b))
         → (LacksMemory r.messages → ⊥)
         → RunsTo (session plan) (devices (talking talk k) (keeping r a)) (devices (talking talk l) (keeping r b)) takes

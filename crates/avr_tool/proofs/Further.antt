@@ -21,7 +21,7 @@ use Rattle.avr_emulated.proofs.AgainAgrees.{agrees_anyway}
 use Rattle.avr_emulated.proofs.AgainHeals.{done_again}
 use Rattle.avr_tool.specs.Headline.{wire_and_desk}
 
-module _ (plan : Plan) (w v : WiredState) (d e : Record) (a b status : ℕ) (few : AreFew w.wire.fates) (sound : IsSound (wire_and_desk w (keeping d a)) (wire_and_desk v (keeping e b))) (has_memory : LacksMemory e.messages → ⊥) where
+module _ (plan : Plan) (w v : WiredState) (d e : Record) (a b : ℕ × ℕ) (status : ℕ) (few : AreFew w.wire.fates) (sound : IsSound (wire_and_desk w (keeping d a)) (wire_and_desk v (keeping e b))) (has_memory : LacksMemory e.messages → ⊥) where
   abbrev old : DeskView
   old = keeping d a
 

@@ -85,12 +85,12 @@ pub fn a_wrong_outcome_is_refused()
 /// do not say that memory was refused: a session is its course; and that of a plan that erases, and agrees on a chip of
 /// 00 and on one of FF, has status 0 and, verified, leaves its images, whatever the chip was.
 pub fn a_sound_run_is_its_course()
-    ensures course { (plan : Plan) (w v : WiredState) (d e : Record) (a b status : ℕ)
+    ensures course { (plan : Plan) (w v : WiredState) (d e : Record) (a b : ℕ × ℕ) (status : ℕ)
         → AreFew w.wire.fates → IsSound (wire_and_desk w (keeping d a)) (wire_and_desk v (keeping e b))
         → (LacksMemory e.messages → ⊥)
         → OverAnyLine plan w v (keeping d a) (keeping e b) status
         → IsCourse plan (memories w) (memories v) (keeping d a) (keeping e b) status }
-    ensures images { (plan : Plan) (w v : WiredState) (d e : Record) (a b status : ℕ)
+    ensures images { (plan : Plan) (w v : WiredState) (d e : Record) (a b : ℕ × ℕ) (status : ℕ)
         → AreFew w.wire.fates → IsSound (wire_and_desk w (keeping d a)) (wire_and_desk v (keeping e b))
         → (LacksMemory e.messages → ⊥)
         → plan.switches.no_verify ≡ false → has_erase (items plan) ≡ true → AgreesAnyway plan

@@ -5,7 +5,7 @@ use Rattle.avr_chip.proofs.loading.load_chip.Goals as goal
 pub returns-in-Err-clause-goes : goal.returns-in-Err-clause-goes
 returns-in-Err-clause-goes g c =
     let counts = c.in-Err.ensures.counts in
-    c.unread_chip.ensures.goes _ (breaks_as _ _ _ c.in-Err.fault c.in-Err.ensures.kept) counts.0 (counted_as _ _ c.in-Err.fault counts)
+    c.unread_chip.ensures.goes _ (breaks_as _ _ _ c.in-Err.fault c.in-Err.ensures.kept) counts.0 (counted_as _ _ _ _ c.in-Err.fault counts)
 
 pub returns-then-not-contents-clause-goes : goal.returns-then-not-contents-clause-goes
 returns-then-not-contents-clause-goes g c =

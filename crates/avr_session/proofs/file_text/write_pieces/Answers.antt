@@ -29,15 +29,15 @@ all_sent : (s : Stream) (old now new : Option Record) (done waiting text : List 
 all_sent s old now new done waiting text (Ok ok) is before sent = sent_next s old now new done waiting before sent ∙ ap (λ (xs : List ℕ). option_map (after_sent s xs) old) (sym is)
 all_sent s old now new done waiting text (Err fault) is before sent = tt
 
-part_sent : (s : Stream) (old now new : Option Record) (done waiting text : List ℕ) (r : Result (Unit {0}) DeskFault) → text ≡ done ++ waiting → now ≡ option_map (after_sent s done) old → OnErr r (SendsPart s (showing now 0) (showing new 0) waiting)
-    → OnErr r (SendsPart s (showing old 0) (showing new 0) text)
+part_sent : (s : Stream) (old now new : Option Record) (done waiting text : List ℕ) (r : Result (Unit {0}) DeskFault) → text ≡ done ++ waiting → now ≡ option_map (after_sent s done) old → OnErr r (SendsPart s (showing now 0 0) (showing new 0 0) waiting)
+    → OnErr r (SendsPart s (showing old 0 0) (showing new 0 0) text)
 part_sent s old now new done waiting text (Ok ok) is before part = tt
-part_sent s old now new done waiting text (Err fault) is before part = subst (SendsPart s (showing old 0) (showing new 0)) (sym (is ∙ ap (λ (xs : List ℕ). done ++ xs) (sym (append-nil waiting)))) (sent_next_part s old now new done waiting [] before part)
+part_sent s old now new done waiting text (Err fault) is before part = subst (SendsPart s (showing old 0 0) (showing new 0 0)) (sym (is ∙ ap (λ (xs : List ℕ). done ++ xs) (sym (append-nil waiting)))) (sent_next_part s old now new done waiting [] before part)
 
 pub pieces-init : goal.pieces-init
 pieces-init g c = record {
   sent = ([], ap (λ (xs : List ℕ). xs ++ g.P.Pieces.rest c.args.text) (sym c.new-waiting.ensures), sent_none c.args.stream (g.D.Desk.view c.args.desk.now).kept);
-  counted = refl;
+  counted = (refl, refl);
 }
 
 pub pieces-preserved : goal.pieces-preserved
@@ -51,7 +51,7 @@ pieces-preserved g c =
         behind _ i.0 c.pieces.waiting.items c.next_piece.new.out.items _ w.0 c.make_room.new.waiting.items _ _ i.1 c.next_piece.ensures.joined w.1 (rw c.as_slice.ensures.value at put),
         sent_next c.args.stream _ _ _ i.0 w.0 i.2 w.2,
       );
-      counted = c.in_ok-make_room.ensures.counts.1 ∙ c.pieces.invariant.counted;
+      counted = (c.in_ok-make_room.ensures.counts.1.0 ∙ c.pieces.invariant.counted.0, c.in_ok-make_room.ensures.counts.1.1 ∙ c.pieces.invariant.counted.1);
     }
 
 pub returns-in_err-make_room-clause-part : goal.returns-in_err-make_room-clause-part
@@ -77,4 +77,8 @@ returns-clause-part g c =
 
 pub returns-clause-counts : goal.returns-clause-counts
 returns-clause-counts g c =
-    subst (λ n. Counts (showing None n) (g.D.Desk.view c.write_all.new.desk) c.write_all.result) c.pieces.invariant.counted c.write_all.ensures.counts
+    let first = g.D.Desk.view c.args.desk.now in
+    let last = g.D.Desk.view c.write_all.new.desk in
+    let same = c.pieces.invariant.counted in
+    subst (λ n. Counts c.args.stream (showing None first.failures n) last c.write_all.result) same.1
+    (subst (λ n. Counts c.args.stream (showing None n (g.D.Desk.view c.pieces.desk).unsaid) last c.write_all.result) same.0 c.write_all.ensures.counts)

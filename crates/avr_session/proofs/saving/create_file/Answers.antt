@@ -1,5 +1,6 @@
 use Rattle.std.proofs.Common.{[], ◌∷◌, refl}
 use Rattle.avr_desk.specs.Said.{Writes}
+use Rattle.avr_desk.specs.declared.stream.Stream.TheVariants.{File}
 use Rattle.avr_session.specs.FileText.{file_text}
 use Rattle.avr_session.specs.Runs.{NotCreated, cause_line}
 use Rattle.avr_session.specs.Saving.{SaveStops}
@@ -16,7 +17,7 @@ returns-in-Ok g c =
 pub returns-in-Err : goal.returns-in-Err
 unfolding cause_line
 returns-in-Err g c =
-    let failed = failed_by (g.D.Desk.view c.args.desk.now) (g.D.Desk.view c.create.new.self) c.create.result _ c.in-Err.is c.create.ensures.fault c.create.ensures.counts in
+    let failed = failed_by File (g.D.Desk.view c.args.desk.now) (g.D.Desk.view c.create.new.self) c.create.result _ c.in-Err.is c.create.ensures.fault c.create.ensures.counts in
     record {
       says = file_stops (SaveStops c.args.target.file.now) _ (g.D.Desk.view c.create.new.self) _ _ c.args.target.file.now NotCreated
           (not_created _ _ c.args.target.file.now c.create.result _ (Writes (file_text c.args.target.format c.args.bytes.now) ∷ []) c.in-Err.is c.create.ensures.kept)
