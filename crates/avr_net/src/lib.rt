@@ -13,7 +13,7 @@
 // links over sockets
 mod ports;
 // from settings to status
-mod refusal;
+mod messages;
 mod run;
 mod serving;
 

@@ -1,10 +1,10 @@
 //! A run over a port of the network, from settings to status.
 ghost use Rattle.avr_net.specs.OverNet.{RunsOverNet};
 
+use crate::messages::unopened_message;
 use crate::ports::connect;
-use crate::refusal::refuse_unopened;
 use avr_cli::Settings;
-use avr_desk::Desk;
+use avr_desk::{Desk, refuse};
 use avr_plan::plan;
 use avr_session::drive;
 use std::alloc::Global;
@@ -29,7 +29,7 @@ pub fn run_net<R: Net, D: Desk>(
     };
     let mut link = match connect(rt, address) {
         Ok(link) => link,
-        Err(_) => return refuse_unopened(desk, "net:", address),
+        Err(_) => return refuse(desk, &unopened_message("net:", address)),
     };
     drive(alloc, &plan, desk, &mut link)
 }

@@ -2,10 +2,10 @@
 ghost use Rattle.avr_cli.specs.Port.{port_number as number_of};
 ghost use Rattle.avr_net.specs.ServedNet.{ServesNet, ServesOn, ServesAt};
 
+use crate::messages::unopened_message;
 use crate::ports::{accept, listen};
-use crate::refusal::refuse_unopened;
 use avr_cli::{Settings, port_number};
-use avr_desk::Desk;
+use avr_desk::{Desk, refuse};
 use avr_part::Chip;
 use avr_serve::{READS, find_chip, serve_chip};
 use std::alloc::Global;
@@ -31,7 +31,7 @@ where
 {
     let mut link = match accept(listener) {
         Ok(link) => link,
-        Err(_) => return refuse_unopened(desk, "", port),
+        Err(_) => return refuse(desk, &unopened_message("", port)),
     };
     serve_chip(alloc, chip, file, desk, &mut link, READS)
 }
@@ -48,11 +48,11 @@ fn serve_at<R: Net, D: Desk>(
     ensures serves { ServesAt (number_of port.now) chip port.now file.now (D.view desk.old) (D.view desk.new) result }
 {
     let Some(number) = port_number(port) else {
-        return refuse_unopened(desk, "", port);
+        return refuse(desk, &unopened_message("", port));
     };
     match listen(rt, number) {
         Ok(listener) => serve_on(alloc, chip, port, file, &listener, desk),
-        Err(_) => refuse_unopened(desk, "", port),
+        Err(_) => refuse(desk, &unopened_message("", port)),
     }
 }
 

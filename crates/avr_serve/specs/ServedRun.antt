@@ -1,5 +1,5 @@
 -- Serving an emulated programmer, from settings to status.
-use Rattle.std.specs.Prelude.{◌≡◌, ◌⊎◌, ℕ, [], ◌∷◌, Ok, Err, codes}
+use Rattle.std.specs.Prelude.{◌≡◌, ◌⊎◌, ℕ, List, [], ◌∷◌, Option, Some, None, Ok, Err, codes}
 use Rattle.avr_chip.specs.Loading.{chip_stage}
 use Rattle.avr_chip.specs.Saving.{Saves}
 use Rattle.avr_cli.specs.declared.settings.Settings.{Settings}
@@ -32,13 +32,20 @@ settings_chip s file = settings_part s >>= λ part. chip_stage part file
 abbrev pub fresh_machine : chips.ChipState → Machine
 fresh_machine chip = record { held = []; programmer = fresh_programmer chip }
 
--- Of an end that was heard nothing is told; of any other the line was printed, or the desk has failed and a front of it
--- was.
+-- what is told of how serving ended; of an end that was heard nothing is
+abbrev pub end_pieces : Served → Option (List Bytes)
+end_pieces Ended = None
+end_pieces RecvFailed = Some (codes "link cannot be read" ∷ [])
+end_pieces SendFailed = Some (codes "link cannot be written" ∷ [])
+end_pieces TooManyReads = Some (codes "too many reads" ∷ [])
+
+-- where there is a message its line was printed, or the desk has failed and a front of it was
+abbrev pub TellsIfAny : Option (List Bytes) → DeskView → DeskView → Type 0
+TellsIfAny None old new = new ≡ old
+TellsIfAny (Some pieces) old new = Tells old new (error pieces)
+
 abbrev pub TellsEnd : Served → DeskView → DeskView → Type 0
-TellsEnd Ended old new = new ≡ old
-TellsEnd RecvFailed old new = Tells old new (error (codes "link cannot be read" ∷ []))
-TellsEnd SendFailed old new = Tells old new (error (codes "link cannot be written" ∷ []))
-TellsEnd TooManyReads old new = Tells old new (error (codes "too many reads" ∷ []))
+TellsEnd served = TellsIfAny (end_pieces served)
 
 -- the status, where the chip was saved
 abbrev pub status_of_end : Served → ℕ

@@ -1,22 +1,25 @@
 //! How serving ended is told, and the chip is saved.
-ghost use Rattle.std.specs.Prelude.{◌≡◌, ◌∷◌, []};
+ghost use Rattle.std.specs.Prelude.{◌≡◌};
 ghost use Rattle.avr_desk.specs.Fault.{Follows};
-ghost use Rattle.avr_desk.specs.Lines.{error};
-ghost use Rattle.avr_desk.specs.Said.{Tells};
 ghost use Rattle.avr_part.specs.ChipFile.{chip_file};
-ghost use Rattle.avr_serve.specs.ServedRun.{TellsEnd, SavesAfterServing, status_of_end};
+ghost use Rattle.avr_serve.specs.ServedRun.{TellsEnd, SavesAfterServing, end_pieces, status_of_end};
 
 use crate::serving::Served;
 use avr_chip::save_chip;
-use avr_desk::{Desk, Piece, print_error};
+use avr_desk::{Desk, Message, refuse};
 use avr_part::Chip;
 use std::alloc::Global;
 
-/// Prints an error, as far as the desk takes it.
-fn tell<D: Desk>(desk: &mut D, text: &str)
-    ensures { Tells (D.view desk.old) (D.view desk.new) (error (text.now ∷ [])) }
+/// What is told of how serving ended; of an end that was heard nothing is.
+fn end_message(served: Served) -> Option<Message<'static>>
+    ensures { result ≡ end_pieces served }
 {
-    let _ = print_error(desk, &[Piece::Text(text)]);
+    match served {
+        Served::Ended => None,
+        Served::RecvFailed => Some(Message::text("link cannot be read")),
+        Served::SendFailed => Some(Message::text("link cannot be written")),
+        Served::TooManyReads => Some(Message::text("too many reads")),
+    }
 }
 
 /// Tells how serving ended, if not with an end that was heard.
@@ -24,11 +27,8 @@ pub(crate) fn tell_end<D: Desk>(desk: &mut D, served: Served)
     ensures told { TellsEnd served (D.view desk.old) (D.view desk.new) }
     ensures follows { Follows (D.view desk.old) (D.view desk.new) }
 {
-    match served {
-        Served::Ended => {}
-        Served::RecvFailed => tell(desk, "link cannot be read"),
-        Served::SendFailed => tell(desk, "link cannot be written"),
-        Served::TooManyReads => tell(desk, "too many reads"),
+    if let Some(message) = end_message(served) {
+        refuse(desk, &message);
     }
 }
 

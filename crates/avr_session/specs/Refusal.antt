@@ -4,28 +4,36 @@ use Rattle.avr_cli.specs.declared.settings.SettingsFault.{SettingsFault}
 use Rattle.avr_cli.specs.declared.settings.SettingsFault.TheVariants.{NoPart, BadProgrammer, BadPort, NoChip, TooMany, BadUpdate, StandardTaken, Memory}
 use Rattle.avr_cli.specs.declared.update.UpdateFault.{UpdateFault}
 use Rattle.avr_cli.specs.declared.update.UpdateFault.TheVariants as update
-use Rattle.avr_desk.specs.Lines.{Bytes, error}
+use Rattle.avr_desk.specs.Lines.{Bytes, error, memory_pieces}
+
+-- in the update of this number
+abbrev pub in_update_pieces : ℕ → Bytes → List Bytes
+in_update_pieces n text = codes "update " ∷ decimal n ∷ text ∷ []
 
 abbrev pub update_pieces : ℕ → UpdateFault → List Bytes
-update_pieces n update.BadMemory = codes "update " ∷ decimal n ∷ codes ": no such memory" ∷ []
-update_pieces n update.BadOp = codes "update " ∷ decimal n ∷ codes ": no such operation" ∷ []
-update_pieces n update.BadFormat = codes "update " ∷ decimal n ∷ codes ": no such format here" ∷ []
-update_pieces n update.NoFile = codes "update " ∷ decimal n ∷ codes ": no file named" ∷ []
-update_pieces n update.Memory = codes "out of memory" ∷ []
+update_pieces n update.BadMemory = in_update_pieces n (codes ": no such memory")
+update_pieces n update.BadOp = in_update_pieces n (codes ": no such operation")
+update_pieces n update.BadFormat = in_update_pieces n (codes ": no such format here")
+update_pieces n update.NoFile = in_update_pieces n (codes ": no file named")
+update_pieces n update.Memory = memory_pieces
+
+-- something that was given
+abbrev pub unknown_pieces : Bytes → Bytes → List Bytes
+unknown_pieces what name = what ∷ name ∷ codes " is not known" ∷ []
 
 abbrev pub port_pieces : Option Bytes → List Bytes
 port_pieces None = codes "no port given (-P)" ∷ []
-port_pieces (Some text) = codes "port " ∷ text ∷ codes " is not known" ∷ []
+port_pieces (Some text) = unknown_pieces (codes "port ") text
 
 abbrev pub refusal_pieces : SettingsFault → List Bytes
 refusal_pieces NoPart = codes "no part given (-p)" ∷ []
-refusal_pieces (BadProgrammer name) = codes "programmer " ∷ name ∷ codes " is not known" ∷ []
+refusal_pieces (BadProgrammer name) = unknown_pieces (codes "programmer ") name
 refusal_pieces (BadPort port) = port_pieces port
 refusal_pieces NoChip = codes "no chip file given (--chip)" ∷ []
 refusal_pieces TooMany = codes "more than 16 updates" ∷ []
 refusal_pieces (BadUpdate n fault) = update_pieces n fault
 refusal_pieces StandardTaken = codes "standard streams are taken" ∷ []
-refusal_pieces Memory = codes "out of memory" ∷ []
+refusal_pieces Memory = memory_pieces
 
 -- the line of a fault
 unfoldable pub refusal_line : SettingsFault → Bytes

@@ -9,7 +9,7 @@ use Rattle.stk_host.specs.Tape.{on_tape}
 use Rattle.stk_host.specs.Talk.{Talk, LinkView, heard, Grows}
 use Rattle.stk_host.specs.Dialog.{Dialog, Event, Frame, Said, played, sayings}
 use Rattle.stk_host.specs.Play.{Position, Plays, Breaks}
-use Rattle.avr_desk.specs.Lines.{Bytes, error}
+use Rattle.avr_desk.specs.Lines.{Bytes, error, memory_line, not_created_pieces, not_written_pieces}
 use Rattle.avr_desk.specs.Said.{Saying, Line, Creates, Writes, Outs, SaidPart, IsPrefixOf, TellsLine, TellsFailure, after_all}
 use Rattle.avr_session.specs.declared.standing.Stopped.{Stopped}
 
@@ -39,17 +39,17 @@ pub data Cause : Type 0 where
   OfPrinting : Cause
   OfMemory : Cause
 
-abbrev pub trouble_text : FileTrouble → Bytes
-trouble_text NotCreated = codes ": cannot be created"
-trouble_text NotWritten = codes ": cannot be written"
+abbrev pub trouble_pieces : Bytes → FileTrouble → List Bytes
+trouble_pieces file NotCreated = not_created_pieces file
+trouble_pieces file NotWritten = not_written_pieces file
 
 -- the line that tells it, if one can be printed
 unfoldable pub cause_line : Cause → Bytes
 cause_line OfSending = error (codes "link cannot be written" ∷ [])
 cause_line OfListening = error (codes "link cannot be read" ∷ [])
-cause_line (OfFile file trouble) = error (file ∷ trouble_text trouble ∷ [])
+cause_line (OfFile file trouble) = error (trouble_pieces file trouble)
 cause_line OfPrinting = []
-cause_line OfMemory = error (codes "out of memory" ∷ [])
+cause_line OfMemory = memory_line
 
 -- whether it is the line of an error
 abbrev pub is_error : Saying → Bool

@@ -1,16 +1,15 @@
 //! What a session reports.
 ghost use Rattle.std.specs.Prelude.{◌≡◌, ◌∷◌, ◌≤◌, [], map, codes, Ok, Err};
-ghost use Rattle.byteorder.specs.Endian.{big_bytes};
-ghost use Rattle.avr_desk.specs.Lines.{text_of, digits, error};
+ghost use Rattle.avr_desk.specs.Lines.{text_of, error};
 ghost use Rattle.avr_desk.specs.Said.{Line};
-ghost use Rattle.avr_part.specs.Mem.{name_of};
-ghost use Rattle.avr_session.specs.Lines.{informs, warns, other_signature, fault_line};
+ghost use Rattle.avr_session.specs.Lines.{informs, warns, fault_line};
 ghost use Rattle.avr_session.specs.Concluding.{stopped_of};
 ghost use Rattle.avr_session.specs.Runs.{Reports, PrintStops};
 ghost use Rattle.avr_session.specs.Session.{fault_or, bytes_say, signature_says, warns_of_signature, opening_says};
 
+use crate::messages::{fault_message, other_signature_message};
 use crate::standing::Stopped;
-use avr_desk::{Desk, DeskFault, Piece, print_error, print_information, print_warning};
+use avr_desk::{Desk, DeskFault, Message, Piece, print_error, print_information, print_warning};
 use avr_part::{Mem, Part};
 use stk_host::HostFault;
 
@@ -45,11 +44,10 @@ pub(crate) fn warn<D: Desk>(desk: &mut D, quiet: u8, pieces: &[Piece<'_>]) -> Re
 }
 
 /// Prints an error.
-pub(crate) fn tell<D: Desk>(desk: &mut D, pieces: &[Piece<'_>]) -> Result<(), Stopped>
-    ensures { Reports PrintStops (D.view desk.old) (D.view desk.new)
-        (Line (error (map text_of pieces.now)) ∷ []) result }
+pub(crate) fn tell<D: Desk>(desk: &mut D, message: &Message<'_>) -> Result<(), Stopped>
+    ensures { Reports PrintStops (D.view desk.old) (D.view desk.new) (Line (error message.now) ∷ []) result }
 {
-    stopped_if_failed(print_error(desk, pieces))
+    stopped_if_failed(print_error(desk, message.pieces()))
 }
 
 /// Prints how many bytes of a memory were written, read or compared.
@@ -71,94 +69,6 @@ pub(crate) fn report_bytes<D: Desk>(
     inform(desk, quiet, &pieces)
 }
 
-/// Prints that a command was refused with this status.
-fn tell_refused<D: Desk>(desk: &mut D, command: u8, status: u8) -> Result<(), Stopped>
-    ensures { Reports PrintStops (D.view desk.old) (D.view desk.new)
-        (Line (error (codes "command " ∷ digits (command ∷ [])
-        ∷ codes " refused with status " ∷ digits (status ∷ []) ∷ [])) ∷ []) result }
-{
-    let pieces = [
-        Piece::Text("command "),
-        Piece::Byte(command),
-        Piece::Text(" refused with status "),
-        Piece::Byte(status),
-    ];
-    tell(desk, &pieces)
-}
-
-/// Prints that what answered a command is no answer to it.
-fn tell_bad_answer<D: Desk>(desk: &mut D, command: u8) -> Result<(), Stopped>
-    ensures { Reports PrintStops (D.view desk.old) (D.view desk.new)
-        (Line (error (codes "command " ∷ digits (command ∷ []) ∷ codes ": bad answer" ∷ [])) ∷ []) result }
-{
-    let pieces = [
-        Piece::Text("command "),
-        Piece::Byte(command),
-        Piece::Text(": bad answer"),
-    ];
-    tell(desk, &pieces)
-}
-
-/// Prints that the signature is another than the part's.
-fn tell_wrong_signature<D: Desk>(desk: &mut D, part: &Part, found: [u8; 3]) -> Result<(), Stopped>
-    ensures { Reports PrintStops (D.view desk.old) (D.view desk.new)
-        (Line (error (other_signature part.now found)) ∷ []) result }
-{
-    let pieces = [
-        Piece::Text("signature is "),
-        Piece::Signature(found),
-        Piece::Text(", "),
-        Piece::Text(part.id()),
-        Piece::Text(" has "),
-        Piece::Signature(part.signature()),
-    ];
-    tell(desk, &pieces)
-}
-
-/// Prints where a memory differs from an image.
-fn tell_differs<D: Desk>(
-    desk: &mut D,
-    mem: Mem,
-    address: u32,
-    want: u8,
-    found: u8,
-) -> Result<(), Stopped>
-    ensures { Reports PrintStops (D.view desk.old) (D.view desk.new)
-        (Line (error (name_of mem ∷ codes ": address " ∷ digits (big_bytes 4 address)
-        ∷ codes ": " ∷ digits (want ∷ []) ∷ codes " expected, "
-        ∷ digits (found ∷ []) ∷ codes " found" ∷ [])) ∷ []) result }
-{
-    let pieces = [
-        Piece::Text(mem.name()),
-        Piece::Text(": address "),
-        Piece::Address(address),
-        Piece::Text(": "),
-        Piece::Byte(want),
-        Piece::Text(" expected, "),
-        Piece::Byte(found),
-        Piece::Text(" found"),
-    ];
-    tell(desk, &pieces)
-}
-
-/// Prints that a memory can't be written.
-fn tell_read_only<D: Desk>(desk: &mut D, mem: Mem) -> Result<(), Stopped>
-    ensures { Reports PrintStops (D.view desk.old) (D.view desk.new)
-        (Line (error (name_of mem ∷ codes " is read-only" ∷ [])) ∷ []) result }
-{
-    tell(
-        desk,
-        &[Piece::Text(mem.name()), Piece::Text(" is read-only")],
-    )
-}
-
-/// Prints an error of one text.
-fn tell_text<D: Desk>(desk: &mut D, text: &str) -> Result<(), Stopped>
-    ensures { Reports PrintStops (D.view desk.old) (D.view desk.new) (Line (error (text.now ∷ [])) ∷ []) result }
-{
-    tell(desk, &[Piece::Text(text)])
-}
-
 /// Prints the line of a fault of the host.
 #[tactic(auto, unfolding(crate::specs::Lines::fault_line))]
 pub(crate) fn tell_fault<D: Desk>(
@@ -168,21 +78,7 @@ pub(crate) fn tell_fault<D: Desk>(
 ) -> Result<(), Stopped>
     ensures { Reports PrintStops (D.view desk.old) (D.view desk.new) (Line (fault_line part.now fault) ∷ []) result }
 {
-    match fault {
-        HostFault::NoAnswer => tell_text(desk, "no answer"),
-        HostFault::LinkEnded => tell_text(desk, "link ended"),
-        HostFault::SendFailed => tell_text(desk, "link cannot be written"),
-        HostFault::Babble => tell_text(desk, "no answer in 4096 bytes"),
-        HostFault::Refused(command, status) => tell_refused(desk, command, status),
-        HostFault::BadAnswer(command) => tell_bad_answer(desk, command),
-        HostFault::WrongSignature(found) => tell_wrong_signature(desk, part, found),
-        HostFault::Differs(mem, address, want, found) => {
-            tell_differs(desk, mem, address, want, found)
-        }
-        HostFault::ReadOnly(mem) => tell_read_only(desk, mem),
-        HostFault::Memory => tell_text(desk, "out of memory"),
-        HostFault::RecvFailed => tell_text(desk, "link cannot be read"),
-    }
+    tell(desk, &fault_message(part, fault))
 }
 
 /// Prints the signature that was found.
@@ -191,22 +87,6 @@ fn report_found<D: Desk>(desk: &mut D, quiet: u8, found: [u8; 3]) -> Result<(), 
 {
     let pieces = [Piece::Text("device signature = "), Piece::Signature(found)];
     inform(desk, quiet, &pieces)
-}
-
-/// Warns that the signature is another than the part's.
-fn warn_other<D: Desk>(desk: &mut D, quiet: u8, part: &Part, found: [u8; 3]) -> Result<(), Stopped>
-    ensures { Reports PrintStops (D.view desk.old) (D.view desk.new)
-        (warns quiet (other_signature part.now found)) result }
-{
-    let pieces = [
-        Piece::Text("signature is "),
-        Piece::Signature(found),
-        Piece::Text(", "),
-        Piece::Text(part.id()),
-        Piece::Text(" has "),
-        Piece::Signature(part.signature()),
-    ];
-    warn(desk, quiet, &pieces)
 }
 
 /// Warns of a signature if it is another than the part's.
@@ -221,7 +101,8 @@ fn warn_of_signature<D: Desk>(
     if found == part.signature() {
         Ok(())
     } else {
-        warn_other(desk, quiet, part, found)
+        let message = other_signature_message(part, found);
+        warn(desk, quiet, message.pieces())
     }
 }
 

@@ -1,8 +1,7 @@
 //! What was read of a memory becomes a file.
 ghost use Rattle.std.specs.Prelude.{◌≡◌, ◌∷◌, ◌≤◌, ◌<◌, ◌^◌, [], length};
 ghost use Rattle.avr_desk.specs.Fault.{Follows};
-ghost use Rattle.avr_desk.specs.Lines.{error};
-ghost use Rattle.avr_desk.specs.Said.{Creates, Writes, Tells};
+ghost use Rattle.avr_desk.specs.Said.{Creates, Writes};
 ghost use Rattle.avr_session.specs.FileText.{file_text};
 ghost use Rattle.avr_session.specs.Runs.{Reports, DeskStops, ReadStops};
 ghost use Rattle.avr_session.specs.Saving.{SaveStops, WritesAll};
@@ -13,7 +12,7 @@ use crate::file_text::{trimmed, write_text};
 use crate::reports::{report_bytes, tell_fault};
 use crate::standing::Stopped;
 use avr_cli::{Format, Switches};
-use avr_desk::{Desk, Piece, Stream, print_error};
+use avr_desk::{Desk, Stream, not_created_message, not_written_message, refuse};
 use avr_part::Mem;
 use avr_plan::Plan;
 use stk_host::HostFault;
@@ -23,13 +22,6 @@ use stk_host::HostFault;
 pub(crate) struct Target<'a> {
     pub(crate) file: &'a str,
     pub(crate) format: Format,
-}
-
-/// Prints what can't be done with a file, as far as the desk prints it.
-fn tell_trouble<D: Desk>(desk: &mut D, file: &str, trouble: &str)
-    ensures { Tells (D.view desk.old) (D.view desk.new) (error (file.now ∷ trouble.now ∷ [])) }
-{
-    let _ = print_error(desk, &[Piece::Text(file), Piece::Text(trouble)]);
 }
 
 /// Writes the text that these bytes are in a format to the file that was created, or to standard output.
@@ -47,7 +39,7 @@ fn write_file<D: Desk>(
     match write_text(desk, stream, target.format, bytes) {
         Ok(()) => Ok(()),
         Err(_) => {
-            tell_trouble(desk, target.file, ": cannot be written");
+            refuse(desk, &not_written_message(target.file));
             Err(Stopped)
         }
     }
@@ -62,7 +54,7 @@ fn create_file<D: Desk>(desk: &mut D, target: Target<'_>, bytes: &[u8]) -> Resul
     match desk.create(target.file) {
         Ok(()) => write_file(desk, Stream::File, target, bytes),
         Err(_) => {
-            tell_trouble(desk, target.file, ": cannot be created");
+            refuse(desk, &not_created_message(target.file));
             Err(Stopped)
         }
     }

@@ -6,6 +6,8 @@
 #[cfg(test)]
 mod loopback;
 #[cfg(test)]
+mod messages;
+#[cfg(test)]
 mod ports;
 #[cfg(test)]
 mod runs;

@@ -21,6 +21,6 @@ returns-in-Err g c =
     record {
       says = file_stops (SaveStops c.args.target.file.now) _ (g.D.Desk.view c.create.new.self) _ _ c.args.target.file.now NotCreated
           (not_created _ _ c.args.target.file.now c.create.result _ (Writes (file_text c.args.target.format c.args.bytes.now) ∷ []) c.in-Err.is c.create.ensures.kept)
-          failed c.create.ensures.counts.0 (λ told stops. (refl, stops)) c.tell_trouble.ensures;
-      follows = follows_on (g.D.Desk.view c.args.desk.now) (g.D.Desk.view c.create.new.self) (g.D.Desk.view c.tell_trouble.new.desk) c.create.ensures.counts.0 c.tell_trouble.ensures.follows;
+          failed c.create.ensures.counts.0 (λ told stops. (refl, stops)) (rw c.not_created_message.ensures at c.refuse.ensures.told);
+      follows = follows_on (g.D.Desk.view c.args.desk.now) (g.D.Desk.view c.create.new.self) (g.D.Desk.view c.refuse.new.desk) c.create.ensures.counts.0 c.refuse.ensures.told.follows;
     }

@@ -1,0 +1,154 @@
+//! The messages of faults: of the host in its work on a part, and of the settings.
+ghost use Rattle.std.specs.Prelude.{◌≡◌};
+ghost use Rattle.avr_desk.specs.Said.{Tells};
+ghost use Rattle.avr_session.specs.Lines.{bad_answer_pieces, differs_pieces, fault_pieces, other_signature, refused_pieces};
+ghost use Rattle.avr_session.specs.Refusal.{in_update_pieces, port_pieces, refusal_line, refusal_pieces, unknown_pieces, update_pieces};
+
+use avr_cli::{SettingsFault, Text, UpdateFault};
+use avr_desk::{Desk, Message, Piece, memory_message};
+use avr_part::{Mem, Part};
+use avr_plan::read_only_message;
+use stk_host::HostFault;
+
+/// A command was refused with this status.
+fn refused_message<'a>(command: u8, status: u8) -> Message<'a>
+    ensures { result ≡ refused_pieces command status }
+{
+    Message::new(&[
+        Piece::Text("command "),
+        Piece::Byte(command),
+        Piece::Text(" refused with status "),
+        Piece::Byte(status),
+    ])
+}
+
+/// What answered a command is no answer to it.
+fn bad_answer_message<'a>(command: u8) -> Message<'a>
+    ensures { result ≡ bad_answer_pieces command }
+{
+    Message::new(&[
+        Piece::Text("command "),
+        Piece::Byte(command),
+        Piece::Text(": bad answer"),
+    ])
+}
+
+/// The signature is another than the part's.
+pub(crate) fn other_signature_message<'a>(part: &'a Part, found: [u8; 3]) -> Message<'a>
+    ensures { result ≡ other_signature part.now found }
+{
+    Message::new(&[
+        Piece::Text("signature is "),
+        Piece::Signature(found),
+        Piece::Text(", "),
+        Piece::Text(part.id()),
+        Piece::Text(" has "),
+        Piece::Signature(part.signature()),
+    ])
+}
+
+/// A memory differs from an image at this address.
+fn differs_message<'a>(mem: Mem, address: u32, want: u8, found: u8) -> Message<'a>
+    ensures { result ≡ differs_pieces mem address want found }
+{
+    Message::new(&[
+        Piece::Text(mem.name()),
+        Piece::Text(": address "),
+        Piece::Address(address),
+        Piece::Text(": "),
+        Piece::Byte(want),
+        Piece::Text(" expected, "),
+        Piece::Byte(found),
+        Piece::Text(" found"),
+    ])
+}
+
+/// A fault of the host in its work on a part.
+pub(crate) fn fault_message<'a>(part: &'a Part, fault: HostFault) -> Message<'a>
+    ensures { result ≡ fault_pieces part.now fault }
+{
+    match fault {
+        HostFault::NoAnswer => Message::text("no answer"),
+        HostFault::LinkEnded => Message::text("link ended"),
+        HostFault::SendFailed => Message::text("link cannot be written"),
+        HostFault::Babble => Message::text("no answer in 4096 bytes"),
+        HostFault::Refused(command, status) => refused_message(command, status),
+        HostFault::BadAnswer(command) => bad_answer_message(command),
+        HostFault::WrongSignature(found) => other_signature_message(part, found),
+        HostFault::Differs(mem, address, want, found) => differs_message(mem, address, want, found),
+        HostFault::ReadOnly(mem) => read_only_message(mem),
+        HostFault::Memory => memory_message(),
+        HostFault::RecvFailed => Message::text("link cannot be read"),
+    }
+}
+
+/// What is wrong with the update of this number.
+fn in_update_message<'a>(number: u8, wrong: &'a str) -> Message<'a>
+    ensures { result ≡ in_update_pieces number wrong.now }
+{
+    Message::new(&[
+        Piece::Text("update "),
+        Piece::Number(u32::from(number)),
+        Piece::Text(wrong),
+    ])
+}
+
+/// A fault of the update of this number.
+fn update_message<'a>(number: u8, fault: UpdateFault) -> Message<'a>
+    ensures { result ≡ update_pieces number fault }
+{
+    match fault {
+        UpdateFault::BadMemory => in_update_message(number, ": no such memory"),
+        UpdateFault::BadOp => in_update_message(number, ": no such operation"),
+        UpdateFault::BadFormat => in_update_message(number, ": no such format here"),
+        UpdateFault::NoFile => in_update_message(number, ": no file named"),
+        UpdateFault::Memory => memory_message(),
+    }
+}
+
+/// Something given is not known.
+fn unknown_message<'a>(what: &'a str, name: &'a str) -> Message<'a>
+    ensures { result ≡ unknown_pieces what.now name.now }
+{
+    Message::new(&[
+        Piece::Text(what),
+        Piece::Text(name),
+        Piece::Text(" is not known"),
+    ])
+}
+
+/// A port is not known, or none is given.
+fn port_message<'a>(port: &'a Option<Text>) -> Message<'a>
+    ensures { result ≡ port_pieces port.now }
+{
+    match port {
+        None => Message::text("no port given (-P)"),
+        Some(text) => unknown_message("port ", text.as_str()),
+    }
+}
+
+/// A fault of the settings.
+fn settings_message<'a>(fault: &'a SettingsFault) -> Message<'a>
+    ensures { result ≡ refusal_pieces fault.now }
+{
+    match fault {
+        SettingsFault::NoPart => Message::text("no part given (-p)"),
+        SettingsFault::BadProgrammer(name) => unknown_message("programmer ", name.as_str()),
+        SettingsFault::BadPort(port) => port_message(port),
+        SettingsFault::NoChip => Message::text("no chip file given (--chip)"),
+        SettingsFault::TooMany => Message::text("more than 16 updates"),
+        SettingsFault::BadUpdate(number, fault) => update_message(*number, *fault),
+        SettingsFault::StandardTaken => Message::text("standard streams are taken"),
+        SettingsFault::Memory => memory_message(),
+    }
+}
+
+/// Prints the line of a fault on the desk's messages, and answers the status, 1. Where the desk fails a front of the
+/// line was printed, and nothing more is.
+#[tactic(auto, unfolding(crate::specs::Refusal::refusal_line))]
+pub fn refuse<D: Desk>(fault: &SettingsFault, desk: &mut D) -> u8
+    ensures status { result ≡ 1 }
+    ensures told { Tells (D.view desk.old) (D.view desk.new) (refusal_line fault.now) }
+{
+    avr_desk::refuse(desk, &settings_message(fault))
+}
