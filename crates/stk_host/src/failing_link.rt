@@ -1,8 +1,7 @@
 //! A link that fails once, at a call that is chosen: for tests of what stands on links.
-ghost use Rattle.std.specs.Prelude.{◌≡◌, ◌==◌, ◌≢◌, ◌<◌, ◌≤◌, ◌+◌, ◌-◌, ◌^◌, ◌∷◌, [], ℕ, length, take, min, Err, IfOk, OnOk, OnErr};
-ghost use Rattle.stk_host.specs.declared.link.LinkFault.TheVariants.{Failed};
-ghost use Rattle.stk_host.specs.Links.{failing_link_view};
-ghost use Rattle.stk_host.specs.Talk.{HasFailed, HasRisen, Sends, Receives, Stays, FitsBuffer};
+ghost use Rattle.std.specs.Prelude.{◌≡◌, ◌==◌, ◌≢◌, ◌<◌, ◌≤◌, ◌+◌, ◌-◌, ◌^◌, ◌∷◌, [], ℕ, length, take, min, Err, IfOk, OnOk};
+ghost use Rattle.stk_host.specs.Links.{failing_link_view, FailsWhenDue};
+ghost use Rattle.stk_host.specs.Talk.{HasRisen, Sends, Receives, Stays, FitsBuffer};
 
 use crate::link::{Heard, Link, LinkFault};
 use std::marker::Model;
@@ -82,13 +81,7 @@ impl<L: Link + Drop> Link for FailingLink<L> {
     fn send(&mut self, bytes: &[u8]) -> Result<usize, LinkFault>
         ensures sends { Sends bytes.now (failing_link_view L.view self.old) (failing_link_view L.view self.new) result }
         ensures comes { Stays L.comes_of self.old.inner self.new.inner }
-        ensures due { self.new.due ≡ self.old.due - 1 }
-        ensures cut { self.new.cut ≡ self.old.cut }
-        // The call that is due fails, and the inner link isn't called.
-        ensures chosen { self.old.due ≡ 1 → (result ≡ Err Failed) × (self.new.inner ≡ self.old.inner) }
-        // Every other call fails only with the inner link.
-        ensures others { self.old.due ≢ 1 → (self.new.failed ≡ self.old.failed)
-            × OnErr result (HasFailed (L.view self.old.inner) (L.view self.new.inner)) }
+        ensures fails { FailsWhenDue L.view self.old self.new result }
         ensures short { IfOk result (λ n. n ≤ self.old.cut) }
     {
         if self.is_due() {
@@ -103,13 +96,7 @@ impl<L: Link + Drop> Link for FailingLink<L> {
         ensures receives { Receives buffer.new (failing_link_view L.view self.old) (failing_link_view L.view self.new)
             result }
         ensures comes { Stays L.comes_of self.old.inner self.new.inner }
-        ensures due { self.new.due ≡ self.old.due - 1 }
-        ensures cut { self.new.cut ≡ self.old.cut }
-        // The call that is due fails, and the inner link isn't called.
-        ensures chosen { self.old.due ≡ 1 → (result ≡ Err Failed) × (self.new.inner ≡ self.old.inner) }
-        // Every other call fails only with the inner link.
-        ensures others { self.old.due ≢ 1 → (self.new.failed ≡ self.old.failed)
-            × OnErr result (HasFailed (L.view self.old.inner) (L.view self.new.inner)) }
+        ensures fails { FailsWhenDue L.view self.old self.new result }
         ensures short { IfOk result (λ heard. FitsBuffer heard self.old.cut) }
     {
         if self.is_due() {
