@@ -1,7 +1,7 @@
 //! A link that fails once, at a call that is chosen: for tests of what stands on links.
-ghost use Rattle.std.specs.Prelude.{◌≡◌, ◌==◌, ◌≢◌, ◌<◌, ◌≤◌, ◌+◌, ◌-◌, ◌^◌, ◌∷◌, [], ℕ, length, take, min, Err, IfOk, OnOk};
-ghost use Rattle.stk_host.specs.Links.{failing_link_view, FailsWhenDue};
-ghost use Rattle.stk_host.specs.Talk.{HasRisen, Sends, Receives, Stays, FitsBuffer};
+ghost use Rattle.std.specs.Prelude.{◌≡◌, ◌==◌, ◌<◌, ◌≤◌, ◌+◌, ◌-◌, ◌^◌, ◌∷◌, [], ℕ, length, take, min, Err, IfOk, OnOk};
+ghost use Rattle.stk_host.specs.Links.{failing_link_view, CountsCall, FailsWhenDue};
+ghost use Rattle.stk_host.specs.Talk.{Sends, Receives, Stays, FitsBuffer};
 
 use crate::link::{Heard, Link, LinkFault};
 use std::marker::Model;
@@ -53,14 +53,8 @@ impl<L> FailingLink<L> {
 
     /// Counts a call, and says whether it is the one that fails.
     fn is_due(&mut self) -> bool
-        ensures value { result ≡ (self.old.due == 1) }
-        ensures due { self.new.due ≡ self.old.due - 1 }
-        ensures inner { self.new.inner ≡ self.old.inner }
-        ensures cut { self.new.cut ≡ self.old.cut }
+        ensures counts { CountsCall self.old self.new result }
         ensures some { 0 < self.new.cut }
-        ensures failed { self.old.due ≡ 1 → HasRisen self.old.failed self.new.failed }
-        ensures sound { self.old.due ≢ 1 → self.new.failed ≡ self.old.failed }
-        ensures counted { self.old.failed ≤ self.new.failed }
     {
         let is_due = self.due == 1;
         self.due = self.due.saturating_sub(1);
