@@ -1,5 +1,5 @@
 -- A wire as a link, and that what passes over it is what the fates say.
-use Rattle.std.specs.Prelude.{ℕ, List, [], ◌∷◌, ◌++◌, ◌≡◌, ◌≢◌, length, take, drop, ◌<◌, filter, Some}
+use Rattle.std.specs.Prelude.{ℕ, List, [], ◌∷◌, ◌++◌, ◌≡◌, ◌≢◌, length, take, drop, ◌<◌, ◌≤◌, filter, Some}
 use Rattle.stk_frame.specs.Cut.{frames, is_frame}
 use Rattle.stk_frame.specs.Reader.{Stands, Fed}
 use Rattle.stk_host.specs.declared.link.Item.TheVariants.{Silence}
@@ -62,6 +62,12 @@ pub record PassesBytes (old new : WiredState) (used : List ℕ) : Type 0 where
   pub waits : new.waits ≡ old.waits ++ tape_of device found old.wire
   pub wire : new.wire ≡ wire_after device found old.wire
   pub talk : new.talk ≡ old.talk ++ Sent used ∷ []
+
+-- So many of these bytes were passed, up to the end of the first frame.
+pub record PassesSome (bytes : List ℕ) (old new : WiredState) (count : ℕ) : Type 0 where
+  pub within : count ≤ length bytes
+  pub progress : 0 < length bytes → 0 < count
+  pub passes : PassesBytes old new (take count bytes)
 
 -- items are heard, and wait no more
 abbrev pub after_hearing : Tape → WiredState → WiredState

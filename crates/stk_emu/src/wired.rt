@@ -7,7 +7,7 @@ ghost use Rattle.stk_host.specs.Talk as talk;
 ghost use Rattle.stk_host.specs.Talk.{HasRisen, Sends, Receives, Stays, FitsBuffer, items_of};
 ghost use Rattle.stk_emu.specs.Programmer.{fresh_programmer};
 ghost use Rattle.stk_emu.specs.Wire.{AreLawful, fresh_wire};
-ghost use Rattle.stk_emu.specs.Wired.{Start, wired_view, ComesOf, IsFresh, PassesBytes, IsNext, after_hearing};
+ghost use Rattle.stk_emu.specs.Wired.{Start, wired_view, ComesOf, IsFresh, PassesBytes, PassesSome, IsNext, after_hearing};
 
 use crate::fate::Fate;
 use crate::segment::{ROOM, Segment, take_bytes};
@@ -132,11 +132,8 @@ impl Wired {
 
     /// Passes bytes up to the end of the first frame, and says how many. Where memory is refused nothing changes.
     fn pass(&mut self, bytes: &[u8]) -> Result<usize, AllocError>
-        ensures within { IfOk result (λ n. n ≤ length bytes.now) }
-        ensures progress { IfOk result (λ n. 0 < length bytes.now → 0 < n) }
-        ensures talk { IfOk result (λ n. self.new.talk ≡ self.old.talk ++ talk.Sent (take n bytes.now) ∷ []) }
+        ensures passes { IfOk result (λ n. PassesSome bytes.now self.old self.new n) }
         ensures failures { self.new.failures ≡ self.old.failures }
-        ensures passes { IfOk result (λ n. PassesBytes self.old self.new (take n bytes.now)) }
         ensures comes { IfOk result (λ n. Stays ComesOf self.old self.new) }
         ensures err { OnErr result (self.new ≡ self.old) }
     {

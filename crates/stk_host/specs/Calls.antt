@@ -43,7 +43,7 @@ HearsPiece (heard.Bytes n) unread old new = (0 < length unread) × Grows old.tal
 HearsPiece heard.Silence unread old new = (unread ≡ []) × Grows old.talk (Got (item.Silence ∷ []) ∷ []) new.talk
 HearsPiece heard.End unread old new = (unread ≡ []) × Grows old.talk (Got (item.End ∷ []) ∷ []) new.talk
 
--- what was heard of the next piece, of at most so many bytes, which alone are unread then
+-- How listening for the next piece ends: it has at most so many bytes, and they alone are unread then.
 pub record HearsNext (most : ℕ) (old new : LinkView) (unread : List ℕ) (result : Result Heard LinkFault) : Type 0 where
   pub within : length unread ≤ most
   pub fits : length unread ≤ LARGEST_FRAME
@@ -146,8 +146,8 @@ pub record MayAsk {A : Type 0} (Ends : Position → LinkView → LinkView → Re
   pub counted : CountsLink old new result
   pub bound : HasFewUnread before → HasFewUnread after
 
--- How one command or more are answered, by what is held then: their play came to this reply, or it broke off as the link
--- failed. Data have the size that the last command asks for.
+-- How one command or more are answered, by what is held then: their play came to this reply, or it broke off as the
+-- link failed. Data have the size that the last command asks for.
 pub record Replies (dialog : Dialog ⊥ steps.Reply) (last : Command) (before : Position) (old new : LinkView)
     (result : Result Reply Broken) (after : ConversationState) : Type 0 where
   pub ok : IfOk result (λ reply. PlaysOver dialog before old new (reply_of reply (data_held last after.held))
@@ -200,7 +200,7 @@ pub record BringsNoData (command : Command) : Type 0 where
   pub fits : FitsFrame command
   pub quiet : shape command ≡ Bytes 0
 
--- the commands of a step: only the last one's answer brings data, and so many bytes of them
+-- the commands of a step: only the answer to the last one brings data, and so many bytes
 pub record StepBrings (count : ℕ) (first : List Command) (last : Command) : Type 0 where
   pub quiet : All BringsNoData first
   pub fits : FitsFrame last

@@ -1,12 +1,14 @@
 -- What the links of this crate hold, and what one call takes of it.
-use Rattle.std.specs.Prelude.{ℕ, List, [], ◌∷◌, ◌+◌, ◌-◌, ◌^◌, take, min, Option, Some, None}
+use Rattle.std.specs.Prelude.{ℕ, Bool, List, [], ◌∷◌, ◌≡◌, ◌≢◌, ◌==◌, ◌≤◌, ◌+◌, ◌-◌, ◌^◌, take, min, Option, Some, None, Result, Err, OnErr}
 use Rattle.std.specs.Io.KnownBytes.{Keeps, Appends, Consumes, IsAtEnd}
 use Rattle.stk_host.specs.declared.link.Heard.{Heard}
 use Rattle.stk_host.specs.declared.link.Heard.TheVariants as heard
 use Rattle.stk_host.specs.declared.link.Item.{Item}
 use Rattle.stk_host.specs.declared.link.Item.TheVariants.{Byte, Silence, End}
+use Rattle.stk_host.specs.declared.link.LinkFault.{LinkFault}
+use Rattle.stk_host.specs.declared.link.LinkFault.TheVariants.{Failed}
 use Rattle.stk_host.specs.Tape.{Tape, on_tape, bytes_in}
-use Rattle.stk_host.specs.Talk.{Talk, LinkView}
+use Rattle.stk_host.specs.Talk.{Talk, LinkView, HasRisen, HasFailed}
 use Rattle.stk_host.specs.Play.{IsPrefixOf}
 
 -- a log: what passed, and the room that is left in it, for so many pieces and for so many bytes that are sent
@@ -67,6 +69,24 @@ pub record FailingState (L : Type 0) : Type 0 where
   pub due : ℕ
   pub cut : ℕ
   pub failed : ℕ
+
+-- A call of it is counted: whether it is the one that is due, which is a failure.
+pub record CountsCall {L : Type 0} (old new : FailingState L) (is_due : Bool) : Type 0 where
+  pub value : is_due ≡ (old.due == 1)
+  pub due : new.due ≡ old.due - 1
+  pub inner : new.inner ≡ old.inner
+  pub cut : new.cut ≡ old.cut
+  pub failed : old.due ≡ 1 → HasRisen old.failed new.failed
+  pub sound : old.due ≢ 1 → new.failed ≡ old.failed
+  pub counted : old.failed ≤ new.failed
+
+-- One call of it: the one that is due fails, and the link below isn't called; every other fails only with that.
+pub record FailsWhenDue {A L : Type 0} (view : L → LinkView) (old new : FailingState L)
+    (result : Result A LinkFault) : Type 0 where
+  pub due : new.due ≡ old.due - 1
+  pub cut : new.cut ≡ old.cut
+  pub chosen : old.due ≡ 1 → (result ≡ Err Failed) × (new.inner ≡ old.inner)
+  pub others : old.due ≢ 1 → (new.failed ≡ old.failed) × OnErr result (HasFailed (view old.inner) (view new.inner))
 
 -- the failures of a link and of the one below it, as many as are counted
 abbrev pub total_failures : ℕ → ℕ → ℕ

@@ -1,8 +1,7 @@
 //! A link that fails once, at a call that is chosen: for tests of what stands on links.
-ghost use Rattle.std.specs.Prelude.{◌≡◌, ◌==◌, ◌≢◌, ◌<◌, ◌≤◌, ◌+◌, ◌-◌, ◌^◌, ◌∷◌, [], ℕ, length, take, min, Err, IfOk, OnOk, OnErr};
-ghost use Rattle.stk_host.specs.declared.link.LinkFault.TheVariants.{Failed};
-ghost use Rattle.stk_host.specs.Links.{failing_link_view};
-ghost use Rattle.stk_host.specs.Talk.{HasFailed, HasRisen, Sends, Receives, Stays, FitsBuffer};
+ghost use Rattle.std.specs.Prelude.{◌≡◌, ◌==◌, ◌<◌, ◌≤◌, ◌+◌, ◌-◌, ◌^◌, ◌∷◌, [], ℕ, length, take, min, Err, IfOk, OnOk};
+ghost use Rattle.stk_host.specs.Links.{failing_link_view, CountsCall, FailsWhenDue};
+ghost use Rattle.stk_host.specs.Talk.{Sends, Receives, Stays, FitsBuffer};
 
 use crate::link::{Heard, Link, LinkFault};
 use std::marker::Model;
@@ -54,14 +53,8 @@ impl<L> FailingLink<L> {
 
     /// Counts a call, and says whether it is the one that fails.
     fn is_due(&mut self) -> bool
-        ensures value { result ≡ (self.old.due == 1) }
-        ensures due { self.new.due ≡ self.old.due - 1 }
-        ensures inner { self.new.inner ≡ self.old.inner }
-        ensures cut { self.new.cut ≡ self.old.cut }
+        ensures counts { CountsCall self.old self.new result }
         ensures some { 0 < self.new.cut }
-        ensures failed { self.old.due ≡ 1 → HasRisen self.old.failed self.new.failed }
-        ensures sound { self.old.due ≢ 1 → self.new.failed ≡ self.old.failed }
-        ensures counted { self.old.failed ≤ self.new.failed }
     {
         let is_due = self.due == 1;
         self.due = self.due.saturating_sub(1);
@@ -82,13 +75,7 @@ impl<L: Link + Drop> Link for FailingLink<L> {
     fn send(&mut self, bytes: &[u8]) -> Result<usize, LinkFault>
         ensures sends { Sends bytes.now (failing_link_view L.view self.old) (failing_link_view L.view self.new) result }
         ensures comes { Stays L.comes_of self.old.inner self.new.inner }
-        ensures due { self.new.due ≡ self.old.due - 1 }
-        ensures cut { self.new.cut ≡ self.old.cut }
-        // The call that is due fails, and the inner link isn't called.
-        ensures chosen { self.old.due ≡ 1 → (result ≡ Err Failed) × (self.new.inner ≡ self.old.inner) }
-        // Every other call fails only with the inner link.
-        ensures others { self.old.due ≢ 1 → (self.new.failed ≡ self.old.failed)
-            × OnErr result (HasFailed (L.view self.old.inner) (L.view self.new.inner)) }
+        ensures fails { FailsWhenDue L.view self.old self.new result }
         ensures short { IfOk result (λ n. n ≤ self.old.cut) }
     {
         if self.is_due() {
@@ -103,13 +90,7 @@ impl<L: Link + Drop> Link for FailingLink<L> {
         ensures receives { Receives buffer.new (failing_link_view L.view self.old) (failing_link_view L.view self.new)
             result }
         ensures comes { Stays L.comes_of self.old.inner self.new.inner }
-        ensures due { self.new.due ≡ self.old.due - 1 }
-        ensures cut { self.new.cut ≡ self.old.cut }
-        // The call that is due fails, and the inner link isn't called.
-        ensures chosen { self.old.due ≡ 1 → (result ≡ Err Failed) × (self.new.inner ≡ self.old.inner) }
-        // Every other call fails only with the inner link.
-        ensures others { self.old.due ≢ 1 → (self.new.failed ≡ self.old.failed)
-            × OnErr result (HasFailed (L.view self.old.inner) (L.view self.new.inner)) }
+        ensures fails { FailsWhenDue L.view self.old self.new result }
         ensures short { IfOk result (λ heard. FitsBuffer heard self.old.cut) }
     {
         if self.is_due() {

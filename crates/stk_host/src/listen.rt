@@ -1,5 +1,5 @@
 //! Listening for an answer.
-ghost use Rattle.std.specs.Prelude.{◌≡◌, ◌<◌, ◌≤◌, ◌++◌, ℕ, List, length, IfOk, OnOk, OnErr, true, false, None};
+ghost use Rattle.std.specs.Prelude.{◌≡◌, ◌<◌, ◌≤◌, ◌++◌, ℕ, List, length, true, false, None};
 ghost use Rattle.stk_frame.specs.declared.protocol.TheConstants.{LARGEST_FRAME};
 ghost use Rattle.stk_frame.specs.Reader.{Fed, frames_of_event, TellsEvent, HoldsFrame};
 ghost use Rattle.stk_host.specs.Tape.{is_answer, first_answer};

@@ -1,5 +1,5 @@
 //! A step among the steps of an operation.
-ghost use Rattle.std.specs.Prelude.{◌≡◌, ◌+◌, ◌≤◌, ◌++◌, ◌∷◌, [], length, All, OnOk, vec_capacity};
+ghost use Rattle.std.specs.Prelude.{◌≡◌, ◌+◌, ◌≤◌, ◌++◌, ◌∷◌, [], length, OnOk, vec_capacity};
 ghost use Rattle.stk_frame.specs.Commands.{shape};
 ghost use Rattle.stk_host.specs.Calls.{with_step, without_step, EndsInnerStep, Asks, StepBrings, data_count};
 ghost use Rattle.stk_host.specs.Talk.{Stays};

@@ -1,5 +1,5 @@
 //! The bytes that were heard and not read yet.
-ghost use Rattle.std.specs.Prelude.{◌≡◌, ◌<◌, ◌≤◌, ◌↔◌, IsTrue, ℕ, length, take, drop, [], ◌∷◌, ◌++◌, IfOk, OnOk, OnErr};
+ghost use Rattle.std.specs.Prelude.{◌≡◌, ◌<◌, ◌≤◌, ◌↔◌, IsTrue, ℕ, length, take, drop, [], ◌∷◌, ◌++◌, OnOk};
 ghost use Rattle.stk_host.specs.Talk.{Stays};
 ghost use Rattle.stk_host.specs.Calls.{HearsNext};
 
