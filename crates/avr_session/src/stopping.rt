@@ -47,10 +47,10 @@ pub fn a_sound_run_has_no_other_end()
         status → ⊥ }
 {}
 
-/// Wrong stops, whatever failed: a second line behind the line of a fault; less than the cause's line where no fault was
-/// told and no write to the messages failed, as silence behind a file that failed; memory where none is taken; another
-/// file than the one that was due to be created, or that was created and was due to be written; a line in part where
-/// printing did not fail.
+/// Wrong stops, whatever failed: a second line behind the line of a fault; less than the cause's line where no fault
+/// was told and no write to the messages failed, as silence behind a file that failed; memory where none is taken;
+/// another file than the one that was due to be created, or that was created and was due to be written; a line in part
+/// where printing did not fail.
 pub fn a_stop_tells_its_cause()
     ensures once { (takes : Bool) (old new : Devices) (said : List Saying) (cause : Cause) (told : Bytes)
         → StopsBehind (untold takes) old new said cause told → tells_fault said ≡ true → told ≡ [] }

@@ -85,8 +85,9 @@ pub record IsRun (settings : Settings) (before now : Devices) (status : ℕ) : T
   pub kept : Passes (after_all (sayings events)) before.desk now.desk
   pub few : length left ≤ 281
 
--- ---- 3. Or it stopped: a device failed, or memory was refused. The status is 1. Of the line that tells why some is
--- missing only where a write to the messages has failed: a failure at a file excuses no silence.
+-- ---- 3. Or it stopped: a device failed, or memory was refused. The status is 1. The line that tells why (behind the
+-- line of a fault there is none) is cut short only where a write to the messages has failed: a failure at a file
+-- excuses no silence.
 
 -- As its plan was played: a front of what the session sends and says went out, and then what was told of the cause.
 pub record StoppedPlaying (settings : Settings) (before now : Devices) (status : ℕ) : Type 0 where
