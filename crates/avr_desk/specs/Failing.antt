@@ -33,7 +33,8 @@ unsaid_after stream d = d.unsaid
 
 -- The call for this stream that is due fails, reaches nothing and is counted by plan; any other is answered by the desk
 -- within, and what is said of that desk's counts holds then.
-pub record FailsWhenDue {D T : Type 0} (stream : Stream) (PassedOn : Type 0) (old new : Failing D) (r : Result T DeskFault) : Type 0 where
+pub record FailsWhenDue {D T : Type 0} (stream : Stream) (PassedOn : Type 0) (old new : Failing D)
+    (r : Result T DeskFault) : Type 0 where
   pub due : old.due ≡ 1 → (r ≡ Err Failed) × (new.inner ≡ old.inner)
   pub passed_on : old.due ≢ 1 → PassedOn
   pub counted_down : new.due ≡ old.due - 1

@@ -5,8 +5,8 @@ use Rattle.avr_desk.specs.Record.{DeskView, Record, Bytes, all_files, showing}
 use Rattle.avr_desk.specs.Named.{newest, bytes_given}
 use Rattle.avr_desk.specs.declared.record.Writing.{Writing}
 
--- what passed, the failures and those at the messages, the standard input, the files that were put there, and the whole
--- bytes of the file that was opened last
+-- what passed, the failures and how many were at the messages, the standard input, the files that were put there, and
+-- the whole bytes of the file that was opened last
 pub record Memory : Type 0 where
   pub kept : Record
   pub failures : ℕ

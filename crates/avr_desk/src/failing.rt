@@ -48,7 +48,10 @@ impl<D> FailingDesk<D> {
     /// Counts a call, and says whether it is the one that fails.
     fn is_due(&mut self) -> bool
         ensures due { result ≡ (self.old.due == 1) }
-        ensures same { self.new ≡ record self.old { due = self.old.due - 1; planned = count_after self.old self.old.planned } }
+        ensures same { self.new ≡ record self.old {
+          due = self.old.due - 1;
+          planned = count_after self.old self.old.planned;
+        } }
         ensures counts { MatchBool result ((self.old.planned ≤ self.new.planned)
             × HasRisen self.old.planned self.new.planned) (self.new.planned ≡ self.old.planned) }
     {
@@ -74,8 +77,8 @@ impl<D: Desk> Desk for FailingDesk<D> {
         ensures kept { Passes (after_open name.now result) (D.view self.old.inner) (D.view self.new.inner) }
         ensures counts { Counts File (failing_view (D.view self.old.inner) self.old)
             (failing_view (D.view self.new.inner) self.new) result }
-        ensures when_due { FailsWhenDue File (Counts File (D.view self.old.inner) (D.view self.new.inner) result) self.old
-            self.new result }
+        ensures when_due { FailsWhenDue File (Counts File (D.view self.old.inner) (D.view self.new.inner) result)
+            self.old self.new result }
     {
         if self.is_due() {
             return Err(DeskFault::Failed);
@@ -88,8 +91,8 @@ impl<D: Desk> Desk for FailingDesk<D> {
         ensures counts { Counts File (failing_view (D.view self.old.inner) self.old)
             (failing_view (D.view self.new.inner) self.new) result }
         ensures fault { IfErr result (λ e. e ≡ DeskFault.Failed) }
-        ensures when_due { FailsWhenDue File (Counts File (D.view self.old.inner) (D.view self.new.inner) result) self.old
-            self.new result }
+        ensures when_due { FailsWhenDue File (Counts File (D.view self.old.inner) (D.view self.new.inner) result)
+            self.old self.new result }
     {
         if self.is_due() {
             return Err(DeskFault::Failed);
@@ -104,8 +107,8 @@ impl<D: Desk> Desk for FailingDesk<D> {
         ensures counts { Counts File (failing_view (D.view self.old.inner) self.old)
             (failing_view (D.view self.new.inner) self.new) result }
         ensures fault { IfErr result (λ e. e ≡ DeskFault.Failed) }
-        ensures when_due { FailsWhenDue File (Counts File (D.view self.old.inner) (D.view self.new.inner) result) self.old
-            self.new result }
+        ensures when_due { FailsWhenDue File (Counts File (D.view self.old.inner) (D.view self.new.inner) result)
+            self.old self.new result }
     {
         if self.is_due() {
             return Err(DeskFault::Failed);

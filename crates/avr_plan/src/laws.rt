@@ -16,8 +16,8 @@ pub fn a_plan_only_reads_and_warns()
     ensures { (s : Settings) (openings : List Opening) → OnlyReads (planned s openings).says }
 {}
 
-/// Where the desk did not fail, by its count of all failures, a plan that is not made is refused as planning says, with its line, or
-/// the messages end with the line of memory.
+/// Where the desk did not fail, by its count of all failures, a plan that is not made is refused as planning says, with
+/// its line, or the messages end with the line of memory.
 pub fn a_sound_plan_is_refused_aloud()
     ensures { (s : Settings) (before after : Record) (k l m n status : ℕ) → (HasRisen k l → ⊥)
         → ((front : Bytes) → after.messages ≡ front ++ memory_line → ⊥)

@@ -1,7 +1,7 @@
 -- Where no device failed, a run was played whole, or its messages say that memory was refused.
 use Rattle.std.proofs.Common.{◌≡◌, ℕ, Bool, true, false, List, [], ◌∷◌, ◌++◌, refl, sym, ap, ◌∙◌, subst, append-nil, Option, Some, None, inl, inr}
 use Rattle.std.proofs.lemmas.List.{append_cancel_left}
-use Rattle.avr_desk.specs.Fault.{Follows, HasFailed}
+use Rattle.avr_desk.specs.Fault.{Follows, HasFailed, HasRisen}
 use Rattle.avr_desk.specs.Record.{Record, DeskView, after_err}
 use Rattle.avr_plan.specs.Plan.{Plan}
 use Rattle.stk_host.specs.Operations as operations
@@ -17,7 +17,7 @@ use Rattle.avr_session.specs.Actions.{takes_memory}
 use Rattle.avr_session.specs.Runs.{Cause, OfSending, OfListening, OfFile, OfPrinting, OfMemory, NotCreated, NotWritten, Devices, devices, start, cause_line, tells_fault, TellsCause, StopsAt, untold, StopsBehind, BrokeOff, RunsTo}
 use Rattle.avr_session.specs.Session.{session}
 use Rattle.avr_session.specs.Stopping.{keeping, talking, IsSound, LacksMemory, IsPlayed}
-use Rattle.avr_desk.proofs.Telling.{failed_later, failed_before}
+use Rattle.avr_desk.proofs.Telling.{failed_later, failed_before, risen_later}
 
 -- of sound devices only memory is left, and its line was told whole
 told_of_memory : (flag : Bool) (told : Bytes) (a between b : DeskView) → Follows a between → (HasFailed a b → ⊥) → TellsCause flag OfMemory told between b → told ≡ cause_line OfMemory
@@ -137,6 +137,16 @@ silent OfMemory told d e tells = absurd tells
 
 pub told_once : (takes : Bool) (old new : Devices) (said : List Saying) (cause : Cause) (told : Bytes) → StopsBehind (untold takes) old new said cause told → tells_fault said ≡ true → told ≡ []
 told_once takes old new said cause told stops is = silent cause told stops.between new.desk (subst (λ flag. TellsCause flag cause told stops.between new.desk) is stops.tells)
+
+-- where nothing was told before, a line is cut short only as messages fail
+told_whole : (cause : Cause) (told : Bytes) (old between new : DeskView) → Follows old between → (HasRisen old.unsaid new.unsaid → ⊥) → TellsCause false cause told between new → told ≡ cause_line cause
+told_whole cause told old between new since sound (inl whole) = whole
+told_whole cause told old between new since sound (inr part) = absurd (sound (risen_later old.unsaid between.unsaid new.unsaid since.1 part.1.1))
+
+pub told_aloud : (takes : Bool) (old new : Devices) (said : List Saying) (cause : Cause) (told : Bytes) → StopsBehind (untold takes) old new said cause told → tells_fault said ≡ false
+    → (HasRisen old.desk.unsaid new.desk.unsaid → ⊥) → told ≡ cause_line cause
+told_aloud takes old new said cause told stops none sound =
+    told_whole cause told old.desk stops.between new.desk stops.since sound (subst (λ flag. TellsCause flag cause told stops.between new.desk) none stops.tells)
 
 -- memory is not refused where none is taken
 pub no_memory : (plan : Plan) (old new : Devices) (said : List Saying) (told : Bytes) → takes_memory plan ≡ false → StopsBehind (untold (takes_memory plan)) old new said OfMemory told → ⊥

@@ -1,5 +1,6 @@
 //! What the contract of a run says where no device failed, and wrong ends that it refuses: laws of the contract alone.
 ghost use Rattle.std.specs.Prelude.{◌≡◌, ◌∷◌, ◌++◌, [], ℕ, Bool, List, None, true, false};
+ghost use Rattle.avr_desk.specs.Fault.{HasRisen};
 ghost use Rattle.avr_desk.specs.Record.{Record};
 ghost use Rattle.avr_desk.specs.Lines.{Bytes};
 ghost use Rattle.avr_desk.specs.Said.{Saying, Line, Creates, Writes};
@@ -7,7 +8,7 @@ ghost use Rattle.stk_host.specs.Dialog.{Dialog, Event, Said, played};
 ghost use Rattle.stk_host.specs.Talk.{Talk, LinkView, heard};
 ghost use Rattle.avr_plan.specs.Plan.{Plan};
 ghost use Rattle.avr_session.specs.Actions.{takes_memory};
-ghost use Rattle.avr_session.specs.Runs.{Cause, OfFile, OfPrinting, OfMemory, NotCreated, NotWritten, Devices, devices, tells_fault, StopsAt, untold, StopsBehind, RunsTo};
+ghost use Rattle.avr_session.specs.Runs.{Cause, OfFile, OfPrinting, OfMemory, NotCreated, NotWritten, Devices, devices, tells_fault, StopsAt, untold, StopsBehind, RunsTo, cause_line};
 ghost use Rattle.avr_session.specs.Session.{session};
 ghost use Rattle.avr_session.specs.Stopping.{IsSound, LacksMemory, IsPlayed, keeping, talking};
 
@@ -47,12 +48,16 @@ pub fn a_sound_run_has_no_other_end()
         status → ⊥ }
 {}
 
-/// Wrong stops, whatever failed: a second line behind the line of a fault; memory where none is taken; another file
-/// than the one that was due to be created, or that was created and was due to be written; a line in part where
-/// printing did not fail.
+/// Wrong stops, whatever failed: a second line behind the line of a fault; less than the cause's line where no fault
+/// was told and no write to the messages failed, as silence behind a file that failed; memory where none is taken;
+/// another file than the one that was due to be created, or that was created and was due to be written; a line in part
+/// where printing did not fail.
 pub fn a_stop_tells_its_cause()
     ensures once { (takes : Bool) (old new : Devices) (said : List Saying) (cause : Cause) (told : Bytes)
         → StopsBehind (untold takes) old new said cause told → tells_fault said ≡ true → told ≡ [] }
+    ensures aloud { (takes : Bool) (old new : Devices) (said : List Saying) (cause : Cause) (told : Bytes)
+        → StopsBehind (untold takes) old new said cause told → tells_fault said ≡ false
+        → (HasRisen old.desk.unsaid new.desk.unsaid → ⊥) → told ≡ cause_line cause }
     ensures memory { (plan : Plan) (old new : Devices) (said : List Saying) (told : Bytes)
         → takes_memory plan ≡ false → StopsBehind (untold (takes_memory plan)) old new said OfMemory told → ⊥ }
     ensures file { (file named : Bytes) (whole begun later : List (Event Saying))

@@ -6,8 +6,9 @@
 -- What it does not say. Of a desk or a link that shows no record (`None`, as the real files and streams do) the clauses
 -- on what passed claim nothing: there the same generic code stands in their place. A talk and a desk's record are two,
 -- so no clause orders a line and a frame, but as events of the run. That a run succeeds is said only of a line on which
--- few frames go wrong. Whether memory was refused nothing counts. Nothing is said of time, nor of a chip that loses its
--- power in the middle of a write.
+-- few frames go wrong. Whether memory was refused nothing counts; but its line is told whole, unless a write to the
+-- messages failed, which is counted apart. Nothing is said of time, nor of a chip that loses its power in the middle of
+-- a write.
 use Rattle.std.specs.Prelude.{ℕ, ◌*◌, ◌≡◌, ◌≤◌, ◌⊎◌, false, List, [], ◌∷◌, ◌++◌, map, length, Some, None}
 use Rattle.avr_cli.specs.declared.settings.Settings.{Settings}
 use Rattle.avr_desk.specs.Fault.{Follows}
@@ -85,7 +86,9 @@ pub record IsRun (settings : Settings) (before now : Devices) (status : ℕ) : T
   pub kept : Passes (after_all (sayings events)) before.desk now.desk
   pub few : length left ≤ 281
 
--- ---- 3. Or it stopped: a device failed, or memory was refused. The status is 1.
+-- ---- 3. Or it stopped: a device failed, or memory was refused. The status is 1. The line that tells why (behind the
+-- line of a fault there is none) is cut short only where a write to the messages has failed: a failure at a file
+-- excuses no silence.
 
 -- As its plan was played: a front of what the session sends and says went out, and then what was told of the cause.
 pub record StoppedPlaying (settings : Settings) (before now : Devices) (status : ℕ) : Type 0 where

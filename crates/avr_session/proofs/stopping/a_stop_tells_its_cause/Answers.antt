@@ -1,8 +1,11 @@
-use Rattle.avr_session.proofs.SoundRuns.{told_once, no_memory, its_own_file, its_own_text, half_a_line}
+use Rattle.avr_session.proofs.SoundRuns.{told_once, told_aloud, no_memory, its_own_file, its_own_text, half_a_line}
 use Rattle.avr_session.proofs.stopping.a_stop_tells_its_cause.Goals as goal
 
 pub returns-clause-once : goal.returns-clause-once
 returns-clause-once c = told_once
+
+pub returns-clause-aloud : goal.returns-clause-aloud
+returns-clause-aloud c = told_aloud
 
 pub returns-clause-memory : goal.returns-clause-memory
 returns-clause-memory c = no_memory
