@@ -77,7 +77,7 @@ module _ (part : Part) (sound : IsPart part) (s : Switches) where
 
   makes_phases : (actions : List Action) (m : Memories) → AllFitActions part actions → FitsPart part m
       → Strikes part m (items_of actions) (actions_made part s actions) (phases part s actions)
-  makes_phases [] m fits f = makes_quiet part m ⊤ (Done Fine) (goes_phases part sound s [] m tt f)
+  makes_phases [] m fits f p fates settled = makes_quiet part m ⊤ (Done Fine) (goes_phases part sound s [] m tt f) p fates settled
   makes_phases (action ∷ actions) m fits f p fates settled =
       let items = action_items action in
       let left = effects part items m in
