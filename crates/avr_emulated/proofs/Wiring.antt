@@ -10,8 +10,8 @@ use Rattle.stk_frame.specs.Cut.{frames}
 use Rattle.stk_host.specs.Dialog.{played, bytes_sent, sayings}
 use Rattle.stk_host.specs.Play.{Plays, Breaks, InTurn, IsPrefixOf}
 use Rattle.stk_host.specs.Talk.{Talk, Stays, sent, heard}
-use Rattle.avr_session.specs.Runs.{devices, RunsTo}
 use Rattle.avr_session.specs.Actions.{takes_memory}
+use Rattle.avr_session.specs.Runs.{devices, RunsTo}
 use Rattle.avr_session.specs.Session.{session}
 use Rattle.avr_session.specs.Stopping.{IsPlayed}
 use Rattle.stk_emu.specs.Along.{along, said_along, AsksBodies}
@@ -31,6 +31,7 @@ use Rattle.avr_emulated.specs.AnyLine.{weighed, bodies_in, memories, frames_over
 use Rattle.avr_emulated.specs.Bound.{run_steps}
 use Rattle.avr_emulated.specs.Course.{course}
 use Rattle.avr_emulated.specs.Told.{IsTrue, SaidTrue}
+use Rattle.avr_emulated.specs.Items.{items, has_erase}
 use Rattle.avr_emulated.specs.Outcome.{IsTouched, MakesStrokes, IsDone, IsCourse}
 use Rattle.avr_emulated.proofs.AgainHeals.{succeeds}
 use Rattle.avr_emulated.proofs.AnyLine.{session_leaves}
