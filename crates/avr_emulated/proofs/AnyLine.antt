@@ -1,5 +1,5 @@
 -- A session from its opening to its end, over any line.
-use Rattle.std.proofs.Common.{◌≡◌, ℕ, List, [], ◌∷◌, ◌∙◌, arith, Ok, Err, Result}
+use Rattle.std.proofs.Common.{◌≡◌, ℕ, List, [], ◌∙◌, arith, Ok, Err, Result}
 use Rattle.std.specs.Prelude.{All, ⊤}
 use Rattle.avr_desk.specs.Said.{Saying}
 use Rattle.avr_part.specs.Part.{Part, IsPart}

@@ -10,7 +10,7 @@ use Rattle.avr_part.specs.Part.{Part, IsPart, size_of}
 use Rattle.avr_plan.specs.Plan.{Plan, IsFitted}
 use Rattle.stk_host.specs.declared.fault.HostFault.{HostFault}
 use Rattle.stk_host.specs.declared.fault.HostFault.TheVariants.{ReadOnly}
-use Rattle.stk_host.specs.Dialog.{Dialog, Done, Say, Ask, ◌>>=◌}
+use Rattle.stk_host.specs.Dialog.{Dialog, Done, Say, Ask}
 use Rattle.stk_host.specs.WriteSteps.{write_steps}
 use Rattle.stk_host.specs.Operations.{no_result, closing, operation}
 use Rattle.stk_emu.specs.declared.fate.Fate.{Fate}

@@ -24,7 +24,7 @@ use Rattle.stk_emu.specs.Given.{all_given}
 use Rattle.stk_emu.specs.Leads.{Leads, Reached, AfterOperation, AfterOpening}
 use Rattle.stk_emu.proofs.Obeying.{settled_idle}
 use Rattle.stk_emu.proofs.PageStrokes.{effects_on}
-use Rattle.stk_emu.proofs.ItemStrokes.{write_are_steps, read_are_steps, item_are_steps, effect_sizes}
+use Rattle.stk_emu.proofs.ItemStrokes.{write_are_steps, read_are_steps, item_are_steps}
 use Rattle.stk_emu.proofs.PlayGiven.{read_gives}
 use Rattle.stk_emu.proofs.Comparing.{no_difference}
 use Rattle.stk_emu.proofs.LeadsOn.{leads_done, leads_say, leads_lifted, leads_wider, leads_bind, leads_operation, leads_opening}

@@ -1,6 +1,6 @@
 -- The actions of a session after its opening fit the part: an image is as large as its memory, and a memory that is
 -- written can be.
-use Rattle.std.proofs.Common.{List, [], ◌∷◌, ◌++◌, Bool, true, false, sym, arith}
+use Rattle.std.proofs.Common.{List, [], ◌∷◌, ◌++◌, Bool, true, false, arith}
 use Rattle.std.proofs.lemmas.List.Elements.{All-head, All-tail}
 use Rattle.std.specs.Prelude.{All, ⊤, if◌then◌else◌}
 use Rattle.avr_cli.specs.declared.settings.Switches.{Switches}
@@ -9,7 +9,7 @@ use Rattle.avr_part.specs.declared.mem.Mem.{Mem}
 use Rattle.avr_plan.specs.Plan.{Plan, IsFitted}
 use Rattle.avr_plan.specs.declared.task.Task.{Task}
 use Rattle.avr_plan.specs.declared.task.Task.TheVariants.{Write, Verify, Read}
-use Rattle.avr_session.specs.Actions.{Action, OpenSession, EraseChip, LeaveErase, WriteImage, LeaveWrite, CompareImage, SaveMemory, is_erase_due, erase_actions, read_back_actions, write_actions, task_actions, tasks_actions}
+use Rattle.avr_session.specs.Actions.{Action, OpenSession, EraseChip, LeaveErase, WriteImage, LeaveWrite, CompareImage, is_erase_due, erase_actions, write_actions, task_actions, tasks_actions}
 use Rattle.stk_emu.specs.Effect.{Image}
 use Rattle.stk_emu.specs.Strokes.{AllFitItems}
 use Rattle.avr_emulated.specs.Items.{action_items, items_of}

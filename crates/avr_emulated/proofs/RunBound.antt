@@ -1,5 +1,5 @@
 -- A session asks at most four times the commands of its plan's steps: what its bodies weigh, where each weighs 1.
-use Rattle.std.proofs.Common.{◌≡◌, ℕ, zero, suc, ◌+◌, ◌*◌, ◌-◌, List, [], ◌∷◌, map, length, ap, subst, arith}
+use Rattle.std.proofs.Common.{◌≡◌, ℕ, zero, suc, ◌*◌, ◌-◌, List, [], ◌∷◌, map, length, subst, arith}
 use Rattle.avr_desk.specs.Said.{SaidPart}
 use Rattle.avr_plan.specs.Plan.{Plan}
 use Rattle.avr_session.specs.Session.{session}

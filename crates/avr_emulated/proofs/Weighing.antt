@@ -1,5 +1,5 @@
 -- How much a session asks, by any weight of bodies: at most four times the commands of its plan's steps.
-use Rattle.std.proofs.Common.{◌≡◌, ℕ, zero, suc, ◌+◌, ◌*◌, ◌-◌, ◌≤◌, List, [], ◌∷◌, ◌++◌, map, append_assoc, refl, sym, ap, ◌∙◌, subst, arith, Bool, true, false, Ok, Err, Result, Option}
+use Rattle.std.proofs.Common.{◌≡◌, ℕ, zero, suc, ◌+◌, ◌*◌, ◌-◌, ◌≤◌, List, [], ◌∷◌, ◌++◌, map, append_assoc, refl, sym, ap, ◌∙◌, arith, Bool, true, false, Ok, Err, Result, Option}
 use Rattle.std.proofs.Math.Nat.{suc-mul}
 use Rattle.std.specs.Prelude.{if◌then◌else◌}
 use Rattle.avr_cli.specs.declared.settings.Switches.{Switches}

@@ -149,7 +149,7 @@ left_out_performs takes sayings {host = host} {o = o} {d = d} {e = e} result sou
 }
 
 -- nothing
-pub nothing_performs : (takes : Bool) (host : HostState) (o : Devices) → host.broken ≡ None → Performs takes (Done Fine) host host o o (Ok Fine)
+nothing_performs : (takes : Bool) (host : HostState) (o : Devices) → host.broken ≡ None → Performs takes (Done Fine) host host o o (Ok Fine)
 nothing_performs takes host o sound = record {
   runs = ran_from (came_here (Done Fine) host.progress o);
   serves = sound;
@@ -190,13 +190,13 @@ performs_with : {dialog : Dialog Saying Standing} (takes more_takes : Bool) {x y
 performs_with takes more_takes standing done = record { runs = done.runs; serves = done.serves; part = done.part; link = done.link; desk = done.desk }
 
 -- one phase after another
-pub performs_then : {first more : Dialog Saying Standing} (takes more_takes : Bool) {x y z : HostState} {o p q : Devices} (result : Result Standing Stopped)
+performs_then : {first more : Dialog Saying Standing} (takes more_takes : Bool) {x y z : HostState} {o p q : Devices} (result : Result Standing Stopped)
     → Foretells first → Performs takes first x y o p (Ok Fine) → Performs more_takes more y z p q result → Performs (takes || more_takes) (first >>= unless_fault more) x z o q result
 performs_then {more = more} takes more_takes result foretells done rest =
     performs_on (takes || more_takes) more_takes (unless_fault more) Fine result (or_then takes more_takes) foretells (performs_with takes more_takes Fine done) rest
 
 -- a phase that is the last
-pub performs_last : {first : Dialog Saying Standing} (takes more_takes : Bool) (more : Dialog Saying Standing) {x y : HostState} {o p : Devices} (result : Result Standing Stopped) → (result ≡ Ok Fine → ⊥)
+performs_last : {first : Dialog Saying Standing} (takes more_takes : Bool) (more : Dialog Saying Standing) {x y : HostState} {o p : Devices} (result : Result Standing Stopped) → (result ≡ Ok Fine → ⊥)
     → Performs takes first x y o p result → Performs (takes || more_takes) (first >>= unless_fault more) x y o p result
 performs_last takes more_takes more (Ok Fine) not done = absurd (not refl)
 performs_last takes more_takes more (Ok Faulty) not done = record { runs = ran_from (came_part (unless_fault more) done.runs); serves = done.serves; part = done.part; link = done.link; desk = done.desk }
@@ -211,16 +211,18 @@ performs_last takes more_takes more {o = o} {p = p} (Err stopped) not done = rec
 
 -- ---- the actions of a plan
 
+or_false : (b : Bool) → (b || false) ≡ b
+or_false true = refl
+or_false false = refl
+
+-- none
 pub does_nothing : (plan : Plan) (host : HostState) (o : Devices) → host.broken ≡ None → Does plan [] host host o o (Ok Fine)
 does_nothing plan host o sound = nothing_performs false host o sound
 
-or_none : (b : Bool) → (b || false) ≡ b
-or_none true = refl
-or_none false = refl
-
+-- one
 pub does_one : (plan : Plan) (action : Action) {x y : HostState} {o p : Devices} {result : Result Standing Stopped} → Performs (action_takes_memory action) (phase plan.part plan.switches action) x y o p result → Does plan (action ∷ []) x y o p result
 does_one plan action {x = x} {y = y} {o = o} {p = p} {result = result} done =
-    subst₂ (λ (takes : Bool) (dialog : Dialog Saying Standing). Performs takes dialog x y o p result) (sym (or_none (action_takes_memory action))) (sym (phases-one plan.part plan.switches action)) done
+    subst₂ (λ (takes : Bool) (dialog : Dialog Saying Standing). Performs takes dialog x y o p result) (sym (or_false (action_takes_memory action))) (sym (phases-one plan.part plan.switches action)) done
 
 does_both : (plan : Plan) (xs ys : List Action) {x y : HostState} {o p : Devices} {result : Result Standing Stopped}
     → Performs (list_any action_takes_memory xs || list_any action_takes_memory ys) (phases plan.part plan.switches xs >>= unless_fault (phases plan.part plan.switches ys)) x y o p result → Does plan (xs ++ ys) x y o p result

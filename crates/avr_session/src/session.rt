@@ -1,9 +1,9 @@
 //! The session of a plan: what it asks of a programmer, and what it reports at the desk.
-ghost use Rattle.std.specs.Prelude.{◌≡◌, ◌∷◌, [], None, Ok, codes, true, false};
+ghost use Rattle.std.specs.Prelude.{◌≡◌, None, Ok, true, false};
 ghost use Rattle.avr_desk.specs.Fault.{Follows};
 ghost use Rattle.avr_session.specs.declared.standing.Standing.TheVariants.{Fine, Faulty};
-ghost use Rattle.avr_session.specs.Concluding.{HostServes};
 ghost use Rattle.avr_session.specs.Actions.{actions, takes_memory};
+ghost use Rattle.avr_session.specs.Concluding.{HostServes};
 ghost use Rattle.avr_session.specs.Phases.{is_told, Performs, PerformsBehind, Does};
 ghost use Rattle.avr_session.specs.Runs.{devices, RunsTo};
 ghost use Rattle.avr_session.specs.Session.{ending, playing, session};

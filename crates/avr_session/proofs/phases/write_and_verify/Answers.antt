@@ -1,4 +1,4 @@
-use Rattle.std.proofs.Common.{false, [], ◌∷◌}
+use Rattle.std.proofs.Common.{false, [], ◌∷◌, Ok, Err}
 use Rattle.std.proofs.lemmas.Result.{err_from_is_err_and}
 use Rattle.avr_session.specs.Actions.{WriteImage, LeaveWrite, read_back_actions}
 use Rattle.avr_session.specs.Session.{left_out_write}
@@ -18,7 +18,7 @@ returns-in_err-fault-clause-performs g c =
     let is_not_dry = rw c.switches.ensures at c.if-switches.false in
     let write = WriteImage c.args.mem c.args.image.now ∷ [] in
     let more = read_back_actions c.args.plan.now.switches c.args.mem c.args.image.now in
-    rw (p.1, is_not_dry) (does_last c.args.plan.now write more _ (λ e. cc) c.in_err-fault.ensures.performs)
+    rw (p.1, is_not_dry) (does_last c.args.plan.now write more (Err p.0) (λ e. cc) c.in_err-fault.ensures.performs)
 
 pub returns-in-Fine-clause-performs : goal.returns-in-Fine-clause-performs
 returns-in-Fine-clause-performs g c =
@@ -32,4 +32,4 @@ returns-in_default-clause-performs g c =
     let is_not_dry = rw c.switches.ensures at c.if-switches.false in
     let write = WriteImage c.args.mem c.args.image.now ∷ [] in
     let more = read_back_actions c.args.plan.now.switches c.args.mem c.args.image.now in
-    rw is_not_dry (does_last c.args.plan.now write more _ (λ e. c.in_default.not-Fine cc) c.in_ok-fault.ensures.performs)
+    rw is_not_dry (does_last c.args.plan.now write more (Ok c.in_ok-fault.fault) (λ e. c.in_default.not-Fine cc) c.in_ok-fault.ensures.performs)
