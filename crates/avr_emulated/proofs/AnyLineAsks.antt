@@ -14,7 +14,7 @@ use Rattle.stk_host.specs.WriteSteps.{write_steps}
 use Rattle.stk_emu.specs.Along.{AsksBodies}
 use Rattle.stk_emu.specs.Effect.{Erase}
 use Rattle.stk_emu.specs.Lawful.{IsBody}
-use Rattle.stk_emu.proofs.Asking.{AreSendable, EachSendable, all_sendable}
+use Rattle.stk_emu.proofs.Sendable.{AreSendable, EachSendable, all_sendable}
 use Rattle.stk_emu.proofs.ItemStrokes.{write_are_steps, read_are_steps, item_are_steps}
 use Rattle.avr_session.specs.Actions.{Action, OpenSession, EraseChip, LeaveErase, WriteImage, LeaveWrite, CompareImage, SaveMemory}
 use Rattle.avr_session.specs.Session.{session}
