@@ -1,7 +1,7 @@
 -- The items of a plan: an erase, if it has one, and then writes alone.
 use Rattle.std.proofs.Common.{◌≡◌, refl, sym, ap, ◌∙◌, subst, List, [], ◌∷◌, ◌++◌, append_assoc, drop, Bool, true, false}
 use Rattle.std.proofs.lemmas.Bool.{true≢false}
-use Rattle.std.specs.Prelude.{if◌then◌else◌}
+use Rattle.std.specs.Prelude.{filter_map, if◌then◌else◌}
 use Rattle.avr_cli.specs.declared.settings.Switches.{Switches}
 use Rattle.avr_part.specs.Part.{Part}
 use Rattle.avr_part.specs.declared.mem.Mem.{Mem}
@@ -12,7 +12,7 @@ use Rattle.avr_session.specs.Actions.{Action, EraseChip, LeaveErase, WriteImage,
 use Rattle.stk_emu.specs.Effect.{Image, Memories, Item, Erase, Write, effects}
 use Rattle.stk_emu.proofs.PageStrokes.{effects_on}
 use Rattle.avr_emulated.specs.Agrees.{ActionsAgree, Agrees}
-use Rattle.avr_emulated.specs.Items.{action_items, items_of, items, has_erase}
+use Rattle.avr_emulated.specs.Items.{action_items, items_of, items, has_erase, task_item}
 
 abbrev pub writes : Plan → List Item
 writes plan = items_of (tasks_actions plan.switches plan.tasks)
@@ -72,6 +72,46 @@ pub erase_first : (plan : Plan) (first later : List Item) → items plan ≡ fir
 erase_first plan first later e =
     nothing_before (has_erase (items plan)) (writes plan) first later (tasks_write plan.switches plan.tasks) (sym (items_are plan) ∙ e)
 
+-- ---- by the tasks
+
+write_items : (dry left_out : Bool) (mem : Mem) (image : Image) (more : List Action)
+    → items_of ((if dry then LeaveWrite mem image ∷ [] else WriteImage mem image ∷ (if left_out then [] else CompareImage mem image ∷ [])) ++ more)
+    ≡ (if dry then items_of more else Write mem image ∷ items_of more)
+write_items true left_out mem image more = refl
+write_items false true mem image more = refl
+write_items false false mem image more = refl
+
+write_unless : (dry : Bool) (item : Item) (xs ys : List Item) → xs ≡ (if dry then [] else ys) → (if dry then xs else item ∷ xs) ≡ (if dry then [] else item ∷ ys)
+write_unless true item xs ys e = e
+write_unless false item xs ys e = ap (λ more. item ∷ more) e
+
+none_unless : (dry : Bool) → ◌≡◌ {A = List Item} [] (if dry then [] else [])
+none_unless true = refl
+none_unless false = refl
+
+writes_by_tasks : (s : Switches) (tasks : List Task) → items_of (tasks_actions s tasks) ≡ (if s.dry then [] else filter_map task_item tasks)
+writes_by_tasks s [] = none_unless s.dry
+writes_by_tasks s (task.Write mem image ∷ tasks) =
+    let more = tasks_actions s tasks in
+    write_items s.dry s.no_verify mem image more ∙ write_unless s.dry (Write mem image) (items_of more) (filter_map task_item tasks) (writes_by_tasks s tasks)
+writes_by_tasks s (task.Verify mem image ∷ tasks) = writes_by_tasks s tasks
+writes_by_tasks s (task.Read mem format file ∷ tasks) = writes_by_tasks s tasks
+
+behind_erase : (dry asked due : Bool) (xs ys : List Item) → xs ≡ (if dry then [] else ys)
+    → items_of (if dry then (if asked then LeaveErase ∷ [] else []) else if due then EraseChip ∷ [] else []) ++ xs
+    ≡ (if dry then [] else (if due then Erase ∷ [] else []) ++ ys)
+behind_erase true true due xs ys e = e
+behind_erase true false due xs ys e = e
+behind_erase false asked true xs ys e = ap (λ more. Erase ∷ more) e
+behind_erase false asked false xs ys e = e
+
+pub items_by_tasks : (plan : Plan)
+    → items plan ≡ (if plan.switches.dry then [] else (if is_erase_due plan.switches plan.tasks then Erase ∷ [] else []) ++ filter_map task_item plan.tasks)
+items_by_tasks plan =
+    let s = plan.switches in
+    items_on (erase_actions s plan.tasks) (tasks_actions s plan.tasks)
+    ∙ behind_erase s.dry s.erase (is_erase_due s plan.tasks) (writes plan) (filter_map task_item plan.tasks) (writes_by_tasks s plan.tasks)
+
 -- ---- what they compare
 
 module _ (part : Part) where
@@ -104,6 +144,8 @@ tasks_agree plan m agree =
 
 pub plan_agrees : (plan : Plan) (m : Memories)
     → ActionsAgree plan.part (tasks_actions plan.switches plan.tasks) (effects plan.part (items_of (erase_actions plan.switches plan.tasks)) m) → Agrees plan m
-plan_agrees plan m agree =
-    (tt, agree_joined plan.part (erase_actions plan.switches plan.tasks) (tasks_actions plan.switches plan.tasks) m
-    (erasing_agrees plan.part plan.switches plan.tasks m) agree)
+plan_agrees plan m agree = (
+  tt,
+  agree_joined plan.part (erase_actions plan.switches plan.tasks) (tasks_actions plan.switches plan.tasks) m
+      (erasing_agrees plan.part plan.switches plan.tasks m) agree,
+)

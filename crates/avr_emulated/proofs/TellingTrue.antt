@@ -41,7 +41,7 @@ use Rattle.stk_emu.specs.Settled.{Idle, Settled, FitsPart}
 use Rattle.stk_emu.specs.Strokes.{struck_by, AreSteps}
 use Rattle.stk_emu.specs.Wire.{first_fate, other_fates, after_fate}
 use Rattle.stk_emu.proofs.Comparing.{no_difference}
-use Rattle.stk_emu.proofs.ItemStrokes.{struck_all, item_does, item_are_steps, read_are_steps, effect_sizes}
+use Rattle.stk_emu.proofs.ItemStrokes.{struck_all, item_does, item_are_steps, read_are_steps}
 use Rattle.stk_emu.proofs.LeadsOn.{leads_done, leads_lifted, leads_wider, leads_bind, leads_play, leads_beginning}
 use Rattle.stk_emu.proofs.PageStrokes.{effects_on}
 use Rattle.stk_emu.proofs.PlayGiven.{read_gives}

@@ -1,5 +1,5 @@
 -- A session that was played over a wire, as it went along the line of its fates.
-use Rattle.std.proofs.Common.{◌≡◌, ◌*◌, ◌⊎◌, ℕ, [], ◌++◌, All, length, sym, ap, ◌∙◌, subst, inl, inr, true, false, Option, Some, option_map}
+use Rattle.std.proofs.Common.{◌≡◌, ◌*◌, ◌⊎◌, ℕ, [], ◌++◌, All, length, sym, ap, ◌∙◌, subst, inl, inr, true, Option, Some, option_map}
 use Rattle.std.proofs.lemmas.List.{append-nil}
 use Rattle.avr_desk.specs.Said.{Saying, SaidPart, after_all}
 use Rattle.avr_part.specs.Part.{IsPart}

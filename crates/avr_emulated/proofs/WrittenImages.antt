@@ -11,7 +11,7 @@ use Rattle.avr_part.specs.declared.mem.Mem.TheVariants.{Flash, Eeprom, Lfuse, Hf
 use Rattle.avr_plan.specs.declared.task.Task.{Task}
 use Rattle.avr_plan.specs.declared.task.Task.TheVariants as task
 use Rattle.avr_session.specs.Actions.{Action, OpenSession, EraseChip, LeaveErase, WriteImage, LeaveWrite, CompareImage, SaveMemory, tasks_actions}
-use Rattle.stk_emu.specs.Effect.{Image, Memories, Write, with_image, and_in, and_with, are_locked, write_effect, effects, memory_in}
+use Rattle.stk_emu.specs.Effect.{Image, Memories, with_image, and_in, and_with, are_locked, write_effect, effects, memory_in}
 use Rattle.stk_emu.proofs.Images.{length-laid, length-and_in}
 use Rattle.avr_emulated.specs.Agrees.{Shows, ActionsAgree}
 use Rattle.avr_emulated.specs.Items.{items_of}

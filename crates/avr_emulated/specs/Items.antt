@@ -1,6 +1,8 @@
 -- What a plan does to the memories of a chip.
-use Rattle.std.specs.Prelude.{Bool, true, false, List, [], ◌∷◌, ◌++◌}
+use Rattle.std.specs.Prelude.{Bool, true, false, List, [], ◌∷◌, ◌++◌, Option, Some, None}
 use Rattle.avr_plan.specs.Plan.{Plan}
+use Rattle.avr_plan.specs.declared.task.Task.{Task}
+use Rattle.avr_plan.specs.declared.task.Task.TheVariants as task
 use Rattle.avr_session.specs.Actions.{Action, EraseChip, WriteImage, actions}
 use Rattle.stk_emu.specs.Effect.{Item, Erase, Write}
 
@@ -23,3 +25,9 @@ abbrev pub has_erase : List Item → Bool
 has_erase [] = false
 has_erase (Erase ∷ items) = true
 has_erase (Write mem image ∷ items) = has_erase items
+
+-- what a task writes
+abbrev pub task_item : Task → Option Item
+task_item (task.Write mem image) = Some (Write mem image)
+task_item (task.Verify mem image) = None
+task_item (task.Read mem format file) = None
