@@ -1,88 +1,100 @@
--- All that a session asks fits a frame.
-use Rattle.std.proofs.Common.{◌≤◌, List, [], ◌∷◌, length, arith, Bool, true, false, Ok, Err, Result}
-use Rattle.std.specs.Prelude.{All, if◌then◌else◌}
-use Rattle.avr_cli.specs.declared.settings.Switches.{Switches}
-use Rattle.avr_desk.specs.Said.{Saying}
-use Rattle.avr_part.specs.Mem.{is_writable}
-use Rattle.avr_part.specs.declared.mem.Mem.{Mem}
-use Rattle.avr_part.specs.Part.{Part, IsPart, size_of}
+-- All that a session asks fits a frame: it weighs nothing, where a body weighs 1 that no frame can carry.
+use Rattle.std.proofs.Common.{◌≡◌, ℕ, ◌*◌, ◌-◌, ◌≤◌, List, [], ◌∷◌, ◌++◌, map, length, subst, arith}
+use Rattle.std.proofs.lemmas.Bool.Decides.{nat_tests}
+use Rattle.std.specs.Prelude.{All, nat_le, ◌&&◌, if◌then◌else◌}
+use Rattle.avr_part.specs.Part.{Part, IsPart}
 use Rattle.avr_plan.specs.Plan.{Plan, IsFitted}
-use Rattle.stk_host.specs.declared.fault.HostFault.{HostFault}
-use Rattle.stk_host.specs.declared.fault.HostFault.TheVariants.{ReadOnly}
-use Rattle.stk_host.specs.Dialog.{Dialog, Done, ◌>>=◌, lifted}
-use Rattle.stk_host.specs.WriteSteps.{write_steps}
+use Rattle.stk_frame.specs.Commands.{body}
+use Rattle.stk_frame.specs.HostCommands.{read_signature}
+use Rattle.stk_frame.specs.declared.command.Command.{Command}
+use Rattle.stk_host.specs.Bound.{opening_steps, erasing_steps, closing_steps}
+use Rattle.stk_host.specs.Dialog.{Dialog, Done, Say, Ask}
 use Rattle.stk_host.specs.ReadSteps.{read_steps}
-use Rattle.stk_host.specs.Operations.{opening, no_result, erasing, writing, reading, comparison, verifying, closing, operation}
+use Rattle.stk_host.specs.WriteSteps.{write_steps}
 use Rattle.stk_emu.specs.Along.{AsksBodies}
-use Rattle.stk_emu.specs.Effect.{Image, Erase}
-use Rattle.stk_emu.specs.Strokes.{steps_of}
-use Rattle.stk_emu.proofs.Asking.{asks_bind, asks_lifted, asks_operation, asks_opening, asks_closing}
+use Rattle.stk_emu.specs.Effect.{Erase}
+use Rattle.stk_emu.specs.Lawful.{IsBody}
+use Rattle.stk_emu.proofs.Sendable.{AreSendable, EachSendable, all_sendable}
 use Rattle.stk_emu.proofs.ItemStrokes.{write_are_steps, read_are_steps, item_are_steps}
-use Rattle.avr_session.specs.declared.standing.Standing.{Standing}
-use Rattle.avr_session.specs.declared.standing.Standing.TheVariants.{Fine, Faulty, Over}
-use Rattle.avr_session.specs.Actions.{Action, OpenSession, EraseChip, LeaveErase, WriteImage, LeaveWrite, CompareImage, SaveMemory, actions}
-use Rattle.avr_session.specs.Session.{says, standing, reported, unless_fault, fault_or, opening_says, erased_says, written_says, verified_says, closed_says, read_says, left_out_erase, left_out_write, phase, phases, ending, playing, status_of, session}
+use Rattle.avr_session.specs.Actions.{Action, OpenSession, EraseChip, LeaveErase, WriteImage, LeaveWrite, CompareImage, SaveMemory}
+use Rattle.avr_session.specs.Session.{session}
+use Rattle.avr_emulated.specs.AnyLine.{Weight, weighed, bodies_in}
+use Rattle.avr_emulated.specs.Bound.{action_steps, actions_steps, run_steps}
 use Rattle.avr_emulated.proofs.Fitting.{FitsAction, AllFitActions, work, work_fits}
+use Rattle.avr_emulated.proofs.Weighing.{WeighsAtMost, weighed_append, session_weighs}
 
-asks_says : (sayings : List Saying) (s : Standing) → AsksBodies (says sayings (Done s))
-asks_says [] s = tt
-asks_says (saying ∷ sayings) s = asks_says sayings s
+abbrev unsendable : Weight
+unsendable bytes = if nat_le 1 (length bytes) && nat_le (length bytes) 275 then 0 else 1
 
-asks_reported : {A : Type 0} (call : Dialog ⊥ (Result A HostFault)) (outcome_says : Result A HostFault → List Saying) → AsksBodies call → AsksBodies (reported call outcome_says)
-asks_reported call outcome_says asks =
-    asks_bind (lifted call) (λ outcome. says (outcome_says outcome) (Done (standing outcome))) (asks_lifted Saying call asks)
-    (λ outcome. asks_says (outcome_says outcome) (standing outcome))
+light : (bytes : List ℕ) → IsBody bytes → unsendable bytes ≡ 0
+light bytes is = let some = is.some in let few = is.few in grind (arith, nat_tests, some, few)
 
-asks_then : (d next : Dialog Saying Standing) → AsksBodies d → AsksBodies next → AsksBodies (d >>= unless_fault next)
-asks_then d next asks more = asks_bind d (unless_fault next) asks after
-  where
-    after : (s : Standing) → AsksBodies (unless_fault next s)
-    after Fine = more
-    after Faulty = tt
-    after Over = tt
+sendable : (bytes : List ℕ) → unsendable bytes ≤ 0 → IsBody bytes
+sendable bytes le = record { some = grind (arith, nat_tests, le); few = grind (arith, nat_tests, le) }
 
-module _ (part : Part) (sound : IsPart part) (s : Switches) where
-  asks_writing : (mem : Mem) (image : Image) → length image ≤ size_of mem part → AsksBodies (writing part mem image)
-  asks_writing mem image fits = by_kind (is_writable mem)
-    where
-      by_kind : (b : Bool) → AsksBodies (if b then operation (write_steps part mem image) no_result else Done (Err (ReadOnly mem)))
-      by_kind true = asks_operation part sound (write_steps part mem image) no_result (write_are_steps part sound mem image fits)
-      by_kind false = tt
+asks_light : {E R : Type 0} (d : Dialog E R) → WeighsAtMost unsendable 0 d → AsksBodies d
+asks_light (Done r) f = tt
+asks_light (Say e d) f = asks_light d f
+asks_light (Ask asked answered) f = (
+  sendable asked f.0,
+  λ reading.
+      let none : 0 - unsendable asked ≡ 0 = omega arith in
+      asks_light (answered reading) (subst (λ n. WeighsAtMost unsendable n (answered reading)) none (f.1 reading)),
+)
 
-  asks_opened : AsksBodies (phase part s OpenSession)
-  asks_opened = asks_reported (opening part.signature s.force) (opening_says s.quiet part) (asks_opening part.signature s.force)
+commands_light : (commands : List Command) → AreSendable commands → weighed unsendable (map body commands) ≡ 0
+commands_light [] s = omega arith
+commands_light (command ∷ commands) s = let first = light (body command) s.0 in let more = commands_light commands s.1 in omega (arith, first, more)
 
-  asks_phase : (action : Action) → FitsAction part action → AsksBodies (phase part s action)
-  asks_phase OpenSession fits = absurd fits
-  asks_phase EraseChip fits =
-      asks_reported erasing (erased_says s.quiet part) (asks_operation part sound (steps_of part Erase) no_result (item_are_steps part sound Erase tt))
-  asks_phase LeaveErase fits = asks_says (left_out_erase s.quiet) Fine
-  asks_phase (WriteImage mem image) fits =
-      asks_reported (writing part mem image) (written_says s.quiet part mem image) (asks_writing mem image (let size = fits.0 in omega (arith, size)))
-  asks_phase (LeaveWrite mem image) fits = asks_says (left_out_write s.quiet mem image) Fine
-  asks_phase (CompareImage mem image) fits =
-      asks_reported (verifying part mem image) (verified_says s.quiet part mem image)
-      (asks_operation part sound (read_steps part mem) (comparison mem image) (read_are_steps part sound mem))
-  asks_phase (SaveMemory mem format file) fits =
-      asks_reported (reading part mem) (fault_or part (read_says s mem format file)) (asks_operation part sound (read_steps part mem) Ok (read_are_steps part sound mem))
+steps_light : (steps : List (List Command)) → EachSendable steps → weighed unsendable (bodies_in steps) ≡ 0
+steps_light [] s = omega arith
+steps_light (commands ∷ steps) s =
+    let first = commands_light commands s.0 in
+    let more = steps_light steps s.1 in
+    let both = weighed_append unsendable (map body commands) (bodies_in steps) in
+    omega (arith, first, more, both)
 
-  asks_phases : (actions : List Action) → AllFitActions part actions → AsksBodies (phases part s actions)
-  asks_phases [] fits = tt
-  asks_phases (action ∷ actions) fits = asks_then (phase part s action) (phases part s actions) (asks_phase action fits.0) (asks_phases actions fits.1)
+both_sendable : (xs ys : List (List Command)) → EachSendable xs → EachSendable ys → EachSendable (xs ++ ys)
+both_sendable [] ys f g = g
+both_sendable (commands ∷ xs) ys f g = (f.0, both_sendable xs ys f.1 g)
 
-  asks_ending : (standing : Standing) → AsksBodies (ending part s standing)
-  asks_ending Fine = asks_reported closing (closed_says s.quiet part) asks_closing
-  asks_ending Faulty = asks_bind (reported closing (λ _. [])) (λ closed. Done Over) (asks_reported closing (λ _. []) asks_closing) (λ closed. tt)
-  asks_ending Over = tt
+reads_sendable : (place : ℕ) → AreSendable (read_signature place ∷ [])
+reads_sendable place = (record { some = omega arith; few = omega arith }, tt)
+
+opening_sendable : EachSendable opening_steps
+opening_sendable = (
+  (record { some = omega arith; few = omega arith }, tt),
+  ((record { some = omega arith; few = omega arith }, tt), (reads_sendable 0, (reads_sendable 1, (reads_sendable 2, tt)))),
+)
+
+closing_sendable : EachSendable closing_steps
+closing_sendable = ((record { some = omega arith; few = omega arith }, tt), tt)
+
+module _ (part : Part) (sound : IsPart part) where
+  action_sendable : (action : Action) → FitsAction part action → EachSendable (action_steps part action)
+  action_sendable OpenSession fits = absurd fits
+  action_sendable EraseChip fits = all_sendable part sound erasing_steps (item_are_steps part sound Erase tt)
+  action_sendable LeaveErase fits = tt
+  action_sendable (WriteImage mem image) fits =
+      all_sendable part sound (write_steps part mem image) (write_are_steps part sound mem image (let size = fits.0 in omega (arith, size)))
+  action_sendable (LeaveWrite mem image) fits = tt
+  action_sendable (CompareImage mem image) fits = all_sendable part sound (read_steps part mem) (read_are_steps part sound mem)
+  action_sendable (SaveMemory mem format file) fits = all_sendable part sound (read_steps part mem) (read_are_steps part sound mem)
+
+  actions_sendable : (actions : List Action) → AllFitActions part actions → EachSendable (actions_steps part actions)
+  actions_sendable [] fits = tt
+  actions_sendable (action ∷ actions) fits =
+      both_sendable (action_steps part action) (actions_steps part actions) (action_sendable action fits.0) (actions_sendable actions fits.1)
+
+run_sendable : (plan : Plan) → IsPart plan.part → All (IsFitted plan.part) plan.tasks → EachSendable (run_steps plan)
+run_sendable plan sound fitted =
+    let later = actions_steps plan.part (work plan) in
+    both_sendable (opening_steps ++ later) closing_steps
+    (both_sendable opening_steps later opening_sendable (actions_sendable plan.part sound (work plan) (work_fits plan fitted))) closing_sendable
 
 -- every question of a session
 pub session_asks : (plan : Plan) → IsPart plan.part → All (IsFitted plan.part) plan.tasks → AsksBodies (session plan)
-unfolding session
 session_asks plan sound fitted =
-    let part = plan.part in
-    let s = plan.switches in
-    asks_bind (playing plan) (λ standing. Done (status_of standing))
-    (asks_bind (phases part s (actions plan)) (ending part s)
-    (asks_then (phase part s OpenSession) (phases part s (work plan)) (asks_opened part sound s) (asks_phases part sound s (work plan) (work_fits plan fitted)))
-    (asks_ending part sound s))
-    (λ standing. tt)
+    let none = steps_light (run_steps plan) (run_sendable plan sound fitted) in
+    let nothing : 4 * weighed unsendable (bodies_in (run_steps plan)) ≡ 0 = omega (arith, none) in
+    asks_light (session plan) (subst (λ n. WeighsAtMost unsendable n (session plan)) nothing (session_weighs unsendable plan))

@@ -14,7 +14,7 @@ use Rattle.stk_host.specs.declared.fault.StepFault.{StepFault}
 use Rattle.stk_host.specs.declared.fault.StepFault.TheVariants.{NoAnswer}
 use Rattle.stk_host.specs.Tape.{Tape, Reading, answer, on_tape}
 use Rattle.stk_host.specs.Talk.{heard}
-use Rattle.stk_host.specs.Dialog.{Dialog, Done, Say, Ask, ◌>>=◌, lifted, Event, Frame, Said, Played, played, by_answer, next, frames_in}
+use Rattle.stk_host.specs.Dialog.{Dialog, Done, Say, Ask, ◌>>=◌, Event, Frame, Said, Played, played, by_answer, next, frames_in}
 use Rattle.stk_host.specs.Play.{IsBegun, IsFront, NoPart}
 use Rattle.stk_host.specs.Steps.{exchange, Reply, Data, Again, Stop, reading_reply, with_data, attempt, Outcome, end_or_again, tries, step, if_done, play}
 use Rattle.stk_host.specs.WriteSteps.{write_steps}
@@ -48,12 +48,6 @@ asks_bind (suc n) k (Ask body answered) go_on f g =
     let e : suc (n + k) ≡ suc n + k = omega arith in
     subst (λ z. AsksAtMost z (Ask body (λ reading. answered reading >>= go_on))) e
     (asks_next (n + k) body (λ reading. answered reading >>= go_on) (λ reading. asks_bind n k (answered reading) go_on (f reading) g))
-
-pub asks_lifted : {R : Type 0} (E : Type 0) (n : ℕ) (d : Dialog ⊥ R) → AsksAtMost n d → AsksAtMost {E = E} n (lifted d)
-asks_lifted E n (Done r) f = tt
-asks_lifted E n (Say e d) f = absurd e
-asks_lifted E zero (Ask body answered) f = absurd f
-asks_lifted E (suc n) (Ask body answered) f = λ reading. asks_lifted E n (answered reading) (f reading)
 
 -- frames
 
