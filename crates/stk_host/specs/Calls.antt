@@ -133,7 +133,7 @@ CountsLink old new result = (old.failures ≤ new.failures) × FailsByLink old n
 
 -- A call of a conversation that asks: it ends so, the failures of its link are counted, and of what was heard at most
 -- one piece is left.
-pub record Asks {A : Type 0} (Ends : Position → LinkView → LinkView → Result A Stop → Position → Type 0)
+pub record AsksLink {A : Type 0} (Ends : Position → LinkView → LinkView → Result A Stop → Position → Type 0)
     (before : Position) (old new : LinkView) (result : Result A Stop) (after : Position) : Type 0 where
   pub played : Ends before old new result after
   pub counted : CountsLink old new result
@@ -148,7 +148,7 @@ pub record MayAsk {A : Type 0} (Ends : Position → LinkView → LinkView → Re
 
 -- How one command or more are answered, by what is held then: their play came to this reply, or it broke off as the
 -- link failed. Data have the size that the last command asks for.
-pub record Replies (dialog : Dialog ⊥ steps.Reply) (last : Command) (before : Position) (old new : LinkView)
+pub record GetsReply (dialog : Dialog ⊥ steps.Reply) (last : Command) (before : Position) (old new : LinkView)
     (result : Result Reply Broken) (after : ConversationState) : Type 0 where
   pub ok : IfOk result (λ reply. PlaysOver dialog before old new (reply_of reply (data_held last after.held))
       after.progress)

@@ -81,7 +81,7 @@ pub record CountsCall {L : Type 0} (old new : FailingState L) (is_due : Bool) : 
   pub counted : old.failed ≤ new.failed
 
 -- One call of it: the one that is due fails, and the link below isn't called; every other fails only with that.
-pub record FailsWhenDue {A L : Type 0} (view : L → LinkView) (old new : FailingState L)
+pub record FailsAsPlanned {A L : Type 0} (view : L → LinkView) (old new : FailingState L)
     (result : Result A LinkFault) : Type 0 where
   pub due : new.due ≡ old.due - 1
   pub cut : new.cut ≡ old.cut

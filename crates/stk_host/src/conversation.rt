@@ -6,7 +6,7 @@ ghost use Rattle.stk_host.specs.Talk.{Stays};
 ghost use Rattle.stk_host.specs.Reach.{SendsAll};
 ghost use Rattle.stk_host.specs.Steps.{exchange, attempt, step, answer_reply, reading_reply};
 ghost use Rattle.stk_host.specs.State.{data_in, data_held};
-ghost use Rattle.stk_host.specs.Calls.{reading_of, reply_of, EndsSteps, Asks, Replies, FitsFrame, BringsNoData};
+ghost use Rattle.stk_host.specs.Calls.{reading_of, reply_of, EndsSteps, AsksLink, GetsReply, FitsFrame, BringsNoData};
 
 use crate::fault::{Broken, StepFault, Stop};
 use crate::link::{Link, LinkFault};
@@ -123,7 +123,7 @@ impl Conversation {
     /// Sends a command and reads its answer.
     fn exchange<L: Link>(&mut self, link: &mut L, command: &Command<'_>) -> Result<Reply, Broken>
         requires { FitsFrame command.now }
-        ensures replies { Replies (exchange command.now) command.now self.old.progress
+        ensures replies { GetsReply (exchange command.now) command.now self.old.progress
             (L.view link.old) (L.view link.new) result self.new }
         ensures quiet { BringsNoData command.now → IsOkAnd result (λ reply. reply ≡ Reply.Data)
             → data_held command.now self.new.held ≡ [] }
@@ -149,7 +149,7 @@ impl Conversation {
     ) -> Result<Reply, Broken>
         requires quiet { All BringsNoData first.now }
         requires fits { FitsFrame last.now }
-        ensures replies { Replies (attempt (first.now ++ last.now ∷ []) []) last.now self.old.progress
+        ensures replies { GetsReply (attempt (first.now ++ last.now ∷ []) []) last.now self.old.progress
             (L.view link.old) (L.view link.new) result self.new }
         ensures comes { Stays L.comes_of link.old link.new }
     {
@@ -174,7 +174,7 @@ impl Conversation {
     ) -> Result<(), Stop>
         requires quiet { All BringsNoData first.now }
         requires fits { FitsFrame last.now }
-        ensures asks { Asks (EndsSteps (step (first.now ++ last.now ∷ [])) (λ done. data_held last.now self.new.held))
+        ensures asks { AsksLink (EndsSteps (step (first.now ++ last.now ∷ [])) (λ done. data_held last.now self.new.held))
             self.old.progress (L.view link.old) (L.view link.new) result self.new.progress }
         ensures sized { OnOk result (SizedBy (shape last.now) (data_held last.now self.new.held)) }
         ensures comes { Stays L.comes_of link.old link.new }

@@ -1,6 +1,6 @@
 //! A link that fails once, at a call that is chosen: for tests of what stands on links.
 ghost use Rattle.std.specs.Prelude.{◌≡◌, ◌==◌, ◌<◌, ◌≤◌, ◌+◌, ◌-◌, ◌^◌, ◌∷◌, [], ℕ, length, take, min, Err, IfOk, OnOk};
-ghost use Rattle.stk_host.specs.Links.{failing_link_view, CountsCall, FailsWhenDue};
+ghost use Rattle.stk_host.specs.Links.{failing_link_view, CountsCall, FailsAsPlanned};
 ghost use Rattle.stk_host.specs.Talk.{Sends, Receives, Stays, FitsBuffer};
 
 use crate::link::{Heard, Link, LinkFault};
@@ -75,7 +75,7 @@ impl<L: Link + Drop> Link for FailingLink<L> {
     fn send(&mut self, bytes: &[u8]) -> Result<usize, LinkFault>
         ensures sends { Sends bytes.now (failing_link_view L.view self.old) (failing_link_view L.view self.new) result }
         ensures comes { Stays L.comes_of self.old.inner self.new.inner }
-        ensures fails { FailsWhenDue L.view self.old self.new result }
+        ensures fails { FailsAsPlanned L.view self.old self.new result }
         ensures short { IfOk result (λ n. n ≤ self.old.cut) }
     {
         if self.is_due() {
@@ -90,7 +90,7 @@ impl<L: Link + Drop> Link for FailingLink<L> {
         ensures receives { Receives buffer.new (failing_link_view L.view self.old) (failing_link_view L.view self.new)
             result }
         ensures comes { Stays L.comes_of self.old.inner self.new.inner }
-        ensures fails { FailsWhenDue L.view self.old self.new result }
+        ensures fails { FailsAsPlanned L.view self.old self.new result }
         ensures short { IfOk result (λ heard. FitsBuffer heard self.old.cut) }
     {
         if self.is_due() {

@@ -3,7 +3,7 @@ ghost use Rattle.std.specs.Prelude.{◌≡◌, ◌≤◌, ◌∷◌, [], length}
 ghost use Rattle.stk_frame.specs.HostCommands.{leave, read_signature};
 ghost use Rattle.stk_host.specs.Steps.{step};
 ghost use Rattle.stk_host.specs.Operations.{handshake};
-ghost use Rattle.stk_host.specs.Calls.{EndsSteps, Asks};
+ghost use Rattle.stk_host.specs.Calls.{EndsSteps, AsksLink};
 ghost use Rattle.stk_host.specs.Talk.{Stays};
 
 use crate::conversation::Conversation;
@@ -17,7 +17,7 @@ fn signature_byte<L: Link>(
     link: &mut L,
     place: u8,
 ) -> Result<u8, Stop>
-    ensures asks { Asks (EndsSteps (step (read_signature place ∷ [])) (λ byte. byte ∷ [])) conversation.old.progress
+    ensures asks { AsksLink (EndsSteps (step (read_signature place ∷ [])) (λ byte. byte ∷ [])) conversation.old.progress
         (L.view link.old) (L.view link.new) result conversation.new.progress }
     ensures comes { Stays L.comes_of link.old link.new }
 {
@@ -28,7 +28,7 @@ fn signature_byte<L: Link>(
 
 /// Signs on, enters programming mode and reads the signature, byte 0 first.
 pub(crate) fn begin<L: Link>(conversation: &mut Conversation, link: &mut L) -> Result<[u8; 3], Stop>
-    ensures asks { Asks (EndsSteps handshake (λ found. found)) conversation.old.progress
+    ensures asks { AsksLink (EndsSteps handshake (λ found. found)) conversation.old.progress
         (L.view link.old) (L.view link.new) result conversation.new.progress }
     ensures comes { Stays L.comes_of link.old link.new }
 {
@@ -42,7 +42,7 @@ pub(crate) fn begin<L: Link>(conversation: &mut Conversation, link: &mut L) -> R
 
 /// Leaves programming mode.
 pub(crate) fn end<L: Link>(conversation: &mut Conversation, link: &mut L) -> Result<(), Stop>
-    ensures asks { Asks (EndsSteps (step (leave ∷ [])) (λ done. [])) conversation.old.progress
+    ensures asks { AsksLink (EndsSteps (step (leave ∷ [])) (λ done. [])) conversation.old.progress
         (L.view link.old) (L.view link.new) result conversation.new.progress }
     ensures comes { Stays L.comes_of link.old link.new }
 {

@@ -5,7 +5,7 @@ ghost use Rattle.stk_frame.specs.Commands.{shape};
 ghost use Rattle.stk_host.specs.Places.{each_from};
 ghost use Rattle.stk_host.specs.ReadSteps.{block_count, block_size, load_block_address, read_block, block_steps, signature_steps, read_steps};
 ghost use Rattle.stk_host.specs.Steps.{play};
-ghost use Rattle.stk_host.specs.Calls.{EndsSteps, Asks, MayAsk, StepBrings, FitsFrame, BringsNoData, IsSizedShape, data_count};
+ghost use Rattle.stk_host.specs.Calls.{EndsSteps, AsksLink, MayAsk, StepBrings, FitsFrame, BringsNoData, IsSizedShape, data_count};
 ghost use Rattle.stk_host.specs.Talk.{Stays};
 
 use crate::conversation::Conversation;
@@ -114,7 +114,7 @@ fn read_byte<L: Link>(
     requires brings { StepBrings 1 [] command.now }
     requires empty { out.old.items ≡ [] }
     requires room { 1 ≤ vec_capacity out.old }
-    ensures asks { Asks (EndsSteps (play ((command.now ∷ []) ∷ []) []) (λ done. out.new.items))
+    ensures asks { AsksLink (EndsSteps (play ((command.now ∷ []) ∷ []) []) (λ done. out.new.items))
         conversation.old.progress (L.view link.old) (L.view link.new) result conversation.new.progress }
     ensures comes { Stays L.comes_of link.old link.new }
     ensures size { OnOk result (length out.new.items ≡ 1) }

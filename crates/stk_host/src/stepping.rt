@@ -1,7 +1,7 @@
 //! A step among the steps of an operation.
 ghost use Rattle.std.specs.Prelude.{◌≡◌, ◌+◌, ◌≤◌, ◌++◌, ◌∷◌, [], length, OnOk, vec_capacity};
 ghost use Rattle.stk_frame.specs.Commands.{shape};
-ghost use Rattle.stk_host.specs.Calls.{with_step, without_step, EndsInnerStep, Asks, StepBrings, data_count};
+ghost use Rattle.stk_host.specs.Calls.{with_step, without_step, EndsInnerStep, AsksLink, StepBrings, data_count};
 ghost use Rattle.stk_host.specs.Talk.{Stays};
 
 use crate::conversation::Conversation;
@@ -26,7 +26,7 @@ pub(crate) fn play_step<L: Link>(
     last: &Command<'_>,
 ) -> Result<(), Stop>
     requires brings { StepBrings 0 first.now last.now }
-    ensures asks { Asks (EndsInnerStep (with_step (first.now ++ last.now ∷ []) []) (without_step []))
+    ensures asks { AsksLink (EndsInnerStep (with_step (first.now ++ last.now ∷ []) []) (without_step []))
         conversation.old.progress (L.view link.old) (L.view link.new) result conversation.new.progress }
     ensures comes { Stays L.comes_of link.old link.new }
 {
@@ -43,7 +43,7 @@ pub(crate) fn read_step<L: Link>(
 ) -> Result<(), Stop>
     requires brings { StepBrings (data_count (shape last.now)) first.now last.now }
     requires room { length out.old.items + data_count (shape last.now) ≤ vec_capacity out.old }
-    ensures asks { Asks
+    ensures asks { AsksLink
         (EndsInnerStep (with_step (first.now ++ last.now ∷ []) out.old.items) (without_step out.new.items))
         conversation.old.progress (L.view link.old) (L.view link.new) result conversation.new.progress }
     ensures comes { Stays L.comes_of link.old link.new }

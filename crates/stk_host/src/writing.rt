@@ -6,7 +6,7 @@ ghost use Rattle.stk_frame.specs.HostCommands as host;
 ghost use Rattle.stk_host.specs.Places as places;
 ghost use Rattle.stk_host.specs.WriteSteps.{page_step, byte_steps, write_steps};
 ghost use Rattle.stk_host.specs.Steps.{play};
-ghost use Rattle.stk_host.specs.Calls.{with_step, without_step, EndsInnerStep, EndsSteps, Asks, MayAsk};
+ghost use Rattle.stk_host.specs.Calls.{with_step, without_step, EndsInnerStep, EndsSteps, AsksLink, MayAsk};
 ghost use Rattle.stk_host.specs.Talk.{Stays};
 
 use crate::conversation::Conversation;
@@ -30,7 +30,7 @@ fn program_page<L: Link>(
     start: u32,
 ) -> Result<(), Stop>
     requires { start < 2 ^ 20 }
-    ensures asks { Asks (EndsInnerStep (with_step (page_step part.now image.now start) []) (without_step []))
+    ensures asks { AsksLink (EndsInnerStep (with_step (page_step part.now image.now start) []) (without_step []))
         conversation.old.progress (L.view link.old) (L.view link.new) result conversation.new.progress }
     ensures comes { Stays L.comes_of link.old link.new }
 {
@@ -74,7 +74,7 @@ fn program_run<L: Link>(
 ) -> Result<(), Stop>
     requires order { start ≤ end }
     requires fits { end - start ≤ 256 }
-    ensures asks { Asks (EndsInnerStep
+    ensures asks { AsksLink (EndsInnerStep
         (with_step (places.load_eeprom start ∷ host.program_eeprom_block (filled_bytes image.now start (end - start))
         ∷ []) [])
         (without_step []))
