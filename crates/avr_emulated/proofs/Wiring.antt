@@ -38,7 +38,7 @@ use Rattle.avr_emulated.proofs.AnyLine.{session_leaves}
 use Rattle.avr_emulated.proofs.AnyLineAsks.{session_asks}
 use Rattle.avr_emulated.proofs.AnyLineOrder.{session_makes}
 use Rattle.avr_emulated.proofs.FewBad.{session_ends}
-use Rattle.avr_emulated.proofs.FewBadEnds.{Came}
+use Rattle.avr_emulated.proofs.Ends.{Came}
 use Rattle.avr_emulated.proofs.FramesWeighed.{front_weighs}
 use Rattle.avr_emulated.proofs.Success.{session_succeeds}
 use Rattle.avr_emulated.proofs.TellingTrue.{session_tells}
@@ -120,10 +120,10 @@ module _ (plan : Plan) (w v : WiredState) (fresh : IsFresh w) (stays : Stays Com
     }
 
     ran_success : status ≡ 0 → IsCourse plan before after old now status
-    ran_success zero = has_course ((session_succeeds plan sound fitted before begun w.wire.fates sizes idle).comes count status goes.result zero)
+    ran_success zero = has_course (session_succeeds plan sound fitted before begun w.wire.fates sizes idle count status goes.result zero)
 
     ran_few : AreFew w.wire.fates → IsCourse plan before after old now status
-    ran_few few = has_course ((session_ends plan sound fitted before begun w.wire.fates sizes idle few).ends count status goes.result)
+    ran_few few = has_course (session_ends plan sound fitted before begun w.wire.fates sizes idle few count status goes.result)
 
     ran_front : IsPrefixOf (sent v.talk) (bytes_sent (played (session plan) 1 (heard v.talk)).events)
     ran_front =

@@ -35,7 +35,7 @@ use Rattle.avr_emulated.proofs.WrittenRuns.{run_written}
 use Rattle.avr_tool.specs.Headline.{OverAnyLink}
 use Rattle.avr_emulated.proofs.FramesWeighed.{front_weighs}
 use Rattle.avr_emulated.proofs.Success.{session_succeeds}
-use Rattle.avr_emulated.proofs.FewBadEnds.{Came}
+use Rattle.avr_emulated.proofs.Ends.{Came}
 use Rattle.avr_emulated.proofs.Weighing.{session_weighs}
 
 module _ (plan : Plan) (s : chips.ChipState) (q : Programmer) (fates : List Fate) (bytes : List ℕ) (tape left : Tape) (events : List (Event Saying)) (status next : ℕ)
@@ -82,7 +82,7 @@ module _ (plan : Plan) (s : chips.ChipState) (q : Programmer) (fates : List Fate
 
   came : status ≡ 0 → Came status (course plan (memories_of s)).status (said_along device count (session plan) begun fates) (course plan (memories_of s)).says
       (memories_of (along device count (session plan) begun fates).programmer.chip ≡ (course plan (memories_of s)).memories)
-  came zero = (session_succeeds plan sound fitted (memories_of s) begun fates sizes idle).comes count status comes zero
+  came zero = session_succeeds plan sound fitted (memories_of s) begun fates sizes idle count status comes zero
 
   is_done : status ≡ 0 → IsDone plan (memories_of s) (memories_of q.chip)
   is_done zero = subst (λ (r : Programmer). IsDone plan (memories_of s) (memories_of r.chip)) (sym stands) ((session_leaves plan sound fitted (memories_of s) sizes begun fates idle).after count status comes zero)
