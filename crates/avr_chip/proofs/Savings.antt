@@ -4,14 +4,14 @@ use Rattle.std.specs.Prelude.{⊤}
 use Rattle.std.specs.Result.{is_err}
 use Rattle.std.proofs.lemmas.List.{take-append-drop}
 use Rattle.avr_desk.specs.Fault.{Counts, Follows}
-use Rattle.avr_desk.specs.Record.{DeskView, Record, Passes, after_create, after_err}
+use Rattle.avr_desk.specs.Record.{DeskView, Record, Passes, after_create, after_err, Bytes}
 use Rattle.avr_desk.specs.Stream.{SendsPart}
 use Rattle.avr_desk.specs.declared.fault.DeskFault.{DeskFault}
 use Rattle.avr_desk.specs.declared.fault.DeskFault.TheVariants.{NotFound, Failed}
 use Rattle.avr_desk.specs.declared.stream.Stream.TheVariants.{File}
 use Rattle.avr_desk.proofs.Saying.{kept_append}
 use Rattle.avr_desk.proofs.Telling.{failed_later, failure_told, follows_on}
-use Rattle.avr_desk.specs.Lines.{Bytes, memory_line, not_created_line, not_written_line}
+use Rattle.avr_desk.specs.Lines.{memory_line, not_created_line, not_written_line}
 use Rattle.avr_desk.specs.Said.{Creates, Writes, Line, Tells}
 use Rattle.avr_chip.specs.Saving.{NoMemory, NotCreated, NotWritten, Saves}
 

@@ -1,6 +1,7 @@
 -- The line of a chip file of another length. (Lines that any file has stand in avr_desk.)
 use Rattle.std.specs.Prelude.{ℕ, List, [], ◌∷◌, codes, decimal}
-use Rattle.avr_desk.specs.Lines.{Bytes, error}
+use Rattle.avr_desk.specs.Record.{Bytes}
+use Rattle.avr_desk.specs.Lines.{error}
 
 -- it has this many bytes, and a file of the part another number
 abbrev pub length_pieces : Bytes → ℕ → ℕ → List Bytes

@@ -1,8 +1,9 @@
 -- A chip that is loaded, as a function of what the opening of its file gives.
 use Rattle.std.specs.Prelude.{◌==◌, nat_le, length, Result, Ok, Err, if◌then◌else◌}
+use Rattle.avr_desk.specs.Record.{Bytes}
 use Rattle.avr_desk.specs.declared.record.Opening.{Opening}
 use Rattle.avr_desk.specs.declared.record.Opening.TheVariants.{Absent, Found}
-use Rattle.avr_desk.specs.Lines.{Bytes, too_long_line}
+use Rattle.avr_desk.specs.Lines.{too_long_line}
 use Rattle.avr_part.specs.ChipFile.{chip_file_size, state_in}
 use Rattle.avr_part.specs.Part.{Part}
 use Rattle.avr_part.specs.State.{ChipState, fresh_state}

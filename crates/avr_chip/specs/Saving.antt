@@ -1,7 +1,7 @@
 -- A chip file that is saved: what was done at the desk, and what stood in the way.
 use Rattle.std.specs.Prelude.{◌≡◌, ℕ, List, [], ◌∷◌, ◌++◌, Result, Ok, Err, ⊤}
-use Rattle.avr_desk.specs.Record.{DeskView, Passes}
-use Rattle.avr_desk.specs.Lines.{Bytes, memory_line, not_created_line, not_written_line}
+use Rattle.avr_desk.specs.Record.{DeskView, Passes, Bytes}
+use Rattle.avr_desk.specs.Lines.{memory_line, not_created_line, not_written_line}
 use Rattle.avr_desk.specs.Said.{Saying, Line, Creates, Writes, IsPrefixOf, TellsLine, TellsFailure, after_all}
 
 -- What stood in the way: memory was refused for the bytes; the file could not be created; or not be written behind

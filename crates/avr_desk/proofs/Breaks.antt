@@ -2,13 +2,13 @@
 use Rattle.std.proofs.Common.{◌≡◌, ◌∙◌, sym, ap, subst, refl, ℕ, ◌⊎◌, inl, inr, List, [], ◌∷◌, ◌++◌, drop, append-nil, append_assoc, Option, Some, option_map, Result, Ok, Err, true, false}
 use Rattle.std.proofs.lemmas.List.{append_cancel_left}
 use Rattle.avr_desk.specs.Fault.{HasFailed, HasRisen}
-use Rattle.avr_desk.specs.Record.{DeskView, Record, showing, all_openings, opening_of, after_err, written_on}
+use Rattle.avr_desk.specs.Record.{DeskView, Record, showing, all_openings, opening_of, after_err, written_on, Bytes}
 use Rattle.avr_desk.specs.declared.record.Open.{Open}
 use Rattle.avr_desk.specs.declared.record.Open.TheVariants.{Closed, ToRead, ToWrite}
 use Rattle.avr_desk.specs.declared.record.Opening.{Opening}
 use Rattle.avr_desk.specs.declared.record.Opening.TheVariants.{Absent, Found}
 use Rattle.avr_desk.specs.declared.record.Reading.{Reading}
-use Rattle.avr_desk.specs.Lines.{Bytes, memory_line, not_opened_line}
+use Rattle.avr_desk.specs.Lines.{memory_line, not_opened_line}
 use Rattle.avr_desk.specs.Said.{Saying, Opens, Line, Creates, Writes, Outs, TellsLine, TellsFailure, after, after_all}
 use Rattle.avr_desk.proofs.Saying.{after_append}
 use Rattle.avr_desk.proofs.Telling.{failed_before}

@@ -2,12 +2,12 @@
 use Rattle.std.proofs.Common.{◌≡◌, refl, ℕ, Bool, Result, Ok, Err}
 use Rattle.avr_desk.specs.Fault.{Follows}
 use Rattle.avr_desk.specs.Files.{IsWhole, with_read, FileBreaks, IsCounted}
-use Rattle.avr_desk.specs.Record.{DeskView, Passes}
+use Rattle.avr_desk.specs.Record.{DeskView, Passes, Bytes}
 use Rattle.avr_desk.specs.declared.files.FileFault.{FileFault}
 use Rattle.avr_desk.specs.declared.files.FileFault.TheVariants as file_fault
 use Rattle.avr_desk.specs.declared.record.Opening.TheVariants.{Absent, Found}
 use Rattle.avr_desk.specs.declared.record.Reading.{Reading}
-use Rattle.avr_desk.specs.Lines.{Bytes, file_fault_line, not_opened_line}
+use Rattle.avr_desk.specs.Lines.{file_fault_line, not_opened_line}
 use Rattle.avr_desk.specs.Said.{Tells}
 use Rattle.avr_desk.proofs.Openings.{goes_opened, goes_judged, goes_broken}
 use Rattle.avr_desk.proofs.Played.{goes_refused}

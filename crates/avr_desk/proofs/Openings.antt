@@ -3,7 +3,7 @@ use Rattle.std.proofs.Common.{◌≡◌, refl, subst, ap, arith, ℕ, inr, List,
 use Rattle.std.proofs.lemmas.Bool.Decides.{nat_tests}
 use Rattle.avr_desk.specs.Fault.{Follows, HasFailed}
 use Rattle.avr_desk.specs.Files.{FaultCounts, IsWhole, ReadsFile, with_read, FileBreaks, IsCounted}
-use Rattle.avr_desk.specs.Record.{DeskView, Record, Passes, after_err, showing}
+use Rattle.avr_desk.specs.Record.{DeskView, Record, Passes, after_err, showing, Bytes}
 use Rattle.avr_desk.specs.declared.files.FileFault.{FileFault}
 use Rattle.avr_desk.specs.declared.files.FileFault.TheVariants as file_fault
 use Rattle.avr_desk.specs.declared.record.Opening.{Opening}
@@ -11,7 +11,7 @@ use Rattle.avr_desk.specs.declared.record.Opening.TheVariants.{Found}
 use Rattle.avr_desk.specs.declared.record.Reading.{Reading}
 use Rattle.avr_desk.proofs.Saying.{kept_append}
 use Rattle.avr_desk.proofs.Telling.{failure_told, follows_on, tells_since}
-use Rattle.avr_desk.specs.Lines.{Bytes, file_fault_line, memory_line, not_opened_line, not_read_line}
+use Rattle.avr_desk.specs.Lines.{file_fault_line, memory_line, not_opened_line, not_read_line}
 use Rattle.avr_desk.specs.Said.{Opens, Line, Tells, after_all}
 use Rattle.avr_desk.proofs.Played.{goes_on, goes_no_further}
 use Rattle.avr_desk.specs.Playing.{Break, NotOpened, NotRead, NoMemoryFor, last_done, IsBreak, TellsBreak, Goes, part_read}

@@ -4,13 +4,11 @@ use Rattle.std.specs.List.{concat}
 use Rattle.std.specs.Char.{to_ascii_uppercase}
 use Rattle.byteorder.specs.Endian.{big_bytes}
 use Rattle.hex.specs.Hex.{encode_lower}
+use Rattle.avr_desk.specs.Record.{Bytes}
 use Rattle.avr_desk.specs.declared.files.FileFault.{FileFault}
 use Rattle.avr_desk.specs.declared.files.FileFault.TheVariants.{Absent, NotOpened, NotRead, Memory}
 use Rattle.avr_desk.specs.declared.piece.Piece.{Piece}
 use Rattle.avr_desk.specs.declared.piece.Piece.TheVariants.{Text, Byte, Signature, Address, Number}
-
-abbrev pub Bytes : Type 0
-Bytes = List ℕ
 
 -- bytes as pairs of upper-case hexadecimal digits
 unfoldable pub digits : Bytes → Bytes

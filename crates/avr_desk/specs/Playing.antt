@@ -1,11 +1,11 @@
 -- A stage over a desk: played whole, or broken off by a fault of the desk or for want of memory.
 use Rattle.std.specs.Prelude.{◌≡◌, ◌⊎◌, ℕ, List, [], ◌∷◌, ◌++◌, false, Result, Ok, Err}
 use Rattle.avr_desk.specs.Fault.{Follows, HasFailedToSay}
-use Rattle.avr_desk.specs.Record.{DeskView, Passes}
+use Rattle.avr_desk.specs.Record.{DeskView, Passes, Bytes}
 use Rattle.avr_desk.specs.declared.record.Opening.{Opening}
 use Rattle.avr_desk.specs.declared.record.Opening.TheVariants.{Found}
 use Rattle.avr_desk.specs.declared.record.Reading.{Reading}
-use Rattle.avr_desk.specs.Lines.{Bytes, memory_line, not_opened_line, not_read_line}
+use Rattle.avr_desk.specs.Lines.{memory_line, not_opened_line, not_read_line}
 use Rattle.avr_desk.specs.Said.{Saying, Opens, Line, IsPrefixOf, TellsLine, TellsFailure, after_all}
 use Rattle.avr_desk.specs.Stage.{Stage, Answer, Made, Refused, StageResult, next_opening}
 

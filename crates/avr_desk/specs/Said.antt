@@ -1,15 +1,12 @@
 -- What a run does at the desk: files that are read, lines that are printed, files and output that are written.
 use Rattle.std.specs.Prelude.{◌≡◌, ◌⊎◌, ℕ, List, [], ◌∷◌, ◌++◌, Result, Ok, Err}
-use Rattle.avr_desk.specs.Record.{DeskView, Record, Passes, with_open, with_absent, after_write, after_out, after_err}
+use Rattle.avr_desk.specs.Record.{DeskView, Record, Passes, with_open, with_absent, after_write, after_out, after_err, Bytes}
 use Rattle.avr_desk.specs.Fault.{Follows, HasFailed, HasFailedToSay}
 use Rattle.avr_desk.specs.Stream.{SendsPart}
 use Rattle.avr_desk.specs.declared.record.Opening.{Opening}
 use Rattle.avr_desk.specs.declared.record.Opening.TheVariants.{Absent, Found}
 use Rattle.avr_desk.specs.declared.record.Open.TheVariants.{ToRead, ToWrite}
 use Rattle.avr_desk.specs.declared.stream.Stream.TheVariants.{Messages}
-
-abbrev pub Bytes : Type 0
-Bytes = List ℕ
 
 -- A file is opened to be read, and gives what it gives; a line of messages is printed; a file of this name is created;
 -- bytes are written to it, or to standard output.

@@ -17,7 +17,7 @@ use Rattle.stk_emu.specs.Given.{Holds}
 use Rattle.stk_emu.specs.Settled.{FitsPart}
 use Rattle.avr_emulated.specs.Again.{chip_of, AgreesAnyway}
 use Rattle.avr_emulated.specs.Agrees.{Agrees, Shows, ActionAgrees, ActionsAgree}
-use Rattle.avr_emulated.specs.Items.{action_items, items_of, items, has_erase}
+use Rattle.avr_emulated.specs.Items.{action_items, actions_items, items, has_erase}
 use Rattle.avr_emulated.proofs.PlanItems.{begins, erase_if, tasks_write, tasks_agree, plan_agrees}
 
 -- ---- bytes: where two agree, the third agrees with them
@@ -169,7 +169,7 @@ module _ (part : Part) where
   write_between Calibration image z o m t = t
 
   -- an action that erases nothing
-  items_between : (action : Action) (more : List Action) (z o m : Memories) → has_erase (items_of (action ∷ more)) ≡ false → Between z o m
+  items_between : (action : Action) (more : List Action) (z o m : Memories) → has_erase (actions_items (action ∷ more)) ≡ false → Between z o m
       → Between (effects part (action_items action) z) (effects part (action_items action) o) (effects part (action_items action) m)
   items_between EraseChip more z o m none t = absurd (true≢false none)
   items_between (WriteImage mem image) more z o m none t = write_between mem image z o m t
@@ -191,12 +191,12 @@ module _ (part : Part) where
   action_between (CompareImage mem image) z o m t hz ho = shows_between mem image z o m t hz ho
   action_between action z o m t hz ho = tt
 
-  no_more : (action : Action) (more : List Action) → has_erase (items_of (action ∷ more)) ≡ false → has_erase (items_of more) ≡ false
+  no_more : (action : Action) (more : List Action) → has_erase (actions_items (action ∷ more)) ≡ false → has_erase (actions_items more) ≡ false
   no_more EraseChip more none = absurd (true≢false none)
   no_more (WriteImage mem image) more none = none
   no_more action more none = none
 
-  actions_between : (actions : List Action) (z o m : Memories) → has_erase (items_of actions) ≡ false → Between z o m
+  actions_between : (actions : List Action) (z o m : Memories) → has_erase (actions_items actions) ≡ false → Between z o m
       → ActionsAgree part actions z → ActionsAgree part actions o → ActionsAgree part actions m
   actions_between [] z o m none t hz ho = tt
   actions_between (action ∷ actions) z o m none t hz ho =

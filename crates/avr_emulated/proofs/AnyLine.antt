@@ -21,7 +21,7 @@ use Rattle.avr_session.specs.declared.standing.Standing.{Standing}
 use Rattle.avr_session.specs.declared.standing.Standing.TheVariants.{Fine, Faulty, Over}
 use Rattle.avr_session.specs.Actions.{OpenSession, actions}
 use Rattle.avr_session.specs.Session.{standing, reported, closed_says, phase, phases, ending, playing, status_of, session}
-use Rattle.avr_emulated.specs.Items.{items_of, items}
+use Rattle.avr_emulated.specs.Items.{actions_items, items}
 use Rattle.avr_emulated.specs.Agrees.{ActionsAgree, Agrees}
 use Rattle.avr_emulated.specs.Outcome.{IsTouched, IsDone}
 use Rattle.avr_emulated.proofs.Standings.{after_fault}
@@ -90,7 +90,7 @@ module _ (plan : Plan) (sound : IsPart plan.part) (fitted : All (IsFitted plan.p
   goes_actions =
       let part = plan.part in
       let s = plan.switches in
-      goes_then part sound (Idle part m) m [] (items_of (work plan)) ⊤ (ActionsAgree part (work plan) m) (phase part s OpenSession) (phases part s (work plan)) tt f
+      goes_then part sound (Idle part m) m [] (actions_items (work plan)) ⊤ (ActionsAgree part (work plan) m) (phase part s OpenSession) (phases part s (work plan)) tt f
       (goes_opening part sound s m f) (goes_phases part sound s (work plan) m (work_fits plan fitted) f)
 
   -- a session

@@ -30,7 +30,7 @@ use Rattle.avr_session.specs.declared.standing.Standing.{Standing}
 use Rattle.avr_session.specs.declared.standing.Standing.TheVariants.{Fine, Faulty, Over}
 use Rattle.avr_session.specs.Actions.{Action, OpenSession, EraseChip, WriteImage, actions}
 use Rattle.avr_session.specs.Session.{reported, erased_says, written_says, closed_says, phase, phases, ending, playing, status_of, session}
-use Rattle.avr_emulated.specs.Items.{action_items, items_of, items}
+use Rattle.avr_emulated.specs.Items.{action_items, actions_items, items}
 use Rattle.avr_emulated.specs.Agrees.{ActionAgrees}
 use Rattle.avr_emulated.specs.Made.{none_made, action_made, actions_made, made_by}
 use Rattle.avr_emulated.specs.Outcome.{strokes}
@@ -76,12 +76,12 @@ module _ (part : Part) (sound : IsPart part) (s : Switches) where
   makes_phase action m fits f = makes_quiet part m (ActionAgrees part action m) (phase part s action) (goes_phase part sound s action m fits f)
 
   makes_phases : (actions : List Action) (m : Memories) → AllFitActions part actions → FitsPart part m
-      → Strikes part m (items_of actions) (actions_made part s actions) (phases part s actions)
+      → Strikes part m (actions_items actions) (actions_made part s actions) (phases part s actions)
   makes_phases [] m fits f p fates settled = makes_quiet part m ⊤ (Done Fine) (goes_phases part sound s [] m tt f) p fates settled
   makes_phases (action ∷ actions) m fits f p fates settled =
       let items = action_items action in
       let left = effects part items m in
-      makes_then part sound m items (items_of actions) (ActionAgrees part action m) (phase part s action) (phases part s actions) (action_made part action) (actions_made part s actions) p fates
+      makes_then part sound m items (actions_items actions) (ActionAgrees part action m) (phase part s action) (phases part s actions) (action_made part action) (actions_made part s actions) p fates
       (action_items_fit part action fits.0) f (goes_phase part sound s action m fits.0 f p fates settled) (makes_phase action m fits.0 f p fates settled)
       (λ q fs there. makes_phases actions left fits.1 (effects_sizes part sound items m f) q fs there)
 
@@ -113,7 +113,7 @@ module _ (plan : Plan) (sound : IsPart plan.part) (fitted : All (IsFitted plan.p
       let s = plan.switches in
       let opens = goes_opening part sound s m f p fates idle in
       let opened = phase part s OpenSession in
-      makes_then part sound m [] (items_of (work plan)) ⊤ opened (phases part s (work plan)) none_made (actions_made part s (work plan)) p fates tt f
+      makes_then part sound m [] (actions_items (work plan)) ⊤ opened (phases part s (work plan)) none_made (actions_made part s (work plan)) p fates tt f
       opens (makes_none part m opened p fates (Comes part m [] ⊤) opens) (λ q fs there. makes_phases part sound s (work plan) m (work_fits plan fitted) f q fs there)
 
   abbrev At : ℕ → Programmer → Type 0

@@ -32,7 +32,7 @@ use Rattle.avr_session.specs.declared.standing.Standing.{Standing}
 use Rattle.avr_session.specs.declared.standing.Standing.TheVariants.{Fine, Faulty, Over}
 use Rattle.avr_session.specs.Actions.{Action, OpenSession, EraseChip, LeaveErase, WriteImage, LeaveWrite, CompareImage, SaveMemory}
 use Rattle.avr_session.specs.Session.{says, standing, reported, unless_fault, fault_or, opening_says, erased_says, written_says, verified_says, read_says, left_out_erase, left_out_write, phase, phases}
-use Rattle.avr_emulated.specs.Items.{action_items, items_of}
+use Rattle.avr_emulated.specs.Items.{action_items, actions_items}
 use Rattle.avr_emulated.specs.Agrees.{Shows, ActionAgrees, ActionsAgree}
 use Rattle.avr_emulated.proofs.Standings.{after_fault}
 use Rattle.avr_emulated.proofs.Fitting.{FitsAction, AllFitActions, action_items_fit}
@@ -200,10 +200,10 @@ module _ (part : Part) (sound : IsPart part) where
     goes_phase (SaveMemory mem format file) m fits f = goes_reading m ⊤ mem Ok (fault_or part (read_says s mem format file)) f (λ a e. tt)
 
     pub goes_phases : (actions : List Action) (m : Memories) → AllFitActions part actions → FitsPart part m
-        → Goes part (Settled part m) m (items_of actions) (ActionsAgree part actions m) (phases part s actions)
+        → Goes part (Settled part m) m (actions_items actions) (ActionsAgree part actions m) (phases part s actions)
     goes_phases [] m fits f = goes_saying m []
     goes_phases (action ∷ actions) m fits f =
         let items = action_items action in
         let left = effects part items m in
-        goes_then (Settled part m) m items (items_of actions) (ActionAgrees part action m) (ActionsAgree part actions left) (phase part s action) (phases part s actions)
+        goes_then (Settled part m) m items (actions_items actions) (ActionAgrees part action m) (ActionsAgree part actions left) (phase part s action) (phases part s actions)
         (action_items_fit part action fits.0) f (goes_phase action m fits.0 f) (goes_phases actions left fits.1 (effects_sizes part sound items m f))

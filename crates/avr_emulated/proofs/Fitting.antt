@@ -12,7 +12,7 @@ use Rattle.avr_plan.specs.declared.task.Task.TheVariants.{Write, Verify, Read}
 use Rattle.avr_session.specs.Actions.{Action, OpenSession, EraseChip, LeaveErase, WriteImage, LeaveWrite, CompareImage, is_erase_due, erase_actions, write_actions, task_actions, tasks_actions}
 use Rattle.stk_emu.specs.Effect.{Image}
 use Rattle.stk_emu.specs.Strokes.{AllFitItems}
-use Rattle.avr_emulated.specs.Items.{action_items, items_of}
+use Rattle.avr_emulated.specs.Items.{action_items, actions_items}
 use Rattle.avr_emulated.proofs.AnyLineSteps.{fits_on}
 
 -- what follows the opening of a session
@@ -71,10 +71,10 @@ module _ (part : Part) where
   action_items_fit (WriteImage mem image) fits = ((let size = fits.0 in omega (arith, size)), tt)
   action_items_fit action fits = tt
 
-  pub items_fit : (actions : List Action) → AllFitActions part actions → AllFitItems part (items_of actions)
+  pub items_fit : (actions : List Action) → AllFitActions part actions → AllFitItems part (actions_items actions)
   items_fit [] fits = tt
   items_fit (action ∷ actions) fits =
-      fits_on part (action_items action) (items_of actions) (action_items_fit action fits.0) (items_fit actions fits.1)
+      fits_on part (action_items action) (actions_items actions) (action_items_fit action fits.0) (items_fit actions fits.1)
 
 pub work_fits : (plan : Plan) → All (IsFitted plan.part) plan.tasks → AllFitActions plan.part (work plan)
 work_fits plan fitted =

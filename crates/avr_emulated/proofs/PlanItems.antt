@@ -12,40 +12,40 @@ use Rattle.avr_session.specs.Actions.{Action, EraseChip, LeaveErase, WriteImage,
 use Rattle.stk_emu.specs.Effect.{Image, Memories, Item, Erase, Write, effects}
 use Rattle.stk_emu.proofs.PageStrokes.{effects_on}
 use Rattle.avr_emulated.specs.Agrees.{ActionsAgree, Agrees}
-use Rattle.avr_emulated.specs.Items.{action_items, items_of, items, has_erase, task_item}
+use Rattle.avr_emulated.specs.Items.{action_items, actions_items, items, has_erase, task_item}
 
 abbrev pub writes : Plan → List Item
-writes plan = items_of (tasks_actions plan.switches plan.tasks)
+writes plan = actions_items (tasks_actions plan.switches plan.tasks)
 
 abbrev pub erase_if : Bool → List Item
 erase_if true = Erase ∷ []
 erase_if false = []
 
-pub items_on : (xs ys : List Action) → items_of (xs ++ ys) ≡ items_of xs ++ items_of ys
+pub items_on : (xs ys : List Action) → actions_items (xs ++ ys) ≡ actions_items xs ++ actions_items ys
 items_on [] ys = refl
-items_on (x ∷ xs) ys = ap (λ more. action_items x ++ more) (items_on xs ys) ∙ sym (append_assoc (action_items x) (items_of xs) (items_of ys))
+items_on (x ∷ xs) ys = ap (λ more. action_items x ++ more) (items_on xs ys) ∙ sym (append_assoc (action_items x) (actions_items xs) (actions_items ys))
 
-write_writes : (dry left_out : Bool) (mem : Mem) (image : Image) (more : List Action) → has_erase (items_of more) ≡ false
-    → has_erase (items_of ((if dry then LeaveWrite mem image ∷ [] else WriteImage mem image ∷ (if left_out then [] else CompareImage mem image ∷ [])) ++ more)) ≡ false
+write_writes : (dry left_out : Bool) (mem : Mem) (image : Image) (more : List Action) → has_erase (actions_items more) ≡ false
+    → has_erase (actions_items ((if dry then LeaveWrite mem image ∷ [] else WriteImage mem image ∷ (if left_out then [] else CompareImage mem image ∷ [])) ++ more)) ≡ false
 write_writes true left_out mem image more none = none
 write_writes false true mem image more none = none
 write_writes false false mem image more none = none
 
-pub tasks_write : (s : Switches) (tasks : List Task) → has_erase (items_of (tasks_actions s tasks)) ≡ false
+pub tasks_write : (s : Switches) (tasks : List Task) → has_erase (actions_items (tasks_actions s tasks)) ≡ false
 tasks_write s [] = refl
 tasks_write s (task.Write mem image ∷ tasks) = write_writes s.dry s.no_verify mem image (tasks_actions s tasks) (tasks_write s tasks)
 tasks_write s (task.Verify mem image ∷ tasks) = tasks_write s tasks
 tasks_write s (task.Read mem format file ∷ tasks) = tasks_write s tasks
 
-erase_is : (dry asked due : Bool) (more : List Action) → has_erase (items_of more) ≡ false
-    → items_of (if dry then (if asked then LeaveErase ∷ [] else []) else if due then EraseChip ∷ [] else [])
-    ≡ erase_if (has_erase (items_of ((if dry then (if asked then LeaveErase ∷ [] else []) else if due then EraseChip ∷ [] else []) ++ more)))
+erase_is : (dry asked due : Bool) (more : List Action) → has_erase (actions_items more) ≡ false
+    → actions_items (if dry then (if asked then LeaveErase ∷ [] else []) else if due then EraseChip ∷ [] else [])
+    ≡ erase_if (has_erase (actions_items ((if dry then (if asked then LeaveErase ∷ [] else []) else if due then EraseChip ∷ [] else []) ++ more)))
 erase_is true true due more none = ap erase_if (sym none)
 erase_is true false due more none = ap erase_if (sym none)
 erase_is false asked true more none = refl
 erase_is false asked false more none = ap erase_if (sym none)
 
-pub begins : (plan : Plan) → items_of (erase_actions plan.switches plan.tasks) ≡ erase_if (has_erase (items plan))
+pub begins : (plan : Plan) → actions_items (erase_actions plan.switches plan.tasks) ≡ erase_if (has_erase (items plan))
 begins plan =
     let s = plan.switches in
     erase_is s.dry s.erase (is_erase_due s plan.tasks) (tasks_actions s plan.tasks) (tasks_write s plan.tasks)
@@ -75,8 +75,8 @@ erase_first plan first later e =
 -- ---- by the tasks
 
 write_items : (dry left_out : Bool) (mem : Mem) (image : Image) (more : List Action)
-    → items_of ((if dry then LeaveWrite mem image ∷ [] else WriteImage mem image ∷ (if left_out then [] else CompareImage mem image ∷ [])) ++ more)
-    ≡ (if dry then items_of more else Write mem image ∷ items_of more)
+    → actions_items ((if dry then LeaveWrite mem image ∷ [] else WriteImage mem image ∷ (if left_out then [] else CompareImage mem image ∷ [])) ++ more)
+    ≡ (if dry then actions_items more else Write mem image ∷ actions_items more)
 write_items true left_out mem image more = refl
 write_items false true mem image more = refl
 write_items false false mem image more = refl
@@ -89,16 +89,16 @@ none_unless : (dry : Bool) → ◌≡◌ {A = List Item} [] (if dry then [] else
 none_unless true = refl
 none_unless false = refl
 
-writes_by_tasks : (s : Switches) (tasks : List Task) → items_of (tasks_actions s tasks) ≡ (if s.dry then [] else filter_map task_item tasks)
+writes_by_tasks : (s : Switches) (tasks : List Task) → actions_items (tasks_actions s tasks) ≡ (if s.dry then [] else filter_map task_item tasks)
 writes_by_tasks s [] = none_unless s.dry
 writes_by_tasks s (task.Write mem image ∷ tasks) =
     let more = tasks_actions s tasks in
-    write_items s.dry s.no_verify mem image more ∙ write_unless s.dry (Write mem image) (items_of more) (filter_map task_item tasks) (writes_by_tasks s tasks)
+    write_items s.dry s.no_verify mem image more ∙ write_unless s.dry (Write mem image) (actions_items more) (filter_map task_item tasks) (writes_by_tasks s tasks)
 writes_by_tasks s (task.Verify mem image ∷ tasks) = writes_by_tasks s tasks
 writes_by_tasks s (task.Read mem format file ∷ tasks) = writes_by_tasks s tasks
 
 behind_erase : (dry asked due : Bool) (xs ys : List Item) → xs ≡ (if dry then [] else ys)
-    → items_of (if dry then (if asked then LeaveErase ∷ [] else []) else if due then EraseChip ∷ [] else []) ++ xs
+    → actions_items (if dry then (if asked then LeaveErase ∷ [] else []) else if due then EraseChip ∷ [] else []) ++ xs
     ≡ (if dry then [] else (if due then Erase ∷ [] else []) ++ ys)
 behind_erase true true due xs ys e = e
 behind_erase true false due xs ys e = e
@@ -125,15 +125,15 @@ module _ (part : Part) where
       by_switches false asked true = (tt, tt)
       by_switches false asked false = tt
 
-  agree_behind : (xs ys : List Action) (m : Memories) → ActionsAgree part (xs ++ ys) m → ActionsAgree part ys (effects part (items_of xs) m)
+  agree_behind : (xs ys : List Action) (m : Memories) → ActionsAgree part (xs ++ ys) m → ActionsAgree part ys (effects part (actions_items xs) m)
   agree_behind [] ys m agree = agree
   agree_behind (x ∷ xs) ys m agree =
-      subst (ActionsAgree part ys) (sym (effects_on part (action_items x) (items_of xs) m)) (agree_behind xs ys (effects part (action_items x) m) agree.1)
+      subst (ActionsAgree part ys) (sym (effects_on part (action_items x) (actions_items xs) m)) (agree_behind xs ys (effects part (action_items x) m) agree.1)
 
-  agree_joined : (xs ys : List Action) (m : Memories) → ActionsAgree part xs m → ActionsAgree part ys (effects part (items_of xs) m) → ActionsAgree part (xs ++ ys) m
+  agree_joined : (xs ys : List Action) (m : Memories) → ActionsAgree part xs m → ActionsAgree part ys (effects part (actions_items xs) m) → ActionsAgree part (xs ++ ys) m
   agree_joined [] ys m first more = more
   agree_joined (x ∷ xs) ys m first more =
-      (first.0, agree_joined xs ys (effects part (action_items x) m) first.1 (subst (ActionsAgree part ys) (effects_on part (action_items x) (items_of xs) m) more))
+      (first.0, agree_joined xs ys (effects part (action_items x) m) first.1 (subst (ActionsAgree part ys) (effects_on part (action_items x) (actions_items xs) m) more))
 
 -- the comparisons of a plan are those of its tasks, behind the erase
 pub tasks_agree : (plan : Plan) (m : Memories) → Agrees plan m
@@ -143,7 +143,7 @@ tasks_agree plan m agree =
     (agree_behind plan.part (erase_actions plan.switches plan.tasks) (tasks_actions plan.switches plan.tasks) m agree.1)
 
 pub plan_agrees : (plan : Plan) (m : Memories)
-    → ActionsAgree plan.part (tasks_actions plan.switches plan.tasks) (effects plan.part (items_of (erase_actions plan.switches plan.tasks)) m) → Agrees plan m
+    → ActionsAgree plan.part (tasks_actions plan.switches plan.tasks) (effects plan.part (actions_items (erase_actions plan.switches plan.tasks)) m) → Agrees plan m
 plan_agrees plan m agree = (
   tt,
   agree_joined plan.part (erase_actions plan.switches plan.tasks) (tasks_actions plan.switches plan.tasks) m

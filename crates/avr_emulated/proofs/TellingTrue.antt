@@ -4,9 +4,10 @@ use Rattle.std.proofs.lemmas.List.{append-nil}
 use Rattle.std.proofs.lemmas.List.Elements.{Contains-append_right}
 use Rattle.std.specs.Prelude.{All, Contains, ⊤, codes, decimal, nat_lt, if◌then◌else◌}
 use Rattle.std.specs.Str.{bytes_eq}
+use Rattle.avr_desk.specs.Record.{Bytes}
 use Rattle.avr_cli.specs.declared.update.Format.{Format}
 use Rattle.avr_image.specs.Image.{byte_count}
-use Rattle.avr_desk.specs.Lines.{Bytes, spaced_digits, information, warning}
+use Rattle.avr_desk.specs.Lines.{spaced_digits, information, warning}
 use Rattle.avr_desk.specs.Said.{Saying, Line, Creates, Writes, Outs}
 use Rattle.avr_part.specs.Mem.{is_writable, name_of}
 use Rattle.avr_part.specs.Part.{IsPart, size_of}
@@ -46,7 +47,7 @@ use Rattle.stk_emu.proofs.LeadsOn.{leads_done, leads_lifted, leads_wider, leads_
 use Rattle.stk_emu.proofs.PageStrokes.{effects_on}
 use Rattle.stk_emu.proofs.PlayGiven.{read_gives}
 use Rattle.avr_emulated.specs.Agrees.{ActionAgrees}
-use Rattle.avr_emulated.specs.Items.{action_items, items_of, items}
+use Rattle.avr_emulated.specs.Items.{action_items, actions_items, items}
 use Rattle.avr_emulated.specs.Told.{TellsTrue, count_line, kept_in, IsTrue, SignatureRead, ChipErased, BytesWritten, BytesVerified, Differed, BytesSaved, BytesRead, EraseLeftOut, WriteLeftOut, StepFailed, SessionDone}
 use Rattle.avr_emulated.proofs.AnyLinePhases.{Comes, Goes, goes_opening, goes_phase}
 use Rattle.avr_emulated.proofs.AnyLineSteps.{effects_sizes, quiet_stays, read_quiet}
@@ -284,47 +285,47 @@ module _ (plan : Plan) (sound : IsPart plan.part) (m0 : Memories) (f0 : FitsPart
       by_kind false e = absurd (cc)
 
   tells_action : (action : Action) (done later : List Action) → FitsAction plan.part action → actions plan ≡ done ++ action ∷ later
-      → Tells (Settled plan.part (effects plan.part (items_of done) m0)) (phase plan.part plan.switches action)
+      → Tells (Settled plan.part (effects plan.part (actions_items done) m0)) (phase plan.part plan.switches action)
   tells_action action done later fits order = by_kind action fits here among
     where
       here : Contains (actions plan) action
       here = subst (λ all. Contains all action) (sym order) (Contains-append_right done (action ∷ later) action (0, omega arith, refl))
 
-      among : items plan ≡ items_of done ++ (action_items action ++ items_of later)
-      among = ap items_of order ∙ items_on done (action ∷ later)
+      among : items plan ≡ actions_items done ++ (action_items action ++ actions_items later)
+      among = ap actions_items order ∙ items_on done (action ∷ later)
 
-      f : FitsPart plan.part (effects plan.part (items_of done) m0)
-      f = effects_sizes plan.part sound (items_of done) m0 f0
+      f : FitsPart plan.part (effects plan.part (actions_items done) m0)
+      f = effects_sizes plan.part sound (actions_items done) m0 f0
 
-      by_kind : (a : Action) → FitsAction plan.part a → Contains (actions plan) a → items plan ≡ items_of done ++ (action_items a ++ items_of later)
-          → Tells (Settled plan.part (effects plan.part (items_of done) m0)) (phase plan.part plan.switches a)
+      by_kind : (a : Action) → FitsAction plan.part a → Contains (actions plan) a → items plan ≡ actions_items done ++ (action_items a ++ actions_items later)
+          → Tells (Settled plan.part (effects plan.part (actions_items done) m0)) (phase plan.part plan.switches a)
       by_kind OpenSession fits has order = absurd fits
-      by_kind EraseChip fits has order = tells_erasing (items_of done) (erase_first plan (items_of done) (items_of later) order) has
+      by_kind EraseChip fits has order = tells_erasing (actions_items done) (erase_first plan (actions_items done) (actions_items later) order) has
       by_kind LeaveErase fits has order = λ k p fates s.
           true_says device T k (left_out_erase plan.switches.quiet) Fine p fates
           (hold_unless (T p) (nat_lt 1 plan.switches.quiet) (Line (warning (codes "chip not erased because of -n" ∷ []))) (EraseLeftOut has refl))
       by_kind (WriteImage mem image) fits has order =
-          tells_writing mem image (items_of done) (items_of later) order (let size = fits.0 in omega (arith, size)) fits.1
+          tells_writing mem image (actions_items done) (actions_items later) order (let size = fits.0 in omega (arith, size)) fits.1
       by_kind (LeaveWrite mem image) fits has order = λ k p fates s.
           true_says device T k (left_out_write plan.switches.quiet mem image) Fine p fates
           (counts_hold mem (byte_count image) (codes " bytes not written") p (WriteLeftOut mem image has refl))
-      by_kind (CompareImage mem image) fits has order = tells_verifying mem image (effects plan.part (items_of done) m0) f has
-      by_kind (SaveMemory mem format file) fits has order = tells_reading mem format file (effects plan.part (items_of done) m0) f has
+      by_kind (CompareImage mem image) fits has order = tells_verifying mem image (effects plan.part (actions_items done) m0) f has
+      by_kind (SaveMemory mem format file) fits has order = tells_reading mem format file (effects plan.part (actions_items done) m0) f has
 
   -- the memories behind one more action
   one_more : (done : List Action) (action : Action)
-      → effects plan.part (items_of (done ++ action ∷ [])) m0 ≡ effects plan.part (action_items action) (effects plan.part (items_of done) m0)
+      → effects plan.part (actions_items (done ++ action ∷ [])) m0 ≡ effects plan.part (action_items action) (effects plan.part (actions_items done) m0)
   one_more done action =
-      ap (λ xs. effects plan.part xs m0) (items_on done (action ∷ []) ∙ ap (λ xs. items_of done ++ xs) (append-nil (action_items action)))
-      ∙ effects_on plan.part (items_of done) (action_items action) m0
+      ap (λ xs. effects plan.part xs m0) (items_on done (action ∷ []) ∙ ap (λ xs. actions_items done ++ xs) (append-nil (action_items action)))
+      ∙ effects_on plan.part (actions_items done) (action_items action) m0
 
   tells_actions : (later done : List Action) → AllFitActions plan.part later → actions plan ≡ done ++ later
-      → Tells (Settled plan.part (effects plan.part (items_of done) m0)) (phases plan.part plan.switches later)
+      → Tells (Settled plan.part (effects plan.part (actions_items done) m0)) (phases plan.part plan.switches later)
   tells_actions [] done fit order = λ k p fates s. tt
   tells_actions (action ∷ later) done fit order =
-      let m = effects plan.part (items_of done) m0 in
+      let m = effects plan.part (actions_items done) m0 in
       tells_then (Settled plan.part m) m (action_items action) (ActionAgrees plan.part action m) (phase plan.part plan.switches action) (phases plan.part plan.switches later)
-      (goes_phase plan.part sound plan.switches action m fit.0 (effects_sizes plan.part sound (items_of done) m0 f0))
+      (goes_phase plan.part sound plan.switches action m fit.0 (effects_sizes plan.part sound (actions_items done) m0 f0))
       (tells_action action done later fit.0 order)
       (subst (λ z. Tells (Settled plan.part z) (phases plan.part plan.switches later)) (one_more done action)
       (tells_actions later (done ++ action ∷ []) fit.1 (order ∙ sym (append_assoc done (action ∷ []) later))))

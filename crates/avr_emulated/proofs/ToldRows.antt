@@ -2,8 +2,9 @@
 use Rattle.std.proofs.Common.{◌≡◌, ℕ, List, [], ◌∷◌, ◌++◌, Some, None, length, take, sym, ap, ◌∙◌, arith, ◌⊎◌, inl, inr}
 use Rattle.std.proofs.lemmas.List.{append-nil, reverse-append, take-append-le}
 use Rattle.std.specs.Prelude.{◌≤◌, codes, decimal, reverse, slice_index}
+use Rattle.avr_desk.specs.Record.{Bytes}
 use Rattle.avr_image.specs.Image.{byte_count}
-use Rattle.avr_desk.specs.Lines.{Bytes, information}
+use Rattle.avr_desk.specs.Lines.{information}
 use Rattle.avr_desk.specs.Said.{Saying, Line, Creates, Writes, Outs, Opens}
 use Rattle.avr_part.specs.Mem.{name_of}
 use Rattle.avr_part.specs.declared.mem.Mem.{Mem}

@@ -15,7 +15,7 @@ use Rattle.stk_emu.proofs.Comparing.{no_difference, held_same}
 use Rattle.stk_emu.proofs.PageStrokes.{effects_on}
 use Rattle.avr_emulated.specs.Agrees.{ActionAgrees, ActionsAgree, Agrees}
 use Rattle.avr_emulated.specs.Course.{Course, then_from, ◌then◌, action_course, actions_course, working_course, course}
-use Rattle.avr_emulated.specs.Items.{action_items, items_of, items}
+use Rattle.avr_emulated.specs.Items.{action_items, actions_items, items}
 use Rattle.avr_emulated.proofs.Standings.{faulty_fine, over_fine}
 
 -- A course that stands fine exactly where something agrees, and then leaves these memories.
@@ -73,13 +73,13 @@ module _ (part : Part) (s : Switches) where
   }
   turns_action (SaveMemory mem format file) m = turns_fine (action_course part s (SaveMemory mem format file) m) refl
 
-  turns_actions : (actions : List Action) (m : Memories) → Turns (actions_course part s actions m) (ActionsAgree part actions m) (effects part (items_of actions) m)
+  turns_actions : (actions : List Action) (m : Memories) → Turns (actions_course part s actions m) (ActionsAgree part actions m) (effects part (actions_items actions) m)
   turns_actions [] m = record { if_fine = λ f. tt; is_fine = λ agree. refl; memories = λ f. refl }
   turns_actions (action ∷ actions) m =
       let after = effects part (action_items action) m in
       subst (Turns (actions_course part s (action ∷ actions) m) (ActionsAgree part (action ∷ actions) m))
-      (sym (effects_on part (action_items action) (items_of actions) m))
-      (turns_then (action_course part s action m) (actions_course part s actions) (ActionAgrees part action m) (ActionsAgree part actions after) after (effects part (items_of actions) after)
+      (sym (effects_on part (action_items action) (actions_items actions) m))
+      (turns_then (action_course part s action m) (actions_course part s actions) (ActionAgrees part action m) (ActionsAgree part actions after) after (effects part (actions_items actions) after)
       (turns_action action m) (turns_actions actions after))
 
 -- ---- the whole

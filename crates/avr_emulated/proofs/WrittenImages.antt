@@ -14,7 +14,7 @@ use Rattle.avr_session.specs.Actions.{Action, OpenSession, EraseChip, LeaveErase
 use Rattle.stk_emu.specs.Effect.{Image, Memories, with_image, and_in, and_with, are_locked, write_effect, effects, memory_in}
 use Rattle.stk_emu.proofs.Images.{length-laid, length-and_in}
 use Rattle.avr_emulated.specs.Agrees.{Shows, ActionsAgree}
-use Rattle.avr_emulated.specs.Items.{items_of}
+use Rattle.avr_emulated.specs.Items.{actions_items}
 use Rattle.avr_emulated.specs.Written.{memory_number, written_to, byte_in}
 use Rattle.avr_emulated.proofs.Fitting.{AllFitActions}
 
@@ -199,10 +199,10 @@ module _ (part : Part) where
   size_over mem other image more true e fits rest = length-over image more ∙ (fits ∙ ap (λ (x : Mem). size_of x part) (same_memory other mem e))
   size_over mem other image more false e fits rest = rest
 
-  length-written_to : (mem : Mem) (actions : List Action) → AllFitActions part actions → length (written_to part mem (items_of actions)) ≡ size_of mem part
+  length-written_to : (mem : Mem) (actions : List Action) → AllFitActions part actions → length (written_to part mem (actions_items actions)) ≡ size_of mem part
   length-written_to mem [] fit = length-replicate {A = Option ℕ} (size_of mem part) None
   length-written_to mem (WriteImage other image ∷ actions) fit =
-      size_over mem other image (written_to part mem (items_of actions)) (memory_number other == memory_number mem) refl fit.0.0 (length-written_to mem actions fit.1)
+      size_over mem other image (written_to part mem (actions_items actions)) (memory_number other == memory_number mem) refl fit.0.0 (length-written_to mem actions fit.1)
   length-written_to mem (OpenSession ∷ actions) fit = length-written_to mem actions fit.1
   length-written_to mem (EraseChip ∷ actions) fit = length-written_to mem actions fit.1
   length-written_to mem (LeaveErase ∷ actions) fit = length-written_to mem actions fit.1
@@ -223,7 +223,7 @@ module _ (part : Part) where
 
   -- what actions leave of a memory that agree
   abbrev Leave : Mem → List Action → Memories → Type 0
-  Leave mem actions m = AllFitActions part actions → ActionsAgree part actions m → Left part mem (written_to part mem (items_of actions)) m (effects part (items_of actions) m)
+  Leave mem actions m = AllFitActions part actions → ActionsAgree part actions m → Left part mem (written_to part mem (actions_items actions)) m (effects part (actions_items actions) m)
 
   write_leaves : (dry left_out : Bool) (mem other : Mem) (image : Image) (more : List Action) (m : Memories) → left_out ≡ false → ((now : Memories) → Leave mem more now)
       → Leave mem ((if dry then LeaveWrite other image ∷ [] else WriteImage other image ∷ (if left_out then [] else CompareImage other image ∷ [])) ++ more) m
@@ -231,7 +231,7 @@ module _ (part : Part) where
   write_leaves false true mem other image more m e rest fit agree = absurd (true≢false e)
   write_leaves false false mem other image more m e rest fit agree =
       let after = write_effect other image m in
-      write_left mem other image (written_to part mem (items_of more)) m (effects part (items_of more) after) (memory_number other == memory_number mem) refl
+      write_left mem other image (written_to part mem (actions_items more)) m (effects part (actions_items more) after) (memory_number other == memory_number mem) refl
       fit.0.0 (length-written_to mem more fit.1.1) agree.1.0 (rest after fit.1.1 agree.1.1)
 
   -- where writes are read back

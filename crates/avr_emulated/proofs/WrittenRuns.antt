@@ -17,7 +17,7 @@ use Rattle.stk_emu.specs.Settled.{FitsPart}
 use Rattle.stk_emu.proofs.PageStrokes.{effects_on}
 use Rattle.avr_emulated.specs.Agrees.{Shows, ActionsAgree}
 use Rattle.avr_emulated.specs.Course.{course}
-use Rattle.avr_emulated.specs.Items.{items_of, items, has_erase}
+use Rattle.avr_emulated.specs.Items.{actions_items, items, has_erase}
 use Rattle.avr_emulated.specs.Outcome.{IsDone}
 use Rattle.avr_emulated.specs.Written.{IsWritten, written_to}
 use Rattle.avr_emulated.proofs.AgainStrokes.{all_sizes}
@@ -103,7 +103,7 @@ none_writes image_of [] = refl
 none_writes image_of (mem ∷ mems) = none_writes image_of mems
 
 no_erase : (dry erase any keep : Bool) → erase ≡ false → any ≡ false
-    → items_of (if dry then (if erase then LeaveErase ∷ [] else []) else if erase || (any && keep) then EraseChip ∷ [] else []) ≡ []
+    → actions_items (if dry then (if erase then LeaveErase ∷ [] else []) else if erase || (any && keep) then EraseChip ∷ [] else []) ≡ []
 no_erase dry true any keep e n = absurd (true≢false e)
 no_erase dry false true keep e n = absurd (true≢false n)
 no_erase true false false keep e n = refl

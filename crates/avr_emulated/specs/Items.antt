@@ -12,13 +12,13 @@ action_items EraseChip = Erase ∷ []
 action_items (WriteImage mem image) = Write mem image ∷ []
 action_items action = []
 
-abbrev pub items_of : List Action → List Item
-items_of [] = []
-items_of (action ∷ actions) = action_items action ++ items_of actions
+abbrev pub actions_items : List Action → List Item
+actions_items [] = []
+actions_items (action ∷ actions) = action_items action ++ actions_items actions
 
 -- the erase, if due, and the writes, in their order
 abbrev pub items : Plan → List Item
-items plan = items_of (actions plan)
+items plan = actions_items (actions plan)
 
 -- an erase is among them
 abbrev pub has_erase : List Item → Bool

@@ -1,8 +1,9 @@
 -- That what a run tells is true of the chip where it tells it.
 use Rattle.std.specs.Prelude.{ℕ, zero, suc, ◌≡◌, ◌⊎◌, List, [], ◌∷◌, ◌++◌, length, Contains, Err, ⊤, codes, decimal}
+use Rattle.avr_desk.specs.Record.{Bytes}
 use Rattle.avr_cli.specs.declared.update.Format.{Format}
 use Rattle.avr_image.specs.Image.{byte_count}
-use Rattle.avr_desk.specs.Lines.{Bytes, spaced_digits, information, warning}
+use Rattle.avr_desk.specs.Lines.{spaced_digits, information, warning}
 use Rattle.avr_desk.specs.Said.{Saying, Line, Creates, Writes, Outs}
 use Rattle.avr_part.specs.Mem.{name_of}
 use Rattle.avr_part.specs.declared.mem.Mem.{Mem}

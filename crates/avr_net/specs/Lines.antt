@@ -1,6 +1,7 @@
 -- The line of a port that cannot be opened.
 use Rattle.std.specs.Prelude.{List, [], ◌∷◌, codes}
-use Rattle.avr_desk.specs.Lines.{Bytes, error}
+use Rattle.avr_desk.specs.Record.{Bytes}
+use Rattle.avr_desk.specs.Lines.{error}
 
 -- the port as it was given: what stands before its name, `net:` of `-P` and nothing of `--serve`, and the name
 abbrev pub unopened_pieces : Bytes → Bytes → List Bytes

@@ -1,8 +1,7 @@
 -- A run over a port of the network, from settings to status.
 use Rattle.std.specs.Prelude.{ℕ, ◌≡◌, ◌⊎◌, None, Err, codes}
 use Rattle.avr_cli.specs.declared.settings.Settings.{Settings}
-use Rattle.avr_desk.specs.Record.{DeskView}
-use Rattle.avr_desk.specs.Lines.{Bytes}
+use Rattle.avr_desk.specs.Record.{DeskView, Bytes}
 use Rattle.avr_desk.specs.Said.{Tells}
 use Rattle.avr_plan.specs.Plan.{Plan}
 use Rattle.avr_plan.specs.Planning.{planned}

@@ -2,8 +2,7 @@
 use Rattle.std.specs.Prelude.{ℕ, ◌≡◌, ◌⊎◌, [], Option, Some, None, Err}
 use Rattle.avr_cli.specs.Port.{port_number}
 use Rattle.avr_cli.specs.declared.settings.Settings.{Settings}
-use Rattle.avr_desk.specs.Record.{DeskView}
-use Rattle.avr_desk.specs.Lines.{Bytes}
+use Rattle.avr_desk.specs.Record.{DeskView, Bytes}
 use Rattle.avr_desk.specs.Said.{Tells}
 use Rattle.avr_part.specs.State as chips
 use Rattle.avr_desk.specs.Playing.{Goes, Went}

@@ -8,9 +8,9 @@ use Rattle.avr_cli.specs.declared.settings.Settings.{Settings}
 use Rattle.avr_cli.specs.declared.update.Format.TheVariants.{Ihex}
 use Rattle.avr_cli.specs.declared.update.Op.TheVariants as op
 use Rattle.avr_desk.specs.Fault.{HasRisen}
-use Rattle.avr_desk.specs.Record.{DeskView, Record, after_err, showing}
+use Rattle.avr_desk.specs.Record.{DeskView, Record, after_err, showing, Bytes}
 use Rattle.avr_desk.specs.declared.record.Opening.TheVariants.{Found}
-use Rattle.avr_desk.specs.Lines.{Bytes, memory_line, not_opened_line}
+use Rattle.avr_desk.specs.Lines.{memory_line, not_opened_line}
 use Rattle.avr_desk.specs.Said.{Opens, Line, TellsLine, TellsFailure, after_all}
 use Rattle.avr_desk.proofs.Telling.{risen_before, risen_later}
 use Rattle.avr_part.specs.BuiltIn.{m328p}

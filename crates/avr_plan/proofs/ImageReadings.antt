@@ -7,11 +7,10 @@ use Rattle.avr_desk.proofs.ReadingLemmas.{read_next, read_piece}
 use Rattle.avr_cli.specs.declared.update.Format.{Format}
 use Rattle.avr_cli.specs.declared.update.Format.TheVariants as letter
 use Rattle.avr_desk.specs.Files.{after_reading, with_read}
-use Rattle.avr_desk.specs.Record.{DeskView, Record, Passes, after_open, after_read, noted, is_nil}
+use Rattle.avr_desk.specs.Record.{DeskView, Record, Passes, after_open, after_read, noted, is_nil, Bytes}
 use Rattle.avr_desk.specs.declared.record.Open.{Open}
 use Rattle.avr_desk.specs.declared.record.Open.TheVariants.{Closed, ToRead, ToWrite}
 use Rattle.avr_desk.specs.declared.files.FileFault.TheVariants.{Absent, NotOpened, NotRead, Memory}
-use Rattle.avr_desk.specs.Lines.{Bytes}
 use Rattle.avr_records.specs.Detect.{kind_of_file}
 use Rattle.avr_records.specs.declared.kind.Found.{Found}
 use Rattle.avr_plan.specs.ImageFile.{Given, whole_file, long_file, file_within, kind_of}

@@ -2,8 +2,7 @@
 use Rattle.std.proofs.Common.{◌≡◌, sym, subst, ℕ, List, [], Ok, Err}
 use Rattle.avr_cli.specs.declared.settings.Settings.{Settings}
 use Rattle.avr_cli.specs.declared.update.Update.{Update}
-use Rattle.avr_desk.specs.Record.{DeskView}
-use Rattle.avr_desk.specs.Lines.{Bytes}
+use Rattle.avr_desk.specs.Record.{DeskView, Bytes}
 use Rattle.avr_part.specs.Part.{Part}
 use Rattle.avr_desk.proofs.Played.{goes_on, goes_no_further, went_went, went_into}
 use Rattle.avr_plan.specs.Plan.{Plan}

@@ -12,7 +12,7 @@ use Rattle.avr_image.specs.Placing.{with_value}
 use Rattle.avr_image.specs.Raw as raw_file
 use Rattle.avr_image.specs.Values.{values, fitting_value, pieces}
 use Rattle.avr_image.specs.declared.fault.ImageFault.{ImageFault}
-use Rattle.avr_desk.specs.Lines.{Bytes}
+use Rattle.avr_desk.specs.Record.{Bytes}
 use Rattle.avr_records.specs.Lines.{lines}
 use Rattle.avr_records.specs.Reading.{Said, image_or_fault, first_fault, in_place, up_to_end, placed_bytes, image_in_text, said_by_line, together, file_ending}
 use Rattle.avr_records.specs.declared.kind.Ending.{Ending}

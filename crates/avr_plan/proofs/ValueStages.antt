@@ -2,12 +2,11 @@
 use Rattle.std.proofs.Common.{◌≡◌, sym, ap, ℕ, List, Option, Ok, Err, inl, inr, subst}
 use Rattle.avr_cli.specs.declared.settings.Switches.{Switches}
 use Rattle.avr_cli.specs.declared.update.Format.TheVariants.{Immediate}
-use Rattle.avr_desk.specs.Record.{DeskView}
+use Rattle.avr_desk.specs.Record.{DeskView, Bytes}
 use Rattle.avr_image.specs.Fault.{OrMemory}
 use Rattle.avr_image.specs.Values.{values}
 use Rattle.avr_image.specs.declared.fault.ImageFault.{ImageFault}
 use Rattle.avr_image.specs.declared.fault.ImageFault.TheVariants.{Memory}
-use Rattle.avr_desk.specs.Lines.{Bytes}
 use Rattle.avr_desk.specs.Said.{Tells}
 use Rattle.avr_part.specs.declared.mem.Mem.{Mem}
 use Rattle.avr_desk.proofs.Played.{went_settled, goes_unsettled, goes_without_memory}

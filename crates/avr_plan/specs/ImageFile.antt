@@ -4,7 +4,7 @@ use Rattle.avr_cli.specs.declared.update.Format.{Format}
 use Rattle.avr_cli.specs.declared.update.Format.TheVariants as letter
 use Rattle.avr_image.specs.Raw as raw_file
 use Rattle.avr_image.specs.declared.fault.ImageFault.{ImageFault}
-use Rattle.avr_desk.specs.Lines.{Bytes}
+use Rattle.avr_desk.specs.Record.{Bytes}
 use Rattle.avr_records.specs.Closed.{closed_fault}
 use Rattle.avr_records.specs.Detect.{kind_of_file}
 use Rattle.avr_records.specs.Reading.{image_in_text}

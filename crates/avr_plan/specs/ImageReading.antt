@@ -2,10 +2,9 @@
 use Rattle.std.specs.Prelude.{◌≡◌, ◌≤◌, ◌+◌, ℕ, List, ◌++◌, length, Option, Bool, false, Result, Ok, Err, MatchBool}
 use Rattle.avr_cli.specs.declared.update.Format.{Format}
 use Rattle.avr_desk.specs.Files.{after_reading, with_read, FileBreaks, IsCounted, IsWhole}
-use Rattle.avr_desk.specs.Record.{DeskView, Passes}
+use Rattle.avr_desk.specs.Record.{DeskView, Passes, Bytes}
 use Rattle.avr_desk.specs.declared.files.FileFault.{FileFault}
 use Rattle.avr_desk.specs.declared.files.FileFault.TheVariants.{Absent, NotOpened, NotRead, Memory}
-use Rattle.avr_desk.specs.Lines.{Bytes}
 use Rattle.avr_records.specs.declared.kind.Ending.{Ending}
 use Rattle.avr_records.specs.declared.kind.Found.{Found}
 use Rattle.avr_plan.specs.ImageFile.{Given, file_within, image_within}

@@ -1,7 +1,7 @@
 -- What is made of the bytes of a file as they come, and the bytes that may have come.
 use Rattle.std.specs.Prelude.{◌≡◌, ℕ, length, ◌++◌, Err}
 use Rattle.avr_image.specs.Raw as raw_file
-use Rattle.avr_desk.specs.Lines.{Bytes}
+use Rattle.avr_desk.specs.Record.{Bytes}
 use Rattle.avr_records.specs.Reader.{ReaderState, StandsFor, memory_size}
 use Rattle.avr_records.specs.declared.kind.Found.{Found}
 use Rattle.avr_records.specs.declared.kind.Found.TheVariants as file

@@ -1,9 +1,10 @@
 -- The lines of a plan's warnings and refusals.
 use Rattle.std.specs.Prelude.{ℕ, List, [], ◌∷◌, codes, decimal}
 use Rattle.byteorder.specs.Endian.{big_bytes}
+use Rattle.avr_desk.specs.Record.{Bytes}
 use Rattle.avr_image.specs.declared.fault.ImageFault.{ImageFault}
 use Rattle.avr_image.specs.declared.fault.ImageFault.TheVariants as image_fault
-use Rattle.avr_desk.specs.Lines.{Bytes, digits, warning, error, file_pieces, memory_pieces, too_long_pieces}
+use Rattle.avr_desk.specs.Lines.{digits, warning, error, file_pieces, memory_pieces, too_long_pieces}
 use Rattle.avr_part.specs.Fault.{field_name}
 use Rattle.avr_part.specs.Mem.{name_of}
 use Rattle.avr_part.specs.declared.fault.Field.{Field}

@@ -1,5 +1,6 @@
 -- The plan of a run, in its order: the part file, the part, and each update with its file.
 use Rattle.std.specs.Prelude.{ℕ, Bool, false, nat_le, nat_lt, List, [], ◌∷◌, ◌++◌, length, Option, Some, None, Result, Ok, Err, if◌then◌else◌}
+use Rattle.avr_desk.specs.Record.{Bytes}
 use Rattle.avr_cli.specs.declared.settings.Settings.{Settings}
 use Rattle.avr_cli.specs.declared.settings.Switches.{Switches}
 use Rattle.avr_cli.specs.declared.update.Format.{Format}
@@ -9,7 +10,7 @@ use Rattle.avr_cli.specs.declared.update.Op.TheVariants as op
 use Rattle.avr_cli.specs.declared.update.Update.{Update}
 use Rattle.avr_image.specs.Values.{values}
 use Rattle.avr_image.specs.declared.fault.ImageFault.{ImageFault}
-use Rattle.avr_desk.specs.Lines.{Bytes, too_long_line}
+use Rattle.avr_desk.specs.Lines.{too_long_line}
 use Rattle.avr_desk.specs.Said.{Saying, Line}
 use Rattle.avr_part.specs.BuiltIn.{part_of_id}
 use Rattle.avr_part.specs.Mem.{is_writable}

@@ -1,8 +1,7 @@
 //! An image file over a desk: read in pieces to its end, or past the limit, and only then judged.
 ghost use Rattle.std.specs.Prelude.{◌≡◌, ◌+◌, ◌<◌, ◌≤◌, ◌^◌, ℕ, IfErr, length};
 ghost use Rattle.avr_desk.specs.Fault.{Follows};
-ghost use Rattle.avr_desk.specs.Record.{DeskView};
-ghost use Rattle.avr_desk.specs.Lines.{Bytes};
+ghost use Rattle.avr_desk.specs.Record.{DeskView, Bytes};
 ghost use Rattle.avr_records.specs.declared.kind.Found.{Found as AnyFound};
 ghost use Rattle.avr_plan.specs.Faults.{read_fault_number};
 ghost use Rattle.avr_plan.specs.ImageFile.{kind_of, whole_file};

@@ -1,6 +1,6 @@
 //! An image that is made of the bytes of a file as they come.
 ghost use Rattle.std.specs.Prelude.{◌≡◌, ◌+◌, ◌<◌, ◌≤◌, ◌^◌, ◌++◌, ℕ, List, [], Ok, Err, length, MatchResult};
-ghost use Rattle.avr_desk.specs.Lines.{Bytes};
+ghost use Rattle.avr_desk.specs.Record.{Bytes};
 ghost use Rattle.avr_records.specs.declared.kind.Found.{Found as AnyFound};
 ghost use Rattle.avr_plan.specs.ImageFile.{whole_file, long_file};
 ghost use Rattle.avr_plan.specs.Intake.{Takes, fed_count, found_as, in_long_file};

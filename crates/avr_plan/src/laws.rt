@@ -2,9 +2,9 @@
 ghost use Rattle.std.specs.Prelude.{◌≡◌, ◌++◌, ℕ, List, Some, Err};
 ghost use Rattle.avr_cli.specs.declared.settings.Settings.{Settings};
 ghost use Rattle.avr_desk.specs.Fault.{HasRisen};
-ghost use Rattle.avr_desk.specs.Record.{Record, showing};
+ghost use Rattle.avr_desk.specs.Record.{Record, showing, Bytes};
 ghost use Rattle.avr_desk.specs.declared.record.Opening.{Opening};
-ghost use Rattle.avr_desk.specs.Lines.{Bytes, memory_line};
+ghost use Rattle.avr_desk.specs.Lines.{memory_line};
 ghost use Rattle.avr_plan.specs.OnlyReading.{OnlyReads};
 ghost use Rattle.avr_plan.specs.Planning.{planned};
 ghost use Rattle.avr_desk.specs.Playing.{Goes, Went};

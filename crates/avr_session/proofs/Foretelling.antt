@@ -4,7 +4,7 @@ use Rattle.std.proofs.lemmas.Bool.{cases_Bool}
 use Rattle.std.proofs.lemmas.List.Folds.{list_any-append}
 use Rattle.std.proofs.lemmas.Slice.Eq.{starts_is}
 use Rattle.std.specs.Cmp.{unsigned_Decides}
-use Rattle.avr_desk.specs.Record.{DeskView}
+use Rattle.avr_desk.specs.Record.{DeskView, Bytes}
 use Rattle.avr_cli.specs.declared.settings.Switches.{Switches}
 use Rattle.avr_cli.specs.declared.update.Format.{Format}
 use Rattle.avr_image.specs.Image.{byte_count}
@@ -18,7 +18,7 @@ use Rattle.stk_host.specs.Play.{Position}
 use Rattle.stk_host.specs.Talk.{heard}
 use Rattle.stk_host.specs.Dialog.{Dialog, Done, Say, Ask, ◌>>=◌, lifted, Event, Frame, Said, Played, played, by_answer, next, sayings}
 use Rattle.stk_host.specs.Operations.{opening, erasing, writing, reading, verifying}
-use Rattle.avr_desk.specs.Lines.{Bytes, information, warning, error}
+use Rattle.avr_desk.specs.Lines.{information, warning, error}
 use Rattle.avr_desk.specs.Said.{Saying, Line, Creates, Writes, Outs, IsPrefixOf}
 use Rattle.avr_session.specs.declared.standing.Standing.{Standing}
 use Rattle.avr_session.specs.declared.standing.Standing.TheVariants.{Fine, Faulty, Over}

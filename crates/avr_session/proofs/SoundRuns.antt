@@ -2,7 +2,7 @@
 use Rattle.std.proofs.Common.{◌≡◌, ℕ, Bool, true, false, List, [], ◌∷◌, ◌++◌, refl, sym, ap, ◌∙◌, subst, append-nil, Option, Some, None, inl, inr}
 use Rattle.std.proofs.lemmas.List.{append_cancel_left}
 use Rattle.avr_desk.specs.Fault.{Follows, HasFailed, HasRisen}
-use Rattle.avr_desk.specs.Record.{Record, DeskView, after_err}
+use Rattle.avr_desk.specs.Record.{Record, DeskView, after_err, Bytes}
 use Rattle.avr_plan.specs.Plan.{Plan}
 use Rattle.stk_host.specs.Operations as operations
 use Rattle.stk_host.specs.Operations.{opening}
@@ -11,7 +11,6 @@ use Rattle.stk_host.specs.Tape.{Tape, on_tape, answer}
 use Rattle.stk_host.specs.Play.{Position}
 use Rattle.stk_host.specs.Talk.{Talk, LinkView, heard, Grows}
 use Rattle.stk_host.specs.Dialog.{Dialog, Event, Said, Played, played, sayings}
-use Rattle.avr_desk.specs.Lines.{Bytes}
 use Rattle.avr_desk.specs.Said.{Saying, Line, Creates, Writes, Outs, after_all}
 use Rattle.avr_session.specs.Actions.{takes_memory}
 use Rattle.avr_session.specs.Runs.{Cause, OfSending, OfListening, OfFile, OfPrinting, OfMemory, NotCreated, NotWritten, Devices, devices, start, cause_line, tells_fault, TellsCause, StopsAt, untold, StopsBehind, BrokeOff, RunsTo}

@@ -1,13 +1,11 @@
 -- The file that a memory's bytes are written to.
 use Rattle.std.specs.Prelude.{ℕ, ◌==◌, ◌&&◌, ◌+◌, ◌*◌, ◌/◌, List, [], ◌∷◌, take, if◌then◌else◌}
+use Rattle.avr_desk.specs.Record.{Bytes}
 use Rattle.avr_cli.specs.declared.update.Format.{Format}
 use Rattle.avr_cli.specs.declared.update.Format.TheVariants.{Ihex, Srec, Decimal, Hexadecimal, Octal, Binary}
 use Rattle.avr_image.specs.Lists.{list_text}
 use Rattle.avr_image.specs.declared.base.Base.TheVariants.{Dec, Hex, Oct, Bin}
 use Rattle.avr_records.specs.Text.{ihex_text, srec_text}
-
-abbrev pub Bytes : Type 0
-Bytes = List ℕ
 
 -- the text of a file in a format; any other than these is raw: the bytes themselves
 unfoldable pub file_text : Format → Bytes → Bytes

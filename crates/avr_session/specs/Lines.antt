@@ -1,7 +1,8 @@
 -- What a session says: lines of information, warnings, and the lines of faults.
 use Rattle.std.specs.Prelude.{ℕ, List, [], ◌∷◌, codes, nat_lt, if◌then◌else◌}
 use Rattle.byteorder.specs.Endian.{big_bytes}
-use Rattle.avr_desk.specs.Lines.{Bytes, digits, spaced_digits, information, warning, error, memory_pieces}
+use Rattle.avr_desk.specs.Record.{Bytes}
+use Rattle.avr_desk.specs.Lines.{digits, spaced_digits, information, warning, error, memory_pieces}
 use Rattle.avr_desk.specs.Said.{Saying, Line}
 use Rattle.avr_part.specs.Mem.{name_of}
 use Rattle.avr_part.specs.Part.{Part}

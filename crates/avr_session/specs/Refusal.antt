@@ -1,10 +1,11 @@
 -- The message of a fault of the settings.
 use Rattle.std.specs.Prelude.{ℕ, List, [], ◌∷◌, Option, Some, None, codes, decimal}
+use Rattle.avr_desk.specs.Record.{Bytes}
 use Rattle.avr_cli.specs.declared.settings.SettingsFault.{SettingsFault}
 use Rattle.avr_cli.specs.declared.settings.SettingsFault.TheVariants.{NoPart, BadProgrammer, BadPort, NoChip, TooMany, BadUpdate, StandardTaken, Memory}
 use Rattle.avr_cli.specs.declared.update.UpdateFault.{UpdateFault}
 use Rattle.avr_cli.specs.declared.update.UpdateFault.TheVariants as update
-use Rattle.avr_desk.specs.Lines.{Bytes, error, memory_pieces}
+use Rattle.avr_desk.specs.Lines.{error, memory_pieces}
 
 -- in the update of this number
 abbrev pub in_update_pieces : ℕ → Bytes → List Bytes

@@ -1,7 +1,7 @@
 -- What a call over a link and a desk comes to: its dialog played whole, or broken off.
 use Rattle.std.specs.Prelude.{ℕ, Bool, true, false, ◌||◌, List, [], ◌∷◌, ◌++◌, map, ◌≡◌, ◌<◌, ◌≤◌, ◌⊎◌, length, nat_eq, Option, None, Result, Ok, Err, codes, ⊤}
 use Rattle.std.specs.List.{list_any, starts_with}
-use Rattle.avr_desk.specs.Record.{DeskView, Passes, after_err}
+use Rattle.avr_desk.specs.Record.{DeskView, Passes, after_err, Bytes}
 use Rattle.avr_desk.specs.Fault as desk
 use Rattle.avr_desk.specs.Fault.{Follows}
 use Rattle.stk_host.specs.Talk as link
@@ -9,7 +9,7 @@ use Rattle.stk_host.specs.Tape.{on_tape}
 use Rattle.stk_host.specs.Talk.{Talk, LinkView, heard, Grows}
 use Rattle.stk_host.specs.Dialog.{Dialog, Event, Frame, Said, played, sayings}
 use Rattle.stk_host.specs.Play.{Position, Plays, Breaks}
-use Rattle.avr_desk.specs.Lines.{Bytes, error, memory_line, not_created_pieces, not_written_pieces}
+use Rattle.avr_desk.specs.Lines.{error, memory_line, not_created_pieces, not_written_pieces}
 use Rattle.avr_desk.specs.Said.{Saying, Line, Creates, Writes, Outs, SaidPart, IsPrefixOf, TellsLine, TellsFailure, after_all}
 use Rattle.avr_session.specs.declared.standing.Stopped.{Stopped}
 

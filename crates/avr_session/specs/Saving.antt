@@ -1,9 +1,8 @@
 -- Bytes that go to a file or to standard output. (For contracts inside this crate.)
 use Rattle.std.specs.Prelude.{◌≡◌, ◌++◌, Result, Ok, Err, ⊤}
-use Rattle.avr_desk.specs.Record.{DeskView, Passes, after_err}
+use Rattle.avr_desk.specs.Record.{DeskView, Passes, after_err, Bytes}
 use Rattle.avr_desk.specs.Stream.{SendsPart, after_sent}
 use Rattle.avr_desk.specs.declared.stream.Stream.{Stream}
-use Rattle.avr_desk.specs.Lines.{Bytes}
 use Rattle.avr_session.specs.Runs.{Cause, OfFile, NotCreated, NotWritten, FileStops}
 use Rattle.avr_session.specs.declared.standing.Stopped.{Stopped}
 

@@ -1,12 +1,11 @@
 -- What the contract of a run says where no device failed.
 use Rattle.std.specs.Prelude.{ℕ, ◌++◌, ◌≡◌, Some}
 use Rattle.avr_desk.specs.Fault as desk
-use Rattle.avr_desk.specs.Record.{Record, DeskView, showing}
+use Rattle.avr_desk.specs.Record.{Record, DeskView, showing, Bytes}
 use Rattle.stk_host.specs.Talk as link
 use Rattle.stk_host.specs.Talk.{Talk, LinkView}
 use Rattle.stk_host.specs.Dialog.{Dialog}
 use Rattle.stk_host.specs.Play.{Position}
-use Rattle.avr_desk.specs.Lines.{Bytes}
 use Rattle.avr_desk.specs.Said.{Saying}
 use Rattle.avr_session.specs.Runs.{Devices, OfMemory, cause_line, start, Ran}
 

@@ -1,8 +1,7 @@
 //! What the contract of a run says where no device failed, and wrong ends that it refuses: laws of the contract alone.
 ghost use Rattle.std.specs.Prelude.{◌≡◌, ◌∷◌, ◌++◌, [], ℕ, Bool, List, None, true, false};
 ghost use Rattle.avr_desk.specs.Fault.{HasRisen};
-ghost use Rattle.avr_desk.specs.Record.{Record};
-ghost use Rattle.avr_desk.specs.Lines.{Bytes};
+ghost use Rattle.avr_desk.specs.Record.{Record, Bytes};
 ghost use Rattle.avr_desk.specs.Said.{Saying, Line, Creates, Writes};
 ghost use Rattle.stk_host.specs.Dialog.{Dialog, Event, Said, played};
 ghost use Rattle.stk_host.specs.Talk.{Talk, LinkView, heard};

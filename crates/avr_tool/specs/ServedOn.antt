@@ -1,8 +1,7 @@
 -- Serving an emulated programmer to the first caller of a listener, from settings to status.
 use Rattle.std.specs.Prelude.{ℕ, ◌⊎◌, Err}
 use Rattle.avr_cli.specs.declared.settings.Settings.{Settings}
-use Rattle.avr_desk.specs.Record.{DeskView}
-use Rattle.avr_desk.specs.Lines.{Bytes}
+use Rattle.avr_desk.specs.Record.{DeskView, Bytes}
 use Rattle.avr_part.specs.State as chips
 use Rattle.avr_desk.specs.Playing.{Goes, Went}
 use Rattle.avr_desk.specs.Stage.{Made}

@@ -174,7 +174,8 @@ impl Conversation {
     ) -> Result<(), Stop>
         requires quiet { All BringsNoData first.now }
         requires fits { FitsFrame last.now }
-        ensures asks { AsksLink (EndsSteps (step (first.now ++ last.now ∷ [])) (λ done. data_held last.now self.new.held))
+        ensures asks { AsksLink
+            (EndsSteps (step (first.now ++ last.now ∷ [])) (λ done. data_held last.now self.new.held))
             self.old.progress (L.view link.old) (L.view link.new) result self.new.progress }
         ensures sized { OnOk result (SizedBy (shape last.now) (data_held last.now self.new.held)) }
         ensures comes { Stays L.comes_of link.old link.new }

@@ -1,5 +1,5 @@
 use Rattle.std.proofs.Common.{◌≡◌, ◌∙◌, ap, subst, arith, [], length}
-use Rattle.avr_desk.specs.Lines.{Bytes}
+use Rattle.avr_desk.specs.Record.{Bytes}
 use Rattle.avr_plan.specs.ImageFile.{kind_of}
 use Rattle.avr_plan.specs.Intake.{Takes}
 use Rattle.avr_plan.proofs.ImageReadings.{open_is_rest}

@@ -1,5 +1,5 @@
 use Rattle.std.proofs.Common.{subst}
-use Rattle.avr_desk.specs.Lines.{Bytes}
+use Rattle.avr_desk.specs.Record.{Bytes}
 use Rattle.avr_part.specs.PartFile.{GivesOrMemory, parts_of}
 use Rattle.avr_plan.proofs.PartStages.{went_parts, goes_bad_parts, goes_long_parts}
 use Rattle.avr_desk.proofs.FileStages.{goes_file_fault}
