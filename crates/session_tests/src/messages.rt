@@ -1,31 +1,31 @@
-//! Faults show as the lines that are printed of them.
+//! Faults show in the words of the lines that are printed of them.
 use avr_cli::{SettingsFault, Text, UpdateFault};
 use avr_desk::{Bytes, MemDesk};
 use avr_session::refuse;
 use std::alloc::Global;
 use std::test::Fail;
 
-/// Whether the line that is printed of a fault of the settings has the words that the fault shows.
-fn is_shown_as_printed(alloc: Global, fault: &SettingsFault) -> Result<bool, Fail> {
+/// Whether a fault of the settings shows as the line that is printed of it.
+fn shows_as_printed(alloc: Global, fault: &SettingsFault) -> bool {
     let mut desk = MemDesk::new(alloc, Bytes::new(alloc));
     refuse(fault, &mut desk);
-    let line = format!(in alloc; "avrstk: error: {fault}\n")?;
-    Ok(desk.messages() == line.as_bytes())
+    match format!(in alloc; "avrstk: error: {fault}\n") {
+        Ok(line) => desk.messages() == line.as_bytes(),
+        Err(_) => false,
+    }
 }
 
 #[test]
-fn faults_of_the_settings_show_as_their_lines(rt: HostRuntime) -> Result<(), Fail> {
+fn faults_show_as_their_lines(rt: HostRuntime) -> Result<(), Fail> {
     let alloc = rt.alloc();
-    for fault in [
-        SettingsFault::NoPart,
-        SettingsFault::BadProgrammer(Text::new(alloc, "usbasp")?),
-        SettingsFault::NoChip,
-        SettingsFault::TooMany,
-        SettingsFault::BadUpdate(2, UpdateFault::BadFormat),
-        SettingsFault::StandardTaken,
-        SettingsFault::Memory,
-    ] {
-        assert!(rt; is_shown_as_printed(alloc, &fault)?);
-    }
+    let programmer = SettingsFault::BadProgrammer(Text::new(alloc, "usbasp")?);
+    assert!(rt; shows_as_printed(alloc, &programmer));
+    assert!(rt; shows_as_printed(alloc, &SettingsFault::NoPart));
+    assert!(rt; shows_as_printed(alloc, &SettingsFault::NoChip));
+    assert!(rt; shows_as_printed(alloc, &SettingsFault::TooMany));
+    assert!(rt; shows_as_printed(alloc, &SettingsFault::StandardTaken));
+    assert!(rt; shows_as_printed(alloc, &SettingsFault::Memory));
+    let update = SettingsFault::BadUpdate(2, UpdateFault::BadFormat);
+    assert!(rt; shows_as_printed(alloc, &update));
     Ok(())
 }
