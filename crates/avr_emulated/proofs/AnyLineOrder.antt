@@ -104,7 +104,10 @@ ending_keeps part s before standing p fates idle = by_standing standing
 
 module _ (plan : Plan) (sound : IsPart plan.part) (fitted : All (IsFitted plan.part) plan.tasks) (m : Memories) (f : FitsPart plan.part m) (p : Programmer) (fates : List Fate)
     (idle : Idle plan.part m p) where
-  makes_actions : Makes plan.part m (items plan) (phases plan.part plan.switches (actions plan)) (made_by plan) p fates
+  abbrev all_phases : Dialog Saying Standing
+  all_phases = phases plan.part plan.switches (actions plan)
+
+  makes_actions : Makes plan.part m (items plan) all_phases (made_by plan) p fates
   makes_actions =
       let part = plan.part in
       let s = plan.switches in
@@ -112,9 +115,6 @@ module _ (plan : Plan) (sound : IsPart plan.part) (fitted : All (IsFitted plan.p
       let opened = phase part s OpenSession in
       makes_then part sound m [] (items_of (work plan)) ⊤ opened (phases part s (work plan)) none_made (actions_made part s (work plan)) p fates tt f
       opens (makes_none part m opened p fates (Comes part m [] ⊤) opens) (λ q fs there. makes_phases part sound s (work plan) m (work_fits plan fitted) f q fs there)
-
-  abbrev all_phases : Dialog Saying Standing
-  all_phases = phases plan.part plan.switches (actions plan)
 
   abbrev At : ℕ → Programmer → Type 0
   At = Struck plan.part (items plan) m
