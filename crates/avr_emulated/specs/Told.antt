@@ -41,11 +41,11 @@ count_line mem count done = Line (information (name_of mem ∷ codes ": " ∷ de
 abbrev pub kept_in : Plan → Mem → Memories → List ℕ
 kept_in plan mem now = kept_of mem plan.switches.all (memory_in plan.part mem now)
 
--- What is told in a run of a plan, and what of it holds of the memories now, by those before the run: each of an
--- action of the plan. That the chip is erased: that has been done, and nothing else. That bytes are written: the plan's
--- items up to this write have been done. That they are verified: the memory holds the image. What is saved, and counted
--- as read, is what the memory has; and a difference told is one that is there. Else: the chip's signature, what is left
--- out, why a step has failed, and the end.
+-- What is told in a run of a plan, and what of it holds of the memories now, by those before the run. That the chip is
+-- erased: the plan's erase has been done, and nothing else. That bytes are written: the plan's items up to this write
+-- have been done. That they are verified: the plan compares the memory with this image, and the memory holds it. What
+-- is saved, and counted as read, is what the memory has; and a difference told is one that is there. Else: the chip's
+-- signature, what the plan leaves out, why a step has failed, and the end.
 pub data IsTrue (plan : Plan) (before now : Memories) (saying : Saying) : Type 0 where
   SignatureRead : saying ≡ Line (information (codes "device signature = " ∷ spaced_digits plan.part.signature ∷ []))
       → IsTrue plan before now saying
