@@ -1,5 +1,5 @@
 -- What a run does at the desk: files that are read, lines that are printed, files and output that are written.
-use Rattle.std.specs.Prelude.{◌≡◌, ◌⊎◌, ℕ, List, [], ◌∷◌, ◌++◌, Result, Ok, Err}
+use Rattle.std.specs.Prelude.{◌≡◌, ◌⊎◌, List, [], ◌∷◌, ◌++◌, Result, Ok, Err}
 use Rattle.avr_desk.specs.Record.{DeskView, Record, Passes, with_open, with_absent, after_write, after_out, after_err, Bytes}
 use Rattle.avr_desk.specs.Fault.{Follows, HasFailed, HasFailedToSay}
 use Rattle.avr_desk.specs.Stream.{SendsPart}
