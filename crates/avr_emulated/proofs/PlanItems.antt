@@ -12,7 +12,7 @@ use Rattle.avr_session.specs.Actions.{Action, EraseChip, LeaveErase, WriteImage,
 use Rattle.stk_emu.specs.Effect.{Image, Memories, Item, Erase, Write, effects}
 use Rattle.stk_emu.proofs.PageStrokes.{effects_on}
 use Rattle.avr_emulated.specs.Agrees.{ActionsAgree, Agrees}
-use Rattle.avr_emulated.specs.Items.{action_items, actions_items, items, has_erase, task_item}
+use Rattle.avr_emulated.specs.Items.{action_items, actions_items, items, has_erase, task_item, asked_items}
 
 abbrev pub writes : Plan → List Item
 writes plan = actions_items (tasks_actions plan.switches plan.tasks)
@@ -105,8 +105,7 @@ behind_erase true false due xs ys e = e
 behind_erase false asked true xs ys e = ap (λ more. Erase ∷ more) e
 behind_erase false asked false xs ys e = e
 
-pub items_by_tasks : (plan : Plan)
-    → items plan ≡ (if plan.switches.dry then [] else (if is_erase_due plan.switches plan.tasks then Erase ∷ [] else []) ++ filter_map task_item plan.tasks)
+pub items_by_tasks : (plan : Plan) → items plan ≡ asked_items plan
 items_by_tasks plan =
     let s = plan.switches in
     items_on (erase_actions s plan.tasks) (tasks_actions s plan.tasks)

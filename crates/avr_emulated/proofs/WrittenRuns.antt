@@ -17,12 +17,12 @@ use Rattle.stk_emu.specs.Settled.{FitsPart}
 use Rattle.stk_emu.proofs.PageStrokes.{effects_on}
 use Rattle.avr_emulated.specs.Agrees.{Shows, ActionsAgree}
 use Rattle.avr_emulated.specs.Course.{course}
-use Rattle.avr_emulated.specs.Items.{actions_items, items, has_erase}
+use Rattle.avr_emulated.specs.Items.{actions_items, items, asked_items, has_erase}
 use Rattle.avr_emulated.specs.Outcome.{IsDone}
 use Rattle.avr_emulated.specs.Written.{IsWritten, written_to}
 use Rattle.avr_emulated.proofs.AgainStrokes.{all_sizes}
 use Rattle.avr_emulated.proofs.Fitting.{tasks_fit}
-use Rattle.avr_emulated.proofs.PlanItems.{writes, erase_if, items_are, tasks_agree, plan_agrees}
+use Rattle.avr_emulated.proofs.PlanItems.{writes, erase_if, items_are, tasks_agree, plan_agrees, items_by_tasks}
 use Rattle.avr_emulated.proofs.WrittenCourse.{course_status}
 use Rattle.avr_emulated.proofs.WrittenImages.{Left, tasks_left}
 
@@ -75,8 +75,8 @@ module _ (plan : Plan) (before after : Memories) (all : All (IsFitted plan.part)
       (subst (λ new. Left plan.part mem (written_to plan.part mem (writes plan)) erased new) is_after
       (tasks_left plan.part plan.switches verified mem plan.tasks erased (tasks_fit plan.part plan.switches plan.tasks all) (tasks_agree plan before run.agrees)))
 
-  pub run_written : IsPart plan.part → FitsPart plan.part before → IsWritten plan before after
-  run_written sound fits =
+  items_written : IsPart plan.part → FitsPart plan.part before → IsWritten plan.part (items plan) before after
+  items_written sound fits =
       let part = plan.part in
       let sizes : FitsPart part after = subst (FitsPart part) (sym run.memories) (all_sizes part sound (items plan) before fits) in
       record {
@@ -90,6 +90,11 @@ module _ (plan : Plan) (before after : Memories) (all : All (IsFitted plan.part)
         efuse = λ none. (memory_left Efuse).rest 0 none ∙ fuse_kept part (λ m. m.efuse) due before refl;
         lock = λ none. (memory_left Lock).rest 0 none ∙ lock_erased part due before;
       }
+
+  -- and so by what its tasks ask for
+  pub run_written : IsPart plan.part → FitsPart plan.part before → IsWritten plan.part (asked_items plan) before after
+  run_written sound fits =
+      subst (λ xs. IsWritten plan.part xs before after) (items_by_tasks plan) (items_written sound fits)
 
 -- images that are shown agree once more
 shown_agree : (part : Part) (s : Switches) (image_of : Mem → Image) (m : Memories) (mems : List Mem) → ((mem : Mem) → Shows part mem (image_of mem) m)

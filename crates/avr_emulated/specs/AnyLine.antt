@@ -19,7 +19,7 @@ use Rattle.stk_host.specs.Dialog.{Event, played}
 use Rattle.stk_host.specs.Talk.{sent, heard}
 use Rattle.avr_emulated.specs.Again.{AgreesAnyway}
 use Rattle.avr_emulated.specs.Bound.{run_steps}
-use Rattle.avr_emulated.specs.Items.{items, has_erase}
+use Rattle.avr_emulated.specs.Items.{items, asked_items, has_erase}
 use Rattle.avr_emulated.specs.Outcome.{IsCourse, IsDone, MakesStrokes}
 use Rattle.avr_emulated.specs.Told.{IsTrue, SaidTrue}
 use Rattle.avr_emulated.specs.Written.{IsWritten}
@@ -64,7 +64,8 @@ pub record OverAnyLine (plan : Plan) (before after : WiredState) (old now : Desk
   -- all that the plan writes was written, and all that it compares agreed
   pub done : status ≡ 0 → IsDone plan (memories before) (memories after)
   -- each memory holds its images, later over earlier, and the rest is as it was, or as an erase leaves it
-  pub images : status ≡ 0 → plan.switches.no_verify ≡ false → IsWritten plan (memories before) (memories after)
+  pub images : status ≡ 0 → plan.switches.no_verify ≡ false
+      → IsWritten plan.part (asked_items plan) (memories before) (memories after)
   -- whatever the status: the first strokes of the plan were made, those that came to data, and perhaps one more
   pub strokes : MakesStrokes plan (fresh_programmer before.wire.programmer.chip) before.wire.fates
       (length (frames_over after)) (memories before) (memories after)

@@ -4,10 +4,9 @@ use Rattle.avr_image.specs.Image.{empty, byte_at, over}
 use Rattle.avr_part.specs.Part.{Part, size_of}
 use Rattle.avr_part.specs.declared.mem.Mem.{Mem}
 use Rattle.avr_part.specs.declared.mem.Mem.TheVariants.{Flash, Eeprom, Lfuse, Hfuse, Efuse, Lock, Signature, Calibration}
-use Rattle.avr_plan.specs.Plan.{Plan}
 use Rattle.stk_emu.specs.Effect.{Image, Item, Erase, Write, Memories, erase_keeps_eeprom, memory_in}
 use Rattle.avr_emulated.specs.Agrees.{Shows}
-use Rattle.avr_emulated.specs.Items.{items, has_erase}
+use Rattle.avr_emulated.specs.Items.{has_erase}
 
 abbrev pub memory_number : Mem → ℕ
 memory_number Flash = 0
@@ -30,27 +29,27 @@ written_to part mem (Write other image ∷ items) =
 abbrev pub byte_in : Part → Mem → ℕ → Memories → ℕ
 byte_in part mem addr m = slice_index (memory_in part mem m) addr
 
--- Each memory has its size, and holds the images written to it. Elsewhere flash is FF where the chip was erased, and
+-- After these items each memory has its size, and holds the images written to it. Elsewhere flash is FF where the chip was erased, and
 -- EEPROM too, unless its fuse keeps it; else they are as before. A fuse that wasn't written is as before, and a lock
 -- that wasn't is open after an erase.
-pub record IsWritten (plan : Plan) (before after : Memories) : Type 0 where
-  pub flash_size : length after.flash ≡ plan.part.flash_size
-  pub eeprom_size : length after.eeprom ≡ plan.part.eeprom_size
-  pub images : (mem : Mem) → Shows plan.part mem (written_to plan.part mem (items plan)) after
-  pub rest_of_flash : (addr : ℕ) → addr < plan.part.flash_size
-      → byte_at (written_to plan.part Flash (items plan)) addr ≡ None
-      → byte_in plan.part Flash addr after ≡ (if has_erase (items plan) then 255
-      else byte_in plan.part Flash addr before)
-  pub rest_of_eeprom : (addr : ℕ) → addr < plan.part.eeprom_size
-      → byte_at (written_to plan.part Eeprom (items plan)) addr ≡ None
-      → byte_in plan.part Eeprom addr after
-      ≡ (if has_erase (items plan) && not (erase_keeps_eeprom plan.part before) then 255
-      else byte_in plan.part Eeprom addr before)
-  pub lfuse : byte_at (written_to plan.part Lfuse (items plan)) 0 ≡ None → after.lfuse ≡ before.lfuse
-  pub hfuse : byte_at (written_to plan.part Hfuse (items plan)) 0 ≡ None → after.hfuse ≡ before.hfuse
-  pub efuse : byte_at (written_to plan.part Efuse (items plan)) 0 ≡ None → after.efuse ≡ before.efuse
-  pub lock : byte_at (written_to plan.part Lock (items plan)) 0 ≡ None
-      → after.lock ≡ (if has_erase (items plan) then 255 else before.lock)
+pub record IsWritten (part : Part) (items : List Item) (before after : Memories) : Type 0 where
+  pub flash_size : length after.flash ≡ part.flash_size
+  pub eeprom_size : length after.eeprom ≡ part.eeprom_size
+  pub images : (mem : Mem) → Shows part mem (written_to part mem items) after
+  pub rest_of_flash : (addr : ℕ) → addr < part.flash_size
+      → byte_at (written_to part Flash items) addr ≡ None
+      → byte_in part Flash addr after ≡ (if has_erase items then 255
+      else byte_in part Flash addr before)
+  pub rest_of_eeprom : (addr : ℕ) → addr < part.eeprom_size
+      → byte_at (written_to part Eeprom items) addr ≡ None
+      → byte_in part Eeprom addr after
+      ≡ (if has_erase items && not (erase_keeps_eeprom part before) then 255
+      else byte_in part Eeprom addr before)
+  pub lfuse : byte_at (written_to part Lfuse items) 0 ≡ None → after.lfuse ≡ before.lfuse
+  pub hfuse : byte_at (written_to part Hfuse items) 0 ≡ None → after.hfuse ≡ before.hfuse
+  pub efuse : byte_at (written_to part Efuse items) 0 ≡ None → after.efuse ≡ before.efuse
+  pub lock : byte_at (written_to part Lock items) 0 ≡ None
+      → after.lock ≡ (if has_erase items then 255 else before.lock)
 
 -- an item writes an image to flash that has this byte at an address
 abbrev pub Brings : Item → ℕ → ℕ → Type 0

@@ -1,27 +1,25 @@
 //! What a plan writes, and what the memories hold after a verified run, address by address. No code.
 #![tactic(auto)]
 
-ghost use Rattle.std.specs.Prelude.{◌≡◌, ◌↔◌, ◌<◌, ℕ, false, List, [], ◌∷◌, ◌++◌, All, length, map, filter_map, if◌then◌else◌};
+ghost use Rattle.std.specs.Prelude.{◌≡◌, ◌↔◌, ◌<◌, ℕ, false, List, All, length, map};
 ghost use Rattle.avr_cli.specs.declared.settings.Switches.{Switches};
 ghost use Rattle.avr_part.specs.Part.{Part, IsPart};
 ghost use Rattle.avr_part.specs.declared.mem.Mem.{Mem};
 ghost use Rattle.avr_part.specs.declared.mem.Mem.TheVariants.{Flash};
 ghost use Rattle.avr_plan.specs.Plan.{Plan, IsFitted};
 ghost use Rattle.avr_plan.specs.declared.task.Task.{Task};
-ghost use Rattle.avr_session.specs.Actions.{is_erase_due};
-ghost use Rattle.stk_emu.specs.Effect.{Item, Erase, Memories, effects};
+ghost use Rattle.stk_emu.specs.Effect.{Item, Memories, effects};
 ghost use Rattle.stk_emu.specs.Settled.{FitsPart};
 ghost use Rattle.avr_emulated.specs.Agrees.{Agrees};
 ghost use Rattle.avr_emulated.specs.Course.{course};
-ghost use Rattle.avr_emulated.specs.Items.{items, task_item};
+ghost use Rattle.avr_emulated.specs.Items.{asked_items, items};
 ghost use Rattle.avr_emulated.specs.Outcome.{strokes, IsTouched, IsDone};
 ghost use Rattle.avr_emulated.specs.Written.{IsMade, IsWritten, byte_in, written_to};
 
 /// What a plan does to a chip, by its switches and its tasks: nothing in a dry run; else an erase, where that is due,
 /// and the writes of its tasks in their order.
 pub fn a_plan_writes_what_its_tasks_write()
-    ensures { (plan : Plan) → items plan ≡ (if plan.switches.dry then []
-        else (if is_erase_due plan.switches plan.tasks then Erase ∷ [] else []) ++ filter_map task_item plan.tasks) }
+    ensures { (plan : Plan) → items plan ≡ asked_items plan }
 {}
 
 /// The status of a course is 0 exactly where its comparisons agree, and then it has done all that its plan writes.
@@ -38,13 +36,13 @@ pub fn a_verified_run_leaves_its_images()
     ensures images { (plan : Plan) (before after : Memories)
         → IsPart plan.part → All (IsFitted plan.part) plan.tasks → FitsPart plan.part before
         → plan.switches.no_verify ≡ false → IsDone plan before after
-        → IsWritten plan before after }
+        → IsWritten plan.part (asked_items plan) before after }
     ensures again { (plan : Plan) (before after : Memories) (s : Switches) (mems : List Mem)
         → IsPart plan.part → All (IsFitted plan.part) plan.tasks → FitsPart plan.part before
         → plan.switches.no_verify ≡ false → IsDone plan before after → s.erase ≡ false
         → (course (record {
           part = plan.part;
-          tasks = map (λ mem. Task.Verify mem (written_to plan.part mem (items plan)))
+          tasks = map (λ mem. Task.Verify mem (written_to plan.part mem (asked_items plan)))
               mems;
           switches = s;
         }) after).status ≡ 0 }

@@ -14,7 +14,7 @@ use Rattle.stk_emu.specs.Settled.{FitsPart}
 use Rattle.stk_emu.specs.Wired.{WiredState, wired_view}
 use Rattle.avr_emulated.specs.Again.{AreKeeping, AgreesAnyway}
 use Rattle.avr_emulated.specs.AnyLine.{Stopped, OverAnyLine, memories}
-use Rattle.avr_emulated.specs.Items.{items, has_erase}
+use Rattle.avr_emulated.specs.Items.{items, asked_items, has_erase}
 use Rattle.avr_emulated.specs.Outcome.{IsTouched, IsDone, IsCourse}
 use Rattle.avr_emulated.specs.Written.{IsWritten}
 use Rattle.avr_emulated.proofs.AgainAgrees.{agrees_anyway}
@@ -35,7 +35,7 @@ module _ (plan : Plan) (w v : WiredState) (d e : Record) (a b : ℕ × ℕ) (sta
   sound_course is_over = elim (is_over.few_bad few) [ inl is ↦ is | inr stopped ↦ absurd (goes_on stopped) ]
 
   pub sound_images : plan.switches.no_verify ≡ false → has_erase (items plan) ≡ true → AgreesAnyway plan
-      → OverAnyLine plan w v old now status → (status ≡ 0) × IsWritten plan (memories w) (memories v)
+      → OverAnyLine plan w v old now status → (status ≡ 0) × IsWritten plan.part (asked_items plan) (memories w) (memories v)
   sound_images verified erases both is_over = elim (is_over.again few erases both) [ inl zero ↦ (zero, is_over.images zero verified) | inr stopped ↦ absurd (goes_on stopped) ]
 
 pub further_heals : (plan : Plan) (w v x y : WiredState) (d e f g : DeskView) (status further : ℕ)

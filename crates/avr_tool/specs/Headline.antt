@@ -27,6 +27,7 @@ use Rattle.avr_session.specs.Session.{session}
 use Rattle.avr_emulated.specs.AnyLine.{Weight, weighed, bodies_in, Stopped, OverAnyLine}
 use Rattle.avr_emulated.specs.Bound.{run_steps}
 use Rattle.avr_emulated.specs.Course.{course}
+use Rattle.avr_emulated.specs.Items.{asked_items}
 use Rattle.avr_emulated.specs.Outcome.{IsDone, MakesStrokes}
 use Rattle.avr_emulated.specs.Written.{IsWritten}
 use Rattle.stk_emu.specs.Effect.{memories_of}
@@ -184,7 +185,7 @@ pub record OverAnyLink (plan : Plan) (p q : Programmer) (fates : List Fate) (byt
   pub said : status ≡ 0 → sayings events ≡ (course plan (memories_of p.chip)).says
   pub done : status ≡ 0 → IsDone plan (memories_of p.chip) (memories_of q.chip)
   pub images : status ≡ 0 → plan.switches.no_verify ≡ false
-      → IsWritten plan (memories_of p.chip) (memories_of q.chip)
+      → IsWritten plan.part (asked_items plan) (memories_of p.chip) (memories_of q.chip)
   pub strokes : MakesStrokes plan p fates (length (frames bytes)) (memories_of p.chip) (memories_of q.chip)
   pub four : (weight : Weight) → weighed weight (map body_of (frames bytes))
       ≤ 4 * weighed weight (bodies_in (run_steps plan))

@@ -7,7 +7,7 @@ ghost use Rattle.avr_emulated.specs.Again.{AgreesAnyway, AreKeeping};
 ghost use Rattle.avr_emulated.specs.AnyLine.{Stopped, OverAnyLine, Weight, weighed, bodies_in, memories, frames_over};
 ghost use Rattle.avr_emulated.specs.Bound.{run_steps};
 ghost use Rattle.avr_emulated.specs.Course.{course};
-ghost use Rattle.avr_emulated.specs.Items.{items, has_erase};
+ghost use Rattle.avr_emulated.specs.Items.{items, asked_items, has_erase};
 ghost use Rattle.avr_emulated.specs.Outcome.{IsCourse, IsDone};
 ghost use Rattle.avr_emulated.specs.Written.{IsWritten};
 ghost use Rattle.avr_desk.specs.Said.{Saying, after_all};
@@ -95,7 +95,7 @@ pub fn a_sound_run_is_its_course()
         → (LacksMemory e.messages → ⊥)
         → plan.switches.no_verify ≡ false → has_erase (items plan) ≡ true → AgreesAnyway plan
         → OverAnyLine plan w v (keeping d a) (keeping e b) status
-        → (status ≡ 0) × IsWritten plan (memories w) (memories v) }
+        → (status ≡ 0) × IsWritten plan.part (asked_items plan) (memories w) (memories v) }
 {}
 
 /// The same run once more, over the chip that a first one left, whatever became of that one: where of any seven frames

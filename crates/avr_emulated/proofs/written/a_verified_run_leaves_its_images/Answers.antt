@@ -1,4 +1,4 @@
-use Rattle.avr_emulated.specs.Items.{items}
+use Rattle.avr_emulated.specs.Items.{asked_items}
 use Rattle.avr_emulated.specs.Written.{written_to}
 use Rattle.avr_emulated.proofs.WrittenRuns.{run_written, shown_succeeds}
 use Rattle.avr_emulated.proofs.written.a_verified_run_leaves_its_images.Goals as goal
@@ -8,4 +8,4 @@ returns-clause-images c = λ plan before after sound all fits verified run. run_
 
 pub returns-clause-again : goal.returns-clause-again
 returns-clause-again c = λ plan before after s mems sound all fits verified run kept.
-    shown_succeeds plan.part s (λ mem. written_to plan.part mem (items plan)) after mems kept (run_written plan before after all verified run sound fits).images
+    shown_succeeds plan.part s (λ mem. written_to plan.part mem (asked_items plan)) after mems kept (run_written plan before after all verified run sound fits).images
