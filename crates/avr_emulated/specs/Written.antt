@@ -29,9 +29,9 @@ written_to part mem (Write other image ∷ items) =
 abbrev pub byte_in : Part → Mem → ℕ → Memories → ℕ
 byte_in part mem addr m = slice_index (memory_in part mem m) addr
 
--- After these items each memory has its size, and holds the images written to it. Elsewhere flash is FF where the chip was erased, and
--- EEPROM too, unless its fuse keeps it; else they are as before. A fuse that wasn't written is as before, and a lock
--- that wasn't is open after an erase.
+-- After these items each memory has its size, and holds the images written to it. Elsewhere flash is FF where the chip
+-- was erased, and EEPROM too, unless its fuse keeps it; else they are as before. A fuse that wasn't written is as
+-- before, and a lock that wasn't is open after an erase.
 pub record IsWritten (part : Part) (items : List Item) (before after : Memories) : Type 0 where
   pub flash_size : length after.flash ≡ part.flash_size
   pub eeprom_size : length after.eeprom ≡ part.eeprom_size

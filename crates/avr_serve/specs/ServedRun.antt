@@ -39,7 +39,7 @@ end_pieces RecvFailed = Some (codes "link cannot be read" ∷ [])
 end_pieces SendFailed = Some (codes "link cannot be written" ∷ [])
 end_pieces TooManyReads = Some (codes "too many reads" ∷ [])
 
--- where there is a message its line was printed, or the desk has failed and a front of it was
+-- where there is a message its line was printed, or a write to the messages failed and a front of it was
 abbrev pub TellsIfAny : Option (List Bytes) → DeskView → DeskView → Type 0
 TellsIfAny None old new = new ≡ old
 TellsIfAny (Some pieces) old new = Tells old new (error pieces)
