@@ -24,7 +24,7 @@ action_made part action = steps_done device (all_steps part (action_items action
 -- the next actions, which are left out after a fault
 abbrev pub made_unless_fault : Count Programmer → Standing → Count Programmer
 made_unless_fault next Fine = next
-made_unless_fault next fault = none_made
+made_unless_fault next _ = none_made
 
 abbrev pub actions_made : Part → Switches → List Action → Count Programmer
 actions_made part s [] = none_made
