@@ -6,8 +6,8 @@ use Rattle.std.proofs.lemmas.List.{take-append-drop}
 use Rattle.avr_desk.specs.Fault.{Counts, Follows}
 use Rattle.avr_desk.specs.Record.{DeskView, Record, Passes, after_create, after_err, Bytes}
 use Rattle.avr_desk.specs.Stream.{SendsPart}
-use Rattle.avr_desk.specs.declared.fault.DeskFault.{DeskFault}
-use Rattle.avr_desk.specs.declared.fault.DeskFault.TheVariants.{NotFound, Failed}
+use Rattle.avr_desk.specs.declared.desk.DeskFault.{DeskFault}
+use Rattle.avr_desk.specs.declared.desk.DeskFault.TheVariants.{NotFound, Failed}
 use Rattle.avr_desk.specs.declared.stream.Stream.TheVariants.{File}
 use Rattle.avr_desk.proofs.Saying.{kept_append}
 use Rattle.avr_desk.proofs.Telling.{failed_later, failure_told, follows_on}

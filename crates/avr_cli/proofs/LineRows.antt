@@ -5,8 +5,8 @@ use Rattle.std.specs.List.{concat}
 use Rattle.clap.specs.Words.{Kinds, fault_of}
 use Rattle.clap.specs.declared.error.kind.ErrorKind.{ErrorKind}
 use Rattle.clap.specs.declared.error.kind.ErrorKind.TheVariants.{DisplayHelp, UnknownArgument, InvalidValue, ValueValidation}
-use Rattle.avr_part.specs.declared.mem.Mem.{Mem}
-use Rattle.avr_part.specs.declared.mem.Mem.TheVariants.{Flash, Lfuse}
+use Rattle.avr_part.specs.declared.part.Mem.{Mem}
+use Rattle.avr_part.specs.declared.part.Mem.TheVariants.{Flash, Lfuse}
 use Rattle.avr_cli.specs.Command.{avrstk, asked_by}
 use Rattle.avr_cli.specs.Split.{Bytes}
 use Rattle.avr_cli.specs.Settings.{no_switches}

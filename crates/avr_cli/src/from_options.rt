@@ -1,21 +1,57 @@
-//! The settings, from what the command line gave.
-ghost use Rattle.std.specs.Prelude.{◌≡◌, ◌≤◌, IsOk, length, map, [], option_map, unwrap_or};
-ghost use Rattle.clap.specs.Words.{found_of, rows_of};
-ghost use Rattle.avr_cli.specs.Command.{entries_of};
-ghost use Rattle.avr_cli.specs.Settings.{GivesOrMemory, TellsAnyway, settings_of, checked_programmer, updates_of, updates_from, update_at};
-ghost use Rattle.avr_cli.specs.Settings.{run_settings, serve_settings, no_switches};
+//! What the command line gave, by the names of its options, and the settings from that.
+ghost use Rattle.std.specs.Prelude.{◌≡◌, option_map, map, ◌≤◌, IsOk, length, [], unwrap_or};
+ghost use Rattle.clap.specs.Words.{found_of, rows_of, first_of, all_of};
+ghost use Rattle.avr_cli.specs.Command.{is_on, switches_of, entries_of};
+ghost use Rattle.avr_cli.specs.Settings.{GivesOrMemory, TellsAnyway, settings_of, checked_programmer, updates_of, updates_from, update_at, run_settings, serve_settings, no_switches};
 ghost use Rattle.avr_cli.specs.Update.{update_of};
 
-use crate::options::{switches_of, text_of, texts_of};
-use crate::owned::{owned, owned_option};
 use crate::ports::{port_given, served};
 use crate::settings::{Settings, SettingsFault, Switches};
 use crate::standard::check_streams;
-use crate::update::{Update, UpdateFault};
+use crate::text::{owned, owned_option};
+use crate::update::{Update, UpdateFault, Updates};
 use crate::update_text::parse_update;
-use crate::updates::Updates;
 use clap::ArgMatches;
 use std::alloc::Global;
+
+/// The text of an option with one value, the last one given.
+pub fn text_of<'a>(matches: &ArgMatches<'a>, id: &str) -> Option<&'a str>
+    ensures { option_map (λ s. s.now) result ≡ first_of id.now (rows_of (found_of matches.now)) }
+{
+    matches.get_str(id)
+}
+
+/// The texts of an option that collects them.
+pub fn texts_of<'m, 'a>(matches: &'m ArgMatches<'a>, id: &str) -> Option<&'m [&'a str]>
+    ensures { option_map (λ t. map (λ s. s.now) t.now) result ≡ all_of id.now (rows_of (found_of matches.now)) }
+{
+    matches.get_strs(id)
+}
+
+/// Whether a flag is given.
+fn is_on(matches: &ArgMatches<'_>, id: &str) -> bool
+    ensures { result ≡ is_on id.now (rows_of (found_of matches.now)) }
+{
+    match text_of(matches, id) {
+        Some(text) => text == "true",
+        None => false,
+    }
+}
+
+/// The switches that are given.
+pub fn switches_of(matches: &ArgMatches<'_>) -> Switches
+    ensures { result ≡ switches_of (rows_of (found_of matches.now)) }
+{
+    Switches {
+        erase: is_on(matches, "erase"),
+        keep_flash: is_on(matches, "keep-flash"),
+        no_verify: is_on(matches, "no-verify"),
+        dry: is_on(matches, "dry"),
+        force: is_on(matches, "force"),
+        all: is_on(matches, "all"),
+        quiet: matches.get_count("quiet"),
+    }
+}
 
 /// The most updates of a command line.
 const MOST_UPDATES: usize = 16;

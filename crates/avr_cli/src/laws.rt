@@ -6,7 +6,7 @@ ghost use Rattle.avr_cli.specs.Update.{format_of, update_of, update_text};
 ghost use Rattle.avr_cli.specs.declared.settings.Port.{Port};
 ghost use Rattle.avr_cli.specs.declared.update.Format.{Format};
 ghost use Rattle.avr_cli.specs.declared.update.Op.{Op};
-ghost use Rattle.avr_part.specs.declared.mem.Mem.{Mem};
+ghost use Rattle.avr_part.specs.declared.part.Mem.{Mem};
 
 /// An update that is written in all four parts is read, whatever colons its file's name has.
 #[tactic(auto, using(crate::proofs::UpdateLaws::update_is_read))]

@@ -7,18 +7,14 @@
 //! `let matches = read_words(alloc, &words)?;` and then `read_settings(alloc, &matches)` makes settings.
 #![tactic(auto)]
 
-// the words
+// the words, as `clap` cuts them
 mod command;
-mod options;
 
 // what they may ask for
 mod settings;
 mod update;
-mod updates;
 
 // texts that are owned, and split
-mod owned;
-mod split;
 mod text;
 
 // what they ask for
@@ -36,6 +32,5 @@ pub use laws::{a_written_update_is_read, an_address_is_cut_at_its_last_colon};
 pub use ports::port_number;
 pub use settings::{Port, Settings, SettingsFault, Switches};
 pub use text::Text;
-pub use update::{Format, Op, Update, UpdateFault};
+pub use update::{Format, Op, Update, UpdateFault, Updates};
 pub use update_text::parse_update;
-pub use updates::Updates;

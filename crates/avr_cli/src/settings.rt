@@ -3,8 +3,7 @@ ghost use Rattle.std.specs.Prelude.{◌≡◌};
 ghost use Rattle.avr_cli.specs.Fault.{settings_fault_number};
 
 use crate::text::Text;
-use crate::update::UpdateFault;
-use crate::updates::Updates;
+use crate::update::{UpdateFault, Updates};
 use thiserror::Error;
 
 /// What the frames go over.

@@ -1,10 +1,8 @@
 //! The text of `-U`.
 ghost use Rattle.std.specs.Prelude.{◌≡◌, option_map};
-ghost use Rattle.avr_cli.specs.Update.{op_named, format_named, format_of, file_and_letter, GivesUpdate, update_of};
-ghost use Rattle.avr_cli.specs.Update.{update_by};
+ghost use Rattle.avr_cli.specs.Update.{op_named, format_named, format_of, file_and_letter, GivesUpdate, update_of, update_by};
 
-use crate::split::split_first;
-use crate::text::Text;
+use crate::text::{Text, split_first};
 use crate::update::{Format, Op, Update, UpdateFault};
 use avr_part::Mem;
 use std::alloc::Global;

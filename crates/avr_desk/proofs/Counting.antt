@@ -2,7 +2,7 @@
 use Rattle.std.proofs.Common.{◌≡◌, ℕ, Result, Ok}
 use Rattle.avr_desk.specs.Fault.{HasSameCounts, WriteCounts}
 use Rattle.avr_desk.specs.Record.{Bytes, DeskView}
-use Rattle.avr_desk.specs.declared.fault.DeskFault.{DeskFault}
+use Rattle.avr_desk.specs.declared.desk.DeskFault.{DeskFault}
 use Rattle.avr_desk.specs.declared.stream.Stream.{Stream}
 
 -- bytes were taken

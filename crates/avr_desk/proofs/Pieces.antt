@@ -5,11 +5,11 @@ use Rattle.std.proofs.lemmas.List.{drop_more, take_more, take-append-drop}
 use Rattle.avr_desk.specs.Record.{Record, after_err, showing}
 use Rattle.avr_desk.specs.Stream.{SendsPart}
 use Rattle.avr_desk.specs.declared.stream.Stream.TheVariants.{Messages}
-use Rattle.avr_desk.specs.declared.fault.DeskFault.{DeskFault}
+use Rattle.avr_desk.specs.declared.desk.DeskFault.{DeskFault}
 use Rattle.avr_desk.proofs.Sending.{sent_next, sent_next_part}
 use Rattle.avr_desk.specs.Lines.{text_of}
 use Rattle.avr_desk.specs.Said.{IsPrinted}
-use Rattle.avr_desk.specs.declared.piece.Piece.{Piece}
+use Rattle.avr_desk.specs.declared.line.Piece.{Piece}
 
 -- what the pieces come to
 abbrev pub all_text : List Piece → List ℕ

@@ -3,8 +3,8 @@ use Rattle.std.proofs.Common.{◌≡◌, ◌∙◌, sym, subst, inl, inr, ap, Li
 use Rattle.std.proofs.lemmas.List.{take-append-drop}
 use Rattle.avr_desk.specs.Record.{DeskView, Passes}
 use Rattle.avr_desk.specs.Fault.{HasFailedToSay, Counts, Follows}
-use Rattle.avr_desk.specs.declared.fault.DeskFault.{DeskFault}
-use Rattle.avr_desk.specs.declared.fault.DeskFault.TheVariants.{NotFound, Failed}
+use Rattle.avr_desk.specs.declared.desk.DeskFault.{DeskFault}
+use Rattle.avr_desk.specs.declared.desk.DeskFault.TheVariants.{NotFound, Failed}
 use Rattle.avr_desk.specs.Stream.{SendsPart}
 use Rattle.avr_desk.specs.declared.stream.Stream.TheVariants.{Messages}
 use Rattle.avr_desk.specs.declared.record.Opening.{Opening}

@@ -7,8 +7,8 @@ use Rattle.avr_desk.specs.Record.{Bytes, DeskView, Record, showing, nothing_kept
 use Rattle.avr_desk.specs.Said.{TellsLine}
 use Rattle.avr_desk.specs.Shown.{AppendsFront}
 use Rattle.avr_desk.specs.Stream.{SendsTaken}
-use Rattle.avr_desk.specs.declared.fault.DeskFault.{DeskFault}
-use Rattle.avr_desk.specs.declared.fault.DeskFault.TheVariants.{NotFound, Failed}
+use Rattle.avr_desk.specs.declared.desk.DeskFault.{DeskFault}
+use Rattle.avr_desk.specs.declared.desk.DeskFault.TheVariants.{NotFound, Failed}
 use Rattle.avr_desk.specs.declared.files.Contents.{Contents}
 use Rattle.avr_desk.specs.declared.files.FileFault.{FileFault}
 use Rattle.avr_desk.specs.declared.files.FileFault.TheVariants.{Memory}

@@ -4,8 +4,8 @@ use Rattle.std.proofs.lemmas.Bool.{cases_lt}
 use Rattle.std.proofs.lemmas.List.{take-append-drop}
 use Rattle.avr_desk.specs.Fault.{Counts, Follows, HasFailed, HasFailedToSay, HasRisen}
 use Rattle.avr_desk.specs.Record.{DeskView}
-use Rattle.avr_desk.specs.declared.fault.DeskFault.{DeskFault}
-use Rattle.avr_desk.specs.declared.fault.DeskFault.TheVariants.{NotFound, Failed}
+use Rattle.avr_desk.specs.declared.desk.DeskFault.{DeskFault}
+use Rattle.avr_desk.specs.declared.desk.DeskFault.TheVariants.{NotFound, Failed}
 use Rattle.avr_desk.specs.declared.stream.Stream.{Stream}
 use Rattle.avr_desk.specs.declared.stream.Stream.TheVariants.{Messages}
 use Rattle.avr_desk.specs.Said.{IsPrinted, TellsLine, Tells, TellsFailure}

@@ -1,8 +1,8 @@
 -- A desk one of whose calls fails by plan.
 use Rattle.std.specs.Prelude.{◌≡◌, ◌≢◌, ◌==◌, ◌+◌, ◌-◌, ◌^◌, ℕ, min, Result, Err, if◌then◌else◌}
 use Rattle.avr_desk.specs.Record.{DeskView}
-use Rattle.avr_desk.specs.declared.fault.DeskFault.{DeskFault}
-use Rattle.avr_desk.specs.declared.fault.DeskFault.TheVariants.{Failed}
+use Rattle.avr_desk.specs.declared.desk.DeskFault.{DeskFault}
+use Rattle.avr_desk.specs.declared.desk.DeskFault.TheVariants.{Failed}
 use Rattle.avr_desk.specs.declared.stream.Stream.{Stream}
 use Rattle.avr_desk.specs.declared.stream.Stream.TheVariants.{Messages}
 

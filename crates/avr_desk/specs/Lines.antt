@@ -7,8 +7,8 @@ use Rattle.hex.specs.Hex.{encode_lower}
 use Rattle.avr_desk.specs.Record.{Bytes}
 use Rattle.avr_desk.specs.declared.files.FileFault.{FileFault}
 use Rattle.avr_desk.specs.declared.files.FileFault.TheVariants.{Absent, NotOpened, NotRead, Memory}
-use Rattle.avr_desk.specs.declared.piece.Piece.{Piece}
-use Rattle.avr_desk.specs.declared.piece.Piece.TheVariants.{Text, Byte, Signature, Address, Number}
+use Rattle.avr_desk.specs.declared.line.Piece.{Piece}
+use Rattle.avr_desk.specs.declared.line.Piece.TheVariants.{Text, Byte, Signature, Address, Number}
 
 -- bytes as pairs of upper-case hexadecimal digits
 unfoldable pub digits : Bytes → Bytes

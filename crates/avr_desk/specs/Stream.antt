@@ -1,6 +1,6 @@
 -- Where bytes go, and a call that sends them all or only a front of them.
 use Rattle.std.specs.Prelude.{◌≤◌, ℕ, take, length, Result, Ok, Err}
-use Rattle.avr_desk.specs.declared.fault.DeskFault.{DeskFault}
+use Rattle.avr_desk.specs.declared.desk.DeskFault.{DeskFault}
 use Rattle.avr_desk.specs.Record.{DeskView, Record, Bytes, Passes, after_write, after_out, after_err}
 use Rattle.avr_desk.specs.declared.stream.Stream.{Stream}
 use Rattle.avr_desk.specs.declared.stream.Stream.TheVariants.{File, Output, Messages}

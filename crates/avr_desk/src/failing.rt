@@ -3,8 +3,7 @@ ghost use Rattle.std.specs.Prelude.{◌≡◌, ◌≤◌, ◌-◌, ◌==◌, len
 ghost use Rattle.avr_desk.specs.Failing.{count_after};
 ghost use Rattle.avr_desk.specs.Fault.{HasRisen};
 
-use crate::desk::Desk;
-use crate::fault::DeskFault;
+use crate::desk::{Desk, DeskFault};
 use std::marker::Model;
 
 /// A desk whose nth call fails: it answers the fault, raises the count and changes nothing. All

@@ -3,8 +3,7 @@ ghost use Rattle.std.specs.Prelude.{◌≡◌, IfOk};
 ghost use Rattle.avr_desk.specs.Files.{file_fault_number, FaultCounts, IsWhole, ReadsOpen, ReadsFile};
 
 use crate::bytes::Bytes;
-use crate::desk::Desk;
-use crate::fault::DeskFault;
+use crate::desk::{Desk, DeskFault};
 use std::alloc::Global;
 use thiserror::Error;
 

@@ -11,7 +11,6 @@
 // What a desk is, and what it keeps of a run.
 mod bytes;
 mod desk;
-mod fault;
 mod record;
 
 // What callers do over any desk.
@@ -21,7 +20,6 @@ mod stream;
 // The lines of messages.
 mod line;
 mod message;
-mod piece;
 
 // The desks.
 mod failing;
@@ -30,17 +28,15 @@ mod mem_desk;
 mod system;
 
 pub use bytes::Bytes;
-pub use desk::Desk;
+pub use desk::{Desk, DeskFault};
 pub use failing::FailingDesk;
-pub use fault::DeskFault;
 pub use files::{Contents, FileFault, read_file};
-pub use line::{print_error, print_information, print_warning};
+pub use line::{Piece, print_error, print_information, print_warning};
 pub use mem_desk::MemDesk;
 pub use message::{
     Message, file_message, memory_message, not_created_message, not_written_message, refuse,
     too_long_message,
 };
-pub use piece::Piece;
 pub use record::{Open, Opening, Reading, Writing};
 pub use stream::{Stream, write_all};
 pub use system::SystemDesk;

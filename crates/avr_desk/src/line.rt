@@ -1,16 +1,94 @@
-//! Lines of messages.
-ghost use Rattle.std.specs.Prelude.{◌≡◌, ◌∷◌, [], map, OnOk, OnErr, IfErr};
-ghost use Rattle.std.specs.List.{concat};
+//! The lines of messages, piece by piece.
+ghost use Rattle.std.specs.Prelude.{◌≡◌, ◌∷◌, [], OnOk, OnErr, IfErr, decimal, map};
+ghost use Rattle.byteorder.specs.Endian.{big_bytes};
 ghost use Rattle.avr_desk.specs.Fault.{Counts};
 ghost use Rattle.avr_desk.specs.Record.{Passes, after_err};
 ghost use Rattle.avr_desk.specs.Stream.{SendsPart};
-ghost use Rattle.avr_desk.specs.Lines.{text_of, line, information, warning, error};
+ghost use Rattle.avr_desk.specs.Lines.{digits, spaced_digits, text_of, line, information, warning, error};
+ghost use Rattle.std.specs.List.{concat};
 ghost use Rattle.avr_desk.specs.Said.{IsPrinted};
 
-use crate::desk::Desk;
-use crate::fault::DeskFault;
-use crate::piece::{Piece, write_piece};
+use crate::desk::{Desk, DeskFault};
 use crate::stream::{Stream, write_all};
+use byteorder::{BigEndian, ByteOrder};
+
+/// A piece of a line.
+#[derive(Clone, Copy, Debug)]
+pub enum Piece<'a> {
+    /// A text as it is. Nothing in it is escaped.
+    Text(&'a str),
+    /// A byte as two upper-case hexadecimal digits, as `0F`.
+    Byte(u8),
+    /// The three bytes of a signature, so written, with a blank between two, as `1E 95 0F`.
+    Signature([u8; 3]),
+    /// A byte address as eight upper-case hexadecimal digits, as `00010000`.
+    Address(u32),
+    /// A decimal number, as `4194304`.
+    Number(u32),
+}
+
+/// A byte as two upper-case hexadecimal digits.
+#[tactic(auto, unfolding(crate::specs::Lines::digits))]
+fn digits(byte: u8) -> [u8; 2]
+    ensures { result ≡ digits (byte ∷ []) }
+{
+    let mut digits = [0; 2];
+    let _ = hex::encode_to_slice(&[byte], &mut digits);
+    let [high, low] = digits;
+    [high.to_ascii_uppercase(), low.to_ascii_uppercase()]
+}
+
+/// An address as eight upper-case hexadecimal digits.
+fn address_digits(address: u32) -> [u8; 8]
+    ensures { result ≡ digits (big_bytes 4 address) }
+{
+    let mut bytes = [0; 4];
+    BigEndian::write_u32(&mut bytes, address);
+    let [first, second, third, fourth] = bytes;
+    let [a, b] = digits(first);
+    let [c, d] = digits(second);
+    let [e, f] = digits(third);
+    let [g, h] = digits(fourth);
+    [a, b, c, d, e, f, g, h]
+}
+
+/// A signature as digits, with a blank between two bytes.
+fn spaced(signature: [u8; 3]) -> [u8; 8]
+    ensures { result ≡ spaced_digits signature }
+{
+    let [first, second, third] = signature;
+    let [a, b] = digits(first);
+    let [c, d] = digits(second);
+    let [e, f] = digits(third);
+    [a, b, b' ', c, d, b' ', e, f]
+}
+
+/// Writes a number's decimal digits to the messages.
+fn write_number<D: Desk>(desk: &mut D, number: u32) -> Result<(), DeskFault>
+    ensures all { OnOk result (Passes (after_err (decimal number)) (D.view desk.old) (D.view desk.new)) }
+    ensures part { OnErr result (SendsPart Stream.Messages (D.view desk.old) (D.view desk.new) (decimal number)) }
+    ensures counts { Counts Stream.Messages (D.view desk.old) (D.view desk.new) result }
+    ensures fault { IfErr result (λ e. e ≡ DeskFault.Failed) }
+{
+    let mut buffer = itoa::Buffer::new();
+    write_all(desk, Stream::Messages, buffer.format(number).as_bytes())
+}
+
+/// Writes a piece to the messages.
+pub(crate) fn write_piece<D: Desk>(desk: &mut D, piece: &Piece<'_>) -> Result<(), DeskFault>
+    ensures all { OnOk result (Passes (after_err (text_of piece.now)) (D.view desk.old) (D.view desk.new)) }
+    ensures part { OnErr result (SendsPart Stream.Messages (D.view desk.old) (D.view desk.new) (text_of piece.now)) }
+    ensures counts { Counts Stream.Messages (D.view desk.old) (D.view desk.new) result }
+    ensures fault { IfErr result (λ e. e ≡ DeskFault.Failed) }
+{
+    match piece {
+        Piece::Text(text) => write_all(desk, Stream::Messages, text.as_bytes()),
+        Piece::Byte(byte) => write_all(desk, Stream::Messages, &digits(*byte)),
+        Piece::Signature(bytes) => write_all(desk, Stream::Messages, &spaced(*bytes)),
+        Piece::Address(address) => write_all(desk, Stream::Messages, &address_digits(*address)),
+        Piece::Number(number) => write_number(desk, *number),
+    }
+}
 
 /// Writes the pieces one after the other.
 fn write_pieces<D: Desk>(desk: &mut D, pieces: &[Piece<'_>]) -> Result<(), DeskFault>

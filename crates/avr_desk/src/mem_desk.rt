@@ -3,8 +3,7 @@ ghost use Rattle.std.specs.Prelude.{◌≡◌, ◌≤◌, ◌++◌, ◌∷◌, [
 ghost use Rattle.std.specs.Option.{option_copied};
 
 use crate::bytes::Bytes;
-use crate::desk::Desk;
-use crate::fault::DeskFault;
+use crate::desk::{Desk, DeskFault};
 use crate::kept::Kept;
 use crate::record::{Open, Opening, Reading, Writing, newest};
 use std::alloc::{AllocError, Global};

@@ -5,8 +5,7 @@ ghost use Rattle.avr_desk.specs.Said.{Tells};
 
 use crate::desk::Desk;
 use crate::files::FileFault;
-use crate::line::print_error;
-use crate::piece::Piece;
+use crate::line::{Piece, print_error};
 use std::marker::Model;
 
 /// The most pieces of a message.

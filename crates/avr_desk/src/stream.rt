@@ -4,8 +4,7 @@ ghost use Rattle.avr_desk.specs.Fault.{Counts, WriteCounts};
 ghost use Rattle.avr_desk.specs.Record.{Passes};
 ghost use Rattle.avr_desk.specs.Stream.{SendsPart, SendsTaken, after_sent};
 
-use crate::desk::Desk;
-use crate::fault::DeskFault;
+use crate::desk::{Desk, DeskFault};
 
 /// Where bytes go.
 #[derive(Clone, Copy, Debug, PartialEq, Eq)]

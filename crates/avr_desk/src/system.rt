@@ -5,11 +5,10 @@ ghost use Rattle.avr_desk.specs.Fault.{Counts, HasRisen, WriteCounts};
 ghost use Rattle.avr_desk.specs.Record.{HasOpen, is_to_read, is_to_write};
 ghost use Rattle.avr_desk.specs.Shown.{AppendsTaken, shown_view, to_output_opened, to_output_created};
 ghost use Rattle.avr_desk.specs.Stream.{SendsTaken};
-ghost use Rattle.avr_desk.specs.declared.fault.DeskFault.TheVariants.{Failed};
+ghost use Rattle.avr_desk.specs.declared.desk.DeskFault.TheVariants.{Failed};
 ghost use Rattle.avr_desk.specs.declared.stream.Stream.TheVariants.{File, Output, Messages};
 
-use crate::desk::Desk;
-use crate::fault::DeskFault;
+use crate::desk::{Desk, DeskFault};
 use std::io::{ErrorKind, Read, Write};
 use std::marker::Model;
 use std::rt::Files;

@@ -8,8 +8,8 @@ use Rattle.std.specs.Int.{bit_at}
 use Rattle.avr_image.specs.Image.{byte_at}
 use Rattle.avr_part.specs.Memory.{blank}
 use Rattle.avr_part.specs.Part.{Part}
-use Rattle.avr_part.specs.declared.mem.Mem.{Mem}
-use Rattle.avr_part.specs.declared.mem.Mem.TheVariants.{Flash, Eeprom, Lfuse, Hfuse, Efuse, Lock, Signature, Calibration}
+use Rattle.avr_part.specs.declared.part.Mem.{Mem}
+use Rattle.avr_part.specs.declared.part.Mem.TheVariants.{Flash, Eeprom, Lfuse, Hfuse, Efuse, Lock, Signature, Calibration}
 use Rattle.avr_plan.specs.Plan.{Plan}
 use Rattle.avr_session.specs.Actions.{Action, EraseChip, WriteImage, CompareImage, tasks_actions}
 use Rattle.stk_emu.specs.Effect.{Image, Memories, Erase, Write, with_image, and_in, and_with, are_locked, erase_keeps_eeprom, effect, effects}

@@ -3,8 +3,8 @@ use Rattle.std.proofs.Common.{◌≡◌, ℕ, List, [], ◌∷◌, length, refl,
 use Rattle.std.proofs.lemmas.Bool.{eq-eqb}
 use Rattle.std.specs.Prelude.{⊤, ◌==◌, ◌&&◌, ◌≤◌}
 use Rattle.std.specs.Str.{bytes_eq}
-use Rattle.avr_part.specs.declared.mem.Mem.{Mem}
-use Rattle.avr_part.specs.declared.mem.Mem.TheVariants.{Signature}
+use Rattle.avr_part.specs.declared.part.Mem.{Mem}
+use Rattle.avr_part.specs.declared.part.Mem.TheVariants.{Signature}
 use Rattle.avr_part.specs.Mem.{is_writable}
 use Rattle.avr_part.specs.Part.{Part, IsPart, size_of}
 use Rattle.stk_frame.specs.declared.command.Command.{Command}

@@ -4,7 +4,7 @@ use Rattle.std.proofs.lemmas.Bool.{true≢false}
 use Rattle.std.proofs.lemmas.List.{length-replicate, get_or-replicate}
 use Rattle.avr_image.specs.Image.{byte_at}
 use Rattle.avr_part.specs.Part.{Part}
-use Rattle.avr_part.specs.declared.mem.Mem.TheVariants.{Flash, Eeprom, Lfuse, Hfuse, Efuse, Lock, Signature, Calibration}
+use Rattle.avr_part.specs.declared.part.Mem.TheVariants.{Flash, Eeprom, Lfuse, Hfuse, Efuse, Lock, Signature, Calibration}
 use Rattle.avr_plan.specs.Plan.{Plan}
 use Rattle.stk_emu.specs.Effect.{Image, Item, Erase, Write, Memories, and_with, and_in, are_locked, effect, effects}
 use Rattle.stk_emu.proofs.Images.{length-and_in, get_and_in}

@@ -1,7 +1,7 @@
 -- A session that comes to status 0 over a line of any fates: it has its course.
 use Rattle.std.proofs.Common.{◌≡◌, ℕ, List, [], ◌∷◌, length, refl, sym, ap, ◌∙◌, subst, Bool, true, Result, Ok, Err, All, inl, inr}
 use Rattle.std.specs.Prelude.{⊤, ◌≤◌}
-use Rattle.avr_part.specs.declared.mem.Mem.{Mem}
+use Rattle.avr_part.specs.declared.part.Mem.{Mem}
 use Rattle.avr_part.specs.Mem.{is_writable}
 use Rattle.avr_part.specs.Part.{Part, IsPart, size_of}
 use Rattle.avr_plan.specs.Plan.{Plan, IsFitted}

@@ -11,7 +11,7 @@ use Rattle.avr_desk.specs.Lines.{spaced_digits, information, warning}
 use Rattle.avr_desk.specs.Said.{Saying, Line, Creates, Writes, Outs}
 use Rattle.avr_part.specs.Mem.{is_writable, name_of}
 use Rattle.avr_part.specs.Part.{IsPart, size_of}
-use Rattle.avr_part.specs.declared.mem.Mem.{Mem}
+use Rattle.avr_part.specs.declared.part.Mem.{Mem}
 use Rattle.avr_plan.specs.Plan.{Plan, IsFitted}
 use Rattle.avr_session.specs.Actions.{Action, OpenSession, EraseChip, LeaveErase, WriteImage, LeaveWrite, CompareImage, SaveMemory, actions}
 use Rattle.avr_session.specs.FileText.{file_text}

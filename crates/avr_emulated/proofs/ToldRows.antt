@@ -7,10 +7,10 @@ use Rattle.avr_image.specs.Image.{byte_count}
 use Rattle.avr_desk.specs.Lines.{information}
 use Rattle.avr_desk.specs.Said.{Saying, Line, Creates, Writes, Outs, Opens}
 use Rattle.avr_part.specs.Mem.{name_of}
-use Rattle.avr_part.specs.declared.mem.Mem.{Mem}
-use Rattle.avr_part.specs.declared.mem.Mem.TheVariants.{Eeprom}
+use Rattle.avr_part.specs.declared.part.Mem.{Mem}
+use Rattle.avr_part.specs.declared.part.Mem.TheVariants.{Eeprom}
 use Rattle.avr_plan.specs.Plan.{Plan}
-use Rattle.avr_plan.specs.declared.task.Task.TheVariants as task
+use Rattle.avr_plan.specs.declared.planned.Task.TheVariants as task
 use Rattle.avr_session.specs.Lines.{fault_line}
 use Rattle.stk_emu.specs.Effect.{Image, Memories, Item, Erase, Write, effects}
 use Rattle.avr_emulated.specs.Again.{chip_of}

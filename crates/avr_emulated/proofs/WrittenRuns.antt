@@ -7,10 +7,10 @@ use Rattle.std.specs.Prelude.{◌&&◌, ◌||◌, not, if◌then◌else◌, All}
 use Rattle.avr_cli.specs.declared.settings.Switches.{Switches}
 use Rattle.avr_part.specs.Memory.{blank}
 use Rattle.avr_part.specs.Part.{Part, IsPart}
-use Rattle.avr_part.specs.declared.mem.Mem.{Mem}
-use Rattle.avr_part.specs.declared.mem.Mem.TheVariants.{Flash, Eeprom, Lfuse, Hfuse, Efuse, Lock}
+use Rattle.avr_part.specs.declared.part.Mem.{Mem}
+use Rattle.avr_part.specs.declared.part.Mem.TheVariants.{Flash, Eeprom, Lfuse, Hfuse, Efuse, Lock}
 use Rattle.avr_plan.specs.Plan.{Plan, IsFitted}
-use Rattle.avr_plan.specs.declared.task.Task.TheVariants as task
+use Rattle.avr_plan.specs.declared.planned.Task.TheVariants as task
 use Rattle.avr_session.specs.Actions.{writes_flash, tasks_actions, EraseChip, LeaveErase}
 use Rattle.stk_emu.specs.Effect.{Image, Memories, Item, Erase, erase_keeps_eeprom, effect, effects}
 use Rattle.stk_emu.specs.Settled.{FitsPart}

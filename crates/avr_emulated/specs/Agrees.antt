@@ -1,7 +1,7 @@
 -- Whether the memories hold what a plan compares them with.
 use Rattle.std.specs.Prelude.{List, [], ◌∷◌, ⊤}
 use Rattle.avr_part.specs.Part.{Part}
-use Rattle.avr_part.specs.declared.mem.Mem.{Mem}
+use Rattle.avr_part.specs.declared.part.Mem.{Mem}
 use Rattle.avr_plan.specs.Plan.{Plan}
 use Rattle.avr_session.specs.Actions.{Action, CompareImage, actions}
 use Rattle.stk_emu.specs.Effect.{Image, Memories, effects, memory_in}

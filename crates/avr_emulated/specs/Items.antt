@@ -1,8 +1,8 @@
 -- What a plan does to the memories of a chip.
 use Rattle.std.specs.Prelude.{Bool, true, false, List, [], ◌∷◌, ◌++◌, Option, Some, None, filter_map, if◌then◌else◌}
 use Rattle.avr_plan.specs.Plan.{Plan}
-use Rattle.avr_plan.specs.declared.task.Task.{Task}
-use Rattle.avr_plan.specs.declared.task.Task.TheVariants as task
+use Rattle.avr_plan.specs.declared.planned.Task.{Task}
+use Rattle.avr_plan.specs.declared.planned.Task.TheVariants as task
 use Rattle.avr_session.specs.Actions.{Action, EraseChip, WriteImage, is_erase_due, actions}
 use Rattle.stk_emu.specs.Effect.{Item, Erase, Write}
 

@@ -2,8 +2,8 @@
 use Rattle.std.specs.Prelude.{ℕ, true, ◌≡◌, ◌==◌, ◌<◌, ◌⊎◌, ◌&&◌, not, bit_and, List, [], ◌∷◌, length, slice_index, Some, None, if◌then◌else◌, ⊤}
 use Rattle.avr_image.specs.Image.{empty, byte_at, over}
 use Rattle.avr_part.specs.Part.{Part, size_of}
-use Rattle.avr_part.specs.declared.mem.Mem.{Mem}
-use Rattle.avr_part.specs.declared.mem.Mem.TheVariants.{Flash, Eeprom, Lfuse, Hfuse, Efuse, Lock, Signature, Calibration}
+use Rattle.avr_part.specs.declared.part.Mem.{Mem}
+use Rattle.avr_part.specs.declared.part.Mem.TheVariants.{Flash, Eeprom, Lfuse, Hfuse, Efuse, Lock, Signature, Calibration}
 use Rattle.stk_emu.specs.Effect.{Image, Item, Erase, Write, Memories, erase_keeps_eeprom, memory_in}
 use Rattle.avr_emulated.specs.Agrees.{Shows}
 use Rattle.avr_emulated.specs.Items.{has_erase}

@@ -4,10 +4,10 @@
 ghost use Rattle.std.specs.Prelude.{◌≡◌, ◌↔◌, ◌<◌, ℕ, false, List, All, length, map};
 ghost use Rattle.avr_cli.specs.declared.settings.Switches.{Switches};
 ghost use Rattle.avr_part.specs.Part.{Part, IsPart};
-ghost use Rattle.avr_part.specs.declared.mem.Mem.{Mem};
-ghost use Rattle.avr_part.specs.declared.mem.Mem.TheVariants.{Flash};
+ghost use Rattle.avr_part.specs.declared.part.Mem.{Mem};
+ghost use Rattle.avr_part.specs.declared.part.Mem.TheVariants.{Flash};
 ghost use Rattle.avr_plan.specs.Plan.{Plan, IsFitted};
-ghost use Rattle.avr_plan.specs.declared.task.Task.{Task};
+ghost use Rattle.avr_plan.specs.declared.planned.Task.{Task};
 ghost use Rattle.stk_emu.specs.Effect.{Item, Memories, effects};
 ghost use Rattle.stk_emu.specs.Settled.{FitsPart};
 ghost use Rattle.avr_emulated.specs.Agrees.{Agrees};

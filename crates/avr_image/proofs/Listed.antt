@@ -7,8 +7,8 @@ use Rattle.std.proofs.lemmas.Bool.Decides.{nat_tests}
 use Rattle.avr_image.specs.Lists.{number_text, list_line}
 use Rattle.avr_image.specs.Image.{from_zero}
 use Rattle.avr_image.specs.Values.{is_separator, fitting, fitting_value, value_of, all_ok, pieces, values}
-use Rattle.avr_image.specs.declared.base.Base.{Base}
-use Rattle.avr_image.specs.declared.base.Base.TheVariants.{Dec, Hex, Oct, Bin}
+use Rattle.avr_image.specs.declared.list.Base.{Base}
+use Rattle.avr_image.specs.declared.list.Base.TheVariants.{Dec, Hex, Oct, Bin}
 use Rattle.avr_image.specs.declared.fault.ImageFault.TheVariants.{BadNumber}
 
 -- ---- each byte, in each base

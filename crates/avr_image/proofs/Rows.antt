@@ -7,7 +7,7 @@ use Rattle.avr_image.specs.Raw.{raw}
 use Rattle.avr_image.specs.Walk.{IsLongestRun}
 use Rattle.avr_image.specs.Values.{values}
 use Rattle.avr_image.specs.Lists.{list_text}
-use Rattle.avr_image.specs.declared.base.Base.TheVariants.{Dec, Hex, Oct, Bin}
+use Rattle.avr_image.specs.declared.list.Base.TheVariants.{Dec, Hex, Oct, Bin}
 use Rattle.avr_image.specs.declared.fault.ImageFault.TheVariants.{OutOfRange, BadNumber, TooLarge}
 
 pub decimals : list_text Dec (0 ∷ 7 ∷ 8 ∷ 255 ∷ []) ≡ codes "0,7,8,255" ++ 10 ∷ []

@@ -2,8 +2,8 @@
 use Rattle.std.specs.Prelude.{ℕ, nat_lt, Bool, false, List, [], ◌∷◌, ◌++◌, map, if◌then◌else◌}
 use Rattle.std.specs.List.{join_with_byte}
 use Rattle.std.specs.Fmt.{digits}
-use Rattle.avr_image.specs.declared.base.Base.{Base}
-use Rattle.avr_image.specs.declared.base.Base.TheVariants.{Dec, Hex, Oct, Bin}
+use Rattle.avr_image.specs.declared.list.Base.{Base}
+use Rattle.avr_image.specs.declared.list.Base.TheVariants.{Dec, Hex, Oct, Bin}
 
 -- how many digits a base has
 abbrev pub radix : Base → ℕ

@@ -1,11 +1,10 @@
 //! Bytes written as numbers.
-
 ghost use Rattle.std.specs.Prelude.{◌≡◌, ◌+◌, ◌<◌, ◌≤◌, ◌++◌, length, drop, false};
 ghost use Rattle.std.specs.Fmt.{digit_glyph, digits};
 ghost use Rattle.arrayvec.specs.ArrayVec.{array_vec_len};
 ghost use Rattle.avr_image.specs.Lists.{number_text, prefix, radix};
 
-use crate::base::Base;
+use crate::list::Base;
 use arrayvec::ArrayVec;
 
 /// The character of a digit.

@@ -5,7 +5,7 @@ ghost use Rattle.avr_image.specs.Image.{byte_at, either, filled_bytes, first_fro
 ghost use Rattle.avr_image.specs.Lists.{list_line};
 ghost use Rattle.avr_image.specs.Runs.{places_of, runs};
 ghost use Rattle.avr_image.specs.Values.{values};
-ghost use Rattle.avr_image.specs.declared.base.Base.{Base};
+ghost use Rattle.avr_image.specs.declared.list.Base.{Base};
 ghost use Rattle.avr_image.specs.ByAddress.{last_at};
 ghost use Rattle.avr_image.specs.Walk.{IsFilled, IsLongestRun, IsNextHeld, IsByteRun};
 

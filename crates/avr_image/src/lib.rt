@@ -7,7 +7,6 @@
 //! the image that holds 0x12 at address 0 and 0x05 at address 1.
 #![tactic(auto)]
 
-mod base;
 mod bits;
 mod digits;
 mod fault;
@@ -19,7 +18,6 @@ mod raw;
 mod runs;
 mod values;
 
-pub use base::Base;
 pub use fault::ImageFault;
 pub use image::Image;
 pub use laws::{
@@ -27,7 +25,7 @@ pub use laws::{
     laying_is_laying_over, laying_over_groups, over_is_by_address, parts_are_laid_over,
     run_end_is_the_longest_run,
 };
-pub use list::ListWriter;
+pub use list::{Base, ListWriter};
 pub use pieces::Pieces;
 pub use raw::RawReader;
 pub use runs::Runs;

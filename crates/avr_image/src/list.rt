@@ -1,14 +1,31 @@
-//! Lists of numbers.
-
+//! Lists of numbers, and the ways in which one is written.
 ghost use Rattle.std.specs.Prelude.{◌≡◌, ◌==◌, ◌+◌, ◌<◌, ◌≤◌, ◌++◌, ℕ, List, [], length, not, nat_lt, IsTrue};
 ghost use Rattle.arrayvec.specs.ArrayVec.{array_vec_len};
 ghost use Rattle.avr_image.specs.Lists.{list_text};
 
-use crate::base::Base;
 use crate::digits::push_number;
 use crate::pieces::Pieces;
 use arrayvec::ArrayVec;
 use std::marker::Model;
+
+/// How the numbers of a list are written.
+///
+/// ```text
+/// let mut piece = ArrayVec::new();
+/// ListWriter::new(Base::Oct, &[7, 8]).next_piece(&mut piece);
+/// assert_eq!(rt; piece.as_slice(), b"7,010\n".as_slice());
+/// ```
+#[derive(Clone, Copy, Debug, PartialEq, Eq)]
+pub enum Base {
+    /// Decimal digits.
+    Dec,
+    /// `0x` and hexadecimal digits in lower case.
+    Hex,
+    /// Octal digits, behind a `0` from 8 on.
+    Oct,
+    /// `0b` and binary digits.
+    Bin,
+}
 
 /// The most bytes that a number takes with the comma or the line end behind it.
 const LONGEST: usize = 11;

@@ -9,7 +9,7 @@ use Rattle.avr_part.specs.BuiltIn.{m328p, t85, m2560, part_of_id}
 use Rattle.avr_part.specs.PartFile.{parts_of}
 use Rattle.avr_part.specs.State.{ChipState, fresh_state, spi_of, word_address}
 use Rattle.avr_part.specs.ChipFile.{chip_in}
-use Rattle.avr_part.specs.declared.mem.Mem.TheVariants.{Efuse}
+use Rattle.avr_part.specs.declared.part.Mem.TheVariants.{Efuse}
 use Rattle.avr_part.specs.declared.fault.Field.TheVariants as field
 use Rattle.avr_part.specs.declared.fault.PartFault.TheVariants.{NotToml, Missing, BadValue, BadSizes, NoSuchPart, BadChipFile}
 

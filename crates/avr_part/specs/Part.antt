@@ -1,8 +1,8 @@
 -- What is known of a part.
 use Rattle.std.specs.Prelude.{◌≡◌, ◌<◌, ◌≤◌, ◌%◌, ℕ, List, Bool, true, length, Option, Some, None, if◌then◌else◌, ◌&&◌, ◌||◌, ◌==◌, nat_le}
 use Rattle.std.specs.List.{list_all}
-use Rattle.avr_part.specs.declared.mem.Mem.{Mem}
-use Rattle.avr_part.specs.declared.mem.Mem.TheVariants.{Flash, Eeprom, Signature}
+use Rattle.avr_part.specs.declared.part.Mem.{Mem}
+use Rattle.avr_part.specs.declared.part.Mem.TheVariants.{Flash, Eeprom, Signature}
 
 -- sizes and pages in bytes; the EESAVE bit by its number in the high fuse
 pub record Part : Type 0 where

@@ -4,8 +4,8 @@ use Rattle.std.specs.Int.{bit_at}
 use Rattle.avr_part.specs.Memory.{map_indexed, byte_and_page, overlaid, blank, nothing_loaded, page_start}
 use Rattle.avr_part.specs.Instruction.{instruction_of}
 use Rattle.avr_part.specs.Part.{Part}
-use Rattle.avr_part.specs.declared.mem.Mem.{Mem}
-use Rattle.avr_part.specs.declared.mem.Mem.TheVariants.{Flash, Eeprom, Lfuse, Hfuse, Efuse, Lock, Signature, Calibration}
+use Rattle.avr_part.specs.declared.part.Mem.{Mem}
+use Rattle.avr_part.specs.declared.part.Mem.TheVariants.{Flash, Eeprom, Lfuse, Hfuse, Efuse, Lock, Signature, Calibration}
 use Rattle.avr_part.specs.declared.instruction.Half.{Half}
 use Rattle.avr_part.specs.declared.instruction.Half.TheVariants as half
 use Rattle.avr_part.specs.declared.instruction.Fuse.{Fuse}

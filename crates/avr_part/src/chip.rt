@@ -5,10 +5,8 @@ ghost use Rattle.avr_part.specs.Memory.{page_start};
 
 use crate::fault::PartFault;
 use crate::instruction::{Fuse, Half, Instruction};
-use crate::loads::Loads;
-use crate::mem::Mem;
-use crate::memory::Memory;
-use crate::part::Part;
+use crate::memory::{Loads, Memory};
+use crate::part::{Mem, Part};
 use std::alloc::{AllocError, Global};
 use std::marker::Model;
 use std::slice;

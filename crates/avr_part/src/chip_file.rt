@@ -5,10 +5,8 @@ ghost use Rattle.avr_part.specs.PartFile.{GivesOrMemory};
 
 use crate::chip::Chip;
 use crate::fault::PartFault;
-use crate::loads::Loads;
-use crate::mem::Mem;
-use crate::memory::Memory;
-use crate::part::Part;
+use crate::memory::{Loads, Memory};
+use crate::part::{Mem, Part};
 use std::alloc::{AllocError, Global};
 
 /// The length of a chip file of this part.

@@ -1,7 +1,7 @@
 //! Laws of the memories and of the chip, over their definitions alone.
 ghost use Rattle.std.specs.Prelude.{◌≡◌, ℕ, List, [], ◌∷◌, length, Some, Ok, true, ◌≢◌};
 ghost use Rattle.avr_part.specs.declared.instruction.Fuse.{Fuse};
-ghost use Rattle.avr_part.specs.declared.mem.Mem.{Mem};
+ghost use Rattle.avr_part.specs.declared.part.Mem.{Mem};
 ghost use Rattle.avr_part.specs.Mem.{name_of, memory_named};
 ghost use Rattle.avr_part.specs.declared.instruction.Instruction.{Instruction};
 ghost use Rattle.avr_part.specs.State.{ChipState, with_empty_buffers, with_erased, with_flash_page, with_eeprom_page, with_fuse, with_lock, is_locked, after_instruction, spi_of};

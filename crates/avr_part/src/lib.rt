@@ -11,7 +11,6 @@
 #![tactic(auto)]
 
 // what a part is, and how one is found
-mod mem;
 mod part;
 // the built-in ones
 mod built_in;
@@ -23,7 +22,6 @@ mod part_file;
 // the chip: what four bytes ask of it,
 mod instruction;
 // the memories and buffers on which that acts,
-mod loads;
 mod memory;
 // and the whole, with its file
 mod chip;
@@ -33,7 +31,6 @@ pub mod laws;
 pub use chip::Chip;
 pub use fault::{Field, PartFault};
 pub use instruction::{Fuse, Half, Instruction};
-pub use mem::Mem;
-pub use part::Part;
+pub use part::{Mem, Part};
 pub use part_file::parse_parts;
 pub use parts::{PartIter, Parts};

@@ -14,13 +14,13 @@ use Rattle.avr_desk.specs.Lines.{memory_line, not_opened_line}
 use Rattle.avr_desk.specs.Said.{Opens, Line, TellsLine, TellsFailure, after_all}
 use Rattle.avr_desk.proofs.Telling.{risen_before, risen_later}
 use Rattle.avr_part.specs.BuiltIn.{m328p}
-use Rattle.avr_part.specs.declared.mem.Mem.TheVariants.{Flash}
+use Rattle.avr_part.specs.declared.part.Mem.TheVariants.{Flash}
 use Rattle.avr_records.specs.declared.kind.Ending.{Ending}
 use Rattle.avr_plan.specs.Planning.{planned, file_image_stage, judged_image, warning_says}
 use Rattle.avr_desk.specs.Playing.{Goes}
 use Rattle.avr_desk.specs.Stage.{Stage, verdict_stage, saying_stage, file_stage, ◌>>=◌}
-use Rattle.avr_plan.specs.declared.task.Task.{Task}
-use Rattle.avr_plan.specs.declared.task.Task.TheVariants.{Write}
+use Rattle.avr_plan.specs.declared.planned.Task.{Task}
+use Rattle.avr_plan.specs.declared.planned.Task.TheVariants.{Write}
 use Rattle.avr_desk.proofs.Breaks.{Begins, begins_then, begins_file, unopened, opened_is_told}
 
 abbrev file : Bytes

@@ -16,7 +16,7 @@ use Rattle.avr_records.specs.declared.kind.Found.{Found}
 use Rattle.avr_plan.specs.ImageFile.{Given, whole_file, long_file, file_within, kind_of}
 use Rattle.avr_plan.specs.ImageReading.{Going, ImageOrFault, ReadsRest, RestIsRead, ReadsOpenImage, OpenIsRead, ReadsImage, ImageIsRead, IsGiven}
 use Rattle.avr_plan.specs.Intake.{Takes}
-use Rattle.avr_plan.specs.declared.bad_file.BadFile.{BadFile}
+use Rattle.avr_plan.specs.declared.intake.BadFile.{BadFile}
 use Rattle.avr_plan.specs.declared.image_file.ReadFault.TheVariants.{File, Image}
 use Rattle.avr_plan.specs.declared.intake.Intake.{Intake}
 

@@ -13,7 +13,7 @@ use Rattle.avr_plan.specs.Lines.{bad_file_line, image_line}
 use Rattle.avr_plan.specs.Planning.{file_image_stage, judged_image, image_or_line, warning_says}
 use Rattle.avr_desk.specs.Playing.{Goes, Went}
 use Rattle.avr_desk.specs.Stage.{Stage, Made, ◌>>=◌, verdict_stage, saying_stage, file_stage}
-use Rattle.avr_plan.specs.declared.bad_file.BadFile.{BadFile}
+use Rattle.avr_plan.specs.declared.intake.BadFile.{BadFile}
 use Rattle.avr_plan.specs.declared.image_file.ReadFault.{ReadFault}
 use Rattle.avr_plan.specs.declared.image_file.ReadFault.TheVariants as fault_of
 

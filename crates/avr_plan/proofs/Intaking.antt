@@ -16,8 +16,8 @@ use Rattle.avr_records.specs.declared.fault.RecordFault.{RecordFault}
 use Rattle.avr_plan.proofs.FirstFaults.{closed_fault-more, closed_fault-whole}
 use Rattle.avr_plan.specs.ImageFile.{whole_file, long_file, of_records, of_raw, or_too_long}
 use Rattle.avr_plan.specs.Intake.{Decides, TakesRecords, TakesRaw, found_as, in_long_file}
-use Rattle.avr_plan.specs.declared.bad_file.BadFile.{BadFile}
-use Rattle.avr_plan.specs.declared.bad_file.BadFile.TheVariants.{Record, Raw, TooLong}
+use Rattle.avr_plan.specs.declared.intake.BadFile.{BadFile}
+use Rattle.avr_plan.specs.declared.intake.BadFile.TheVariants.{Record, Raw, TooLong}
 
 is-fault : (o : Option RecordFault) (fault : RecordFault) → Err fault ≡ ok_unless o → o ≡ Some fault
 is-fault None fault is = cc

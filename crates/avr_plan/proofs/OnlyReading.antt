@@ -16,14 +16,14 @@ use Rattle.avr_desk.specs.Said.{Saying, Opens, Line, Creates, Writes, Outs}
 use Rattle.avr_part.specs.BuiltIn.{part_of_id}
 use Rattle.avr_part.specs.Mem.{is_writable}
 use Rattle.avr_part.specs.Part.{Part, size_of}
-use Rattle.avr_part.specs.declared.mem.Mem.{Mem}
+use Rattle.avr_part.specs.declared.part.Mem.{Mem}
 use Rattle.avr_plan.specs.Lines.{no_end_line, read_only_line}
 use Rattle.avr_plan.specs.OnlyReading.{OnlyReads}
 use Rattle.avr_plan.specs.Plan.{Plan}
 use Rattle.avr_plan.specs.Planning.{judged_parts, parts_stage, part_or_line, part_stage, is_warned, warning_says, judged_image, file_image_stage, values_or_line, image_stage, update_image, write_stage, op_stage, task_stage, tasks_stage, planned}
 use Rattle.avr_desk.specs.Stage.{Stage, Answer, Made, Refused, Unread, going_on, ◌>>=◌, saying_stage, verdict_stage, unread_stage, open_stage, is_whole, content_stage, file_stage}
-use Rattle.avr_plan.specs.declared.task.Task.{Task}
-use Rattle.avr_plan.specs.declared.task.Task.TheVariants.{Write, Verify, Read}
+use Rattle.avr_plan.specs.declared.planned.Task.{Task}
+use Rattle.avr_plan.specs.declared.planned.Task.TheVariants.{Write, Verify, Read}
 
 -- a stage that only reads and tells
 abbrev Reads : {A : Type 0} → Stage A → Type 0

@@ -9,7 +9,7 @@ use Rattle.avr_plan.specs.Plan.{Plan}
 use Rattle.avr_plan.specs.Planning.{parts_stage, part_stage, tasks_stage, planned}
 use Rattle.avr_desk.specs.Playing.{Goes, Went}
 use Rattle.avr_desk.specs.Stage.{Stage, Made, ◌>>=◌, verdict_stage}
-use Rattle.avr_plan.specs.declared.task.Task.{Task}
+use Rattle.avr_plan.specs.declared.planned.Task.{Task}
 
 abbrev plan_of : Settings → Part → List Task → Plan
 plan_of s part tasks = record { part = part; tasks = tasks; switches = s.switches }

@@ -8,14 +8,14 @@ use Rattle.avr_desk.specs.Record.{DeskView, Bytes}
 use Rattle.avr_desk.specs.Said.{Tells}
 use Rattle.avr_part.specs.Mem.{is_writable}
 use Rattle.avr_part.specs.Part.{Part}
-use Rattle.avr_part.specs.declared.mem.Mem.{Mem}
+use Rattle.avr_part.specs.declared.part.Mem.{Mem}
 use Rattle.avr_desk.proofs.Played.{goes_refused, goes_on, goes_no_further}
 use Rattle.avr_plan.specs.Lines.{read_only_line}
 use Rattle.avr_plan.specs.Planning.{file_image_stage, image_stage, update_image, write_stage, task_stage, tasks_stage}
 use Rattle.avr_desk.specs.Playing.{Goes, Went}
 use Rattle.avr_desk.specs.Stage.{Stage, Made, ◌>>=◌, verdict_stage}
-use Rattle.avr_plan.specs.declared.task.Task.{Task}
-use Rattle.avr_plan.specs.declared.task.Task.TheVariants.{Write}
+use Rattle.avr_plan.specs.declared.planned.Task.{Task}
+use Rattle.avr_plan.specs.declared.planned.Task.TheVariants.{Write}
 
 -- a format that is none of values is that of a file
 file_stage-is : (switches : Switches) (memory : Mem) (size : ℕ) (file : Bytes) (format : Format) → (format ≡ Immediate → ⊥)

@@ -1,7 +1,7 @@
 -- The numbers of faults.
 use Rattle.std.specs.Prelude.{ℕ}
-use Rattle.avr_plan.specs.declared.bad_file.BadFile.{BadFile}
-use Rattle.avr_plan.specs.declared.bad_file.BadFile.TheVariants.{Record, Raw, Elf, TooLong}
+use Rattle.avr_plan.specs.declared.intake.BadFile.{BadFile}
+use Rattle.avr_plan.specs.declared.intake.BadFile.TheVariants.{Record, Raw, Elf, TooLong}
 use Rattle.avr_plan.specs.declared.image_file.ReadFault.{ReadFault}
 use Rattle.avr_plan.specs.declared.image_file.ReadFault.TheVariants.{File, Image}
 

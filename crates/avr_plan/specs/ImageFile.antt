@@ -14,8 +14,8 @@ use Rattle.avr_records.specs.declared.kind.Found.{Found}
 use Rattle.avr_records.specs.declared.kind.Found.TheVariants as file
 use Rattle.avr_records.specs.declared.kind.Kind.TheVariants as records
 use Rattle.avr_records.specs.declared.fault.RecordFault.{RecordFault}
-use Rattle.avr_plan.specs.declared.bad_file.BadFile.{BadFile}
-use Rattle.avr_plan.specs.declared.bad_file.BadFile.TheVariants.{Record, Raw, Elf, TooLong}
+use Rattle.avr_plan.specs.declared.intake.BadFile.{BadFile}
+use Rattle.avr_plan.specs.declared.intake.BadFile.TheVariants.{Record, Raw, Elf, TooLong}
 
 -- an image, and whether its file had an end record; or what is wrong with the file
 abbrev pub Given : Type 0

@@ -8,8 +8,8 @@ use Rattle.avr_records.specs.declared.kind.Found.TheVariants as file
 use Rattle.avr_records.specs.declared.kind.Kind.{Kind}
 use Rattle.avr_records.specs.declared.kind.Kind.TheVariants as records
 use Rattle.avr_plan.specs.ImageFile.{whole_file, long_file}
-use Rattle.avr_plan.specs.declared.bad_file.BadFile.{BadFile}
-use Rattle.avr_plan.specs.declared.bad_file.BadFile.TheVariants.{Record, TooLong}
+use Rattle.avr_plan.specs.declared.intake.BadFile.{BadFile}
+use Rattle.avr_plan.specs.declared.intake.BadFile.TheVariants.{Record, TooLong}
 use Rattle.avr_plan.specs.declared.intake.Intake.{Intake}
 use Rattle.avr_plan.specs.declared.intake.Intake.TheVariants as intake
 

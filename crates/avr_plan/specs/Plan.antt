@@ -3,8 +3,8 @@ use Rattle.std.specs.Prelude.{◌≡◌, true, List, length}
 use Rattle.avr_cli.specs.declared.settings.Switches.{Switches}
 use Rattle.avr_part.specs.Mem.{is_writable}
 use Rattle.avr_part.specs.Part.{Part, size_of}
-use Rattle.avr_plan.specs.declared.task.Task.{Task}
-use Rattle.avr_plan.specs.declared.task.Task.TheVariants.{Write, Verify}
+use Rattle.avr_plan.specs.declared.planned.Task.{Task}
+use Rattle.avr_plan.specs.declared.planned.Task.TheVariants.{Write, Verify}
 
 pub record Plan : Type 0 where
   pub part : Part

@@ -17,15 +17,15 @@ use Rattle.avr_part.specs.Mem.{is_writable}
 use Rattle.avr_part.specs.Part.{Part, size_of}
 use Rattle.avr_part.specs.PartFile.{parts_of}
 use Rattle.avr_part.specs.declared.fault.PartFault.{PartFault}
-use Rattle.avr_part.specs.declared.mem.Mem.{Mem}
+use Rattle.avr_part.specs.declared.part.Mem.{Mem}
 use Rattle.avr_records.specs.declared.kind.Ending.{Ending}
 use Rattle.avr_records.specs.declared.kind.Ending.TheVariants.{Ended, NoEnd}
 use Rattle.avr_plan.specs.ImageFile.{Given, image_within}
 use Rattle.avr_plan.specs.Lines.{bad_file_line, no_end_line, no_part_line, part_file_line, read_only_line, values_line}
 use Rattle.avr_plan.specs.Plan.{Plan}
 use Rattle.avr_desk.specs.Stage.{Stage, ◌>>=◌, verdict_stage, saying_stage, file_stage}
-use Rattle.avr_plan.specs.declared.task.Task.{Task}
-use Rattle.avr_plan.specs.declared.task.Task.TheVariants.{Write, Verify, Read}
+use Rattle.avr_plan.specs.declared.planned.Task.{Task}
+use Rattle.avr_plan.specs.declared.planned.Task.TheVariants.{Write, Verify, Read}
 
 -- ---- the part
 

@@ -9,8 +9,7 @@ ghost use Rattle.avr_desk.specs.Files.{IsCounted};
 ghost use Rattle.avr_plan.specs.ImageReading.{IsGiven, FrontIsRead, RestIsRead, OpenIsRead, ImageIsRead, IsCountedRead};
 ghost use Rattle.avr_plan.specs.Intake.{Takes, fed_count};
 
-use crate::bad_file::BadFile;
-use crate::intake::Intake;
+use crate::intake::{BadFile, Intake};
 use arrayvec::ArrayVec;
 use avr_cli::Format;
 use avr_desk::{Desk, DeskFault, FileFault};

@@ -1,15 +1,47 @@
-//! An image that is made of the bytes of a file as they come.
+//! An image that is made of the bytes of a file as they come, and why they are none.
 ghost use Rattle.std.specs.Prelude.{◌≡◌, ◌+◌, ◌<◌, ◌≤◌, ◌^◌, ◌++◌, ℕ, List, [], Ok, Err, length, MatchResult};
+ghost use Rattle.avr_plan.specs.Faults.{bad_file_number};
 ghost use Rattle.avr_desk.specs.Record.{Bytes};
 ghost use Rattle.avr_records.specs.declared.kind.Found.{Found as AnyFound};
 ghost use Rattle.avr_plan.specs.ImageFile.{whole_file, long_file};
 ghost use Rattle.avr_plan.specs.Intake.{Takes, fed_count, found_as, in_long_file};
 
-use crate::bad_file::BadFile;
 use avr_desk::FileFault;
-use avr_image::{Image, RawReader};
-use avr_records::{Ending, Found, Kind, RecordReader};
+use avr_image::{Image, ImageFault, RawReader};
+use avr_records::{Ending, Found, Kind, RecordFault, RecordReader};
 use std::alloc::Global;
+use thiserror::Error;
+
+/// Why the bytes of a file are no image of a memory.
+#[derive(Clone, Copy, Debug, Drop, PartialEq, Eq, Error)]
+pub enum BadFile {
+    /// A line of a record file is at fault: the first one, by its number from 1.
+    #[error("{0}")]
+    Record(RecordFault),
+    /// Raw bytes go past the memory, first at this address.
+    #[error("{0}")]
+    Raw(ImageFault),
+    /// It is an executable in the ELF format.
+    #[error("ELF is not read")]
+    Elf,
+    /// It has more than 4,194,304 bytes.
+    #[error("longer than 4194304 bytes")]
+    TooLong,
+}
+
+impl BadFile {
+    /// The fault's number, from 1 on, which no later version changes.
+    pub fn number(&self) -> u8
+        ensures { result ≡ bad_file_number self.now }
+    {
+        match self {
+            BadFile::Record(_) => 1,
+            BadFile::Raw(_) => 2,
+            BadFile::Elf => 3,
+            BadFile::TooLong => 4,
+        }
+    }
+}
 
 /// What is made of the bytes of a file as they come: a reader's work, or the fault that it met.
 #[derive(Drop)]

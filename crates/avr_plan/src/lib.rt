@@ -14,7 +14,6 @@
 #![tactic(auto)]
 
 // an image file, read to its end or past its limit
-mod bad_file;
 mod image_file;
 mod intake;
 // the part, and the image of an update
@@ -22,19 +21,16 @@ mod part_choice;
 mod update_image;
 // what is to be done
 mod planned;
-mod task;
-mod tasks;
 // the plan, and why there is none
 mod messages;
 mod planning;
 // laws
 mod laws;
 
-pub use bad_file::BadFile;
 pub use image_file::{ReadFault, read_image};
+pub use intake::BadFile;
 pub use laws::{a_plan_only_reads_and_warns, a_sound_plan_is_refused_aloud};
 pub use messages::read_only_message;
 pub use part_choice::{chosen_part, given_parts};
-pub use planned::Plan;
+pub use planned::{Plan, Task};
 pub use planning::plan;
-pub use task::Task;

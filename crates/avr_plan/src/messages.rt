@@ -2,8 +2,8 @@
 ghost use Rattle.std.specs.Prelude.{◌≡◌};
 ghost use Rattle.avr_plan.specs.Lines.{bad_file_pieces, field_pieces, image_pieces, in_line_pieces, line_range_pieces, no_part_pieces, part_file_pieces, range_pieces, raw_pieces, read_only_pieces, record_pieces, value_pieces, values_pieces};
 
-use crate::bad_file::BadFile;
 use crate::image_file::{LIMIT, ReadFault};
+use crate::intake::BadFile;
 use avr_desk::{Message, Piece, file_message, memory_message, too_long_message};
 use avr_image::ImageFault;
 use avr_part::{Field, Mem, PartFault};

@@ -1,12 +1,68 @@
-//! What a run is to do.
-ghost use Rattle.std.specs.Prelude.{◌≡◌, All};
+//! What a run is to do: a part, and tasks in their order.
+ghost use Rattle.std.specs.Prelude.{◌≡◌, ◌∷◌, ◌++◌, [], is_ok, if◌then◌else◌, All};
 ghost use Rattle.avr_plan.specs.Plan.{IsFitted};
 
-use crate::task::Task;
-use crate::tasks::Tasks;
-use avr_cli::Switches;
-use avr_part::Part;
+use avr_cli::{Format, Switches, Text};
+use avr_image::Image;
+use avr_part::{Mem, Part};
+use std::alloc::{AllocError, Global};
 use std::marker::Model;
+
+/// What a session does with one memory. An image has a place for each byte of the memory; at some it may hold none.
+#[derive(Drop)]
+pub enum Task {
+    /// The bytes of the image are written to the memory.
+    Write(Mem, Image),
+    /// The memory is compared with the bytes of the image.
+    Verify(Mem, Image),
+    /// The memory is read, and written to a file that is created then.
+    Read {
+        memory: Mem,
+        /// How the file shows the bytes.
+        format: Format,
+        /// The file's name as given, `-` for standard output.
+        file: Text,
+    },
+}
+
+/// What is to be done, in its order. Contracts see it as the list of the tasks.
+#[derive(Drop)]
+pub(crate) struct Tasks {
+    items: Vec<Task>,
+}
+
+impl Model for Tasks {
+    ghost use Rattle.std.specs.Prelude.{List};
+    ghost use Rattle.avr_plan.specs.declared.planned.Task.{Task};
+
+    ghost Value = { List Task };
+
+    ghost view = { λ t. t.items.items };
+}
+
+impl Tasks {
+    pub(crate) fn new(alloc: Global) -> Tasks
+        ensures { result ≡ [] }
+    {
+        Tasks {
+            items: Vec::new(alloc),
+        }
+    }
+
+    /// Puts a task behind the others. Where memory is refused they stay as they are.
+    pub(crate) fn push(&mut self, task: Task) -> Result<(), AllocError>
+        ensures { self.new ≡ (if is_ok result then self.old ++ task ∷ [] else self.old) }
+    {
+        self.items.push(task)?;
+        Ok(())
+    }
+
+    pub(crate) fn as_slice(&self) -> &[Task]
+        ensures { result.now ≡ self.now }
+    {
+        self.items.as_slice()
+    }
+}
 
 /// What a run is to do. Where there is a plan, everything that it needs was read and judged.
 #[derive(Drop)]

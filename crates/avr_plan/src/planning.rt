@@ -8,9 +8,7 @@ ghost use Rattle.avr_desk.specs.Playing.{Goes};
 
 use crate::messages::read_only_message;
 use crate::part_choice::{chosen_part, given_parts};
-use crate::planned::Plan;
-use crate::task::Task;
-use crate::tasks::Tasks;
+use crate::planned::{Plan, Task, Tasks};
 use crate::update_image::update_image;
 use avr_cli::{Op, Settings, Switches, Text, Update};
 use avr_desk::{Desk, memory_message, refuse};

@@ -1,15 +1,13 @@
 //! What the front of a file shows.
-
 ghost use Rattle.std.specs.Prelude.{◌≡◌, Some, length, take, find, not, true, false, MatchOption};
 ghost use Rattle.std.specs.List.{list_all};
 ghost use Rattle.std.specs.Str.{bytes_eq};
 ghost use Rattle.avr_records.specs.Lines.{is_blank, lines};
 ghost use Rattle.avr_records.specs.Detect.{kind_of_file, kind_of_line, begins_ihex, begins_srec, has_digits as spec_has_digits, elf_mark};
 
-use crate::digits::are_digits;
+use crate::bytes::are_digits;
 use crate::kind::Found;
-use crate::line::is_blank_byte;
-use crate::lines::split_line;
+use crate::line::{is_blank_byte, split_line};
 
 /// How many bytes of a file are looked at.
 const FRONT: usize = 1024;

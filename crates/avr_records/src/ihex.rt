@@ -1,10 +1,9 @@
 //! The fields of a record of Intel HEX.
-
 ghost use Rattle.std.specs.Prelude.{◌≡◌, ◌<◌, ◌≤◌, length, Ok, Err, IfOk, MatchResult};
 ghost use Rattle.avr_records.specs.Ihex.{ihex_from_fields, typed_ihex, checked_ihex};
 ghost use Rattle.avr_records.specs.Judging.{record_of, FitsFields};
 
-use crate::checksum::low_sum_of;
+use crate::bytes::low_sum_of;
 use crate::fault::LineFault;
 use crate::kind::Kind;
 use crate::record::{LineRecord, with_size};

@@ -2,11 +2,10 @@
 //!
 //! Rows of 32 bytes that never cross a multiple of 65,536; an extended linear address record wherever the upper 16 bits
 //! of the address change; upper-case digits; each line ends with LF.
-
 ghost use Rattle.std.specs.Prelude.{◌≡◌, ◌+◌, ◌/◌, ◌%◌, ◌^◌, ◌<◌, ◌≤◌, ◌==◌, ◌↔◌, [], ◌++◌, length, IsTrue, if◌then◌else◌};
 ghost use Rattle.avr_records.specs.Text.{IsLine, ihex_text, ihex_record as spec_record, ihex_row_size, two};
 
-use crate::checksum::low_sum_of;
+use crate::bytes::low_sum_of;
 use crate::written_line::{Fields, append, put_line};
 use arrayvec::ArrayVec;
 use avr_image::Pieces;

@@ -1,22 +1,34 @@
-//! One line of a record file, alone.
-
-ghost use Rattle.std.specs.Prelude.{◌≡◌, ◌+◌, ◌≤◌, length, nat_lt, Ok, Err, IfOk, MatchResult};
+//! Lines of a record file: where one ends, and what each says, alone.
+ghost use Rattle.std.specs.Prelude.{◌≡◌, [], ◌∷◌, ◌++◌, MatchOption, ◌+◌, ◌≤◌, length, nat_lt, Ok, Err, IfOk, MatchResult};
+ghost use Rattle.avr_records.specs.Lines.{lines, trimmed_line, is_blank};
 ghost use Rattle.std.specs.List.{suffix_len};
 ghost use Rattle.avr_records.specs.Record.{longest};
 ghost use Rattle.avr_records.specs.Ihex.{ihex_line};
 ghost use Rattle.avr_records.specs.Srec.{srec_line};
-ghost use Rattle.avr_records.specs.Lines.{trimmed_line, is_blank};
 ghost use Rattle.avr_records.specs.Line.{bare_record as spec_bare_record, line_record};
 ghost use Rattle.avr_records.specs.Reading.{said_by_line, bare_says};
 ghost use Rattle.avr_records.specs.Judging.{record_of, meaning_of, FitsKind, FitsFields};
+ghost use Rattle.avr_records.specs.Meaning.{ihex_means, srec_means, means, rebase};
 
-use crate::digits::{ROOM, decode_digits};
+use crate::bytes::{ROOM, decode_digits};
 use crate::fault::LineFault;
 use crate::ihex::ihex_fields;
 use crate::kind::{Base, Kind};
-use crate::meaning::meaning;
 use crate::record::LineRecord;
 use crate::srec::srec_fields;
+use memchr::memchr;
+
+/// The first line and what follows its end, if a line ends there.
+#[inline(always)]
+pub(crate) fn split_line(text: &[u8]) -> Option<(&[u8], &[u8])>
+    ensures { MatchOption result (lines text.now ≡ text.now ∷ [])
+        (λ parts. (lines parts.0.now ≡ parts.0.now ∷ []) × (text.now ≡ parts.0.now ++ 10 ∷ parts.1.now)) }
+{
+    match memchr(b'\n', text) {
+        Some(at) => Some((&text[..at], &text[at + 1..])),
+        None => None,
+    }
+}
 
 /// The most bytes of a line, without its end.
 pub(crate) const LONGEST: usize = 600;
@@ -167,4 +179,70 @@ pub(crate) fn line_says<'b>(
         return Err(LineFault::TooLong);
     }
     bare_line_says(kind, trim(line), room)
+}
+
+/// A linear base from the two bytes of its record.
+fn linear_base(bytes: &[u8]) -> Line<'_>
+    ensures means { meaning_of result ≡ rebase Base.Linear bytes.now }
+    ensures fits { FitsKind Kind.Ihex result }
+{
+    match bytes {
+        [high, low] => Line::Rebase(Base::Linear(*high as u16 * 256 + *low as u16)),
+        _ => Line::Nothing,
+    }
+}
+
+/// A segment from the two bytes of its record.
+fn segment_base(bytes: &[u8]) -> Line<'_>
+    ensures means { meaning_of result ≡ rebase Base.Segment bytes.now }
+    ensures fits { FitsKind Kind.Ihex result }
+{
+    match bytes {
+        [high, low] => Line::Rebase(Base::Segment(*high as u16 * 256 + *low as u16)),
+        _ => Line::Nothing,
+    }
+}
+
+/// What a record of Intel HEX means.
+fn ihex_meaning(found: LineRecord<'_>) -> Line<'_>
+    requires { FitsFields Kind.Ihex found }
+    ensures means { meaning_of result ≡ ihex_means (record_of found.entry) }
+    ensures fits { FitsKind Kind.Ihex result }
+{
+    match found.record_type {
+        0 => Line::Data(found.address, found.bytes),
+        1 => Line::End,
+        2 => segment_base(found.bytes),
+        4 => linear_base(found.bytes),
+        _ => Line::Nothing,
+    }
+}
+
+/// What an S-record means.
+fn srec_meaning(found: LineRecord<'_>) -> Line<'_>
+    requires { FitsFields Kind.Srec found }
+    ensures means { meaning_of result ≡ srec_means (record_of found.entry) }
+    ensures fits { FitsKind Kind.Srec result }
+{
+    if found.record_type == 0 {
+        Line::Nothing
+    } else if found.record_type <= 3 {
+        Line::Data(found.address, found.bytes)
+    } else if found.record_type <= 6 {
+        Line::Counted(found.address)
+    } else {
+        Line::End
+    }
+}
+
+/// What a record of a file of this kind means.
+pub(crate) fn meaning(kind: Kind, found: LineRecord<'_>) -> Line<'_>
+    requires { FitsFields kind found }
+    ensures means { meaning_of result ≡ means kind (record_of found.entry) }
+    ensures fits { FitsKind kind result }
+{
+    match kind {
+        Kind::Ihex => ihex_meaning(found),
+        Kind::Srec => srec_meaning(found),
+    }
 }

@@ -1,21 +1,83 @@
-//! The lines of a text that comes in pieces.
-
-ghost use Rattle.std.specs.Prelude.{◌≡◌, ◌+◌, ◌<◌, ◌≤◌, ◌^◌, ◌++◌, ℕ, List, false, Some, Ok, Err, [], ◌∷◌, length, MatchOption, MatchResult, OnOk, IfErr};
+//! The lines of a text that comes in pieces, and what is kept of one that has not ended.
+ghost use Rattle.std.specs.Prelude.{◌≡◌, ◌<◌, [], Some, None, MatchBool, MatchOption, ◌+◌, ◌≤◌, ◌^◌, ◌++◌, ℕ, List, false, Ok, Err, ◌∷◌, length, MatchResult, OnOk, IfErr};
+ghost use Rattle.avr_records.specs.Steps.{grown, least_length, progress_of, next_progress, kept_says, line_step, ending_of, Begins, InRange, IsLineFault};
 ghost use Rattle.avr_records.specs.Closed.{closed_fault};
 ghost use Rattle.avr_records.specs.Lines.{lines};
 ghost use Rattle.avr_records.specs.Progress.{image_size};
 ghost use Rattle.avr_records.specs.Reader.{ReadsLines};
 ghost use Rattle.avr_records.specs.Reading.{image_in_text};
-ghost use Rattle.avr_records.specs.Steps.{progress_of, next_progress, kept_says, grown, line_step, least_length, ending_of, Begins, InRange, IsLineFault};
 
-use crate::digits::ROOM;
+use crate::bytes::ROOM;
 use crate::fault::{LineFault, RecordFault};
 use crate::kind::{Ending, Kind};
-use crate::lines::split_line;
-use crate::part_line::PartLine;
+use crate::line::{LONGEST, split_line};
 use crate::progress::Progress;
+use arrayvec::ArrayVec;
 use avr_image::{Image, ImageFault};
 use std::alloc::Global;
+use std::marker::Model;
+
+/// The bytes of a line that has not ended, or a mark that it is too long. Contracts see it as its bytes, if it isn't.
+#[derive(Drop)]
+pub struct PartLine {
+    bytes: ArrayVec<u8, LONGEST>,
+    too_long: bool,
+}
+
+impl Model for PartLine {
+    ghost use Rattle.std.specs.Prelude.{ℕ, List, Option, Some, None, if◌then◌else◌};
+
+    ghost Value = { Option (List ℕ) };
+
+    ghost view = { λ p. if p.too_long then None else Some p.bytes.items };
+}
+
+impl PartLine {
+    /// Nothing of a line.
+    pub(crate) fn new() -> PartLine
+        ensures { result ≡ Some [] }
+    {
+        PartLine {
+            bytes: ArrayVec::new(),
+            too_long: false,
+        }
+    }
+
+    /// Whether nothing came of the line.
+    pub(crate) fn is_empty(&self) -> bool
+        ensures { MatchBool result (self.now ≡ Some []) (0 < least_length self.now) }
+    {
+        !self.too_long && self.bytes.is_empty()
+    }
+
+    /// The line, unless it is too long.
+    pub(crate) fn line(&self) -> Option<&[u8]>
+        ensures { MatchOption result (self.now ≡ None) (λ line. self.now ≡ Some line.now) }
+    {
+        if self.too_long {
+            None
+        } else {
+            Some(self.bytes.as_slice())
+        }
+    }
+
+    /// More of the line.
+    pub(crate) fn extend(&mut self, more: &[u8])
+        ensures { self.new ≡ grown self.old more.now }
+    {
+        if !self.too_long && self.bytes.try_extend_from_slice(more).is_err() {
+            self.too_long = true;
+        }
+    }
+
+    /// The next line begins.
+    pub(crate) fn clear(&mut self)
+        ensures { self.new ≡ Some [] }
+    {
+        self.bytes.clear();
+        self.too_long = false;
+    }
+}
 
 /// What the lines leave that have ended, and what is kept of the one that has not.
 #[derive(Drop)]

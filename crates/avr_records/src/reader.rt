@@ -1,6 +1,5 @@
-//! The reader of record files.
-
-ghost use Rattle.std.specs.Prelude.{◌≡◌, ◌≢◌, ◌+◌, ◌<◌, ◌^◌, ◌++◌, ℕ, List, [], true, Ok, Err, length, MatchResult, OnOk, OnErr};
+//! The reader of record files: in pieces, or a whole file in one call.
+ghost use Rattle.std.specs.Prelude.{◌≡◌, ◌≢◌, ◌+◌, ◌<◌, ◌^◌, ◌++◌, ℕ, List, [], true, Ok, Err, length, MatchResult, OnOk, OnErr, ◌⊎◌};
 ghost use Rattle.avr_records.specs.Closed.{closed_fault, ok_unless};
 ghost use Rattle.avr_records.specs.Reader.{ReaderState, StandsFor, IsNewReader, memory_size};
 ghost use Rattle.avr_records.specs.Reading.{image_in_text};
@@ -146,4 +145,26 @@ impl RecordReader {
         }
         lines.finish()
     }
+}
+
+/// What a whole record file of fewer than 2 to the power 32 bytes says, for a memory of `size` bytes: the image, and
+/// whether the end record came; or the first fault; or `Memory`, where memory is refused.
+///
+/// ```text
+/// let (image, ending) = read_records(alloc, Kind::Ihex, 4, b":0400000001020304F2\n:00000001FF\n")?;
+/// assert_eq!(rt; image.len(), 4);
+/// assert_eq!(rt; ending, Ending::Ended);
+/// ```
+pub fn read_records(
+    alloc: Global,
+    kind: Kind,
+    size: u32,
+    text: &[u8],
+) -> Result<(Image, Ending), RecordFault>
+    requires { length text.now < 2 ^ 32 }
+    ensures { (result ≡ image_in_text kind text.now size) ⊎ (result ≡ Err RecordFault.Memory) }
+{
+    let mut reader = RecordReader::new(alloc, kind, size)?;
+    reader.feed(text)?;
+    reader.finish()
 }

@@ -1,12 +1,11 @@
 //! The record of one line, as its fields.
-
 ghost use Rattle.std.specs.Prelude.{◌≡◌, ◌≤◌, length, Ok, Err, MatchResult};
 ghost use Rattle.avr_records.specs.Judging.{record_of};
 ghost use Rattle.avr_records.specs.Line.{line_record};
 ghost use Rattle.avr_records.specs.Reading.{alone};
 ghost use Rattle.avr_records.specs.Record.{with_size as spec_with_size};
 
-use crate::digits::ROOM;
+use crate::bytes::ROOM;
 use crate::fault::{LineFault, RecordFault};
 use crate::kind::Kind;
 use crate::line::record_in;

@@ -1,13 +1,11 @@
 //! The fields of an S-record.
-
 ghost use Rattle.std.specs.Prelude.{◌≡◌, ◌≤◌, length, Ok, Err, IfOk, MatchResult};
 ghost use Rattle.avr_records.specs.Srec.{srec_from_fields, typed_srec, checked_srec, record_with_address as spec_addressed, without_data as spec_without_data};
 ghost use Rattle.avr_records.specs.Judging.{record_of, FitsFields};
 
-use crate::checksum::low_sum_of;
+use crate::bytes::{low_sum_of, number_of};
 use crate::fault::LineFault;
 use crate::kind::Kind;
-use crate::numbers::number_of;
 use crate::record::LineRecord;
 
 /// A record of this type whose address has n bytes, with data behind it.

@@ -2,11 +2,10 @@
 //!
 //! Rows of 32 bytes; S1, S2 or S3, the narrowest that holds the last address, and S9, S8 or S7 at the end; no header
 //! record; upper-case digits; each line ends with LF.
-
 ghost use Rattle.std.specs.Prelude.{◌≡◌, ◌+◌, ◌-◌, ◌*◌, ◌^◌, ◌<◌, ◌≤◌, ◌↔◌, ◌++◌, length, IsTrue};
 ghost use Rattle.avr_records.specs.Text.{IsLine, srec_text, srec_record as spec_record, low_bytes, address_size};
 
-use crate::checksum::low_sum_of;
+use crate::bytes::low_sum_of;
 use crate::written_line::{Fields, append, put_line};
 use arrayvec::ArrayVec;
 use avr_image::Pieces;

@@ -10,7 +10,7 @@ use Rattle.stk_host.specs.declared.fault.StepFault.{StepFault}
 use Rattle.stk_frame.specs.declared.command.Command.{Command}
 use Rattle.stk_frame.specs.HostCommands.{leave, erase}
 use Rattle.avr_part.specs.Mem.{is_writable}
-use Rattle.avr_part.specs.declared.mem.Mem.{Mem}
+use Rattle.avr_part.specs.declared.part.Mem.{Mem}
 use Rattle.stk_host.specs.Tape.{Tape, on_tape}
 use Rattle.stk_host.specs.Steps.{Outcome, step, play}
 use Rattle.stk_host.specs.WriteSteps.{write_steps}

@@ -8,7 +8,7 @@ use Rattle.avr_desk.specs.Record.{DeskView}
 use Rattle.avr_cli.specs.declared.settings.Switches.{Switches}
 use Rattle.avr_cli.specs.declared.update.Format.{Format}
 use Rattle.avr_part.specs.Part.{Part}
-use Rattle.avr_part.specs.declared.mem.Mem.{Mem}
+use Rattle.avr_part.specs.declared.part.Mem.{Mem}
 use Rattle.stk_host.specs.declared.fault.HostFault.{HostFault}
 use Rattle.stk_host.specs.declared.fault.HostFault.TheVariants.{NoAnswer, LinkEnded, SendFailed, Babble, Refused, BadAnswer, WrongSignature, Differs, ReadOnly, Memory, RecvFailed}
 use Rattle.stk_host.specs.State.{HostState, lasting_fault}
@@ -19,7 +19,7 @@ use Rattle.stk_host.specs.Calls.{IsBroken, EndsCall, Calls, CallsBy, given_or_fa
 use Rattle.stk_host.specs.Dialog.{Dialog, Done, ◌>>=◌, sayings}
 use Rattle.avr_desk.specs.Said.{Saying, Tells}
 use Rattle.avr_plan.specs.Plan.{Plan}
-use Rattle.avr_plan.specs.declared.task.Task.{Task}
+use Rattle.avr_plan.specs.declared.planned.Task.{Task}
 use Rattle.avr_session.specs.declared.standing.Standing.{Standing}
 use Rattle.avr_session.specs.declared.standing.Standing.TheVariants.{Fine, Faulty, Over}
 use Rattle.avr_session.specs.declared.standing.Stopped.{Stopped}

@@ -3,8 +3,8 @@ use Rattle.std.proofs.Common.{◌≡◌, ◌≤◌, ℕ, arith, List, [], ◌∷
 use Rattle.std.proofs.lemmas.Bool.Decides.{nat_tests}
 use Rattle.avr_desk.specs.Record.{Record, DeskView, Passes, after_err}
 use Rattle.avr_desk.specs.Fault.{Counts, Follows, HasFailed, HasFailedToSay}
-use Rattle.avr_desk.specs.declared.fault.DeskFault.{DeskFault}
-use Rattle.avr_desk.specs.declared.fault.DeskFault.TheVariants.{NotFound, Failed}
+use Rattle.avr_desk.specs.declared.desk.DeskFault.{DeskFault}
+use Rattle.avr_desk.specs.declared.desk.DeskFault.TheVariants.{NotFound, Failed}
 use Rattle.avr_desk.specs.declared.stream.Stream.TheVariants.{Messages}
 use Rattle.stk_host.specs.Dialog.{sayings}
 use Rattle.avr_desk.specs.Said.{Saying, Line, IsPrefixOf, IsPrinted, Tells, after_all}

@@ -6,7 +6,7 @@ use Rattle.avr_desk.specs.Fault.{Follows, HasFailed}
 use Rattle.avr_desk.specs.Stream.{SendsPart}
 use Rattle.avr_desk.specs.declared.stream.Stream.{Stream}
 use Rattle.avr_desk.specs.declared.stream.Stream.TheVariants.{File, Output}
-use Rattle.avr_desk.specs.declared.fault.DeskFault.{DeskFault}
+use Rattle.avr_desk.specs.declared.desk.DeskFault.{DeskFault}
 use Rattle.stk_host.specs.Dialog.{Said}
 use Rattle.avr_desk.specs.Said.{Saying, Creates, Writes, Outs, Tells, after_all}
 use Rattle.avr_desk.proofs.Saying.{kept_append, kept_none}

@@ -4,11 +4,11 @@ use Rattle.std.specs.List.{list_any}
 use Rattle.avr_cli.specs.declared.settings.Switches.{Switches}
 use Rattle.avr_cli.specs.declared.update.Format.{Format}
 use Rattle.avr_desk.specs.Record.{Bytes}
-use Rattle.avr_part.specs.declared.mem.Mem.{Mem}
-use Rattle.avr_part.specs.declared.mem.Mem.TheVariants.{Flash}
+use Rattle.avr_part.specs.declared.part.Mem.{Mem}
+use Rattle.avr_part.specs.declared.part.Mem.TheVariants.{Flash}
 use Rattle.avr_plan.specs.Plan.{Plan}
-use Rattle.avr_plan.specs.declared.task.Task.{Task}
-use Rattle.avr_plan.specs.declared.task.Task.TheVariants.{Write, Verify, Read}
+use Rattle.avr_plan.specs.declared.planned.Task.{Task}
+use Rattle.avr_plan.specs.declared.planned.Task.TheVariants.{Write, Verify, Read}
 
 -- A session is opened; the chip is erased, or that is left out though it was asked for; an image is written, or that is
 -- left out; a memory is compared with an image; a memory is read, and saved in a file.

@@ -4,7 +4,7 @@ use Rattle.avr_desk.specs.Record.{Bytes}
 use Rattle.avr_cli.specs.declared.update.Format.{Format}
 use Rattle.avr_cli.specs.declared.update.Format.TheVariants.{Ihex, Srec, Decimal, Hexadecimal, Octal, Binary}
 use Rattle.avr_image.specs.Lists.{list_text}
-use Rattle.avr_image.specs.declared.base.Base.TheVariants.{Dec, Hex, Oct, Bin}
+use Rattle.avr_image.specs.declared.list.Base.TheVariants.{Dec, Hex, Oct, Bin}
 use Rattle.avr_records.specs.Text.{ihex_text, srec_text}
 
 -- the text of a file in a format; any other than these is raw: the bytes themselves

@@ -6,7 +6,7 @@ use Rattle.avr_desk.specs.Lines.{digits, spaced_digits, information, warning, er
 use Rattle.avr_desk.specs.Said.{Saying, Line}
 use Rattle.avr_part.specs.Mem.{name_of}
 use Rattle.avr_part.specs.Part.{Part}
-use Rattle.avr_part.specs.declared.mem.Mem.{Mem}
+use Rattle.avr_part.specs.declared.part.Mem.{Mem}
 use Rattle.avr_plan.specs.Lines.{read_only_pieces}
 use Rattle.stk_host.specs.declared.fault.HostFault.{HostFault}
 use Rattle.stk_host.specs.declared.fault.HostFault.TheVariants.{NoAnswer, LinkEnded, SendFailed, Babble, Refused, BadAnswer, WrongSignature, Differs, ReadOnly, Memory, RecvFailed}

@@ -9,8 +9,8 @@ use Rattle.avr_desk.specs.Lines.{spaced_digits}
 use Rattle.avr_desk.specs.Said.{Saying, Line, Creates, Writes, Outs}
 use Rattle.avr_part.specs.Mem.{name_of}
 use Rattle.avr_part.specs.Part.{Part}
-use Rattle.avr_part.specs.declared.mem.Mem.{Mem}
-use Rattle.avr_part.specs.declared.mem.Mem.TheVariants.{Flash}
+use Rattle.avr_part.specs.declared.part.Mem.{Mem}
+use Rattle.avr_part.specs.declared.part.Mem.TheVariants.{Flash}
 use Rattle.avr_plan.specs.Plan.{Plan}
 use Rattle.stk_host.specs.declared.fault.HostFault.{HostFault}
 use Rattle.stk_host.specs.declared.fault.HostFault.TheVariants.{LinkEnded, WrongSignature}

@@ -1,4 +1,4 @@
-//! The session of a plan: what it asks of a programmer, and what it reports at the desk.
+//! The session of a plan, which asks a programmer and reports at the desk; and a run, from settings to status.
 ghost use Rattle.std.specs.Prelude.{◌≡◌, None, Ok, true, false};
 ghost use Rattle.avr_desk.specs.Fault.{Follows};
 ghost use Rattle.avr_session.specs.declared.standing.Standing.TheVariants.{Fine, Faulty};
@@ -8,12 +8,14 @@ ghost use Rattle.avr_session.specs.Phases.{is_told, Performs, PerformsBehind, Do
 ghost use Rattle.avr_session.specs.Runs.{devices, RunsTo};
 ghost use Rattle.avr_session.specs.Session.{ending, playing, session};
 ghost use Rattle.stk_host.specs.Talk.{Stays};
+ghost use Rattle.avr_session.specs.Run.{RunsSettings};
 
 use crate::phases::{erase_if_due, open_session, perform_all};
 use crate::reports::report_closing;
 use crate::standing::{Standing, Stopped, conclude, status_of};
+use avr_cli::Settings;
 use avr_desk::Desk;
-use avr_plan::Plan;
+use avr_plan::{Plan, plan};
 use std::alloc::Global;
 use stk_host::{Host, Link};
 
@@ -129,5 +131,18 @@ pub fn drive<D: Desk, L: Link>(alloc: Global, plan: &Plan, desk: &mut D, link: &
     match play(alloc, &mut host, desk, link, plan) {
         Ok(standing) => status_of(standing),
         Err(_) => 1,
+    }
+}
+
+/// Plans what the settings ask for, runs it over a link, reports it at the desk, and answers the status: 0 where no
+/// fault came, else 1. What is refused is told before any frame is sent or file created.
+pub fn run<D: Desk, L: Link>(alloc: Global, settings: &Settings, desk: &mut D, link: &mut L) -> u8
+    ensures runs { RunsSettings settings.now (devices (L.view link.old) (D.view desk.old))
+        (devices (L.view link.new) (D.view desk.new)) result }
+    ensures comes { Stays L.comes_of link.old link.new }
+{
+    match plan(alloc, settings, desk) {
+        Ok(plan) => drive(alloc, &plan, desk, link),
+        Err(status) => status,
     }
 }

@@ -1,7 +1,7 @@
 -- Worked rows of an erase and of writes, on small memories.
 use Rattle.std.proofs.Common.{◌≡◌, ℕ, [], ◌∷◌, Some, None, refl}
 use Rattle.avr_part.specs.BuiltIn.{m328p}
-use Rattle.avr_part.specs.declared.mem.Mem.TheVariants.{Flash, Eeprom, Lock}
+use Rattle.avr_part.specs.declared.part.Mem.TheVariants.{Flash, Eeprom, Lock}
 use Rattle.stk_emu.specs.Effect.{Memories, Erase, Write, effect}
 
 -- two bytes of flash, two of EEPROM, by the high fuse and the lock

@@ -11,8 +11,8 @@ use Rattle.std.specs.Prelude.{◌==◌, ◌||◌, not, min}
 use Rattle.avr_image.specs.Image.{byte_at, filled_bytes, run_end}
 use Rattle.avr_image.proofs.Shown.{byte_at-past}
 use Rattle.avr_image.proofs.Walking.{is_filled, run_ends}
-use Rattle.avr_part.specs.declared.mem.Mem.{Mem}
-use Rattle.avr_part.specs.declared.mem.Mem.TheVariants.{Flash, Eeprom, Lfuse, Hfuse, Efuse, Lock, Signature, Calibration}
+use Rattle.avr_part.specs.declared.part.Mem.{Mem}
+use Rattle.avr_part.specs.declared.part.Mem.TheVariants.{Flash, Eeprom, Lfuse, Hfuse, Efuse, Lock, Signature, Calibration}
 use Rattle.avr_part.specs.Part.{Part, IsPart, size_of}
 use Rattle.stk_frame.specs.declared.command.Command.{Command}
 use Rattle.stk_frame.specs.declared.host_command.Fuse.TheVariants.{Low, High, Extended}

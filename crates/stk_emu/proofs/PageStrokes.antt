@@ -8,7 +8,7 @@ use Rattle.std.proofs.Math.Nat.{mod-eq_of_lt, suc-mul, zero-mul, mul-le-mul_righ
 use Rattle.std.specs.List.{list_any}
 use Rattle.avr_image.specs.Image.{byte_at, filled_bytes, or_blank}
 use Rattle.avr_image.proofs.Walking.{is_filled}
-use Rattle.avr_part.specs.declared.mem.Mem.TheVariants.{Flash}
+use Rattle.avr_part.specs.declared.part.Mem.TheVariants.{Flash}
 use Rattle.avr_part.specs.Part.{Part, IsPart}
 use Rattle.stk_frame.specs.declared.command.Command.{Command}
 use Rattle.stk_frame.proofs.Cut.{chosen, refused}

@@ -17,7 +17,7 @@ use Rattle.stk_host.specs.Places.{flash_address, load_flash}
 use Rattle.stk_host.proofs.Pages.{page_most}
 use Rattle.stk_emu.specs.Programmer.{Programmer, sent_to, extension, flash_loads, flash_writes, for_half, word_at, with_address_moved, with_instructions, high, low}
 use Rattle.stk_emu.specs.Device.{device}
-use Rattle.avr_part.specs.declared.mem.Mem.TheVariants.{Flash}
+use Rattle.avr_part.specs.declared.part.Mem.TheVariants.{Flash}
 use Rattle.stk_emu.specs.Effect.{Memories, Write, and_in, effects}
 use Rattle.stk_emu.specs.Settled.{Ready, IsNarrow}
 use Rattle.stk_emu.specs.Strokes.{image_at, struck, IsPage}

@@ -4,7 +4,7 @@ use Rattle.std.proofs.lemmas.Bool.{cases_Bool, false≢true}
 use Rattle.avr_image.specs.Image.{byte_at, filled_bytes, or_blank, run_end, first_from}
 use Rattle.avr_image.specs.Walk.{IsNextHeld}
 use Rattle.avr_image.proofs.Walking.{is_filled, run_ends, next_held, none_held}
-use Rattle.avr_part.specs.declared.mem.Mem.TheVariants.{Eeprom}
+use Rattle.avr_part.specs.declared.part.Mem.TheVariants.{Eeprom}
 use Rattle.avr_part.specs.Part.{Part, IsPart}
 use Rattle.stk_frame.specs.declared.command.Command.{Command}
 use Rattle.stk_frame.proofs.Cut.{chosen, refused}

@@ -1,4 +1,10 @@
-//! What can happen to a frame and its answer.
+//! What can happen to a frame and its answer, and noise on the line.
+ghost use Rattle.std.specs.Prelude.{◌≡◌, ◌≢◌, ◌↔◌, [], ◌∷◌, IsTrue, true, false, filter};
+ghost use Rattle.stk_frame.specs.Cut.{cut, is_good};
+ghost use Rattle.stk_frame.specs.Reader.{TellsEvent, frames_of_event};
+ghost use Rattle.stk_emu.specs.Lawful.{IsLawful};
+
+use stk_frame::{Event, FrameReader};
 
 /// What happens to one whole frame on its way to the programmer, and to the answer on its way back.
 #[derive(Debug, Drop)]
@@ -22,4 +28,46 @@ pub enum Fate {
     CommandRefused,
     /// The frame is obeyed, and this noise comes in place of the answer, and then a silence.
     AnswerSpoiled(Vec<u8>),
+}
+
+/// The most bytes that noise may have.
+const LIMIT: usize = 2048;
+
+/// Whether the event tells of a good frame.
+fn tells_of_good(reader: &FrameReader, event: Event) -> bool
+    requires { TellsEvent event reader.now }
+    ensures no { result ≡ false → filter is_good (frames_of_event event reader.now) ≡ [] }
+    ensures yes { result ≡ true → (frames_of_event event reader.now ≡ reader.now ∷ []) × (is_good reader.now ≡ true) }
+{
+    match event {
+        Event::Frame => true,
+        Event::More | Event::Spoiled => false,
+    }
+}
+
+/// Whether a good frame stands in the noise, cut from its left.
+fn has_good_frame(noise: &[u8]) -> bool
+    ensures none { result ≡ false → filter is_good (cut noise.now) ≡ [] }
+    ensures some { result ≡ true → filter is_good (cut noise.now) ≢ [] }
+{
+    let mut reader = FrameReader::new();
+    let mut at = 0;
+    while at < noise.len() {
+        let (used, event) = reader.feed(&noise[at..]);
+        if tells_of_good(&reader, event) {
+            return true;
+        }
+        at += used;
+    }
+    false
+}
+
+/// Whether noise can be told from an answer: it has at most 2,048 bytes, and no good frame where it is cut from its
+/// left.
+///
+/// The noise of every [`crate::Fate::AnswerSpoiled`] of a [`crate::Wired`] is lawful, as its maker sees to.
+pub fn noise_is_lawful(noise: &[u8]) -> bool
+    ensures { IsTrue result ↔ IsLawful noise.now }
+{
+    noise.len() <= LIMIT && !has_good_frame(noise)
 }

@@ -6,7 +6,7 @@ ghost use Rattle.avr_image.specs.Image.{byte_at, or_blank};
 ghost use Rattle.avr_part.specs.State as chip;
 ghost use Rattle.avr_part.specs.Part.{Part, IsPart};
 ghost use Rattle.avr_part.specs.Sound.{IsSoundChip};
-ghost use Rattle.avr_part.specs.declared.mem.Mem.{Mem};
+ghost use Rattle.avr_part.specs.declared.part.Mem.{Mem};
 ghost use Rattle.stk_frame.specs.declared.command.Command.{Command};
 ghost use Rattle.stk_frame.specs.Frame.{frame};
 ghost use Rattle.stk_frame.specs.Cut.{frames};

@@ -1,11 +1,14 @@
-//! What a frame brings, and what waits to be heard: bytes, and a `None` for each silence.
-
+//! What a frame brings, and the answers that wait: bytes, and a `None` for each silence.
 ghost use Rattle.std.specs.Prelude.{◌≡◌, ◌+◌, ◌<◌, ◌≤◌, ◌++◌, ◌∷◌, [], length, take};
-ghost use Rattle.stk_host.specs.declared.link.Item.TheVariants as item;
 ghost use Rattle.stk_host.specs.Tape.{on_tape};
 ghost use Rattle.stk_emu.specs.Waiting.{tape_in, BeginsSilent};
+ghost use Rattle.stk_emu.specs.Lawful.{none_late, behind_late, waiting};
+ghost use Rattle.stk_host.specs.declared.link.Item.TheVariants as item;
 
+use crate::emulator::Frame;
 use arrayvec::ArrayVec;
+use std::marker::Model;
+use std::mem;
 
 /// Room for all that one frame can bring: three late answers of 281 bytes, noise of 2,048, and a silence.
 pub(crate) const ROOM: usize = 2892;
@@ -48,4 +51,65 @@ pub(crate) fn take_bytes(items: &[Option<u8>], buffer: &mut [u8]) -> usize
         count += 1;
     }
     count
+}
+
+/// The answers that wait, the last three at most, in their order; each is empty where there is none.
+#[derive(Drop)]
+pub(crate) struct Late {
+    first: Frame,
+    second: Frame,
+    third: Frame,
+}
+
+impl Model for Late {
+    ghost use Rattle.stk_emu.specs.Lawful.{Late as Waiting};
+
+    ghost Value = { Waiting };
+
+    ghost view = { λ late. record {
+      first = late.first.items;
+      second = late.second.items;
+      third = late.third.items;
+    } };
+}
+
+impl Late {
+    /// No answer waits.
+    pub fn new() -> Late
+        ensures { result ≡ none_late }
+    {
+        Late {
+            first: Frame::new(),
+            second: Frame::new(),
+            third: Frame::new(),
+        }
+    }
+
+    /// No answer waits any more.
+    pub fn clear(&mut self)
+        ensures { self.new ≡ none_late }
+    {
+        self.first.clear();
+        self.second.clear();
+        self.third.clear();
+    }
+
+    /// One more waits behind them: of a fourth one the first is lost.
+    pub fn hold(&mut self, answered: Frame)
+        ensures { self.new ≡ behind_late self.old answered.items }
+    {
+        let third = mem::replace(&mut self.third, answered);
+        self.first = mem::replace(&mut self.second, third);
+    }
+
+    /// Puts all that wait into `out`, which is empty.
+    pub fn put(&self, out: &mut Segment)
+        requires { out.old.items ≡ [] }
+        ensures items { tape_in out.new.items ≡ on_tape (waiting self.now) }
+        ensures len { length out.new.items ≤ 843 }
+    {
+        put_bytes(out, self.first.as_slice());
+        put_bytes(out, self.second.as_slice());
+        put_bytes(out, self.third.as_slice());
+    }
 }

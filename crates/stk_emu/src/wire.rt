@@ -1,5 +1,4 @@
 //! The wire, frame by frame.
-
 ghost use Rattle.std.specs.Prelude.{◌≡◌, ◌≤◌, ◌++◌, [], length, if◌then◌else◌};
 ghost use Rattle.stk_frame.specs.Frame.{frame};
 ghost use Rattle.stk_frame.specs.Cut.{is_good, seq_of};
@@ -13,9 +12,8 @@ ghost use Rattle.stk_emu.specs.Wire.{AreLawful, IsLawfulFate, fresh_wire, segmen
 
 use crate::emulator::{Frame, answer, refuse};
 use crate::fate::Fate;
-use crate::late::Late;
 use crate::programmer::Programmer;
-use crate::segment::{Segment, put_bytes, put_silence};
+use crate::segment::{Late, Segment, put_bytes, put_silence};
 use avr_part::Chip;
 use std::marker::Model;
 use stk_frame::{Event, FrameReader};

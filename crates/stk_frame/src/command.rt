@@ -1,8 +1,7 @@
-//! Commands of the programmer.
+//! Commands of the programmer, and the data that they carry.
 ghost use Rattle.std.specs.Prelude.{◌≡◌};
 ghost use Rattle.stk_frame.specs.Commands.{code};
 
-use crate::data::Data;
 use crate::protocol::{
     CMD_CHIP_ERASE_ISP, CMD_ENTER_PROGMODE_ISP, CMD_GET_PARAMETER, CMD_LEAVE_PROGMODE_ISP,
     CMD_LOAD_ADDRESS, CMD_PROGRAM_EEPROM_ISP, CMD_PROGRAM_FLASH_ISP, CMD_PROGRAM_FUSE_ISP,
@@ -10,6 +9,37 @@ use crate::protocol::{
     CMD_READ_LOCK_ISP, CMD_READ_OSCCAL_ISP, CMD_READ_SIGNATURE_ISP, CMD_SET_PARAMETER, CMD_SIGN_ON,
     CMD_SPI_MULTI,
 };
+use std::marker::Model;
+
+/// Bytes that a command lends from elsewhere. They are seen as the list of them.
+#[derive(Debug, Drop)]
+pub struct Data<'a> {
+    bytes: &'a [u8],
+}
+
+impl<'a> Model for Data<'a> {
+    ghost use Rattle.std.specs.Prelude.{List, ℕ};
+
+    ghost Value = { List ℕ };
+
+    ghost view = { λ lent. lent.bytes.now };
+}
+
+impl<'a> Data<'a> {
+    /// Data of these bytes.
+    pub fn new(bytes: &'a [u8]) -> Data<'a>
+        ensures { result ≡ bytes.now }
+    {
+        Data { bytes }
+    }
+
+    /// The bytes.
+    pub fn bytes(&self) -> &'a [u8]
+        ensures { result.now ≡ self.now }
+    {
+        self.bytes
+    }
+}
 
 /// The fields of ENTER_PROGMODE_ISP. Times are in milliseconds.
 #[derive(Clone, Copy, Debug, PartialEq, Eq)]

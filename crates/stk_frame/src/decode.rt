@@ -3,8 +3,7 @@ ghost use Rattle.std.specs.Prelude.{◌≡◌, ◌↔◌, Some, IfSome};
 ghost use Rattle.stk_frame.specs.Commands.{body};
 ghost use Rattle.stk_frame.specs.Decoding.{FieldsFit, command_of, with_fields, sign_on_of, set_parameter_of, get_parameter_of, load_address_of, enter_progmode_of, leave_progmode_of, chip_erase_of, program_block_of, read_block_of, instruction, read_byte_of, spi_multi_of};
 
-use crate::command::{Command, EnterProgmode, ProgramBlock, ReadBlock, ReadByte};
-use crate::data::Data;
+use crate::command::{Command, Data, EnterProgmode, ProgramBlock, ReadBlock, ReadByte};
 use crate::protocol::{
     CMD_CHIP_ERASE_ISP, CMD_ENTER_PROGMODE_ISP, CMD_GET_PARAMETER, CMD_LEAVE_PROGMODE_ISP,
     CMD_LOAD_ADDRESS, CMD_PROGRAM_EEPROM_ISP, CMD_PROGRAM_FLASH_ISP, CMD_PROGRAM_FUSE_ISP,

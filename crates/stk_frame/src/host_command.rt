@@ -4,8 +4,7 @@ ghost use Rattle.byteorder.specs.Endian.{big_bytes};
 ghost use Rattle.stk_frame.specs.Commands.{body};
 ghost use Rattle.stk_frame.specs.HostCommands.{enter, leave, erase, programming, program_page, read_flash_block, program_eeprom_block, read_eeprom_block, write_address, read_instruction, program_fuse, read_fuse, program_lock, read_lock, read_signature, read_calibration};
 
-use crate::command::{Command, EnterProgmode, ProgramBlock, ReadBlock, ReadByte};
-use crate::data::Data;
+use crate::command::{Command, Data, EnterProgmode, ProgramBlock, ReadBlock, ReadByte};
 use crate::protocol::{
     CMD_CHIP_ERASE_ISP, CMD_ENTER_PROGMODE_ISP, CMD_LEAVE_PROGMODE_ISP, CMD_PROGRAM_EEPROM_ISP,
     CMD_PROGRAM_FLASH_ISP, CMD_PROGRAM_FUSE_ISP, CMD_PROGRAM_LOCK_ISP, CMD_READ_EEPROM_ISP,

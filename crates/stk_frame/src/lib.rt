@@ -11,7 +11,6 @@
 
 mod answer;
 mod command;
-mod data;
 mod decode;
 mod encode;
 mod frame;
@@ -24,8 +23,7 @@ ghost use Rattle.stk_frame.specs.Frame.{frame};
 ghost use Rattle.stk_frame.specs.Cut.{Cuts, IsPiece, cut, rest, is_good, seq_of, body_of};
 
 pub use answer::{Answer, FrameFault, Shape};
-pub use command::{Command, EnterProgmode, ProgramBlock, ReadBlock, ReadByte};
-pub use data::Data;
+pub use command::{Command, Data, EnterProgmode, ProgramBlock, ReadBlock, ReadByte};
 pub use frame::put_frame;
 pub use host_command::Fuse;
 pub use protocol::{LARGEST_BODY, LARGEST_FRAME};

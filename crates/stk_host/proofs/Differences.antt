@@ -7,7 +7,7 @@ use Rattle.std.proofs.lemmas.List.{length-drop, length-take-le, take_all}
 use Rattle.std.specs.Prelude.{⊤, Result, Ok, Err}
 use Rattle.avr_image.specs.Runs.{onto_runs, runs}
 use Rattle.avr_image.proofs.RunWalk.{EndBy}
-use Rattle.avr_part.specs.declared.mem.Mem.{Mem}
+use Rattle.avr_part.specs.declared.part.Mem.{Mem}
 use Rattle.stk_host.specs.declared.fault.HostFault.{HostFault}
 use Rattle.stk_host.specs.Operations.{Difference, difference_from, differs}
 

@@ -1,9 +1,9 @@
 -- The steps of an operation, one after another.
 use Rattle.std.proofs.Common.{◌≡◌, ℕ, ◌<◌, ◌^◌, lit≤, arith, List, [], ◌∷◌, ◌++◌, length, refl, subst, sym, ◌-◌, Bool, true, false, None, Some, ◌∙◌, Option, Ok, Err, Result}
 use Rattle.std.specs.Prelude.{OnOk, if◌then◌else◌}
-use Rattle.avr_part.specs.declared.mem.Mem.{Mem}
+use Rattle.avr_part.specs.declared.part.Mem.{Mem}
 use Rattle.avr_part.specs.Mem.{is_writable}
-use Rattle.avr_part.specs.declared.mem.Mem.TheVariants.{Flash, Eeprom, Lfuse, Hfuse, Efuse, Lock, Signature, Calibration}
+use Rattle.avr_part.specs.declared.part.Mem.TheVariants.{Flash, Eeprom, Lfuse, Hfuse, Efuse, Lock, Signature, Calibration}
 use Rattle.avr_part.specs.Part.{Part, IsPart, size_of}
 use Rattle.stk_frame.specs.declared.command.Command.{Command}
 use Rattle.stk_frame.specs.declared.answer.Shape.{Shape}

@@ -1,7 +1,7 @@
 -- Worked steps and operations, at the level of the definitions.
 use Rattle.std.proofs.Common.{◌≡◌, [], ◌∷◌, ◌++◌, refl, Some, None, Err}
 use Rattle.std.specs.Prelude.{replicate}
-use Rattle.avr_part.specs.declared.mem.Mem.TheVariants.{Flash, Eeprom, Lfuse, Signature}
+use Rattle.avr_part.specs.declared.part.Mem.TheVariants.{Flash, Eeprom, Lfuse, Signature}
 use Rattle.avr_part.specs.BuiltIn.{m328p, m2560}
 use Rattle.stk_frame.specs.Frame.{frame}
 use Rattle.stk_frame.specs.Commands.{body}

@@ -10,7 +10,7 @@ use Rattle.avr_image.specs.Image.{byte_at, filled_bytes, first_from, run_end}
 use Rattle.avr_image.specs.Walk.{IsNextHeld, IsByteRun}
 use Rattle.avr_image.proofs.Shown.{byte_at-past}
 use Rattle.avr_image.proofs.Walking.{next_held, none_held, run_ends}
-use Rattle.avr_part.specs.declared.mem.Mem.{Mem}
+use Rattle.avr_part.specs.declared.part.Mem.{Mem}
 use Rattle.avr_part.specs.Part.{Part, IsPart, size_of}
 use Rattle.stk_frame.specs.declared.command.Command.{Command}
 use Rattle.stk_frame.specs.HostCommands.{program_eeprom_block, read_signature}

@@ -9,12 +9,11 @@ ghost use Rattle.stk_host.specs.Calls.{Calls, CallsOrLacks, fault_of_stop, openi
 
 use crate::comparing::compare;
 use crate::conversation::Conversation;
-use crate::erasing::erase_chip;
 use crate::fault::{Broken, HostFault, StepFault, Stop};
 use crate::link::Link;
 use crate::opening::{begin, end};
 use crate::reading::read_memory;
-use crate::writing::write_memory;
+use crate::writing::{erase_chip, write_memory};
 use avr_image::Image;
 use avr_part::{Mem, Part};
 use std::alloc::Global;

@@ -1,6 +1,6 @@
 //! Laws of the operations, and no code.
 ghost use Rattle.std.specs.Prelude.{ℕ, Bool, List, Option};
-ghost use Rattle.avr_part.specs.declared.mem.Mem.{Mem};
+ghost use Rattle.avr_part.specs.declared.part.Mem.{Mem};
 ghost use Rattle.avr_part.specs.Part.{Part};
 ghost use Rattle.stk_frame.specs.declared.command.Command.{Command};
 ghost use Rattle.stk_host.specs.Steps.{play};

@@ -19,16 +19,12 @@ mod stream_link;
 mod tape_link;
 // a frame goes out, and its answer is listened for
 mod listen;
-mod send;
-mod unread;
 // commands, attempts and steps
 mod conversation;
 mod fault;
 mod places;
-mod stepping;
 // the steps of the operations, and the operations
 mod comparing;
-mod erasing;
 mod host;
 mod opening;
 mod reading;
@@ -40,8 +36,7 @@ pub use failing_link::FailingLink;
 pub use fault::{Broken, HostFault, StepFault};
 pub use host::Host;
 pub use laws::a_call_sends_at_most_four_times_its_commands;
-pub use link::{Heard, Item, Link, LinkFault};
+pub use link::{Heard, Item, Link, LinkFault, send_all};
 pub use log::Log;
-pub use send::send_all;
 pub use stream_link::StreamLink;
 pub use tape_link::TapeLink;

@@ -1,6 +1,7 @@
 //! The line between the host and a programmer.
-ghost use Rattle.std.specs.Prelude.{◌≡◌, ◌<◌, length};
+ghost use Rattle.std.specs.Prelude.{◌≡◌, ◌<◌, length, ◌≤◌, ℕ, OnOk, OnErr};
 ghost use Rattle.stk_host.specs.Talk.{LinkView, Sends, Receives, Stays};
+ghost use Rattle.stk_host.specs.Reach.{SendsAll};
 
 use thiserror::Error;
 
@@ -75,4 +76,22 @@ pub trait Link {
         requires { 0 < length buffer.old }
         ensures receives { Receives buffer.new (view self.old) (view self.new) result }
         ensures comes { Stays comes_of self.old self.new };
+}
+
+/// Sends all of the bytes, in as many pieces as the link takes them.
+///
+/// A link that takes none of them has failed; nothing is sent twice.
+pub fn send_all<L: Link>(link: &mut L, bytes: &[u8]) -> Result<(), LinkFault>
+    ensures sends { SendsAll bytes.now (L.view link.old) (L.view link.new) result }
+    ensures comes { Stays L.comes_of link.old link.new }
+{
+    let mut done = 0;
+    while done < bytes.len() {
+        let count = link.send(&bytes[done..])?;
+        if count == 0 {
+            return Err(LinkFault::Failed);
+        }
+        done += count;
+    }
+    Ok(())
 }

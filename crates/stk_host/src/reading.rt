@@ -1,18 +1,17 @@
 //! The steps that read a whole memory.
 ghost use Rattle.std.specs.Prelude.{◌≡◌, ◌+◌, ◌<◌, ◌≤◌, ◌^◌, ◌∷◌, [], length, OnOk, vec_capacity};
-ghost use Rattle.avr_part.specs.Part as parts;
 ghost use Rattle.stk_frame.specs.Commands.{shape};
 ghost use Rattle.stk_host.specs.Places.{each_from};
 ghost use Rattle.stk_host.specs.ReadSteps.{block_count, block_size, load_block_address, read_block, block_steps, signature_steps, read_steps};
 ghost use Rattle.stk_host.specs.Steps.{play};
 ghost use Rattle.stk_host.specs.Calls.{EndsSteps, AsksLink, MayAsk, StepBrings, FitsFrame, BringsNoData, IsSizedShape, data_count};
 ghost use Rattle.stk_host.specs.Talk.{Stays};
+ghost use Rattle.avr_part.specs.Part as parts;
 
-use crate::conversation::Conversation;
+use crate::conversation::{Conversation, read_step};
 use crate::fault::Stop;
 use crate::link::Link;
 use crate::places::{load_eeprom, load_flash};
-use crate::stepping::read_step;
 use avr_part::{Mem, Part};
 use stk_frame::{Command, Fuse};
 

@@ -1,22 +1,31 @@
-//! The steps that write an image to a memory.
-ghost use Rattle.std.specs.Prelude.{◌≡◌, ◌<◌, ◌≤◌, ◌-◌, ◌^◌, ◌∷◌, [], length};
+//! The steps that erase the chip, and that write an image to a memory.
+ghost use Rattle.std.specs.Prelude.{◌≡◌, ◌≤◌, ◌∷◌, [], length, ◌<◌, ◌-◌, ◌^◌};
+ghost use Rattle.stk_frame.specs.HostCommands.{erase};
+ghost use Rattle.stk_host.specs.Steps.{play};
+ghost use Rattle.stk_host.specs.Calls.{EndsSteps, AsksLink, with_step, without_step, EndsInnerStep, MayAsk};
+ghost use Rattle.stk_host.specs.Talk.{Stays};
 ghost use Rattle.avr_image.specs.Image.{byte_at, filled_bytes};
 ghost use Rattle.avr_part.specs.Part.{size_of};
+ghost use Rattle.stk_host.specs.WriteSteps.{page_step, byte_steps, write_steps};
 ghost use Rattle.stk_frame.specs.HostCommands as host;
 ghost use Rattle.stk_host.specs.Places as places;
-ghost use Rattle.stk_host.specs.WriteSteps.{page_step, byte_steps, write_steps};
-ghost use Rattle.stk_host.specs.Steps.{play};
-ghost use Rattle.stk_host.specs.Calls.{with_step, without_step, EndsInnerStep, EndsSteps, AsksLink, MayAsk};
-ghost use Rattle.stk_host.specs.Talk.{Stays};
 
-use crate::conversation::Conversation;
+use crate::conversation::{Conversation, play_step};
 use crate::fault::Stop;
 use crate::link::Link;
 use crate::places::{load_eeprom, load_flash, page_size};
-use crate::stepping::play_step;
 use avr_image::Image;
 use avr_part::{Mem, Part};
 use stk_frame::{Command, Fuse};
+
+/// Erases the chip.
+pub(crate) fn erase_chip<L: Link>(conversation: &mut Conversation, link: &mut L) -> Result<(), Stop>
+    ensures asks { AsksLink (EndsSteps (play ((erase ∷ []) ∷ []) []) (λ done. [])) conversation.old.progress
+        (L.view link.old) (L.view link.new) result conversation.new.progress }
+    ensures comes { Stays L.comes_of link.old link.new }
+{
+    play_step(conversation, link, &[], &Command::erase())
+}
 
 /// The most bytes that a page has.
 const LARGEST_PAGE: usize = 256;

@@ -4,8 +4,8 @@ use Rattle.avr_desk.specs.Stream.{SendsPart}
 use Rattle.avr_desk.specs.declared.stream.Stream.TheVariants.{Messages}
 use Rattle.avr_desk.proofs.Sending.{sent_next, sent_next_part}
 use Rattle.avr_desk.specs.Lines.{text_of}
-use Rattle.avr_desk.specs.declared.piece.Piece.{Piece}
-use Rattle.avr_desk.specs.declared.piece.Piece.TheVariants.{Text}
+use Rattle.avr_desk.specs.declared.line.Piece.{Piece}
+use Rattle.avr_desk.specs.declared.line.Piece.TheVariants.{Text}
 use Rattle.avr_desk.proofs.Pieces.{all_text, all_text_at, all_text_more}
 use Rattle.avr_desk.proofs.line.write_pieces.Goals as goal
 

@@ -8,7 +8,7 @@ use Rattle.avr_plan.proofs.TaskStages.{goes_with_next, goes_without_next, pushed
 use Rattle.avr_plan.specs.Plan.{IsFitted}
 use Rattle.avr_plan.specs.Planning.{tasks_stage}
 use Rattle.avr_desk.specs.Playing.{Goes}
-use Rattle.avr_plan.specs.declared.task.Task.{Task}
+use Rattle.avr_plan.specs.declared.planned.Task.{Task}
 use Rattle.avr_plan.proofs.planning.update_tasks.Goals as goal
 
 pub loop-update-preserved : goal.loop-update-preserved

@@ -3,7 +3,7 @@ use Rattle.avr_desk.specs.Record.{DeskView}
 use Rattle.avr_plan.specs.Plan.{IsFitted}
 use Rattle.avr_plan.specs.Planning.{tasks_stage}
 use Rattle.avr_desk.specs.Playing.{Goes}
-use Rattle.avr_plan.specs.declared.task.Task.{Task}
+use Rattle.avr_plan.specs.declared.planned.Task.{Task}
 use Rattle.avr_plan.proofs.planning.update_tasks.Given as goal
 
 -- however the updates that are left go, so go all of them

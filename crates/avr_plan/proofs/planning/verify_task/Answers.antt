@@ -2,7 +2,7 @@ use Rattle.std.proofs.Common.{Ok}
 use Rattle.avr_desk.proofs.Played.{went_into, goes_no_further}
 use Rattle.avr_plan.specs.Planning.{update_image}
 use Rattle.avr_desk.specs.Stage.{verdict_stage}
-use Rattle.avr_plan.specs.declared.task.Task.TheVariants.{Verify}
+use Rattle.avr_plan.specs.declared.planned.Task.TheVariants.{Verify}
 use Rattle.avr_plan.proofs.planning.verify_task.Goals as goal
 
 pub returns-in-Ok-clause-goes : goal.returns-in-Ok-clause-goes

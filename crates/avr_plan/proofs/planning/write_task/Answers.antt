@@ -3,7 +3,7 @@ use Rattle.avr_desk.proofs.Played.{went_into, goes_no_further}
 use Rattle.avr_plan.proofs.TaskStages.{goes_writable, goes_read_only}
 use Rattle.avr_plan.specs.Planning.{update_image}
 use Rattle.avr_desk.specs.Stage.{verdict_stage}
-use Rattle.avr_plan.specs.declared.task.Task.TheVariants.{Write}
+use Rattle.avr_plan.specs.declared.planned.Task.TheVariants.{Write}
 use Rattle.avr_plan.proofs.planning.write_task.Goals as goal
 
 pub returns-then-not-writable-clause-goes : goal.returns-then-not-writable-clause-goes

@@ -3,7 +3,7 @@ use Rattle.std.proofs.lemmas.Result.{err_from_is_err_and}
 use Rattle.avr_desk.specs.Fault.{Counts}
 use Rattle.avr_desk.specs.Record.{Record, showing}
 use Rattle.avr_desk.specs.Stream.{after_sent, SendsPart}
-use Rattle.avr_desk.specs.declared.fault.DeskFault.{DeskFault}
+use Rattle.avr_desk.specs.declared.desk.DeskFault.{DeskFault}
 use Rattle.avr_desk.specs.declared.stream.Stream.{Stream}
 use Rattle.avr_desk.proofs.Sending.{sent_next, sent_next_part, sent_none}
 use Rattle.avr_session.proofs.file_text.write_pieces.Goals as goal

@@ -1,6 +1,6 @@
 use Rattle.std.proofs.Common.{◌≡◌, ◌≤◌, ◌-◌, ◌%◌, ◌⊎◌, length, [], None}
 use Rattle.avr_image.specs.Image.{byte_at}
-use Rattle.avr_part.specs.declared.mem.Mem.TheVariants.{Eeprom}
+use Rattle.avr_part.specs.declared.part.Mem.TheVariants.{Eeprom}
 use Rattle.stk_host.specs.Places.{each_from}
 use Rattle.stk_host.specs.WriteSteps.{run_steps_at, write_steps}
 use Rattle.stk_host.specs.Reach.{Reaches}

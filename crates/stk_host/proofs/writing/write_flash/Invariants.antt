@@ -1,5 +1,5 @@
 use Rattle.std.proofs.Common.{◌≡◌, ◌≤◌, ◌-◌, ◌/◌, length, []}
-use Rattle.avr_part.specs.declared.mem.Mem.TheVariants.{Flash}
+use Rattle.avr_part.specs.declared.part.Mem.TheVariants.{Flash}
 use Rattle.stk_host.specs.Places.{each_from}
 use Rattle.stk_host.specs.WriteSteps.{page_steps, write_steps}
 use Rattle.stk_host.specs.Reach.{Reaches}

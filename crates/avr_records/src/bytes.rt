@@ -1,0 +1,99 @@
+//! The bytes of a record: from hexadecimal digits, their sum, and the numbers that they are.
+ghost use Rattle.std.specs.Prelude.{◌≡◌, ◌≤◌, ◌*◌, ◌%◌, length, Ok, Err, MatchResult, sum};
+ghost use Rattle.std.specs.List.{list_all};
+ghost use Rattle.hex.specs.Hex.{is_hex_digit};
+ghost use Rattle.avr_records.specs.Record.{bytes_of_digits, number};
+ghost use Rattle.avr_records.specs.Judging.{low_sum};
+
+use crate::fault::LineFault;
+
+/// How many bytes the digits of a line can write.
+pub(crate) const ROOM: usize = 300;
+
+/// Whether a byte is a hexadecimal digit.
+pub(crate) fn is_digit(c: u8) -> bool
+    ensures { result ≡ is_hex_digit c }
+{
+    (65 <= c && c <= 70) || (97 <= c && c <= 102) || (48 <= c && c <= 57)
+}
+
+/// Whether all bytes are hexadecimal digits.
+pub(crate) fn are_digits(text: &[u8]) -> bool
+    ensures { result ≡ list_all is_hex_digit text.now }
+{
+    text.iter().all(|c| is_digit(*c))
+}
+
+/// What odd digits are wrong with: one of them that is none comes first.
+fn odd_fault(digits: &[u8]) -> LineFault
+    requires { length digits.now % 2 ≡ 1 }
+    ensures { bytes_of_digits digits.now ≡ Err result }
+{
+    if are_digits(digits) {
+        LineFault::Length
+    } else {
+        LineFault::Digit
+    }
+}
+
+/// Writes the bytes of an even number of digits.
+fn decode_pairs(digits: &[u8], out: &mut [u8]) -> Result<(), LineFault>
+    requires { length digits.now ≡ 2 * length out.old }
+    ensures { MatchResult result (λ _. bytes_of_digits digits.now ≡ Ok out.new)
+        (λ fault. bytes_of_digits digits.now ≡ Err fault) }
+{
+    match hex::decode_to_slice(digits, out) {
+        Ok(()) => Ok(()),
+        Err(_) => Err(LineFault::Digit),
+    }
+}
+
+/// The bytes that digits write, two digits a byte, in this room.
+pub(crate) fn decode_digits<'b>(
+    digits: &[u8],
+    room: &'b mut [u8; ROOM],
+) -> Result<&'b [u8], LineFault>
+    requires { length digits.now ≤ 2 * ROOM }
+    ensures { MatchResult result (λ found. bytes_of_digits digits.now ≡ Ok found.now)
+        (λ fault. bytes_of_digits digits.now ≡ Err fault) }
+{
+    if digits.len() % 2 == 1 {
+        return Err(odd_fault(digits));
+    }
+    let n = digits.len() / 2;
+    match decode_pairs(digits, &mut room[..n]) {
+        Ok(()) => Ok(&room[..n]),
+        Err(fault) => Err(fault),
+    }
+}
+
+/// The sum of bytes, modulo 256.
+#[tactic(auto, using(crate::proofs::Sums::low_sum_is))]
+pub(crate) fn low_sum_of(bytes: &[u8]) -> u8
+    ensures { result ≡ sum bytes.now % 256 }
+{
+    wrapped_sum(bytes)
+}
+
+/// The sum of bytes, byte by byte.
+fn wrapped_sum(bytes: &[u8]) -> u8
+    ensures { result ≡ low_sum bytes.now }
+{
+    bytes
+        .iter()
+        .fold(0, |total: u8, byte| total.wrapping_add(*byte))
+}
+
+/// The number of two to four bytes, the high one first.
+pub(crate) fn number_of(bytes: &[u8]) -> u32
+    requires least { 2 ≤ length bytes.now }
+    requires most { length bytes.now ≤ 4 }
+    ensures { result ≡ number bytes.now }
+{
+    match bytes {
+        [a, b] => *a as u32 * 256 + *b as u32,
+        [a, b, c] => (*a as u32 * 256 + *b as u32) * 256 + *c as u32,
+        [a, b, c, d] => ((*a as u32 * 256 + *b as u32) * 256 + *c as u32) * 256 + *d as u32,
+        _ => 0,
+    }
+}
