@@ -5,10 +5,10 @@ ghost use Rattle.avr_cli.specs.Command.{is_on, switches_of, entries_of};
 ghost use Rattle.avr_cli.specs.Settings.{GivesOrMemory, TellsAnyway, settings_of, checked_programmer, updates_of, updates_from, update_at, run_settings, serve_settings, no_switches};
 ghost use Rattle.avr_cli.specs.Update.{update_of};
 
+use crate::owned::{owned, owned_option};
 use crate::ports::{port_given, served};
 use crate::settings::{Settings, SettingsFault, Switches};
 use crate::standard::check_streams;
-use crate::text::{owned, owned_option};
 use crate::update::{Update, UpdateFault, Updates};
 use crate::update_text::parse_update;
 use clap::ArgMatches;

@@ -15,6 +15,7 @@ mod settings;
 mod update;
 
 // texts that are owned, and split
+mod owned;
 mod text;
 
 // what they ask for

@@ -5,8 +5,9 @@ ghost use Rattle.std.specs.Char.{is_ascii_digit};
 ghost use Rattle.avr_cli.specs.Port.{port_number, is_address, port_after, port_of, port_given_of, served_at};
 ghost use Rattle.avr_cli.specs.Settings.{GivesOrMemory, TellsAnyway};
 
+use crate::owned::owned;
 use crate::settings::{Port, SettingsFault};
-use crate::text::{after_prefix, owned, split_last};
+use crate::text::{after_prefix, split_last};
 use std::alloc::Global;
 
 /// Whether each byte is a decimal digit.

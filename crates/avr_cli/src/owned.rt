@@ -1,0 +1,24 @@
+//! Texts that settings own.
+ghost use Rattle.std.specs.Prelude.{Ok, option_map};
+ghost use Rattle.avr_cli.specs.Settings.{GivesOrMemory};
+
+use crate::settings::SettingsFault;
+use crate::text::Text;
+use std::alloc::Global;
+
+/// The text, for settings to own.
+pub fn owned(alloc: Global, text: &str) -> Result<Text, SettingsFault>
+    ensures { GivesOrMemory (Ok text.now) result }
+{
+    Text::new(alloc, text).map_err(|_| SettingsFault::Memory)
+}
+
+/// The text, where there is one, for settings to own.
+pub fn owned_option(alloc: Global, text: Option<&str>) -> Result<Option<Text>, SettingsFault>
+    ensures { GivesOrMemory (Ok (option_map (λ s. s.now) text.entry)) result }
+{
+    match text {
+        Some(text) => Ok(Some(owned(alloc, text)?)),
+        None => Ok(None),
+    }
+}
