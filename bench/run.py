@@ -21,8 +21,9 @@ from pathlib import Path
 TOP = Path(__file__).resolve().parent.parent
 sys.path.insert(0, str(TOP / "tests"))
 
+from cases import ended, leave_out, same  # noqa: E402
 from line import BadLine  # noqa: E402
-from program import PROGRAM, Room, free_port  # noqa: E402
+from program import PROGRAM, Room, Server  # noqa: E402
 
 KILO = 1024
 SIZES = [32, 64, 128, 256]
@@ -128,25 +129,6 @@ def time_all(room, runs):
 # ---- over a line
 
 
-class Served:
-    """The emulated programmer, served at a port to one caller."""
-
-    def __init__(self, room, front=()):
-        self.port = free_port()
-        words = ["-p", "m328p", "--serve", str(self.port), "--chip", "chip.bin"]
-        how = {"cwd": room.folder, "stdin": subprocess.DEVNULL, "stderr": subprocess.DEVNULL}
-        self.started = subprocess.Popen([*front, str(PROGRAM), *words], **how)
-        while not self.listens():
-            time.sleep(0.005)
-
-    def listens(self):
-        """Whether anybody listens at the port (state 0A), without calling."""
-        return f"0100007F:{self.port:04X} 00000000:0000 0A" in Path("/proc/net/tcp").read_text()
-
-    def end(self):
-        self.started.wait(30)
-
-
 def session_over(port):
     return [str(PROGRAM), "-p", "m328p", "-P", f"net:127.0.0.1:{port}", "-q", "-q", "-U", "flash:w:32.hex"]
 
@@ -163,9 +145,9 @@ def best_over_line(room, runs, command_for):
     times = []
     for _ in range(runs):
         room.clear()
-        served = Served(room)
-        times.append(done(command_for(served.port), room, 0))
-        served.end()
+        with Server(room, "chip.bin") as served:
+            times.append(done(command_for(served.port), room, 0))
+            served.end()
     return min(times)
 
 
@@ -220,24 +202,22 @@ def calls_of(traced):
 def count_calls(room):
     """System calls that move a frame, on either side of a line; fails where a frame takes more than one of each."""
     if not shutil.which("strace"):
-        print("strace is not installed: nothing was counted")
-        return
+        return leave_out("the calls for each frame", "strace is not installed")
     frames = len(frames_sent(room))
     room.clear()
     front = ["strace", "-f", "-e", CALLS, "-s", "4", "-o"]
-    served = Served(room, [*front, "served.trace"])
-    done([*front, "tool.trace", *session_over(served.port)], room, 0)
-    served.end()
+    with Server(room, "chip.bin", front=[*front, "served.trace"]) as served:
+        done([*front, "tool.trace", *session_over(served.port)], room, 0)
+        served.end()
     for side in ["tool", "served"]:
         sends, receipts = calls_of(room.folder / f"{side}.trace")
         print(f"{side:>8}: {sends} sends and {receipts} receipts for {frames} frames")
-        if (sends, receipts) != (frames, frames):
-            sys.exit(f"{side}: a frame takes more than one send and one receipt")
+        same(f"{side}: sends and receipts for {frames} frames", (sends, receipts), (frames, frames))
 
 
 def main():
     if not PROGRAM.exists():
-        sys.exit(__doc__)
+        sys.exit(f"{PROGRAM} is not built: rt ci leaves it there, and so does (cd crates/avrstk && rt run < stdin)")
     room = Room()
     for size in SIZES:
         image = image_of(size * KILO)
@@ -248,9 +228,11 @@ def main():
         count_all(room)
     elif "--calls" in sys.argv:
         count_calls(room)
+        return ended()
     else:
         time_all(room, int(sys.argv[1]) if len(sys.argv) > 1 else 5)
+    return 0
 
 
 if __name__ == "__main__":
-    main()
+    sys.exit(main())

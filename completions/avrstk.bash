@@ -1,47 +1,114 @@
-# Completions of bash for avrstk: its options, the built-in parts, the ports, and updates piece by piece.
+# Completions of bash for avrstk and avrstk-serial: options, parts with those of a given part file, ports and devices, and
+# updates piece by piece, also where they are glued to their option.
 
 # What can stand behind a front in colons: one of these words, or without words a file's name.
 _avrstk_behind() {
     local front=$1 words=${2-}
     if [ -n "$words" ]; then
-        compgen -P "$front" -W "$words" -- "${typed#"$front"}"
+        compgen -P "$front" -W "$words" -- "${value#"$front"}"
     else
-        compgen -P "$front" -f -- "${typed#"$front"}"
+        compgen -P "$front" -f -- "${value#"$front"}"
     fi
 }
 
+# The formats behind a file's name that is there, or behind the values of m.
+_avrstk_formats() {
+    local front=$1 operation=$2 file=${value#"$1"} letters="a i s r m"
+    [ "$operation" != r ] || letters="r i s d h o b"
+    case $file in
+        *:*) compgen -P "$front${file%:*}:" -W "$letters" -- "${file##*:}" ;;
+        *) [ ! -f "$file" ] || compgen -P "$value:" -W "$letters" ;;
+    esac
+}
+
 _avrstk_update() {
-    local memories="flash: eeprom: lfuse: hfuse: efuse: lock: signature: calibration:"
-    case $typed in
-        *:*:*) _avrstk_behind "${typed%"${typed#*:*:}"}" ;;
-        signature:* | calibration:*) _avrstk_behind "${typed%%:*}:" "r: v:" ;;
-        *:*) _avrstk_behind "${typed%%:*}:" "r: w: v:" ;;
-        *) _avrstk_behind "" "$memories" ;;
+    local memories="flash: eeprom: lfuse: hfuse: efuse: lock: signature: calibration:" front operation formats
+    case $value in
+        *:*:*)
+            front=${value%"${value#*:*:}"}
+            operation=${front#*:}
+            formats=$(_avrstk_formats "$front" "${operation%:}")
+            if [ -n "$formats" ]; then
+                echo "$formats"
+            else
+                _avrstk_behind "$front"
+            fi ;;
+        signature:* | calibration:*) _avrstk_behind "${value%%:*}:" "r: v:" ;;
+        *:*) _avrstk_behind "${value%%:*}:" "r: w: v:" ;;
+        # a file alone is flash:w:FILE:a
+        *) _avrstk_behind "" "$memories"
+            [ -z "$value" ] || _avrstk_behind "" ;;
+    esac
+}
+
+# The parts: of the part file that is given, else the built-in ones, and for the script those that come with it.
+_avrstk_parts() {
+    local file built_in="m328p t85 m2560" found top
+    file=$(sed -nE 's/.*[[:blank:]]--parts[=[:blank:]][[:blank:]]*([^[:blank:]]+).*/\1/p' <<<"$line")
+    if [ -z "$file" ] && [ "$script" = avrstk-serial ]; then
+        top=$(dirname "$(readlink -f "$(type -P "${line%%[[:blank:]]*}")" 2>/dev/null)" 2>/dev/null)
+        for found in "$top/parts/classic.toml" "$top/../share/avrstk/classic.toml"; do
+            [ ! -f "$found" ] || { file=$found && break; }
+        done
+    fi
+    [ ! -f "$file" ] || built_in+=" $(sed -nE 's/^\[parts\.([[:alnum:]_-]+)\].*/\1/p; s/^([[:alnum:]_-]+) = \{.*/\1/p' "$file")"
+    compgen -W "$built_in" -- "$value" | awk '!seen[$0]++'
+}
+
+# What can be the value of an option.
+_avrstk_value() {
+    case $1 in
+        -p) _avrstk_parts ;;
+        -c) _avrstk_behind "" "stk500v2$([ "$script" = avrstk ] || echo " wiring")" ;;
+        -P) if [ "$script" = avrstk-serial ]; then
+            compgen -W "$(compgen -G "/dev/ttyACM*"; compgen -G "/dev/ttyUSB*")" -- "$value"
+        else
+            case $value in
+                emu:*) _avrstk_behind emu: ;;
+                *) _avrstk_behind "" "stdio: emu: net:" ;;
+            esac
+        fi ;;
+        -U) _avrstk_update ;;
+        -b) [ "$script" = avrstk ] || _avrstk_behind "" "9600 19200 38400 57600 115200 250000" ;;
+        --parts | --chip) _avrstk_behind "" ;;
     esac
 }
 
 _avrstk() {
-    local line=${COMP_LINE:0:COMP_POINT} typed before found
+    local line=${COMP_LINE:0:COMP_POINT} typed value before front= found script
+    local options="-p -c -P -U -e -D -V -n -F -A -q -b -v --parts --serve --chip -h --help"
+    script=${line%%[[:blank:]]*}
+    script=${script##*/}
+    [ "$script" = avrstk-serial ] || script=avrstk
+    [ "$script" = avrstk ] || options="-p -c -P -U -e -D -V -n -F -A -q -b -v -C -l --parts --wait -h --help"
     typed=${line##*[[:blank:]]}
     before=${line%"$typed"}
     before=${before%"${before##*[![:blank:]]}"}
-    case ${before##*[[:blank:]]} in
-        -p) found=$(_avrstk_behind "" "m328p t85 m2560") ;;
-        -c) found=$(_avrstk_behind "" stk500v2) ;;
-        -P) case $typed in
-            emu:*) found=$(_avrstk_behind emu:) ;;
-            *) found=$(_avrstk_behind "" "stdio: emu: net:") ;;
+    before=${before##*[[:blank:]]}
+    value=$typed
+    case $before in
+        -[pcPUb] | --parts | --chip | --serve | --wait) found=$(_avrstk_value "$before") ;;
+        *) case $typed in
+            --parts=* | --chip=*)
+                front=${typed%%=*}=
+                value=${typed#*=}
+                found=$(_avrstk_value "${front%=}") ;;
+            -[pcPUb]?*)
+                front=${typed:0:2}
+                value=${typed:2}
+                found=$(_avrstk_value "$front") ;;
+            *) found=$(_avrstk_behind "" "$options") ;;
         esac ;;
-        -U) found=$(_avrstk_update) ;;
-        -b | --serve) found= ;;
-        --parts | --chip) found=$(_avrstk_behind "") ;;
-        *) found=$(_avrstk_behind "" "-p -c -P -U -e -D -V -n -F -A -q -b -v --parts --serve --chip -h --help") ;;
     esac
-    [ -z "$found" ] || mapfile -t COMPREPLY <<<"$found"
+    COMPREPLY=()
+    [ -n "$found" ] || return 0
+    mapfile -t COMPREPLY <<<"$found"
     [[ $found != *: ]] || compopt -o nospace 2>/dev/null
-    # a colon ends a word for bash, so only what stands behind the last one is given
+    [ ! -e "${COMPREPLY[0]#"${value%"${value##*:}"}"}" ] || compopt -o filenames 2>/dev/null
+    # an equals sign ends a word for bash, and a colon too, so that only what stands behind the last one is given
+    [[ $front != --* || $COMP_WORDBREAKS == *=* ]] || COMPREPLY=("${COMPREPLY[@]/#/$front}")
+    [[ $front == --* ]] || COMPREPLY=("${COMPREPLY[@]/#/$front}")
     [[ $COMP_WORDBREAKS != *:* ]] || COMPREPLY=("${COMPREPLY[@]#"${typed%"${typed##*:}"}"}")
-    [ ! -e "${COMPREPLY[0]-}" ] || compopt -o filenames 2>/dev/null
 }
 
-complete -F _avrstk avrstk
+complete -F _avrstk avrstk avrstk-serial

@@ -76,7 +76,8 @@ uint8_t avr_records_detect(const uint8_t *front, size_t length);
 
 /*
  * Reads a whole file of a format (AVR_RECORDS_IHEX or _SREC) into the bytes of a memory, FF where the file has none,
- * and into its bitmap. After a fault bytes and bitmap are as they were.
+ * and into its bitmap. Start addresses and the headers of S-records (S0) are dropped. After a fault bytes and bitmap
+ * are as they were.
  *
  * AVR_RECORDS_MISFIT: another format; a file or a memory of 2 to the power 32 bytes or more; a bitmap that doesn't have
  * AVR_RECORDS_BITMAP(size) octets.
@@ -87,7 +88,8 @@ struct avr_records_outcome avr_records_read(uint8_t format, const uint8_t *file,
 /*
  * Puts a piece of the file of a memory, in a format (AVR_RECORDS_IHEX or _SREC), into a room: the file's bytes from the
  * one numbered `from` on (the first is 0), as many as the room takes. The file has the bytes that the bitmap says, in
- * records of at most 32 bytes, and the end record. After a fault the room is as it was.
+ * records of at most 32 bytes, and the end record; no header, and no start address (0 in the end record of S-records).
+ * After a fault the room is as it was.
  *
  * Each call makes the whole file anew in memory of its own, so large rooms are the fastest. AVR_RECORDS_MISFIT: another
  * format; a memory of 2 to the power 32 bytes or more; a bitmap that doesn't have AVR_RECORDS_BITMAP(size) octets.

@@ -16,14 +16,13 @@ import sys
 import time
 from concurrent.futures import ThreadPoolExecutor
 
+from cases import ended, see
 from line import BadLine
 from program import Room
 
 LOSSES = [1, 5, 20]
 RUNS = 1000
 AT_ONCE = 48
-# of the emulated programmers: each run has a port of its own, below those that the system gives out
-FIRST_PORT = 20_000
 
 # an EEPROM image of 16 bytes, written and read back: the program's words, and how many commands each of its steps has
 IMAGE = bytes(range(0x10, 0x20))
@@ -48,18 +47,19 @@ class Lots:
 
 
 def run(loss, seed):
-    """Whether a run over such a line succeeded, and with which right to say so."""
+    """Whether a run over such a line succeeded, and what speaks against its right to say so."""
     room = Room()
     room.put("some.bin", IMAGE)
-    peer = BadLine(room, Lots(loss, f"{loss} {seed}"), FIRST_PORT + RUNS * LOSSES.index(loss) + seed)
+    peer = BadLine(room, Lots(loss, f"{loss} {seed}"))
     status, _, messages = room.run(["-p", "m328p", "-P", f"net:127.0.0.1:{peer.port}", *WORDS])
     peer.end()
     chip = room.read("served.bin")
+    wrong = ""
     if status == 0 and chip[EEPROM : EEPROM + len(IMAGE)] != IMAGE:
-        sys.exit(f"FAILED: status 0, and the bytes are not in the chip: loss {loss} %, seed {seed}")
+        wrong = "status 0, and the bytes are not in the chip"
     if status not in [0, 1] or (status == 1) != (b"error: " in messages):
-        sys.exit(f"FAILED: status {status}, {messages}: loss {loss} %, seed {seed}")
-    return status == 0
+        wrong = f"status {status}, {messages}"
+    return status == 0, wrong
 
 
 def figure(loss):
@@ -77,14 +77,18 @@ def main():
         with ThreadPoolExecutor(AT_ONCE) as pool:
             begun = [pool.submit(lambda seed=seed: run(loss, seed) if time.monotonic() < ends else None) for seed in range(RUNS)]
             results = [it.result() for it in begun]
-        told = [it for it in results if it is not None]
+        made = {seed: it for seed, it in enumerate(results) if it is not None}
+        for seed, (_, wrong) in made.items():
+            see(f"{loss} % lost, seed {seed}", not wrong, wrong)
+        told = [succeeded for succeeded, _ in made.values()]
         step = 1 - (1 - (1 - loss / 100) ** 2) ** 4
         print(
             f"{loss:3} % lost: {sum(told)} of {len(told)} runs succeeded, {sum(told) / len(told):.1%}"
             f" (by the figure {figure(loss):.1%}; a step of two commands {step:.4%})",
             flush=True,
         )
+    return ended()
 
 
 if __name__ == "__main__":
-    main()
+    sys.exit(main())

@@ -2,7 +2,8 @@
 """Lets each call that the built program makes of the system fail in turn: requests for memory, reads, writes, openings, and
 what it asks of sockets.
 
-    tests/faults.py        needs crates/avrstk/out/avrstk, as rt ci leaves it, and a C compiler (tests/refuse.c)
+    tests/faults.py [CASE ..]        needs crates/avrstk/out/avrstk and the tests of two crates, as rt ci leaves them,
+                                     and a C compiler (tests/refuse.c), or all is left out
 
 For every run below and every kind of call the nth is refused, for n from 1 upwards until a run meets no refusal; of the
 requests for memory also the nth and all after it. What was sent and said has to be a front of what the sound run sends and
@@ -13,14 +14,17 @@ The crates' own devices in memory meet refused growths in their tests, which may
 """
 
 import os
+import shutil
 import socket
 import subprocess
+import sys
 import time
 from collections import Counter
 from pathlib import Path
 
+from cases import leave_out, run_cases, same, see
 from line import BadLine
-from program import ANSWERS, CHIP_FILE, ENDS, FRAMES, TOP, Room, free_port
+from program import ANSWERS, CHIP_FILE, ENDS, FRAMES, TOP, Room, Server
 
 EMULATED = ["-p", "m328p", "-P", "emu:chip.bin"]
 
@@ -71,7 +75,8 @@ class Sweep:
     def __init__(self, room, shim, label, words, given, status=0):
         self.room, self.shim, self.label, self.words, self.given = room, shim, label, words, given
         self.sound = self.done()
-        assert self.sound[0] == status, (label, self.sound)
+        if self.sound[0] != status:
+            raise AssertionError(f"{label}: {self.sound}")
 
     def done(self, refused=None):
         """The status, the output and the messages, and the files that were made."""
@@ -81,19 +86,18 @@ class Sweep:
         return *ran, self.room.read("chip.bin"), self.room.read("out.hex")
 
     def through(self, kind, how):
-        """Refuses each call of a kind in turn, and counts what became of it."""
+        """Refuses each call of a kind in turn, to the first that has a wrong outcome, and counts what became of it."""
         counts = Counter()
         for number in range(1, 100_000):
             done = self.done(f"{kind} {number} {how}")
-            fault = (self.label, kind, how, number, done)
+            fault = f"{self.label}: {kind} {number}, {how}"
             if self.room.read("refused") is None:
-                assert done == self.sound, fault
+                same(f"{fault}, which is not met", done, self.sound)
                 return counts
-            if done == self.sound:
-                counts["unneeded"] += 1
-                continue
-            assert (kind, how) in FAULTS and self.is_told(kind, how, *done), fault
-            counts["told"] += 1
+            is_sound = done == self.sound
+            if not see(fault, is_sound or (kind, how) in FAULTS and self.is_told(kind, how, *done), done):
+                return counts
+            counts["unneeded" if is_sound else "told"] += 1
 
     def is_told(self, kind, how, status, output, messages, chip, read_file):
         """Whether a run says that it failed, and leaves nothing that is half written without a word."""
@@ -114,19 +118,18 @@ class Serving(Sweep):
 
     def done(self, refused=None):
         self.room.clear()
-        port = free_port()
         environment = {"LD_PRELOAD": str(self.shim), "REFUSE": refused, "REFUSED": "refused"} if refused else {}
-        started = self.room.start([*self.words, "--serve", str(port)], env=os.environ | environment)
-        heard = heard_from(started, port)
-        _, messages = started.communicate(timeout=60)
-        return started.returncode, heard, messages.replace(str(port).encode(), b"PORT"), self.room.read("chip.bin"), None
+        with Server(self.room, "chip.bin", waits=False, env=os.environ | environment) as server:
+            heard = heard_from(server)
+            status, _, messages = server.end()
+        return status, heard, messages.replace(str(server.port).encode(), b"PORT"), self.room.read("chip.bin"), None
 
 
-def heard_from(started, port):
-    """What a program that serves at a port answers to the frames of a session, as far as it does."""
+def heard_from(server):
+    """What a program that serves answers to the frames of a session, as far as it does."""
     heard = b""
     try:
-        with caller_of(started, port) as caller:
+        with caller_of(server) as caller:
             for frame, end in zip(FRAMES, ENDS):
                 caller.sendall(frame)
                 while len(heard) < end:
@@ -139,14 +142,14 @@ def heard_from(started, port):
     return heard
 
 
-def caller_of(started, port):
-    """A connection to a program that will serve at a port, unless it ends before."""
-    while started.poll() is None:
+def caller_of(server):
+    """A connection to a program that will serve, unless it ends before."""
+    while server.started.poll() is None:
         try:
-            return socket.create_connection(("127.0.0.1", port), 30)
+            return server.call()
         except ConnectionRefusedError:
             time.sleep(0.002)
-    raise ConnectionRefusedError(f"nobody serves at {port}")
+    raise ConnectionRefusedError(f"nobody serves at {server.port}")
 
 
 def is_front_and_line(said, sound, line, may_stop):
@@ -186,18 +189,14 @@ class Tests:
         self.names = [name for name, _, kind in (line.partition(": ") for line in listed.splitlines()) if kind == "test" and name.startswith(front)]
 
     def through(self, how):
-        """How often memory was refused: a test that lacks it may fail, and says so, but none crashes or goes on for ever."""
-        refusals = 0
+        """Refuses memory: a test that lacks it may fail, and says so, but none crashes or goes on for ever."""
         for name in self.names:
             for number in range(1, 100_000):
                 ended, was_refused = self.done(name, f"growth {number} {how}")
-                if not was_refused:
-                    assert ended.returncode == 0, (name, ended)
+                told = was_refused and (b"the test failed" in ended.stderr or b"test stopped at" in ended.stdout)
+                good = see(f"{name}: growth {number}, {how}", ended.returncode == 0 or told, ended)
+                if not was_refused or not good:
                     break
-                told = b"the test failed" in ended.stderr or b"test stopped at" in ended.stdout
-                assert ended.returncode == 0 or told, (name, how, number, ended)
-                refusals += 1
-        return refusals
 
     def done(self, name, refused):
         """One test with a refusal, and whether that came."""
@@ -207,40 +206,59 @@ class Tests:
         return subprocess.run([self.program, name], env=environment, **how), self.room.read("refused") is not None
 
 
+ALL = [*FAULTS, *HARMLESS]
+
+
 def swept(sweep, ways):
-    """What became of all the refusals of a run, in these ways."""
-    total = Counter()
+    """Makes all the refusals of a run, in these ways."""
     for kind, how in ways:
         counts = sweep.through(kind, how)
-        print(f"{counts['told']:6} told, {counts['unneeded']:5} of no effect: {kind}, {how}: {sweep.label}", flush=True)
-        total += counts
-    return total
+        print(f"{counts['told']:6} told, {counts['unneeded']:5} of no effect: {kind}, {how}", flush=True)
+
+
+def prepared():
+    """A room, and in it the library that refuses."""
+    room = Room()
+    room.put("large.bin", bytes((7 * place + place // 256) % 255 for place in range(262_144)))
+    shim = room.folder / "refuse.so"
+    subprocess.run(["cc", "-O2", "-shared", "-fPIC", "-o", str(shim), str(TOP / "tests/refuse.c"), "-ldl"], check=True)
+    room.given |= {"large.bin", shim.name}
+    return room, shim
+
+
+def over_late_line(room, shim, label):
+    late = OverNet(room, shim, label, [], b"")
+    swept(late, [("growth", "fail"), ("growth", "onwards"), ("open", "fail"), ("socket", "fail")])
+
+
+def while_serving(room, shim, label):
+    served = Serving(room, shim, label, [], b"")
+    same("what a sound session answers", served.sound[1], ANSWERS)
+    swept(served, ALL)
+
+
+def cases_of(room, shim):
+    """The cases by their names: the runs, and the tests of two crates."""
+    cases = {label: lambda label=label, it=it: swept(Sweep(room, shim, label, *it), ALL) for label, it in RUNS.items()}
+    for label, (words, status) in REFUSED.items():
+        cases[label] = lambda it=(label, words, b"", status): swept(Sweep(room, shim, *it), ALL)
+    for label, look in [
+        ("the whole EEPROM over a line with a late answer", over_late_line),
+        ("a session served at a port", while_serving),
+    ]:
+        cases[label] = lambda label=label, look=look: look(room, shim, label)
+    for crate, front in DEVICES.items():
+        for how in ["fail", "onwards"]:
+            cases[f"the tests of {crate}, {how}"] = lambda it=(crate, front), how=how: Tests(room, shim, *it).through(how)
+    return cases
 
 
 def main():
-    begun = time.monotonic()
-    room = Room()
-    room.put("large.bin", bytes((7 * place + place // 256) % 255 for place in range(262_144)))
-    room.given.add("large.bin")
-    shim = room.folder / "refuse.so"
-    subprocess.run(["cc", "-O2", "-shared", "-fPIC", "-o", str(shim), str(TOP / "tests/refuse.c"), "-ldl"], check=True)
-    room.given.add(shim.name)
-    total = Counter()
-    for label, (words, given) in RUNS.items():
-        total += swept(Sweep(room, shim, label, words, given), [*FAULTS, *HARMLESS])
-    for label, (words, status) in REFUSED.items():
-        total += swept(Sweep(room, shim, label, words, b"", status), [*FAULTS, *HARMLESS])
-    late = OverNet(room, shim, "the whole EEPROM over a line with a late answer", [], b"")
-    total += swept(late, [("growth", "fail"), ("growth", "onwards"), ("open", "fail"), ("socket", "fail")])
-    served = Serving(room, shim, "a session served at a port", ["-p", "m328p", "--chip", "chip.bin"], b"")
-    assert served.sound[1] == ANSWERS, served.sound
-    total += swept(served, [*FAULTS, *HARMLESS])
-    for crate, front in DEVICES.items():
-        for how in ["fail", "onwards"]:
-            print(f"{Tests(room, shim, crate, front).through(how):6} refused: growth, {how}: the tests of {crate}", flush=True)
-    seconds = time.monotonic() - begun
-    print(f"{total['told']} refusals told, {total['unneeded']} of no effect, 0 failed, in {seconds:.0f} s")
+    if not shutil.which("cc"):
+        left_out = lambda name: leave_out(name, "there is no C compiler")
+        return run_cases({name: lambda name=name: left_out(name) for name in cases_of(None, None)}, __doc__)
+    return run_cases(cases_of(*prepared()), __doc__)
 
 
 if __name__ == "__main__":
-    main()
+    sys.exit(main())

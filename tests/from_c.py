@@ -1,6 +1,9 @@
 #!/usr/bin/env python3
 """The library for C: examples/c and examples/python, run on the examples' files, on seeded images with gaps, and on
-damaged files. Where there is no C compiler, nothing is run. `tests/from_c.py`."""
+damaged files; is left out where there is no C compiler.
+
+    tests/from_c.py [CASE ..]
+"""
 
 import os
 import random
@@ -9,6 +12,8 @@ import subprocess
 import sys
 import tempfile
 from pathlib import Path
+
+from cases import leave_out, named, run_cases, same
 
 ROOT = Path(__file__).resolve().parent.parent
 IMAGES = 60
@@ -99,10 +104,10 @@ class Library:
 def comes_back(library, file, image, size):
     for kind in ("ihex", "srec"):
         text = library.written(file, size, kind)
-        assert parse(text) == image, (file, kind)
+        same(f"{file} as {kind}", parse(text), image)
         again = library.folder / "again"
         again.write_bytes(text)
-        assert library.written(again, size, kind) == text, (file, kind)
+        same(f"{file} as {kind}, again", library.written(again, size, kind), text)
 
 
 def files_come_back(library):
@@ -110,17 +115,17 @@ def files_come_back(library):
         file = ROOT / "examples" / name
         image = parse(file.read_bytes())
         comes_back(library, file, image, 32_768)
-        assert library.printed(file, 32_768) == shown(image), name
+        same(f"{name} printed", library.printed(file, 32_768), shown(image))
 
 
 def images_come_back(library):
-    file = library.folder / "drawn"
     for seed in range(IMAGES):
+        file = library.folder / f"seed {seed}"
         image, size = drawn(seed)
         file.write_bytes(ihex_of(image))
         comes_back(library, file, image, size)
         if size <= 4096:
-            assert library.printed(file, size) == shown(image), seed
+            same(f"seed {seed} printed", library.printed(file, size), shown(image))
 
 
 def faults_are_told(library):
@@ -135,20 +140,17 @@ def faults_are_told(library):
         (b"no record", 4, "line 0: fault 11, address 00000000"),
     ):
         file.write_bytes(text)
-        assert library.fault(file, size) == told, (text, library.fault(file, size))
+        same(f"{text} in {size} bytes", library.fault(file, size), told)
 
 
 def main():
+    looks = named(files_come_back, images_come_back, faults_are_told)
     if shutil.which(os.environ.get("CC", "cc")) is None:
-        print("from_c: not run, there is no C compiler")
-        return
+        return run_cases({name: lambda name=name: leave_out(name, "there is no C compiler") for name in looks}, __doc__)
     with tempfile.TemporaryDirectory() as folder:
         library = Library(Path(folder))
-        files_come_back(library)
-        images_come_back(library)
-        faults_are_told(library)
-    print(f"from_c: 3 files, {IMAGES} drawn images and 7 faults, through C and Python")
+        return run_cases({name: lambda look=look: look(library) for name, look in looks.items()}, __doc__)
 
 
 if __name__ == "__main__":
-    main()
+    sys.exit(main())

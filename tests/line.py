@@ -3,9 +3,8 @@
 import socket
 import struct
 import threading
-import time
 
-from program import free_port
+from program import Server
 
 
 def frames_of(stream):
@@ -53,6 +52,8 @@ class Peer:
 
     def end(self):
         """What was heard, once the caller has gone."""
+        # where nobody called, this one does, and says nothing; else it isn't met
+        socket.create_connection(("127.0.0.1", self.port), 30).close()
         self.thread.join()
         self.listener.close()
         return self.heard
@@ -80,23 +81,13 @@ class BadLine(Peer):
     `lost command` never arrives, the answer of `lost answer` is dropped, and that of `late answer` comes in front of the next.
     `spoiled command` and `spoiled answer` come with another last byte, which is the XOR."""
 
-    def __init__(self, room, fates, server_port=None, part="m328p"):
+    def __init__(self, room, fates, part="m328p"):
         self.fates = fates
-        self.server_port = server_port or free_port()
-        words = ["-p", part, "--serve", str(self.server_port), "--chip", "served.bin"]
-        self.server = room.start(words)
+        self.server = Server(room, part=part)
         super().__init__()
 
-    def connected(self):
-        for _ in range(200):
-            try:
-                return socket.create_connection(("127.0.0.1", self.server_port), 30)
-            except ConnectionRefusedError:
-                time.sleep(0.01)
-        raise TimeoutError("the emulated programmer does not listen")
-
     def serve(self, caller):
-        with self.connected() as programmer:
+        with self.server.call() as programmer:
             answers = frames_of(programmer)
             late = b""
             for frame in frames_of(caller):
@@ -114,9 +105,6 @@ class BadLine(Peer):
 
     def end(self):
         """What was heard, once the emulated programmer has saved its chip."""
-        if not self.heard:
-            # nobody called: a caller who says nothing lets both ends go
-            socket.create_connection(("127.0.0.1", self.port), 30).close()
         heard = super().end()
-        self.server.communicate(timeout=30)
+        self.server.end()
         return heard

@@ -1,7 +1,7 @@
 #!/usr/bin/env python3
 """Holds the page of manual to docs/USAGE, and both to the options of the program.
 
-    tests/manual.py            docs/avrstk.1 is what is made of docs/USAGE.md; USAGE, the completions and docs/PART name
+    tests/manual.py [CASE ..]  docs/avrstk.1 is what is made of docs/USAGE.md; USAGE, the completions and docs/PART name
                                the options and parts that the program's --help names; runs over `emu:` print what README
                                and USAGE show of them, and what USAGE tells of differences from AVRDUDE holds: needs
                                crates/avrstk/out/avrstk, as rt ci leaves it
@@ -16,6 +16,7 @@ import sys
 import tempfile
 from pathlib import Path
 
+from cases import leave_out, named, run_cases, same, see
 from program import PROGRAM, TOP
 
 USAGE = TOP / "docs/USAGE.md"
@@ -51,7 +52,7 @@ def escaped(text):
 
 
 def inline(text):
-    """A text with its code and strong words bold."""
+    """A text with its code and strong words bold, and stressed ones underlined."""
     pieces = re.split(r"(``? .*? ``?|`[^`]*`)", text)
     made = []
     for piece in pieces:
@@ -61,7 +62,8 @@ def inline(text):
             piece = re.sub(r"\[([^]]*)\]\([^)]*\)", r"\1", piece)
             made.append(escaped(piece).replace("\\(ga", ""))
     strong = lambda it: "\\fB" + it[1].replace("\\fB", "").replace("\\fR", "\\fB") + "\\fR"
-    return re.sub(r"\*\*(.*?)\*\*", strong, "".join(made))
+    text = re.sub(r"\*\*(.*?)\*\*", strong, "".join(made))
+    return re.sub(r"(?<![\w*])\*(\w[^*]*?)\*(?!\w)", r"\\fI\1\\fR", text)
 
 
 def line(text):
@@ -236,41 +238,60 @@ def differences():
         yield f"one byte of EEPROM: {eeprom.hex()}", eeprom == b"\xff" * 100 + b"\x2a" + b"\xff" * 923
 
 
-def main():
-    if sys.argv[1:] == ["--write"]:
-        PAGE.write_text(page())
-        return
-    if not PROGRAM.exists():
-        sys.exit(__doc__)
+def page_is_made():
+    """docs/avrstk.1 is made of docs/USAGE.md."""
+    see("docs/avrstk.1 is made of docs/USAGE.md", PAGE.read_text() == page(), "tests/manual.py --write")
+
+
+def names_agree():
+    """The options and parts that USAGE, docs/PART, the completions and --help name."""
     options, shown = of_help()
     completions = (TOP / "completions/avrstk.bash").read_text()
     completed = re.search(r'"(-p [^"]*)"', completions)[1].split()
-    rows = [
-        ("docs/avrstk.1 is made of docs/USAGE.md (tests/manual.py --write)", PAGE.read_text() == page()),
-        (f"the options of USAGE are those of --help: {of_usage() ^ options}", of_usage() == options),
-        (f"the completions are those of --help: {completed}", set(completed) == {name for name, _ in options}),
-        ("--help names the built-in parts", ", ".join(parts()[:-1]) in shown and parts()[-1] in shown),
-        ("USAGE names the built-in parts", all(f"`{it}` (AT" in USAGE.read_text() for it in parts())),
-        ("the completions have the built-in parts", f'"{" ".join(parts())}"' in completions),
-        *shown_runs("README.md"),
-        *shown_runs("docs/USAGE.md"),
-        *differences(),
-    ]
-    skipped = 0
-    if shutil.which("groff"):
-        ran = subprocess.run(["groff", "-ww", "-man", "-Tutf8", "-rLL=100n", PAGE], capture_output=True, text=True)
-        rows.append((f"the page is without warnings: {ran.stderr[:300]}", not ran.returncode and not ran.stderr))
-        plain = re.sub(r"\x1b\[[0-9;]*m|.\x08", "", ran.stdout)
-        recipe = "examples/serial.sh /dev/ttyACM0 115200 -- -p m328p"
-        rows.append(("the page shows a recipe as it is typed", recipe in plain))
-    else:
-        skipped = 2
-    failed = [what for what, holds in rows if not holds]
-    for what in failed:
-        print(f"not so: {what}")
-    print(f"{len(rows) - len(failed)} passed, {len(failed)} failed, {skipped} skipped")
-    sys.exit(bool(failed))
+    same("the options of USAGE are those of --help", of_usage(), options)
+    same("the completions are those of --help", set(completed), {name for name, _ in options})
+    see("--help names the built-in parts", ", ".join(parts()[:-1]) in shown and parts()[-1] in shown, parts())
+    see("USAGE names the built-in parts", all(f"`{it}` (AT" in USAGE.read_text() for it in parts()), parts())
+    see("the completions have the built-in parts", f'"{" ".join(parts())}"' in completions, parts())
+
+
+def runs_of_readme():
+    for what, holds in shown_runs("README.md"):
+        see(what, holds)
+
+
+def runs_of_usage():
+    for what, holds in shown_runs("docs/USAGE.md"):
+        see(what, holds)
+
+
+def differences_hold():
+    for what, holds in differences():
+        see(what, holds)
+
+
+def page_is_shown():
+    """The page as groff shows it."""
+    if not shutil.which("groff"):
+        return leave_out("the page of manual as it is shown", "groff is not installed")
+    ran = subprocess.run(["groff", "-ww", "-man", "-Tutf8", "-rLL=100n", PAGE], capture_output=True, text=True)
+    see("the page is without warnings", not ran.returncode and not ran.stderr, ran.stderr[:300])
+    plain = re.sub(r"\x1b\[[0-9;]*m|.\x08", "", ran.stdout)
+    see("the page shows a recipe as it is typed", "avrstk-serial -p m328p -P /dev/ttyACM0 -b 115200" in plain)
+    see("the page shows no mark of docs/USAGE", not set("*`") & set(plain))
+
+
+CASES = named(page_is_made, names_agree, runs_of_readme, runs_of_usage, differences_hold, page_is_shown)
+
+
+def main():
+    if sys.argv[1:] == ["--write"]:
+        PAGE.write_text(page())
+        return 0
+    if not PROGRAM.exists():
+        sys.exit(f"{PROGRAM} is not built: rt ci leaves it there, and so does (cd crates/avrstk && rt run < stdin)")
+    return run_cases(CASES, __doc__)
 
 
 if __name__ == "__main__":
-    main()
+    sys.exit(main())

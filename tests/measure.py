@@ -1,7 +1,7 @@
 #!/usr/bin/env python3
 """How large the project is and how it reads: what can be counted in its sources.
 
-    tests/measure.py         the tables (docs/PROOFS has those of the last change that was measured)
+    tests/measure.py         the tables (docs/ARCHITECTURE has those of the last change that was measured)
     tests/measure.py -v      also the places: lines over 120 columns, the widest definitions, names with several meanings
 
 Only files that git knows of are read. Lines of code are those of src/ without tests, blank lines, comments and contracts;

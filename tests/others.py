@@ -2,13 +2,16 @@
 """Holds the record files of this project beside those of other programs: srec_cat, avr-objcopy and python3-intelhex, as far as
 they are installed.
 
-    tests/others.py        needs crates/record_convert/out/record_convert, as rt ci leaves it (or its path as an argument)
+    tests/others.py [TOOL ..]        needs crates/record_convert/out/record_convert, as rt ci leaves it, or where
+                                     RECORD_CONVERT says
 
 Images with gaps, drawn from fixed seeds, are written here as Intel HEX and S-records, and each of the others reads them; each of
 the others writes them, and they are read here. Every byte has to stand at its address, and no other. A plain reader and writer
-in this file stand between. What isn't installed is told.
+in this file stand between. What isn't installed is left out, and told.
 """
 
+import functools
+import os
 import random
 import shutil
 import subprocess
@@ -16,8 +19,10 @@ import sys
 import tempfile
 from pathlib import Path
 
+from cases import leave_out, run_cases, see
+
 TOP = Path(__file__).resolve().parent.parent
-PROGRAM = Path(sys.argv[1]) if len(sys.argv) > 1 else TOP / "crates/record_convert/out/record_convert"
+PROGRAM = Path(os.environ.get("RECORD_CONVERT") or TOP / "crates/record_convert/out/record_convert").resolve()
 IMAGES = 120
 
 # where a distribution keeps its modules, if this python looks elsewhere
@@ -27,8 +32,8 @@ try:
 except ImportError:
     IntelHex = None
 
-room = Path(tempfile.mkdtemp())
-seen = {}
+held = tempfile.TemporaryDirectory()
+room = Path(held.name)
 
 
 def plain_read(text):
@@ -138,31 +143,44 @@ OTHERS = {
 }
 
 
-def see(what, found, wanted):
-    seen[what] = seen.get(what, 0) + 1
-    if found != wanted:
-        differ = sorted(at for at in found.keys() | wanted.keys() if found.get(at) != wanted.get(at))
-        raise SystemExit(f"{what}: {len(differ)} bytes differ, the first at {differ[0]:#x}")
+def same_image(what, found, wanted):
+    differ = sorted(at for at in found.keys() | wanted.keys() if found.get(at) != wanted.get(at))
+    return see(what, not differ, f"{len(differ)} bytes differ, the first at {differ[0]:#x}" if differ else "")
 
 
-if not PROGRAM.exists():
-    sys.exit("crates/record_convert/out/record_convert is not built: rt ci leaves it there")
-for name, (installed, _, _) in OTHERS.items():
-    if not installed:
-        print(f"{name} is not installed")
-for seed in range(IMAGES):
+@functools.cache
+def written_here(seed, format):
+    """The image of a seed, the size of its memory, and its record file as this project writes it."""
     image, size, draw = drawn(seed)
-    plain = plain_ihex(image, draw)
-    for format in ["ihex", "srec"]:
-        ours = here(plain, format, size)
-        see(f"written here as {format}", plain_read(ours), image)
-        see(f"read here as {format}", plain_read(here(ours, "srec", size)), image)
-        for name, (installed, convert, formats) in OTHERS.items():
-            if installed and format in formats:
-                for to in formats:
-                    theirs = convert(ours, format, to)
-                    see(f"{format} read by {name}", plain_read(theirs), image)
-                    see(f"{to} of {name} read here", plain_read(here(theirs, "ihex", size)), image)
-shutil.rmtree(room)
-for what, count in seen.items():
-    print(f"{count:5} {what}")
+    return image, size, here(plain_ihex(image, draw), format, size)
+
+
+def here_alone():
+    """What is written here, and read here again."""
+    for seed in range(IMAGES):
+        for format in ["ihex", "srec"]:
+            image, size, ours = written_here(seed, format)
+            same_image(f"seed {seed}: written here as {format}", plain_read(ours), image)
+            same_image(f"seed {seed}: read here as {format}", plain_read(here(ours, "srec", size)), image)
+
+
+def beside(name):
+    """What is written here and read by another program, and what that writes and is read here."""
+    installed, convert, formats = OTHERS[name]
+    if not installed:
+        return leave_out(f"record files beside {name}", f"{name} is not installed")
+    for seed in range(IMAGES):
+        for format in formats:
+            image, size, ours = written_here(seed, format)
+            for to in formats:
+                theirs = convert(ours, format, to)
+                same_image(f"seed {seed}: {format} read by {name}", plain_read(theirs), image)
+                same_image(f"seed {seed}: {to} of {name} read here", plain_read(here(theirs, "ihex", size)), image)
+
+
+CASES = {"here": here_alone} | {name: lambda name=name: beside(name) for name in OTHERS}
+
+if __name__ == "__main__":
+    if not PROGRAM.exists():
+        sys.exit(f"{PROGRAM} is not built: rt ci leaves it there")
+    sys.exit(run_cases(CASES, __doc__))

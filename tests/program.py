@@ -1,14 +1,16 @@
-"""The built program in a folder of its own, for the scripts beside this one."""
+"""The built program in a folder of its own, and served at a port, for the scripts beside this one."""
 
 import os
 import socket
 import subprocess
 import sys
 import tempfile
+import time
 from pathlib import Path
 
 TOP = Path(__file__).resolve().parent.parent
-PROGRAM = TOP / "crates/avrstk/out/avrstk"
+# the program that is run: as rt ci leaves it, or another that AVRSTK names
+PROGRAM = Path(os.environ.get("AVRSTK") or TOP / "crates/avrstk/out/avrstk").resolve()
 
 # the answers of a session in which nothing is done, and how many bytes there are up to the end of each
 ANSWERS = (TOP / "crates/avrstk/stdin").read_bytes()
@@ -36,7 +38,7 @@ class Room:
 
     def __init__(self):
         if not PROGRAM.exists():
-            sys.exit("crates/avrstk/out/avrstk is not built: rt ci leaves it there, and so does (cd crates/avrstk && rt run < stdin)")
+            sys.exit(f"{PROGRAM} is not built: rt ci leaves it there, and so does (cd crates/avrstk && rt run < stdin)")
         self.held = tempfile.TemporaryDirectory()
         self.folder = Path(self.held.name)
         self.put("empty.bin", b"")
@@ -59,10 +61,11 @@ class Room:
             if file.name not in self.given:
                 file.unlink()
 
-    def start(self, words, given=subprocess.DEVNULL, closed="", **more):
+    def start(self, words, given=subprocess.DEVNULL, closed="", front=(), **more):
+        """A run with these words; what stands in front of the program's name is another that runs it."""
         how = {"stdin": given, "stdout": subprocess.PIPE, "stderr": subprocess.PIPE, "cwd": self.folder} | more
         shell = ["sh", "-c", f'exec "$0" "$@" {closed}'] if closed else []
-        return subprocess.Popen([*shell, str(PROGRAM), *words], **how)
+        return subprocess.Popen([*shell, *front, str(PROGRAM), *words], **how)
 
     def run(self, words, given=b"", environment=None, closed=""):
         """The status, the output and the messages of a run; what is closed is in the words of the shell."""
@@ -87,7 +90,68 @@ def frame(number, *body):
 
 
 def free_port():
-    """A port of 127.0.0.1 that nobody uses now."""
+    """A port of 127.0.0.1 that nobody uses now, for a program that takes none that is kept."""
     with socket.socket() as it:
         it.bind(("127.0.0.1", 0))
         return it.getsockname()[1]
+
+
+def kept_port():
+    """A socket that keeps a port of 127.0.0.1 for as long as it lives: the system gives the port to nobody else, and
+    nobody listens there but who asks for it by its number and says that he reuses it, as this program does that serves."""
+    kept = socket.socket()
+    kept.setsockopt(socket.SOL_SOCKET, socket.SO_REUSEADDR, 1)
+    kept.bind(("127.0.0.1", 0))
+    return kept
+
+
+def port_of(kept):
+    return kept.getsockname()[1]
+
+
+class Server:
+    """The program as the emulated programmer of a part, at a port that is kept for it; in a `with` it is ended at the
+    end, if it runs still."""
+
+    def __init__(self, room, chip="served.bin", part="m328p", words=(), waits=True, **more):
+        self.kept = kept_port()
+        self.port = port_of(self.kept)
+        serving = ["-p", part, "--serve", str(self.port), "--chip", chip]
+        self.started = room.start([*words, *serving], **more)
+        if waits:
+            self.wait_until_listens()
+
+    def listens(self):
+        """Whether anybody listens at the port (state 0A), without a call, which would be the one that is served."""
+        return f" 0100007F:{self.port:04X} 00000000:0000 0A " in Path("/proc/net/tcp").read_text()
+
+    def wait_until_listens(self):
+        ends = time.monotonic() + 30
+        while not self.listens():
+            if self.started.poll() is not None or time.monotonic() > ends:
+                raise ConnectionRefusedError(f"nobody serves at port {self.port}: {self.stop()}")
+            time.sleep(0.002)
+
+    def call(self):
+        """A connection to it."""
+        return socket.create_connection(("127.0.0.1", self.port), 30)
+
+    def end(self):
+        """Its status, output and messages, once its caller has gone."""
+        output, messages = self.started.communicate(timeout=60)
+        self.kept.close()
+        return self.started.returncode, output, messages
+
+    def stop(self):
+        """Ends it, if it runs still."""
+        if self.started.poll() is None:
+            self.started.kill()
+        return self.end()
+
+    def __enter__(self):
+        return self
+
+    def __exit__(self, *_):
+        if self.started.returncode is None:
+            self.stop()
+        self.kept.close()

@@ -1,18 +1,17 @@
 #!/usr/bin/env python3
 """Asks the programmer that the built program serves, frame by frame: what each command answers, up to the edges of its fields.
 
-    tests/programmer.py        needs crates/avrstk/out/avrstk, as rt ci leaves it
+    tests/programmer.py [CASE ..]      needs crates/avrstk/out/avrstk, as rt ci leaves it
 """
 
 import socket
 import sys
-import time
 
+from cases import run_cases, same
 from line import frames_of
-from program import Room, frame, free_port
+from program import Room, Server, frame
 
 room = Room()
-passed = 0
 
 ENTER = "10 C8 64 19 20 00 53 03 AC 53 00 00"
 FLASH = "C1 0A 40 4C 20 FF FF"
@@ -90,75 +89,51 @@ TALK = [
 ]
 
 
-def see(what, found, wanted):
-    global passed
-    if found != wanted:
-        sys.exit(f"{what}: {found.hex(' ')}\nwanted: {wanted.hex(' ')}")
-    passed += 1
-
-
 def served():
-    """A program that serves a new ATmega328P, and a connection to it."""
+    """The program as the programmer of a new ATmega328P."""
     room.clear()
-    port = free_port()
-    started = room.start(["-p", "m328p", "--serve", str(port), "--chip", "chip.bin"])
-    while True:
-        try:
-            return started, socket.create_connection(("127.0.0.1", port), 30)
-        except ConnectionRefusedError:
-            time.sleep(0.01)
-
-
-def ended(started):
-    """The caller has gone: the chip is saved, and nothing was said."""
-    output, messages = started.communicate(timeout=30)
-    if (started.returncode, output, messages) != (0, b"", b""):
-        sys.exit(f"serving ended with {started.returncode}: {messages}")
+    return Server(room, "chip.bin")
 
 
 def ask_all(size):
-    """The whole talk, its frames in pieces of so many bytes."""
-    started, caller = served()
-    caller.setsockopt(socket.IPPROTO_TCP, socket.TCP_NODELAY, 1)
-    with caller:
-        answers = frames_of(caller)
-        for number, (what, body, answer) in enumerate(TALK, 250):
-            sent = frame(number, bytes.fromhex(body))
-            for place in range(0, len(sent), size):
-                caller.sendall(sent[place : place + size])
-            see(f"{what}: {body[:40]}", next(answers), frame(number, bytes.fromhex(answer)))
-    ended(started)
+    """The whole talk, its frames in pieces of so many bytes. The server ends with its caller, and nothing was said."""
+    with served() as server:
+        with server.call() as caller:
+            caller.setsockopt(socket.IPPROTO_TCP, socket.TCP_NODELAY, 1)
+            answers = frames_of(caller)
+            for number, (what, body, answer) in enumerate(TALK, 250):
+                sent = frame(number, bytes.fromhex(body))
+                for place in range(0, len(sent), size):
+                    caller.sendall(sent[place : place + size])
+                same(f"{what}: {body[:40]}", next(answers), frame(number, bytes.fromhex(answer)))
+        same("the end", server.end(), (0, b"", b""))
 
 
 def frames_are_cut():
     """What is no good frame: noise, bad headers, and a frame whose check is wrong."""
     sign_on, answer = frame(9, b"\x01"), frame(9, b"\x01\x00\x08STK500_2")
     unknown = bytes.fromhex("1B0900010E0518")
-    started, caller = served()
-    with caller:
-        answers = frames_of(caller)
-        for what, sent, wanted in [
-            ("an unknown command", unknown, bytes.fromhex("1B0900020E05C9D2")),
-            ("a wrong check", unknown[:-1] + b"\x19", bytes.fromhex("1B0900020EB0C16F")),
-            ("noise in front", bytes(1000) + sign_on, answer),
-            ("a size of 276", b"\x1b\x09\x01\x14\x0e" + bytes(277) + sign_on, answer),
-            ("a size of 0", b"\x1b\x09\x00\x00\x0e" + sign_on, answer),
-            ("another token", b"\x1b\x09\x00\x01\x0f" + sign_on, answer),
-            ("a start byte inside a bad header", b"\x1b\x1b\x09\x00\x01" + sign_on, answer),
-        ]:
-            caller.sendall(sent)
-            see(what, next(answers), wanted)
-        caller.sendall(sign_on + unknown)
-        see("two at once", next(answers) + next(answers), answer + bytes.fromhex("1B0900020E05C9D2"))
-    ended(started)
+    with served() as server:
+        with server.call() as caller:
+            answers = frames_of(caller)
+            for what, sent, wanted in [
+                ("an unknown command", unknown, bytes.fromhex("1B0900020E05C9D2")),
+                ("a wrong check", unknown[:-1] + b"\x19", bytes.fromhex("1B0900020EB0C16F")),
+                ("noise in front", bytes(1000) + sign_on, answer),
+                ("a size of 276", b"\x1b\x09\x01\x14\x0e" + bytes(277) + sign_on, answer),
+                ("a size of 0", b"\x1b\x09\x00\x00\x0e" + sign_on, answer),
+                ("another token", b"\x1b\x09\x00\x01\x0f" + sign_on, answer),
+                ("a start byte inside a bad header", b"\x1b\x1b\x09\x00\x01" + sign_on, answer),
+            ]:
+                caller.sendall(sent)
+                same(what, next(answers), wanted)
+            caller.sendall(sign_on + unknown)
+            same("two at once", next(answers) + next(answers), answer + bytes.fromhex("1B0900020E05C9D2"))
+        same("the end", server.end(), (0, b"", b""))
 
 
-def main():
-    for size in [1, 3, 281]:
-        ask_all(size)
-    frames_are_cut()
-    print(f"{passed} passed, 0 failed")
-
+CASES = {f"in pieces of {size}": lambda size=size: ask_all(size) for size in [1, 3, 281]}
+CASES["frames are cut"] = frames_are_cut
 
 if __name__ == "__main__":
-    main()
+    sys.exit(run_cases(CASES, __doc__))

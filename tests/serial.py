@@ -1,59 +1,55 @@
 #!/usr/bin/env python3
-"""Runs the recipes of docs/USAGE for a serial line, as they stand there, over a pseudo terminal to an emulated
-programmer, and examples/serial.sh to one that is deaf for a while after its device was opened, as a board that resets
-then.
+"""Runs avrstk-serial over pseudo terminals, with an emulated programmer behind them: each word of AVRDUDE that it
+takes, drops or refuses, each hint behind a run that failed, boards that are deaf after a reset, vanish, are silent or
+talk, and how it ends at a signal; and the recipes of docs/USAGE for a serial line, as they stand there.
 
-    tests/serial.py        needs crates/avrstk/out/avrstk, as rt ci leaves it; socat and ser2net, or runs are skipped
+    tests/serial.py [CASE ..]      needs crates/avrstk/out/avrstk, as rt ci leaves it; of the recipes those that need
+                                   socat or ser2net are left out where these are not installed
 """
 
+import array
+import fcntl
 import os
+import pty
 import re
 import select
-import shlex
 import shutil
+import signal
 import socket
 import subprocess
+import sys
+import termios
 import threading
 import time
 import tty
+from pathlib import Path
 
-from program import PROGRAM, TOP, Room, free_port, lines
+from cases import leave_out, named, run_cases, same, see
+from program import PROGRAM, TOP, Room, Server, free_port, lines
 
-SCRIPT = TOP / "examples/serial.sh"
+SCRIPT = TOP / "avrstk-serial"
 SIGNATURE = "device signature = 1E 95 0F"
 FIRMWARE = [SIGNATURE, "chip erased", "flash: 228 bytes written", "flash: 228 bytes verified", "done"]
-CALL = "avrstk -p m328p -P net:127.0.0.1:5000 -U flash:w:firmware.hex"
-passed = skipped = 0
+FLASH = ["-p", "m328p", "-U", "flash:w:blink.hex:i"]
+CALL = "avrstk -p m328p -P net:127.0.0.1:5000 -U flash:w:firmware.hex:i"
 room = Room()
 
 
-def see(what, found, wanted):
-    """Counts a run, which has to have come to this."""
-    global passed
-    if found != wanted:
-        raise SystemExit(f"{what}: {str(found)[:500]}\nwanted: {str(wanted)[:500]}")
-    passed += 1
-
-
-def skip(what):
-    global skipped
-    skipped += 1
-    print(f"  skipped: {what}")
-
-
 class Board:
-    """An emulated programmer behind a pseudo terminal. It starts when its device is opened, hears nothing for its first
-    so many seconds, and where nobody has called so many seconds after its start it hears nothing any more."""
+    """An emulated programmer of a part behind a pseudo terminal, as a board whose device resets it when it is opened:
+    it hears nothing for its first `deaf` seconds, and nothing more where nobody called in its first `gone` seconds.
+    With `talk` it has no programmer and prints this text all the time; `vanish` is how many of its answers come before
+    the device is gone; `answer` changes the bytes of each."""
 
-    def __init__(self, deaf=0.0, gone=None):
-        self.deaf, self.gone = deaf, gone
-        room.clear()
-        self.server_port = free_port()
-        self.server = room.start(["-p", "m328p", "--serve", str(self.server_port), "--chip", "served.bin"])
-        self.line, slave = os.openpty()
+    def __init__(self, deaf=0.0, gone=None, part="m328p", talk=None, vanish=None, answer=None, words=()):
+        self.deaf, self.gone, self.talk, self.vanish, self.answer = deaf, gone, talk, vanish, answer
+        self.opened = self.heard = 0
+        self.server = None if talk else Server(room, "served.bin", part, words)
+        self.line, slave = pty.openpty()
         tty.setraw(slave)
         self.device = os.ttyname(slave)
         os.close(slave)
+        self.stopped = threading.Event()
         self.thread = threading.Thread(target=self.live, daemon=True)
         self.thread.start()
 
@@ -63,68 +59,392 @@ class Board:
         return not any(what & select.POLLHUP for _, what in look.poll(0))
 
     def live(self):
-        wait_for(self.server_port)
-        with socket.create_connection(("127.0.0.1", self.server_port), 30) as programmer:
-            programmer.settimeout(None)
-            while not self.is_open():
-                time.sleep(0.001)
-            begun = time.monotonic()
-            called = False
+        while not self.is_open():
+            if self.stopped.wait(0.001):
+                return
+        self.opened = 1
+        self.talks() if self.talk else self.answers()
+
+    def talks(self):
+        while self.is_open() and not self.stopped.wait(0.05):
+            os.write(self.line, self.talk)
+
+    def answers(self):
+        begun, called, count = time.monotonic(), False, 0
+        with self.server.call() as programmer:
             while True:
                 ready, _, _ = select.select([self.line, programmer], [], [])
                 if self.line in ready:
                     try:
                         heard = os.read(self.line, 4096)
                     except OSError:
-                        # the device was closed
                         return
                     age = time.monotonic() - begun
+                    self.heard += len(heard)
                     called = called or age >= self.deaf and (self.gone is None or age < self.gone)
                     if called:
                         programmer.sendall(heard)
                 if programmer in ready:
                     answer = programmer.recv(4096)
-                    if not answer:
+                    if count == self.vanish or not answer:
+                        os.close(self.line)
                         return
-                    os.write(self.line, answer)
+                    count += 1
+                    os.write(self.line, self.answer(answer) if self.answer else answer)
 
     def end(self):
-        """The chip's flash, once the device was closed, which it has to be soon."""
-        self.thread.join(10)
+        """The chip, once the device was closed, which it has to be soon."""
+        if not self.opened:
+            self.stopped.set()
+        self.thread.join(20)
         if self.thread.is_alive():
             raise SystemExit("the device stays open behind the run")
-        self.server.communicate(timeout=30)
-        os.close(self.line)
-        return (room.read("served.bin") or b"")[:32_768]
+        if self.server and not self.opened:
+            self.server.stop()
+        elif self.server:
+            self.server.end()
+        if self.vanish is None:
+            os.close(self.line)
+        return room.read("served.bin")
 
 
-def recipe(start):
+def start(words, **more):
+    """avrstk-serial with these words, in the room."""
+    how = {"cwd": room.folder, "stdin": subprocess.DEVNULL, "stdout": subprocess.PIPE, "stderr": subprocess.PIPE} | more
+    how["env"] = os.environ | {"AVRSTK": str(PROGRAM)} | how.get("env", {})
+    return subprocess.Popen([sys.executable, str(SCRIPT), *words], **how)
+
+
+def run(words, **more):
+    """Its status, output, the lines of avrstk, and its own."""
+    started = start(words, **more)
+    output, told = started.communicate(timeout=120)
+    own = [it[15:] for it in told.decode().splitlines() if it.startswith("avrstk-serial: ")]
+    others = b"".join(it for it in told.splitlines(True) if not it.startswith(b"avrstk-serial: "))
+    return started.returncode, output, others, own
+
+
+def emulated(words, part="m328p"):
+    """The chip that these words leave over `emu:`."""
+    room.clear()
+    room.run(["-p", part, "-P", "emu:wanted.bin", "-qq", *words])
+    return room.read("wanted.bin")
+
+
+def flashed():
+    return emulated(FLASH[2:])
+
+
+def flashes(name, words, **board):
+    """The words, to a board whose device is put behind -P, flash the firmware."""
+    wanted = flashed()
+    # the window of a board that is deaf and gone soon can be missed where the machine is busy, as a person can miss it
+    for _ in range(3):
+        room.clear()
+        it = Board(**board)
+        status, _, told, own = run([word.replace("DEVICE", it.device) for word in words])
+        chip = it.end()
+        if status == 0:
+            break
+    same(name, (status, told, chip == wanted), (0, lines(*FIRMWARE), True))
+    return own
+
+
+def words_of_avrdude():
+    """Words as AVRDUDE has them."""
+    same("plain", flashes("plain", [*FLASH, "-P", "DEVICE", "-b", "115200"]), [])
+    same("no speed", flashes("no speed", [*FLASH, "-P", "DEVICE"]), [])
+    same("-c wiring", flashes("-c wiring", [*FLASH, "-c", "wiring", "-P", "DEVICE"]), [])
+    same("-cstk500v2", flashes("-cstk500v2", [*FLASH, "-cstk500v2", "-PDEVICE", "-b115200"]), [])
+    same("-v -v", flashes("-v -v", [*FLASH, "-v", "-v", "-PDEVICE"]), [])
+    long = ["-patmega328p", "-PDEVICE", "-Uflash:w:blink.hex:i"]
+    same("a long name", flashes("a long name", long), [])
+    long[0] = "-pATmega328P"
+    same("a long name with capitals", flashes("capitals", long), [])
+    recipe = ["-C/etc/avrdude.conf", "-v", "-patmega328p", "-cwiring", "-PDEVICE", "-b115200", "-Uflash:w:blink.hex:i"]
+    same("-C is left out", flashes("a recipe of an IDE", recipe), ["left out: -C /etc/avrdude.conf"])
+    own = flashes("-C and -l", [*FLASH, "-C", "x.conf", "-l", "x.log", "-P", "DEVICE"])
+    same("-C and -l are left out", own, ["left out: -C x.conf, -l x.log"])
+    same("--wait", flashes("--wait", ["--wait", "0", *FLASH, "-P", "DEVICE"]), [])
+    for wait in ["2.5", "3"]:
+        same(f"--wait={wait}", flashes(f"--wait={wait}", [f"--wait={wait}", *FLASH, "-P", "DEVICE"]), [])
+    for baud in ["9600", "74880", "250000", "1000000"]:
+        same(f"{baud} baud", flashes(baud, [*FLASH, "-P", "DEVICE", "-b", baud]), [])
+
+
+def speed_and_line():
+    """The device has the speed, eight bits, no parity and one stop bit, and passes every byte."""
+    room.clear()
+    it = Board(deaf=1000)
+    started = start([*FLASH, "-P", it.device, "-b", "250000"])
+    while not it.heard:
+        time.sleep(0.005)
+    # (the line of a pseudo terminal has one set of flags for both of its ends; TCGETS2 tells any speed)
+    held = array.array("I", bytes(44))
+    fcntl.ioctl(it.line, 0x802C542A, held)
+    same("the speed", (held[9], held[10]), (250_000, 250_000))
+    read, written, control, local, *_ = termios.tcgetattr(it.line)
+    same("bytes that are read are left alone", read, termios.IGNPAR)
+    same("bytes that are written, and the terminal", (written, local), (0, 0))
+    same("8N1", control & (termios.CSIZE | termios.PARENB | termios.CSTOPB | termios.CRTSCTS), termios.CS8)
+    started.send_signal(signal.SIGTERM)
+    started.communicate(timeout=30)
+    it.end()
+
+
+def reads():
+    """What is read goes to standard output, and what is written may come from standard input."""
+    room.clear()
+    it = Board()
+    status, output, _, own = run(["-p", "m328p", "-P", it.device, "-U", "lfuse:r:-:h"])
+    it.end()
+    same("a fuse is read", (status, output, own), (0, b"0xff\n", []))
+    wanted = flashed()
+    room.clear()
+    it = Board()
+    with open(TOP / "examples/blink.hex", "rb") as given:
+        status, *_ = run(["-p", "m328p", "-P", it.device, "-U", "flash:w:-:i"], stdin=given)
+    see("flash of standard input", (status, it.end() == wanted) == (0, True), status)
+
+
+def boards_that_reset():
+    """A board that is deaf at first, and starts its application soon."""
+    same("deaf", flashes("deaf", [*FLASH, "-P", "DEVICE"], deaf=0.25, gone=1.2), [])
+    waits = ["--wait", "1.5", *FLASH, "-P", "DEVICE"]
+    same("deaf for longer", flashes("deaf for longer", waits, deaf=1.4, gone=3.5), [])
+
+
+def parts():
+    """The part file that comes with it."""
+    wanted = emulated(["-e"], "t85")
+    room.clear()
+    it = Board(part="t85")
+    status, _, _, own = run(["-p", "attiny85", "-P", it.device, "-e"])
+    see("attiny85", (status, own, it.end() == wanted) == (0, [], True), own)
+    room.clear()
+    classic = ["--parts", str(TOP / "parts/classic.toml")]
+    it = Board(part="m32u4", words=classic)
+    status, _, _, own = run(["-p", "m32u4", "-P", it.device, "-e"])
+    it.end()
+    same("m32u4", (status, own), (0, []))
+    room.clear()
+    it = Board()
+    status, _, told, own = run(["--parts", "parts.toml", "-p", "atmega32u4", "-P", it.device, "-e"])
+    see("a given part file counts alone", (status, b"no part atmega32u4" in told, it.opened) == (1, True, 0), told)
+    it.end()
+    status, output, _, _ = run(["-p", "?"])
+    see("-p ? lists the parts", status == 0 and b"1E 93 0B   t85, attiny85\n" in output, output)
+
+
+def refused():
+    """What is refused opens no device, and tells why."""
+    note = "nothing was sent, and the device was not opened"
+    for words, wanted in [
+        (["-B", "10"], "-B is not here: the clock of the chip's pins"),
+        (["-B10"], "-B is not here"),
+        (["-x", "vtarg=5"], "-x is not here"),
+        (["-t"], "-t is not here"),
+        (["-c", "arduino"], "-c arduino is the bootloader of Uno and Nano"),
+        (["-c", "usbasp"], "-c usbasp is a programmer with a protocol of its own"),
+        (["-cusbtiny"], "-c usbtiny is a programmer with a protocol of its own"),
+        (["-c", "avrispmkII"], "-c avrispmkII is a programmer on USB"),
+        (["-c", "buspirate"], f"{note}; -c is stk500v2 or wiring"),
+        (["-b", "0"], "-b 0: no speed"),
+        (["-b", "fast"], "-b fast: no speed"),
+        (["--wait", "soon"], "--wait soon: no number of seconds from 0 to 3"),
+        (["--wait", "4"], "--wait 4: no number of seconds from 0 to 3"),
+        (["--wait"], "--wait: its value is missing"),
+        (["-U"], "-U: its value is missing"),
+        (["--serve", "5000"], "--serve is for a programmer without a device"),
+        (["-P", "net:127.0.0.1:5000"], "-P net:127.0.0.1:5000 is no device: give it to avrstk"),
+        (["-P", "usb"], "-P usb is for programmers without a serial device: use avrdude"),
+        (["-p", "m8"], f"{note}; -p ? lists the parts"),
+        (["-E", "noreset"], note),
+        (["-U", "nofile.hex"], note),
+        (["-U", "lfuse:w:0xE2"], f"{note}; a value has :m behind it"),
+        (["-U", "flash:w:x.elf"], f"{note}; avr-objcopy"),
+        (["-U", "fuse:w:1:m"], note),
+    ]:
+        room.clear()
+        room.put("x.elf", b"\x7fELF\x01\x01\x01")
+        it = Board()
+        status, output, _, own = run(["-p", "m328p", "-P", it.device, *words])
+        found = (status, output, len(own), it.opened)
+        see(" ".join(words), found == (1, b"", 1, 0) and own[0].startswith(wanted), (found, own))
+        it.end()
+
+
+def devices():
+    """Devices that are not there, or can't be used."""
+    line, slave = pty.openpty()
+    device = os.ttyname(slave)
+    here = str(room.folder)
+    for words, wanted in [
+        (["-P", "/dev/no such device"], "/dev/no such device: there is no such device (is the cable in?)"),
+        (["-P", os.path.basename("/dev/null")], "null: there is no such device (it is /dev/null)"),
+        (["-P", here], f"{here}: not a device"),
+        (["-P", "/dev/null"], "/dev/null: cannot be set to 115200 baud"),
+        ([], "no device given (-P); there "),
+    ]:
+        status, _, _, own = run([*FLASH, *words])
+        see(f"device {words}", (status, len(own)) == (1, 1) and own[0].startswith(wanted), own)
+    os.chmod(device, 0)
+    # (as nobody where this is root, who may do all; a Python that root alone may run doesn't serve there)
+    how = {"user": 65534, "group": 65534, "extra_groups": []} if os.geteuid() == 0 else {}
+    python = shutil.which("python3", path="/usr/bin:/bin") or sys.executable
+    how |= {"input": SCRIPT.read_bytes(), "capture_output": True, "cwd": "/"}
+    environment = os.environ | {"AVRSTK": shutil.which("true")}
+    ran = subprocess.run([python, "-", *FLASH, "-P", device], env=environment, **how)
+    see("no right to it", f"{device}: you may not read and write it".encode() in ran.stderr, ran.stderr)
+    os.close(slave)
+    os.close(line)
+
+
+def what_is_missing():
+    """What it says where something is missing."""
+    line, slave = pty.openpty()
+    device = os.ttyname(slave)
+    status, _, _, own = run(["-p", "m328p", "-P", device], env={"AVRSTK": "/nowhere/avrstk"})
+    see("no avrstk", status == 1 and own[0].startswith("/nowhere/avrstk is not there, or can't be run"), own)
+    alone = room.folder / "alone"
+    alone.mkdir()
+    shutil.copy(SCRIPT, alone)
+    words = [sys.executable, str(alone / "avrstk-serial"), "-p", "atmega328p", "-P", device]
+    ran = subprocess.run(words, capture_output=True, text=True, env=os.environ | {"AVRSTK": str(PROGRAM)})
+    see("no part file", "atmega328p: the part file classic.toml is not there" in ran.stderr, ran.stderr)
+    shutil.rmtree(alone)
+    os.close(slave)
+    os.close(line)
+    for word in ["--help", "-h", "-?"]:
+        status, output, told, own = run([word])
+        see(word, (status, told, own) == (0, b"", []) and output.startswith(b"Runs avrstk with a programmer"), output)
+
+
+def fails(name, words, wanted, told=None, **board):
+    """A run that fails has one hint, which begins so or holds it."""
+    room.clear()
+    it = Board(**board)
+    status, _, others, own = run([word.replace("DEVICE", it.device) for word in [*words, "-P", "DEVICE"]])
+    chip = it.end()
+    see(name, (status, len(own)) == (1, 1) and wanted in own[0], (status, others, own))
+    if told:
+        see(f"{name}: {told}", told.encode() in others, others)
+    return chip
+
+
+def changes(command, body):
+    """Answers of this command have this body in their place."""
+
+    def change(answer):
+        if answer[5] != command:
+            return answer
+        whole = answer[:2] + len(body).to_bytes(2, "big") + b"\x0e" + body
+        check = 0
+        for byte in whole:
+            check ^= byte
+        return whole + bytes([check])
+
+    return change
+
+
+def hints():
+    """The hint behind each fault."""
+    new = b"\xff" * 33_796
+    chip = fails("silent", FLASH, "nobody answers; the chip is as it was", "error: no answer", deaf=1000)
+    same("the chip of the silent one", chip, new)
+    fails("another part", ["-p", "t85", "-e"], "1E 95 0F is m328p or atmega328p: give its -p", "error: signature is")
+    for text in ["000000", "FFFFFF"]:
+        signature = changes(0x1B, bytes([0x1B, 0, int(text[:2], 16), 0]))
+        fails(f"signature {text}", FLASH, "no chip answers the programmer", "error: signature is", answer=signature)
+    other = changes(0x1B, bytes([0x1B, 0, 0x12, 0]))
+    fails("a signature that nobody knows", FLASH, "12 12 12 is not known here", answer=other)
+    for command, wanted in [
+        (0x10, "the programmer doesn't reach the chip, which is as it was"),
+        (0x12, "a bootloader doesn't erase the chip, which is as it was: give -D"),
+        (0x13, "the programmer refused it: the chip is erased or written in part"),
+    ]:
+        it = changes(command, bytes([command, 0xC0]))
+        fails(f"command {command:02X}", FLASH, wanted, f"error: command {command:02X} refused", answer=it)
+    fuse = ["-p", "m328p", "-U", "lfuse:w:0xE2:m"]
+    it = changes(0x17, bytes([0x17, 0xC0]))
+    fails("command 17", fuse, "a bootloader doesn't write fuses", "error: command 17 refused", answer=it)
+    it = changes(0x18, bytes([0x18, 0, 0xF2, 0]))
+    wanted = "perhaps a bit that the part doesn't have: read it with -U lfuse:r:-:h"
+    fails("a fuse's bits", fuse, wanted, "F2 found", answer=it)
+    it = changes(0x14, bytes([0x14, 0]) + bytes(256) + b"\0")
+    wanted = "give the same command again; if it ends at the same address"
+    fails("flash", FLASH, wanted, "expected, 00 found", answer=it)
+    fails("flash with -D", [*FLASH, "-D"], "without an erase old bytes stay in the way", answer=it)
+    fails("a bad answer", FLASH, "something else talks on the line", answer=changes(0x12, b"\x12\0\0"))
+    fails("a folder that isn't there", ["-p", "m328p", "-U", "lfuse:r:no/where:h"], "see to the folder and the disk")
+    silent = lambda command: lambda answer: b"" if answer[5] == command else answer
+    fails("leaving", FLASH, "only the leaving was not answered", "flash: 228 bytes verified", answer=silent(0x11))
+    wanted = "the programmer fell silent: see to the cable and the power; the chip is "
+    fails("silent later", FLASH, f"{wanted}erased or written", "error: no answer", answer=silent(0x13))
+    fails("silent early", FLASH, f"{wanted}as it was", "error: no answer", answer=silent(0x1B))
+
+
+def boards_that_fail():
+    """Boards that vanish, or talk."""
+    wanted = "the device is gone: see to the cable; the chip is "
+    fails("vanished", FLASH, f"{wanted}erased or written", "link ended", vanish=8)
+    fails("vanished early", FLASH, f"{wanted}as it was", "link ended", vanish=1)
+    begun = time.monotonic()
+    fails("talks", FLASH, "the device sends bytes that are no answer", talk=b"temp=21.5 hum=40\r\n")
+    took = time.monotonic() - begun
+    see("a board that talks doesn't hold it for long", took < 25, took)
+
+
+def signals():
+    """How it ends at a signal."""
+    for number, reach, wanted in [
+        (signal.SIGINT, 0, "ended by SIGINT: the chip is as it was"),
+        (signal.SIGINT, 0x13, "ended by SIGINT: the chip is erased or written in part: give the same command again"),
+        (signal.SIGTERM, 0x13, "ended by SIGTERM: the chip is erased or written in part"),
+        (signal.SIGHUP, 0x13, "ended by SIGHUP: the chip is erased or written in part"),
+    ]:
+        room.clear()
+        reached = threading.Event()
+
+        def held(answer):
+            if reach and answer[5] != reach:
+                return answer
+            reached.set()
+            return b""
+
+        it = Board(answer=held)
+        started = start([*FLASH, "-P", it.device], start_new_session=True)
+        see("it is reached", reached.wait(30))
+        begun = time.monotonic()
+        os.killpg(started.pid, number) if number == signal.SIGINT else started.send_signal(number)
+        _, told = started.communicate(timeout=30)
+        own = [row for row in told.decode().splitlines() if row.startswith("avrstk-serial: ")]
+        see(wanted, started.returncode == 1 and len(own) == 1 and wanted in own[0], told)
+        took = time.monotonic() - begun
+        see("it ends at once", took < 5, took)
+        it.end()
+
+
+def recipe(begin):
     """The command of docs/USAGE that begins so."""
-    found = re.findall(rf"^    ({re.escape(start)}.*)$", (TOP / "docs/USAGE.md").read_text(), re.M)
+    found = re.findall(rf"^ {{4,}}({re.escape(begin)}.*)$", (TOP / "docs/USAGE.md").read_text(), re.M)
     if len(found) != 1:
-        raise SystemExit(f"docs/USAGE has {len(found)} commands that begin with '{start}'")
+        raise SystemExit(f"docs/USAGE has {len(found)} commands that begin with '{begin}'")
     return found[0]
 
 
 def typed(command, device, port=0):
-    """A command as it is typed here: with this device, port, firmware, and this program as `avrstk`."""
+    """A command as it is typed here: with this device, port, firmware, and the programs of this repository."""
     tools = room.folder / "bin"
     if not tools.exists():
         tools.mkdir()
         room.given.add("bin")
         (tools / "avrstk").symlink_to(PROGRAM)
+        (tools / "avrstk-serial").symlink_to(SCRIPT)
     here = command.replace("/dev/ttyACM0", device).replace("5000", str(port)).replace("firmware.hex", "blink.hex")
-    here = here.replace("examples/serial.sh", shlex.quote(str(SCRIPT)))
     environment = os.environ | {"PATH": f"{tools}:{os.environ['PATH']}", "AVRSTK": str(PROGRAM)}
     how = {"cwd": room.folder, "env": environment, "stdin": subprocess.DEVNULL, "stderr": subprocess.PIPE}
     return subprocess.Popen(["bash", "-c", f"exec {here}"], **how)
-
-
-def flashed():
-    """The flash in which the example firmware is all there is."""
-    room.clear()
-    status, _, _ = room.run(["-p", "m328p", "-P", "emu:wanted.bin", "-qq", "-U", "flash:w:blink.hex"])
-    return room.read("wanted.bin")[:32_768] if status == 0 else None
 
 
 def ended(started):
@@ -134,133 +454,89 @@ def ended(started):
     return started.returncode, told
 
 
-def the_script(firmware):
-    """examples/serial.sh, to a programmer that hears at once, and to one that is deaf first and gone soon."""
-    if not shutil.which("socat"):
-        return skip("examples/serial.sh: no socat")
-    command = recipe("examples/serial.sh /dev/ttyACM0")
-    wanted = (0, lines(*FIRMWARE), True)
-    for deaf, gone in [(0, None), (0.25, 0.8)]:
-        # the window of half a second can be missed where the machine is busy, as a person can miss it
-        for _ in range(3):
-            board = Board(deaf, gone)
-            found = (*ended(typed(command, board.device)), board.end() == firmware)
-            if found == wanted:
-                break
-        see("the script", found, wanted)
-    board = Board()
-    other = typed(f"examples/serial.sh --wait 0 {board.device} 115200 -- -p t85 -e", board.device)
-    told = lines(SIGNATURE, "error: signature is 1E 95 0F, t85 has 1E 93 0B")
-    see("the tool's status", ended(other), (1, told))
-    see("the chip is as it was", board.end(), b"\xff" * 32_768)
-    board = Board(deaf=1000)
-    silent = typed(command, board.device)
-    time.sleep(1)
-    silent.terminate()
-    begun = time.monotonic()
-    silent.communicate(timeout=60)
-    see("a script that is ended", (silent.returncode, time.monotonic() - begun < 2), (1, True))
-    see("and its bridge with it", board.end(), b"\xff" * 32_768)
-
-
-def the_plain_bridge(firmware):
-    """socat alone, which opens the device when the tool calls: too late for a board that resets then."""
-    if not shutil.which("socat"):
-        return skip("socat before the tool: no socat")
-    for board, wanted in [
-        (Board(), (0, lines(*FIRMWARE), True)),
-        (Board(deaf=0.25, gone=0.8), (1, lines("error: no answer"), False)),
-    ]:
-        port = free_port()
-        bridge = typed(recipe("socat TCP-LISTEN"), board.device, port)
-        wait_for(port)
-        found = ended(typed(recipe(CALL), board.device, port))
-        bridge.communicate(timeout=30)
-        see("a plain bridge", (*found, board.end() == firmware), wanted)
-
-
 def wait_for(port):
     """Waits until somebody listens, without a call."""
     mark = f" 0100007F:{port:04X} 00000000:0000 0A "
     for _ in range(1000):
-        with open("/proc/net/tcp", encoding="ascii") as table:
-            if mark in table.read():
-                return
+        if mark in Path("/proc/net/tcp").read_text():
+            return
         time.sleep(0.01)
     raise SystemExit(f"nobody listens at port {port}")
 
 
-def standard_streams(firmware):
-    """The tool over `stdio:`, between pipes of socat."""
+def recipe_of_the_script():
+    firmware = flashed()
+    room.clear()
+    it = Board()
+    found = ended(typed(recipe("avrstk-serial -p m328p -P /dev/ttyACM0"), it.device))
+    same("avrstk-serial", (*found, it.end() == firmware), (0, lines(*FIRMWARE), True))
+    firmware = emulated(["-D", *FLASH[2:]], "m2560")
+    room.clear()
+    it = Board(part="m2560")
+    status, told = ended(typed(recipe("avrstk-serial -C/etc/avrdude.conf"), it.device))
+    told = told.decode().splitlines()
+    see("the recipe of an IDE", status == 0 and told[0] == "avrstk-serial: left out: -C /etc/avrdude.conf", told)
+    see("the chip then", it.end() == firmware)
+
+
+def recipe_of_a_plain_bridge():
+    """socat alone, which opens the device when the tool calls: too late for a board that resets then."""
     if not shutil.which("socat"):
-        return skip("stdio: through socat: no socat")
-    board = Board()
-    found = ended(typed(recipe("socat EXEC"), board.device))
-    see("stdio:", (*found, board.end() == firmware), (0, lines(*FIRMWARE), True))
+        return leave_out("the recipes with socat", "socat is not installed")
+    firmware = flashed()
+    for board, wanted in [
+        ({}, (0, lines(*FIRMWARE), True)),
+        ({"deaf": 0.25, "gone": 0.8}, (1, lines("error: no answer"), False)),
+    ]:
+        room.clear()
+        it = Board(**board)
+        port = free_port()
+        bridge = typed(recipe("socat TCP-LISTEN:5000,bind=127.0.0.1,reuseaddr FILE"), it.device, port)
+        wait_for(port)
+        found = ended(typed(recipe(CALL), it.device, port))
+        bridge.communicate(timeout=30)
+        same("a plain bridge", (*found, it.end() == firmware), wanted)
+    room.clear()
+    it = Board()
+    found = ended(typed(recipe("socat EXEC"), it.device))
+    same("stdio:", (*found, it.end() == firmware), (0, lines(*FIRMWARE), True))
 
 
-def ser2net(firmware):
-    """ser2net, by its lines of docs/USAGE."""
+def recipe_of_ser2net():
     if not shutil.which("ser2net"):
-        return skip("ser2net: not installed")
-    board = Board()
+        return leave_out("the recipe with ser2net", "ser2net is not installed")
+    firmware = flashed()
+    room.clear()
+    it = Board()
     port = free_port()
-    text = "".join(recipe(start) + "\n" for start in ["connection:", "  accepter:", "  connector:"])
-    room.put("ser2net.yaml", text.replace("/dev/ttyACM0", board.device).replace("5000", str(port)).encode())
+    text = "".join(recipe(begin) + "\n" for begin in ["connection:", "  accepter:", "  connector:"])
+    room.put("ser2net.yaml", text.replace("/dev/ttyACM0", it.device).replace("5000", str(port)).encode())
     server = subprocess.Popen(["ser2net", "-n", "-c", room.folder / "ser2net.yaml"], stderr=subprocess.DEVNULL)
     try:
         wait_for(port)
-        found = ended(typed(recipe(CALL), board.device, port))
-        see("ser2net", (*found, board.end() == firmware), (0, lines(*FIRMWARE), True))
+        found = ended(typed(recipe(CALL), it.device, port))
+        same("ser2net", (*found, it.end() == firmware), (0, lines(*FIRMWARE), True))
     finally:
         server.terminate()
         server.wait()
 
 
-def what_is_missing(_):
-    """What the script says where something is missing."""
-    line, slave = os.openpty()
-    device = os.ttyname(slave)
-    os.chmod(device, 0)
-    for words, told in [
-        (["/dev/ttyACM0"], "usage: "),
-        (["--wait", "soon", device, "115200", "--", "-e"], "--wait soon: no number of seconds"),
-        ([device, "fast", "--", "-e"], "fast: no speed"),
-        (["/dev/no such device", "115200", "--", "-e"], "/dev/no such device: there is no such device"),
-        ([str(room.folder), "115200", "--", "-e"], f"{room.folder}: not a device"),
-        ([device, "115200", "--", "-e"], f"{device}: you may not read and write it"),
-        (["/dev/null", "115200", "--", "-e"], "/dev/null: cannot be opened at 115200 baud"),
-    ]:
-        if not shutil.which("socat") and told[0] == "/":
-            skip(f"{told}: no socat")
-            continue
-        status, said = scripted(words)
-        see(told, (status, said.startswith(f"serial.sh: {told}"), said.count("\n")), (1, True, 1))
-    status, said = scripted([device, "115200", "--", "-e"], {"PATH": str(room.folder)})
-    see("no socat", (status, said), (1, "serial.sh: socat is not installed (on Debian: apt install socat)\n"))
-    os.close(slave)
-    os.close(line)
-
-
-def scripted(words, environment=None):
-    """The status and messages of the script, for which nothing is run; as nobody where this is root, who may do all."""
-    how = {"user": 65534, "group": 65534, "extra_groups": []} if os.geteuid() == 0 else {}
-    how |= {"capture_output": True, "text": True, "timeout": 60, "cwd": "/"}
-    how["env"] = os.environ | {"AVRSTK": shutil.which("true")} | (environment or {})
-    with open(SCRIPT, "rb") as script:
-        ran = subprocess.run([shutil.which("bash"), "-s", "--", *words], stdin=script, **how)
-    return ran.returncode, ran.stderr
-
-
-def main():
-    begun = time.monotonic()
-    firmware = flashed()
-    for part in [the_script, the_plain_bridge, standard_streams, ser2net, what_is_missing]:
-        before = passed
-        part(firmware)
-        print(f"{passed - before:6} seen: {part.__doc__.splitlines()[0]}", flush=True)
-    print(f"{passed} passed, 0 failed, {skipped} skipped, in {time.monotonic() - begun:.0f} s")
-
+CASES = named(
+    words_of_avrdude,
+    speed_and_line,
+    reads,
+    boards_that_reset,
+    parts,
+    refused,
+    devices,
+    what_is_missing,
+    hints,
+    boards_that_fail,
+    signals,
+    recipe_of_the_script,
+    recipe_of_a_plain_bridge,
+    recipe_of_ser2net,
+)
 
 if __name__ == "__main__":
-    main()
+    sys.exit(run_cases(CASES, __doc__))

@@ -1,13 +1,14 @@
 #!/usr/bin/env python3
 """Runs examples/lossy/compare.py and holds the table of docs/WHY to what it prints.
 
-    tests/why.py        needs crates/avrstk/out/avrstk, as rt ci leaves it; AVRDUDE 7.1, or its rows are skipped
+    tests/why.py        needs crates/avrstk/out/avrstk, as rt ci leaves it; AVRDUDE 7.1, or its rows are left out
 """
 
 import os
 import subprocess
 import sys
 
+from cases import leave_out, named, run_cases, same, see
 from program import PROGRAM, TOP
 
 
@@ -25,23 +26,27 @@ def is_known():
     return "version 7.1," in ran.stderr
 
 
-def main():
-    if not PROGRAM.exists():
-        sys.exit(__doc__)
+def table_is_printed():
+    """Each row of the table is printed, and no other."""
     wanted = rows((TOP / "docs/WHY.md").read_text())
     how = {"capture_output": True, "text": True, "env": os.environ | {"AVRSTK": str(PROGRAM)}, "timeout": 300}
     ran = subprocess.run([TOP / "examples/lossy/compare.py"], **how)
     found = rows(ran.stdout)
-    judged, found = ([it for it in table if is_known() or "`avrdude" not in it] for table in (wanted, found))
-    failed = [it for it in judged if it not in found] + [it for it in found if it not in judged]
-    for it in failed:
-        print(f"differs: {it}")
-    if ran.returncode:
-        failed.append("the status")
-        print(f"status {ran.returncode}: {ran.stderr[-500:]}")
-    print(f"{len(set(judged) & set(found))} passed, {len(failed)} failed, {len(wanted) - len(judged)} skipped")
-    sys.exit(bool(failed))
+    if not is_known():
+        for row in (it for it in wanted if "`avrdude" in it):
+            leave_out(f"docs/WHY: {row[:60]}", "AVRDUDE 7.1 is not installed")
+        wanted, found = ([it for it in table if "`avrdude" not in it] for table in (wanted, found))
+    for row in wanted:
+        see(f"is printed: {row}", row in found, "\n".join(found))
+    same("no other row is printed", [it for it in found if it not in wanted], [])
+    see("the status", ran.returncode == 0, f"{ran.returncode}: {ran.stderr[-500:]}")
+
+
+def main():
+    if not PROGRAM.exists():
+        sys.exit(f"{PROGRAM} is not built: rt ci leaves it there, and so does (cd crates/avrstk && rt run < stdin)")
+    return run_cases(named(table_is_printed), __doc__)
 
 
 if __name__ == "__main__":
-    main()
+    sys.exit(main())

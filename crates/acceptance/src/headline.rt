@@ -1,7 +1,72 @@
 //! A caller of the headline's calls: that its conditions can be met.
-use crate::support::{desk_with, fates, run_wired_on};
-use avr_tool::Fate;
+use crate::support::{OPENING, desk_with, fates, run_wired_on, settings_for};
+use avr_tool::{Fate, StreamLink, SystemDesk, run_streams};
 use std::test::Fail;
+
+/// The answers to a session that opens and ends, in hexadecimal digits.
+const ANSWERS: &str =
+    "1B01000B0E01000853544B3530305F32021B0200020E1000051B0300040E1B001E00171B0400040E1B0095009B1B0500040E1B000F00001B0600020E110000";
+
+/// The frame by which it ends.
+const LEAVING: &str = "1B0600030E11010101";
+
+/// What a run put onto the line, onto the output and into the messages, and its status.
+#[derive(Drop)]
+struct Passed {
+    sent: Vec<u8>,
+    output: Vec<u8>,
+    messages: Vec<u8>,
+    status: u8,
+}
+
+/// Runs a session at a desk and over a link of the program's own kinds, with a reader of these answers, and with
+/// writers in memory.
+fn run_over_streams(rt: &HostRuntime, answers: &[u8]) -> Result<Passed, Fail> {
+    let alloc = rt.alloc();
+    let settings = settings_for(alloc, &["-p", "m328p"])?;
+    let mut sent = Vec::new(alloc);
+    let mut output = Vec::new(alloc);
+    let mut messages = Vec::new(alloc);
+    let mut desk = SystemDesk::new(rt, &mut output, &mut messages);
+    let mut link = StreamLink::new(answers, &mut sent);
+    let status = run_streams(alloc, &settings, &mut desk, &mut link);
+    Ok(Passed {
+        sent,
+        output,
+        messages,
+        status,
+    })
+}
+
+#[test]
+fn the_desk_and_the_link_of_the_program(rt: HostRuntime) -> Result<(), Fail> {
+    let alloc = rt.alloc();
+    let answers = hex::decode(alloc, ANSWERS)?;
+    let passed = run_over_streams(&rt, answers.as_slice())?;
+    assert_eq!(rt; passed.status, 0);
+    let mut frames = hex::decode(alloc, OPENING)?;
+    frames.extend_from_slice(hex::decode(alloc, LEAVING)?.as_slice())?;
+    assert!(rt; passed.sent == frames);
+    assert!(rt; passed.output.is_empty());
+    assert!(rt;
+        passed.messages.as_slice()
+            == b"avrstk: device signature = 1E 95 0F\navrstk: done\n".as_slice()
+    );
+    Ok(())
+}
+
+/// Where the reader ends behind the first two answers, the third command goes out, and nothing behind it.
+#[test]
+fn a_reader_that_ends(rt: HostRuntime) -> Result<(), Fail> {
+    let alloc = rt.alloc();
+    let answers = hex::decode(alloc, ANSWERS)?;
+    let passed = run_over_streams(&rt, answers.get(..25).unwrap_or(&[]))?;
+    assert_eq!(rt; passed.status, 1);
+    let frames = hex::decode(alloc, OPENING)?;
+    assert!(rt; passed.sent.as_slice() == frames.get(..37).unwrap_or(&[]));
+    assert!(rt; passed.messages.as_slice() == b"avrstk: error: link ended\n".as_slice());
+    Ok(())
+}
 
 /// A wire to a fresh ATmega328P, whose first frame is lost.
 #[test]

@@ -1,7 +1,7 @@
 -- The chip of a file.
 use Rattle.std.proofs.Common.{◌≡◌, refl, sym, ap, arith, ℕ, ◌==◌, length, Bool, true, false, nat_le, inl, inr, Result, Ok, Err, if◌then◌else◌}
 use Rattle.std.proofs.lemmas.Bool.Decides.{nat_tests}
-use Rattle.avr_desk.specs.Fault.{Follows}
+use Rattle.avr_desk.specs.Fault.{HasSameCounts}
 use Rattle.avr_desk.specs.Files.{IsWhole, with_read}
 use Rattle.avr_desk.specs.Record.{DeskView, Passes, Bytes}
 use Rattle.avr_desk.specs.declared.record.Opening.TheVariants.{Found}
@@ -70,7 +70,7 @@ goes_wrong_length part file bytes n old new status (inr memory) one told = cc
 
 -- the judgment of what the file gave
 goes_whole : (part : Part) (file bytes : Bytes) (ended : Bool) (old mid new : DeskView) (result : Result ChipState ℕ)
-    → Passes (with_read file bytes ended) old mid → IsWhole 4194304 (record { bytes = bytes; ended = ended }) → Follows old mid
+    → Passes (with_read file bytes ended) old mid → IsWhole 4194304 (record { bytes = bytes; ended = ended }) → HasSameCounts old mid
     → Goes (verdict_stage (judged_chip part file bytes)) mid new result → Goes (chip_stage part file) old new result
 goes_whole part file bytes ended old mid new result kept whole rose goes =
     let reading : Reading = record { name = file; bytes = bytes; ended = ended } in
@@ -79,7 +79,7 @@ goes_whole part file bytes ended old mid new result kept whole rose goes =
 
 -- to its end
 pub goes_ended : (part : Part) (file bytes : Bytes) (ended : Bool) (old mid new : DeskView) (result : Result ChipState ℕ)
-    → Passes (with_read file bytes ended) old mid → IsWhole 4194304 (record { bytes = bytes; ended = ended }) → ended ≡ true → Follows old mid
+    → Passes (with_read file bytes ended) old mid → IsWhole 4194304 (record { bytes = bytes; ended = ended }) → ended ≡ true → HasSameCounts old mid
     → Goes (verdict_stage (chip_or_line part file bytes)) mid new result → Goes (chip_stage part file) old new result
 goes_ended part file bytes false old mid new result kept whole is rose goes = cc
 goes_ended part file bytes true old mid new result kept whole is rose goes =
@@ -88,7 +88,7 @@ goes_ended part file bytes true old mid new result kept whole is rose goes =
 
 -- or past the limit
 pub goes_past : (part : Part) (file bytes : Bytes) (ended : Bool) (old mid new : DeskView) (status : ℕ)
-    → Passes (with_read file bytes ended) old mid → IsWhole 4194304 (record { bytes = bytes; ended = ended }) → ended ≡ false → Follows old mid
+    → Passes (with_read file bytes ended) old mid → IsWhole 4194304 (record { bytes = bytes; ended = ended }) → ended ≡ false → HasSameCounts old mid
     → status ≡ 1 → Tells mid new (too_long_line file 4194304)
     → Goes (chip_stage part file) old new (Err status)
 goes_past part file bytes true old mid new status kept whole is rose one told = cc

@@ -3,14 +3,14 @@ use Rattle.std.proofs.Common.{◌≡◌, ◌∙◌, ℕ, [], ◌∷◌, take, dr
 use Rattle.std.specs.Prelude.{⊤}
 use Rattle.std.specs.Result.{is_err}
 use Rattle.std.proofs.lemmas.List.{take-append-drop}
-use Rattle.avr_desk.specs.Fault.{Counts, Follows}
+use Rattle.avr_desk.specs.Fault.{Counts}
 use Rattle.avr_desk.specs.Record.{DeskView, Record, Passes, after_create, after_err, Bytes}
 use Rattle.avr_desk.specs.Stream.{SendsPart}
 use Rattle.avr_desk.specs.declared.desk.DeskFault.{DeskFault}
 use Rattle.avr_desk.specs.declared.desk.DeskFault.TheVariants.{NotFound, Failed}
 use Rattle.avr_desk.specs.declared.stream.Stream.TheVariants.{File}
 use Rattle.avr_desk.proofs.Saying.{kept_append}
-use Rattle.avr_desk.proofs.Telling.{failed_later, failure_told, follows_on}
+use Rattle.avr_desk.proofs.Telling.{failed_since, failure_told, follows_on}
 use Rattle.avr_desk.specs.Lines.{memory_line, not_created_line, not_written_line}
 use Rattle.avr_desk.specs.Said.{Creates, Writes, Line, Tells}
 use Rattle.avr_chip.specs.Saving.{NoMemory, NotCreated, NotWritten, Saves}
@@ -37,14 +37,14 @@ not_created old mid new file bytes status (Err Failed) is only kept counts one t
         trouble = NotCreated;
         told = told.told;
         front = tt;
-        tells = failure_told old mid new (not_created_line file) counts.0 counts.1.0 told;
+        tells = failure_told old mid new (not_created_line file) counts.0 counts.1 told;
         kept = subst (λ (r : Option Record). new.kept ≡ option_map (after_err told.told) r) same told.kept;
       },
     )
 
 -- the file was created, and not written whole
 pub not_written : (old mid end new : DeskView) (file bytes : Bytes) (status : ℕ) (created : Result ⊤ DeskFault) (fault : DeskFault)
-    → is_err created ≡ false → Passes (after_create file created) old mid → Follows old mid
+    → is_err created ≡ false → Passes (after_create file created) old mid → Counts File old mid created
     → SendsPart File mid end bytes → Counts {T = ⊤} File mid end (Err fault) → fault ≡ Failed
     → status ≡ 1 → Tells end new (not_written_line file) → Saves old new file bytes (Err status)
 not_written old mid end new file bytes status (Err trouble) fault is kept rose part counts only one told = cc
@@ -56,7 +56,7 @@ not_written old mid end new file bytes status (Ok done) Failed is kept rose part
         trouble = NotWritten front;
         told = told.told;
         front = (drop part.0 bytes, take-append-drop part.0 bytes);
-        tells = failure_told old end new (not_written_line file) (follows_on old mid end rose counts.0) (failed_later old mid end rose counts.1.0) told;
+        tells = failure_told old end new (not_written_line file) (follows_on old mid end rose.0 counts.0) (failed_since old mid end rose.1 counts.1) told;
         kept = kept_append (Creates file ∷ Writes front ∷ []) (Line told.told ∷ []) old.kept end.kept new.kept
             (kept_append (Creates file ∷ []) (Writes front ∷ []) old.kept mid.kept end.kept kept part.2) told.kept;
       },

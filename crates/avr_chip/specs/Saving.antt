@@ -1,5 +1,6 @@
 -- A chip file that is saved: what was done at the desk, and what stood in the way.
 use Rattle.std.specs.Prelude.{◌≡◌, ℕ, List, [], ◌∷◌, ◌++◌, Result, Ok, Err, ⊤}
+use Rattle.avr_desk.specs.Fault.{HasSameCounts}
 use Rattle.avr_desk.specs.Record.{DeskView, Passes, Bytes}
 use Rattle.avr_desk.specs.Lines.{memory_line, not_created_line, not_written_line}
 use Rattle.avr_desk.specs.Said.{Saying, Line, Creates, Writes, IsPrefixOf, TellsLine, TellsFailure, after_all}
@@ -36,7 +37,9 @@ pub record Unsaved (old new : DeskView) (file bytes : Bytes) : Type 0 where
   pub tells : TellsTrouble file trouble told old new
   pub kept : Passes (after_all (done_before file trouble ++ Line told ∷ [])) old new
 
--- The file was created and all its bytes were written; or the status is 1, and it was not saved.
+-- The file was created and all its bytes were written, and no call of the desk failed; or the status is 1, and it was
+-- not saved.
 abbrev pub Saves : DeskView → DeskView → Bytes → Bytes → Result ⊤ ℕ → Type 0
-Saves old new file bytes (Ok done) = Passes (after_all (Creates file ∷ Writes bytes ∷ [])) old new
+Saves old new file bytes (Ok done) =
+    Passes (after_all (Creates file ∷ Writes bytes ∷ [])) old new × HasSameCounts old new
 Saves old new file bytes (Err status) = (status ≡ 1) × Unsaved old new file bytes

@@ -24,7 +24,13 @@ for raw bytes.
 Examples:
   avrstk -p m328p -P net:localhost:5000 -U flash:w:blink.hex:i
   avrstk -p m328p -P emu:chip.bin -U lfuse:w:0xE2:m -U lfuse:r:-:h
-  avrstk -p m328p --serve 5000 --chip chip.bin";
+  avrstk -p m328p --serve 5000 --chip chip.bin
+
+From AVRDUDE: a serial device (-P /dev/ttyACM0 -b 115200) is given to avrstk-serial, with
+the other words as they are. -C is not here, since there is no configuration; nor -B, since
+the programmer has its own clock; nor -t: use -U. Long names of parts (atmega328p), and more
+parts, stand in share/avrstk/classic.toml, for --parts. A value in a file's place has :m
+behind it. The manual is man avrstk.";
 
 /// An option of one letter, with a value.
 fn value<'a>(alloc: Global, id: &'a str, short: char, value_name: &'a str, help: &'a str) -> Arg<'a>

@@ -31,7 +31,7 @@ told_last before after said last told line whole ends kept =
 
 -- of a desk that did not fail a line was told whole
 whole_line : (line told : Bytes) (old new : DeskView) → (HasFailed old new → ⊥) → TellsLine line told old new → told ≡ line
-whole_line line told old new sound (inl whole) = whole
+whole_line line told old new sound (inl whole) = whole.0
 whole_line line told old new sound (inr part) = absurd (sound part.1.0)
 
 -- and of the breaks only the want of memory is left
@@ -49,8 +49,8 @@ broke_lacks stage before after k l m n sound b = by_break b.break b.told b.tells
         → ◌≡◌ {A = Option Record} (Some after) (option_map (after_all (b.whole ++ last_done break told)) (Some before))
         → (front : Bytes) × (after.messages ≡ front ++ memory_line)
     by_break (InLine line) told tells kept = absurd (sound tells.1.0)
-    by_break (NotOpened name) told tells kept = absurd (sound (failed_before old tells.between new tells.since tells.until tells.failed))
-    by_break (NotRead name bytes) told tells kept = absurd (sound (failed_before old tells.between new tells.since tells.until tells.failed))
+    by_break (NotOpened name) told tells kept = absurd (sound (failed_before old tells.between new tells.since tells.until tells.failed.0))
+    by_break (NotRead name bytes) told tells kept = absurd (sound (failed_before old tells.between new tells.since tells.until tells.failed.0))
     by_break NoMemory told tells kept =
         told_last before after b.whole (Line told ∷ []) told memory_line (whole_line memory_line told old new sound tells) (λ r. refl) kept
     by_break (NoMemoryFor reading) told tells kept =

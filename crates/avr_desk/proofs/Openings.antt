@@ -1,7 +1,7 @@
 -- Stages that begin with the opening of a file.
 use Rattle.std.proofs.Common.{◌≡◌, refl, subst, ap, arith, ℕ, inr, List, [], ◌∷◌, Bool, true, false, nat_lt, ◌||◌, length, Option, None, option_map, Result, Err}
 use Rattle.std.proofs.lemmas.Bool.Decides.{nat_tests}
-use Rattle.avr_desk.specs.Fault.{Follows, HasFailed}
+use Rattle.avr_desk.specs.Fault.{Follows, HasFailedAt, HasSameCounts}
 use Rattle.avr_desk.specs.Files.{FaultCounts, IsWhole, ReadsFile, with_read, FileBreaks, IsCounted}
 use Rattle.avr_desk.specs.Record.{DeskView, Record, Passes, after_err, showing, Bytes}
 use Rattle.avr_desk.specs.declared.files.FileFault.{FileFault}
@@ -9,8 +9,9 @@ use Rattle.avr_desk.specs.declared.files.FileFault.TheVariants as file_fault
 use Rattle.avr_desk.specs.declared.record.Opening.{Opening}
 use Rattle.avr_desk.specs.declared.record.Opening.TheVariants.{Found}
 use Rattle.avr_desk.specs.declared.record.Reading.{Reading}
+use Rattle.avr_desk.specs.declared.stream.Stream.TheVariants.{File}
 use Rattle.avr_desk.proofs.Saying.{kept_append}
-use Rattle.avr_desk.proofs.Telling.{failure_told, follows_on, tells_since}
+use Rattle.avr_desk.proofs.Telling.{failure_told, follows_on, follows_same, tells_since}
 use Rattle.avr_desk.specs.Lines.{file_fault_line, memory_line, not_opened_line, not_read_line}
 use Rattle.avr_desk.specs.Said.{Opens, Line, Tells, after_all}
 use Rattle.avr_desk.proofs.Played.{goes_on, goes_no_further}
@@ -25,11 +26,11 @@ after_opening more opening = record { says = Opens opening ∷ []; answer = Made
 -- the file of this name gave this, and so the stage goes on
 pub goes_opened : {A : Type 0} (name : Bytes) (next : Opening → Stage A) (opening : Opening) (old mid new : DeskView)
     (result : Result A ℕ)
-    → under_name name opening ≡ opening → Passes (after_all (Opens opening ∷ [])) old mid → Follows old mid
+    → under_name name opening ≡ opening → Passes (after_all (Opens opening ∷ [])) old mid → HasSameCounts old mid
     → Goes (next opening) mid new result → Goes (open_stage name >>= next) old new result
-goes_opened name next opening old mid new result is kept rises goes =
+goes_opened name next opening old mid new result is kept same goes =
     goes_on (open_stage name) next old mid new opening result
-    (record { passed = opening ∷ []; says = Opens opening ∷ []; comes = λ more. ap (after_opening more) is; kept = kept; follows = rises }) goes
+    (record { passed = opening ∷ []; says = Opens opening ∷ []; comes = λ more. ap (after_opening more) is; kept = kept; sound = same }) goes
 
 whole-is : (limit : ℕ) (bytes : Bytes) (ended : Bool) → IsWhole limit (record { bytes = bytes; ended = ended })
     → (ended || nat_lt limit (length bytes)) ≡ true
@@ -66,7 +67,7 @@ broke_opening name next break told old new status one is tells kept follows =
 
 -- the file could not be opened
 goes_unopened : {A : Type 0} (name : Bytes) (next : Opening → Stage A) (old mid new : DeskView) (status : ℕ)
-    → mid.kept ≡ old.kept → Follows old mid → HasFailed old mid → status ≡ 1 → Tells mid new (not_opened_line name)
+    → mid.kept ≡ old.kept → Follows old mid → HasFailedAt File old mid → status ≡ 1 → Tells mid new (not_opened_line name)
     → Goes (open_stage name >>= next) old new (Err status)
 goes_unopened name next old mid new status same rose failed one told =
     broke_opening name next (NotOpened name) told.told old new status one (λ more. ([], refl))
@@ -75,7 +76,7 @@ goes_unopened name next old mid new status same rose failed one told =
 
 -- or not be read on
 goes_unread : {A : Type 0} (name bytes : Bytes) (next : Opening → Stage A) (old mid new : DeskView) (status : ℕ)
-    → Passes (with_read name bytes false) old mid → Follows old mid → HasFailed old mid → status ≡ 1
+    → Passes (with_read name bytes false) old mid → Follows old mid → HasFailedAt File old mid → status ≡ 1
     → Tells mid new (not_read_line name) → Goes (open_stage name >>= next) old new (Err status)
 goes_unread name bytes next old mid new status kept rose failed one told =
     broke_opening name next (NotRead name bytes) told.told old new status one (λ more. ([], refl))
@@ -85,13 +86,13 @@ goes_unread name bytes next old mid new status kept rose failed one told =
 -- or there was no memory for it
 goes_unheld : {A : Type 0} (name bytes : Bytes) (ended : Bool) (next : Opening → Stage A) (old mid new : DeskView)
     (status : ℕ)
-    → Passes (with_read name bytes ended) old mid → Follows old mid → status ≡ 1 → Tells mid new memory_line
+    → Passes (with_read name bytes ended) old mid → HasSameCounts old mid → status ≡ 1 → Tells mid new memory_line
     → Goes (open_stage name >>= next) old new (Err status)
-goes_unheld name bytes ended next old mid new status kept rose one told =
+goes_unheld name bytes ended next old mid new status kept same one told =
     let reading : Reading = record { name = name; bytes = bytes; ended = ended } in
     broke_opening name next (NoMemoryFor reading) told.told old new status one (λ more. ([], refl))
-    (tells_since memory_line told.told old mid new rose told.tells)
-    (kept_append (Opens (Found reading) ∷ []) (Line told.told ∷ []) old.kept mid.kept new.kept kept told.kept) (follows_on old mid new rose told.follows)
+    (tells_since memory_line told.told old mid new same told.tells)
+    (kept_append (Opens (Found reading) ∷ []) (Line told.told ∷ []) old.kept mid.kept new.kept kept told.kept) (follows_on old mid new (follows_same old mid same) told.follows)
 
 -- any fault of the file but that it is not there
 pub goes_broken : {A : Type 0} (name : Bytes) (next : Opening → Stage A) (fault : FileFault) (old mid new : DeskView)
@@ -105,7 +106,7 @@ goes_broken name next file_fault.NotOpened old mid new status there breaks rose 
 goes_broken name next file_fault.NotRead old mid new status there breaks rose counted one told =
     goes_unread name breaks.0 next old mid new status breaks.1 rose counted one told
 goes_broken name next file_fault.Memory old mid new status there breaks rose counted one told =
-    goes_unheld name breaks.0 breaks.1 next old mid new status breaks.2 rose one told
+    goes_unheld name breaks.0 breaks.1 next old mid new status breaks.2 counted one told
 
 -- ---- a file that is kept whole as it is read
 
@@ -120,7 +121,7 @@ breaks_as name old mid file_fault.Memory reads = (reads.0, false, reads.1)
 -- (what is kept says nothing here)
 pub counted_as : (k l m n : ℕ) (fault : FileFault) → FaultCounts (showing None k m) (showing None l n) (Err fault)
     → IsCounted (showing None k m) (showing None l n) fault
-counted_as k l m n file_fault.Absent counts = tt
-counted_as k l m n file_fault.NotOpened counts = counts.1.0
-counted_as k l m n file_fault.NotRead counts = counts.1.0
-counted_as k l m n file_fault.Memory counts = tt
+counted_as k l m n file_fault.Absent counts = counts.1
+counted_as k l m n file_fault.NotOpened counts = counts.1
+counted_as k l m n file_fault.NotRead counts = counts.1
+counted_as k l m n file_fault.Memory counts = counts.1

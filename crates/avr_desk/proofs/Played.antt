@@ -2,7 +2,7 @@
 use Rattle.std.proofs.Common.{◌≡◌, ◌∙◌, sym, subst, inl, inr, ap, List, [], ◌∷◌, ◌++◌, ℕ, take, drop, refl, Ok, Err, Result, append_assoc, append-nil}
 use Rattle.std.proofs.lemmas.List.{take-append-drop}
 use Rattle.avr_desk.specs.Record.{DeskView, Passes}
-use Rattle.avr_desk.specs.Fault.{HasFailedToSay, Counts, Follows}
+use Rattle.avr_desk.specs.Fault.{HasFailedToSay, HasSameCounts, Counts, Follows}
 use Rattle.avr_desk.specs.declared.desk.DeskFault.{DeskFault}
 use Rattle.avr_desk.specs.declared.desk.DeskFault.TheVariants.{NotFound, Failed}
 use Rattle.avr_desk.specs.Stream.{SendsPart}
@@ -10,19 +10,19 @@ use Rattle.avr_desk.specs.declared.stream.Stream.TheVariants.{Messages}
 use Rattle.avr_desk.specs.declared.record.Opening.{Opening}
 use Rattle.avr_desk.specs.Said.{Saying, Line, Opens, TellsLine, Tells, after_all}
 use Rattle.avr_desk.proofs.Saying.{kept_none, kept_append}
-use Rattle.avr_desk.proofs.Telling.{follows_here, follows_on, unsaid_later, tells_since, failure_in}
+use Rattle.avr_desk.proofs.Telling.{follows_on, follows_same, same_here, same_on, unsaid_since, tells_since, failure_since}
 use Rattle.avr_desk.specs.Lines.{memory_line, not_opened_line, not_read_line}
 use Rattle.avr_desk.specs.Playing.{Went, Break, InLine, NotOpened, NotRead, NoMemory, NoMemoryFor, last_done, IsNextSaying, IsBreak, TellsBreak, Rest, StageBrokeOff, Goes}
 use Rattle.avr_desk.specs.Stage.{Stage, Answer, Made, Refused, Unread, StageResult, behind_sayings, going_on, ◌>>=◌, verdict_stage, saying_stage, next_opening}
 
 -- ---- counts
 
-break_since : (break : Break) (told : List ℕ) (first old new : DeskView) → Follows first old → TellsBreak break told old new → TellsBreak break told first new
-break_since (InLine line) told first old new rises tells = (tells.0, unsaid_later first old new rises tells.1)
-break_since (NotOpened name) told first old new rises tells = failure_in (not_opened_line name) told first old new new rises (follows_here new) tells
-break_since (NotRead name bytes) told first old new rises tells = failure_in (not_read_line name) told first old new new rises (follows_here new) tells
-break_since NoMemory told first old new rises tells = tells_since memory_line told first old new rises tells
-break_since (NoMemoryFor reading) told first old new rises tells = tells_since memory_line told first old new rises tells
+break_since : (break : Break) (told : List ℕ) (first old new : DeskView) → HasSameCounts first old → TellsBreak break told old new → TellsBreak break told first new
+break_since (InLine line) told first old new same tells = (tells.0, unsaid_since first old new same tells.1)
+break_since (NotOpened name) told first old new same tells = failure_since (not_opened_line name) told first old new same tells
+break_since (NotRead name bytes) told first old new same tells = failure_since (not_read_line name) told first old new same tells
+break_since NoMemory told first old new same tells = tells_since memory_line told first old new same tells
+break_since (NoMemoryFor reading) told first old new same tells = tells_since memory_line told first old new same tells
 
 -- ---- a stage behind another one
 
@@ -79,7 +79,7 @@ went_went stage go_on old mid new a answer first then = record {
       ∙ made_then stage go_on old mid a first (then.passed ++ more)
       ∙ ap (behind_sayings first.says) (then.comes more);
   kept = kept_append first.says then.says old.kept mid.kept new.kept first.kept then.kept;
-  follows = follows_on old mid new first.follows then.follows;
+  sound = same_on old mid new first.sound then.sound;
 }
 
 went_broke : {A B : Type 0} (stage : Stage A) (go_on : A → Stage B) (old mid new : DeskView) (a : A)
@@ -94,10 +94,10 @@ went_broke stage go_on old mid new a first then = record {
       subst (λ p. Rest p (first.says ++ then.whole) then.break more) (sym is)
       (rest_behind first.says then.whole _ then.break more (then.rest more));
   told = then.told;
-  tells = break_since then.break then.told old mid new first.follows then.tells;
+  tells = break_since then.break then.told old mid new first.sound then.tells;
   kept = subst (λ ss. Passes (after_all ss) old new) (sym (append_assoc first.says then.whole (last_done then.break then.told)))
       (kept_append first.says (then.whole ++ last_done then.break then.told) old.kept mid.kept new.kept first.kept then.kept);
-  follows = follows_on old mid new first.follows then.follows;
+  follows = follows_on old mid new (follows_same old mid first.sound) then.follows;
 }
 
 refused_then : {A B : Type 0} (stage : Stage A) (go_on : A → Stage B) (old new : DeskView) → Went stage old new Refused
@@ -107,7 +107,7 @@ refused_then stage go_on old new first = record {
   says = first.says;
   comes = λ more. ap (λ p. going_on p.says p.left go_on p.answer) (first.comes more);
   kept = first.kept;
-  follows = first.follows;
+  sound = first.sound;
 }
 
 broke_then : {A B : Type 0} (stage : Stage A) (go_on : A → Stage B) (old new : DeskView) → StageBrokeOff stage old new
@@ -144,13 +144,13 @@ goes_no_further stage go_on old new status (one, inr broke) = (one, inr (broke_t
 
 -- nothing is said or read
 pub went_nowhere : {A : Type 0} (d : DeskView) (a : A) → Went (verdict_stage (Ok a)) d d (Made a)
-went_nowhere d a = record { passed = []; says = []; comes = λ more. refl; kept = kept_none d.kept; follows = follows_here d }
+went_nowhere d a = record { passed = []; says = []; comes = λ more. refl; kept = kept_none d.kept; sound = same_here d }
 
 -- a line was printed whole
-told_whole : {A : Type 0} (old new : DeskView) (line : List ℕ) → Passes (after_all (Line line ∷ [])) old new → Follows old new
+told_whole : {A : Type 0} (old new : DeskView) (line : List ℕ) → Passes (after_all (Line line ∷ [])) old new → HasSameCounts old new
     → Went {A = A} (verdict_stage (Err line)) old new Refused
-told_whole old new line kept follows =
-    record { passed = []; says = Line line ∷ []; comes = λ more. refl; kept = kept; follows = follows }
+told_whole old new line kept same =
+    record { passed = []; says = Line line ∷ []; comes = λ more. refl; kept = kept; sound = same }
 
 -- or it broke off there
 broke_here : {A : Type 0} (stage : Stage A) (old new : DeskView) (break : Break) (told : List ℕ)
@@ -171,7 +171,7 @@ broke_here stage old new break told is tells kept follows = record {
 refused_by : {A : Type 0} (old new : DeskView) (line told : List ℕ) → TellsLine line told old new
     → Passes (after_all (Line told ∷ [])) old new → Follows old new → Goes {A = A} (verdict_stage (Err line)) old new (Err 1)
 refused_by {A} old new line told (inl whole) kept follows =
-    (refl, inl (told_whole {A = A} old new line (subst (λ bytes. Passes (after_all (Line bytes ∷ [])) old new) whole kept) follows))
+    (refl, inl (told_whole {A = A} old new line (subst (λ bytes. Passes (after_all (Line bytes ∷ [])) old new) whole.0 kept) whole.1))
 refused_by {A} old new line told (inr part) kept follows =
     (refl, inr (broke_here (verdict_stage {A = A} (Err line)) old new (InLine line) told (λ more. ([], refl)) part kept follows))
 
@@ -199,12 +199,12 @@ goes_unsettled r line old new status is one told =
     subst (λ x. Goes (verdict_stage x) old new (Err status)) (sym is) (goes_refused old new line status one told)
 
 pub went_silent : (d : DeskView) → Went (saying_stage []) d d (Made tt)
-went_silent d = record { passed = []; says = []; comes = λ more. refl; kept = kept_none d.kept; follows = follows_here d }
+went_silent d = record { passed = []; says = []; comes = λ more. refl; kept = kept_none d.kept; sound = same_here d }
 
 pub went_saying : (old new : DeskView) (line : List ℕ) → Passes (after_all (Line line ∷ [])) old new
-    → Follows old new → Went (saying_stage (Line line ∷ [])) old new (Made tt)
-went_saying old new line kept follows =
-    record { passed = []; says = Line line ∷ []; comes = λ more. refl; kept = kept; follows = follows }
+    → HasSameCounts old new → Went (saying_stage (Line line ∷ [])) old new (Made tt)
+went_saying old new line kept same =
+    record { passed = []; says = Line line ∷ []; comes = λ more. refl; kept = kept; sound = same }
 
 -- a failed call is counted
 failed_counts : (old new : DeskView) (fault : DeskFault) → fault ≡ Failed → Counts {T = Unit {0}} Messages old new (Err fault) → HasFailedToSay old new
@@ -226,6 +226,6 @@ went_into stage f old new a went = went_went stage (λ x. verdict_stage (Ok (f x
 
 -- however a stage goes, the counts of failures never fall
 pub goes_follows : {A : Type 0} (stage : Stage A) (old new : DeskView) (result : Result A ℕ) → Goes stage old new result → Follows old new
-goes_follows stage old new (Ok a) went = went.follows
-goes_follows stage old new (Err status) (one, inl went) = went.follows
+goes_follows stage old new (Ok a) went = follows_same old new went.sound
+goes_follows stage old new (Err status) (one, inl went) = follows_same old new went.sound
 goes_follows stage old new (Err status) (one, inr broke) = broke.follows

@@ -81,7 +81,7 @@ no_end_before_a_fault sent = front_or_end sent.0 (ap output_of sent.2)
 
 -- a line cut short where only a file failed
 pub no_line_cut_by_a_file : TellsLine whole [] (silent 0) (silent 1) → ⊥
-no_line_cut_by_a_file (inl told) = absurd (cc)
+no_line_cut_by_a_file (inl told) = let e : [] ≡ whole = told.0 in absurd (cc)
 no_line_cut_by_a_file (inr (part, (failures, inl more))) = omega (arith, more)
 no_line_cut_by_a_file (inr (part, (failures, inr last))) = omega (arith, last)
 

@@ -4,15 +4,9 @@ use Rattle.std.specs.Io.KnownBytes.{Keeps, Appends}
 use Rattle.avr_desk.specs.Record.{Bytes}
 use Rattle.avr_desk.specs.Shown.{AppendsFront}
 
--- a front of the bytes was written, and then nothing more
-wrote_front : (a b c : Option Bytes) (front back bytes : Bytes) → front ++ back ≡ bytes → Appends a b front → Keeps b c → AppendsFront a c bytes
-wrote_front None b c front back bytes is p q = (front, (back, is), tt)
-wrote_front (Some x) None c front back bytes is p q = absurd p
-wrote_front (Some x) (Some y) None front back bytes is p q = absurd q
-wrote_front (Some x) (Some y) (Some z) front back bytes is p q = (front, (back, is), q ∙ p)
-
-pub wrote_some : (a b c : Option Bytes) (n : ℕ) (bytes : Bytes) → Appends a b (take n bytes) → Keeps b c → AppendsFront a c bytes
-wrote_some a b c n bytes p q = wrote_front a b c (take n bytes) (drop n bytes) bytes (take-append-drop n bytes) p q
+-- so many of the bytes are a front of them
+pub took_front : (a b : Option Bytes) (n : ℕ) (bytes : Bytes) → Appends a b (take n bytes) → AppendsFront a b bytes
+took_front a b n bytes took = (take n bytes, (drop n bytes, take-append-drop n bytes), took)
 
 -- nothing was written
 pub keeps : (a : Option Bytes) → Keeps a a

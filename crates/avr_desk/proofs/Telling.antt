@@ -1,13 +1,13 @@
 -- Lines that were told, whole or in part.
-use Rattle.std.proofs.Common.{◌≡◌, ℕ, ◌≤◌, arith, List, take, drop, refl, Result, Ok, Err, IfErr, inl, inr}
+use Rattle.std.proofs.Common.{◌≡◌, ℕ, ◌≤◌, arith, List, take, drop, refl, ◌∙◌, subst, Result, Ok, Err, IfErr, inl, inr}
 use Rattle.std.proofs.lemmas.Bool.{cases_lt}
 use Rattle.std.proofs.lemmas.List.{take-append-drop}
-use Rattle.avr_desk.specs.Fault.{Counts, Follows, HasFailed, HasFailedToSay, HasRisen}
+use Rattle.avr_desk.specs.Fault.{Counts, Follows, HasFailed, HasFailedAt, HasFailedToSay, HasRisen, HasSameCounts}
 use Rattle.avr_desk.specs.Record.{DeskView}
 use Rattle.avr_desk.specs.declared.desk.DeskFault.{DeskFault}
 use Rattle.avr_desk.specs.declared.desk.DeskFault.TheVariants.{NotFound, Failed}
 use Rattle.avr_desk.specs.declared.stream.Stream.{Stream}
-use Rattle.avr_desk.specs.declared.stream.Stream.TheVariants.{Messages}
+use Rattle.avr_desk.specs.declared.stream.Stream.TheVariants.{File, Messages}
 use Rattle.avr_desk.specs.Said.{IsPrinted, TellsLine, Tells, TellsFailure}
 
 -- a count that rises later has risen
@@ -28,6 +28,24 @@ follows_here a = (omega arith, omega arith)
 pub follows_on : (a b c : DeskView) → Follows a b → Follows b c → Follows a c
 follows_on a b c first then = (omega (arith, first.0, then.0), omega (arith, first.1, then.1))
 
+-- no failure was counted of one that is as it was, nor behind one and another
+pub same_here : (a : DeskView) → HasSameCounts a a
+same_here a = (refl, refl)
+
+pub same_on : (a b c : DeskView) → HasSameCounts a b → HasSameCounts b c → HasSameCounts a c
+same_on a b c first then = (then.0 ∙ first.0, then.1 ∙ first.1)
+
+-- and such a desk follows
+pub follows_same : (a b : DeskView) → HasSameCounts a b → Follows a b
+follows_same a b same = (omega (arith, same.0), omega (arith, same.1))
+
+-- a failure at the file, or at the messages, is the first since before where none was counted
+pub failed_since : (a b c : DeskView) → HasSameCounts a b → HasFailedAt File b c → HasFailedAt File a c
+failed_since a b c same failed = (subst (λ n. HasRisen n c.failures) same.0 failed.0, failed.1 ∙ same.1)
+
+pub unsaid_since : (a b c : DeskView) → HasSameCounts a b → HasFailedToSay b c → HasFailedToSay a c
+unsaid_since a b c same failed = (subst (λ n. HasRisen n c.failures) same.0 failed.0, subst (λ n. HasRisen n c.unsaid) same.1 failed.1)
+
 -- a failure later is a failure
 pub failed_later : (a b c : DeskView) → Follows a b → HasFailed b c → HasFailed a c
 failed_later a b c first = risen_later a.failures b.failures c.failures first.0
@@ -45,15 +63,15 @@ unsaid_before a b c first then failed = (failed_before a b c first then failed.0
 
 -- a failed call is counted
 pub failed_by : (stream : Stream) (old new : DeskView) (result : Result (Unit {0}) DeskFault) (fault : DeskFault) → result ≡ Err fault → IfErr result (λ e. e ≡ Failed)
-    → Counts stream old new result → HasFailed old new
+    → Counts stream old new result → HasFailedAt stream old new
 failed_by stream old new (Ok done) fault is only counts = cc
 failed_by stream old new (Err NotFound) fault is only counts = cc
-failed_by stream old new (Err Failed) fault is only counts = counts.1.0
+failed_by stream old new (Err Failed) fault is only counts = counts.1
 
 -- a line that was printed, or a front of it
 pub tells_line : (old new : DeskView) (line : List ℕ) (printed : Result (Unit {0}) DeskFault) → IsPrinted old new line printed
     → Counts Messages old new printed → IfErr printed (λ e. e ≡ Failed) → Tells old new line
-tells_line old new line (Ok done) is counts only = record { told = line; tells = inl refl; kept = is; follows = counts.0 }
+tells_line old new line (Ok done) is counts only = record { told = line; tells = inl (refl, counts.1); kept = is; follows = counts.0 }
 tells_line old new line (Err NotFound) is counts only = cc
 tells_line old new line (Err Failed) is counts only = record {
   told = take is.0 line;
@@ -62,27 +80,22 @@ tells_line old new line (Err Failed) is counts only = record {
   follows = counts.0;
 }
 
--- what was told of a line is told of it still
-pub tells_longer : (line told : List ℕ) (a b c : DeskView) → Follows a b → Follows b c → TellsLine line told a b → TellsLine line told a c
-tells_longer line told a b c first then (inl whole) = inl whole
-tells_longer line told a b c first then (inr part) = inr (part.0, unsaid_before a b c first then part.1)
+-- what was told since then was told since before, where no failure was counted
+pub tells_since : (line told : List ℕ) (a b c : DeskView) → HasSameCounts a b → TellsLine line told b c → TellsLine line told a c
+tells_since line told a b c first (inl whole) = inl (whole.0, same_on a b c first whole.1)
+tells_since line told a b c first (inr part) = inr (part.0, unsaid_since a b c first part.1)
 
--- and was told since before
-pub tells_since : (line told : List ℕ) (a b c : DeskView) → Follows a b → TellsLine line told b c → TellsLine line told a c
-tells_since line told a b c first (inl whole) = inl whole
-tells_since line told a b c first (inr part) = inr (part.0, unsaid_later a b c first part.1)
-
-pub failure_in : (line told : List ℕ) (a b c d : DeskView) → Follows a b → Follows c d → TellsFailure line told b c → TellsFailure line told a d
-failure_in line told a b c d first last failure = record {
+pub failure_since : (line told : List ℕ) (a b c : DeskView) → HasSameCounts a b → TellsFailure line told b c → TellsFailure line told a c
+failure_since line told a b c first failure = record {
   between = failure.between;
-  failed = failed_later a b failure.between first failure.failed;
-  tells = tells_longer line told failure.between c d failure.until last failure.tells;
-  since = follows_on a b failure.between first failure.since;
-  until = follows_on failure.between c d failure.until last;
+  failed = failed_since a b failure.between first failure.failed;
+  tells = failure.tells;
+  since = follows_on a b failure.between (follows_same a b first) failure.since;
+  until = failure.until;
 }
 
 -- The desk failed, and from then on that was told.
-pub failure_told : (old mid new : DeskView) (line : List ℕ) → Follows old mid → HasFailed old mid → (told : Tells mid new line)
+pub failure_told : (old mid new : DeskView) (line : List ℕ) → Follows old mid → HasFailedAt File old mid → (told : Tells mid new line)
     → TellsFailure line told.told old new
 failure_told old mid new line rose failed told = record {
   between = mid;

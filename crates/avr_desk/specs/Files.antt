@@ -1,7 +1,7 @@
 -- A whole file over a desk: what passes when it is read to its end or past a limit.
 use Rattle.std.specs.Prelude.{◌≡◌, ◌≤◌, ◌<◌, ◌+◌, ℕ, length, Bool, Result, Ok, Err, false, MatchBool}
 use Rattle.avr_desk.specs.Record.{DeskView, Record, Bytes, Passes, noted, with_open, with_absent}
-use Rattle.avr_desk.specs.Fault.{Follows, HasFailed, HasFailedAt, HasSameCounts}
+use Rattle.avr_desk.specs.Fault.{Follows, HasFailedAt, HasSameCounts}
 use Rattle.avr_desk.specs.declared.record.Open.TheVariants.{ToRead}
 use Rattle.avr_desk.specs.declared.files.Contents.{Contents}
 use Rattle.avr_desk.specs.declared.files.FileFault.{FileFault}
@@ -45,11 +45,11 @@ FileBreaks name old new NotOpened = new.kept ≡ old.kept
 FileBreaks name old new NotRead = (bytes : Bytes) × Passes (with_read name bytes false) old new
 FileBreaks name old new Memory = (bytes : Bytes) × (ended : Bool) × Passes (with_read name bytes ended) old new
 
--- what the count of failures says of such a fault
+-- what the counts of failures say of such a fault
 abbrev pub IsCounted : DeskView → DeskView → FileFault → Type 0
-IsCounted old new NotOpened = HasFailed old new
-IsCounted old new NotRead = HasFailed old new
-IsCounted old new fault = Unit {0}
+IsCounted old new NotOpened = HasFailedAt File old new
+IsCounted old new NotRead = HasFailedAt File old new
+IsCounted old new fault = HasSameCounts old new
 
 -- the end was seen within the limit, or more bytes came than it allows, by one piece at most
 abbrev pub IsWhole : ℕ → Contents → Type 0

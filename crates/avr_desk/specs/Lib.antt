@@ -7,6 +7,7 @@ pub mod Named
 pub mod Memory
 pub mod Failing
 pub mod Shown
+pub mod Calls
 pub mod Lines
 pub mod Said
 pub mod Stage

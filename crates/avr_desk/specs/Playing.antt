@@ -1,6 +1,6 @@
 -- A stage over a desk: played whole, or broken off by a fault of the desk or for want of memory.
 use Rattle.std.specs.Prelude.{◌≡◌, ◌⊎◌, ℕ, List, [], ◌∷◌, ◌++◌, false, Result, Ok, Err}
-use Rattle.avr_desk.specs.Fault.{Follows, HasFailedToSay}
+use Rattle.avr_desk.specs.Fault.{Follows, HasFailedToSay, HasSameCounts}
 use Rattle.avr_desk.specs.Record.{DeskView, Passes, Bytes}
 use Rattle.avr_desk.specs.declared.record.Opening.{Opening}
 use Rattle.avr_desk.specs.declared.record.Opening.TheVariants.{Found}
@@ -10,13 +10,13 @@ use Rattle.avr_desk.specs.Said.{Saying, Opens, Line, IsPrefixOf, TellsLine, Tell
 use Rattle.avr_desk.specs.Stage.{Stage, Answer, Made, Refused, StageResult, next_opening}
 
 -- These openings passed, and what the desk was given to do is what the stage says of them, whatever later ones would
--- give.
+-- give; and no call of the desk failed.
 pub record Went {A : Type 0} (stage : Stage A) (old new : DeskView) (answer : Answer A) : Type 0 where
   pub passed : List Opening
   pub says : List Saying
   pub comes : (more : List Opening) → stage (passed ++ more) ≡ record { says = says; answer = answer; left = more }
   pub kept : Passes (after_all says) old new
-  pub follows : Follows old new
+  pub sound : HasSameCounts old new
 
 -- Why it broke off: the next line could not be printed; the next file could not be opened, or be read on behind these
 -- bytes; or memory was refused, also for the next file, of which so much had been read.

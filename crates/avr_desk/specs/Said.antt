@@ -1,12 +1,12 @@
 -- What a run does at the desk: files that are read, lines that are printed, files and output that are written.
 use Rattle.std.specs.Prelude.{◌≡◌, ◌⊎◌, List, [], ◌∷◌, ◌++◌, Result, Ok, Err}
 use Rattle.avr_desk.specs.Record.{DeskView, Record, Passes, with_open, with_absent, after_write, after_out, after_err, Bytes}
-use Rattle.avr_desk.specs.Fault.{Follows, HasFailed, HasFailedToSay}
+use Rattle.avr_desk.specs.Fault.{Follows, HasFailedAt, HasFailedToSay, HasSameCounts}
 use Rattle.avr_desk.specs.Stream.{SendsPart}
 use Rattle.avr_desk.specs.declared.record.Opening.{Opening}
 use Rattle.avr_desk.specs.declared.record.Opening.TheVariants.{Absent, Found}
 use Rattle.avr_desk.specs.declared.record.Open.TheVariants.{ToRead, ToWrite}
-use Rattle.avr_desk.specs.declared.stream.Stream.TheVariants.{Messages}
+use Rattle.avr_desk.specs.declared.stream.Stream.TheVariants.{File, Messages}
 
 -- A file is opened to be read, and gives what it gives; a line of messages is printed; a file of this name is created;
 -- bytes are written to it, or to standard output.
@@ -50,9 +50,10 @@ abbrev pub IsPrinted : {T Fault : Type 0} → DeskView → DeskView → Bytes �
 IsPrinted old new bytes (Ok done) = Passes (after_err bytes) old new
 IsPrinted old new bytes (Err fault) = SendsPart Messages old new bytes
 
--- The line was told whole; or a write to the messages has failed, and a front of it was.
+-- The line was told whole, and no call failed; or a write to the messages has failed, and a front of it was.
 abbrev pub TellsLine : Bytes → Bytes → DeskView → DeskView → Type 0
-TellsLine line told old new = (told ≡ line) ⊎ (IsPrefixOf told line × HasFailedToSay old new)
+TellsLine line told old new =
+    ((told ≡ line) × HasSameCounts old new) ⊎ (IsPrefixOf told line × HasFailedToSay old new)
 
 -- So much of the line was told, and nothing else happened.
 pub record Tells (old new : DeskView) (line : Bytes) : Type 0 where
@@ -61,10 +62,11 @@ pub record Tells (old new : DeskView) (line : Bytes) : Type 0 where
   pub kept : Passes (after_err told) old new
   pub follows : Follows old new
 
--- The desk failed, and from then on, as it stood in between, the line of that was told.
+-- The desk failed, for a file or the output and not yet at the messages, and from then on, as it stood in between, the
+-- line of that was told.
 pub record TellsFailure (line told : Bytes) (old new : DeskView) : Type 0 where
   pub between : DeskView
-  pub failed : HasFailed old between
+  pub failed : HasFailedAt File old between
   pub tells : TellsLine line told between new
   pub since : Follows old between
   pub until : Follows between new

@@ -1,23 +1,26 @@
 -- What the desk of a program shows: its two writers, and what they take.
-use Rattle.std.specs.Prelude.{◌≡◌, ◌++◌, ℕ, Bool, false, codes, Option, None, Result, Ok, Err, take}
+use Rattle.std.specs.Prelude.{◌≡◌, ◌++◌, ℕ, Bool, false, ◌≤◌, codes, length, Option, Some, Result, Ok, Err, take}
 use Rattle.std.specs.Io.KnownBytes.{Appends}
 use Rattle.std.specs.Str.{bytes_eq}
-use Rattle.avr_desk.specs.Record.{Bytes, DeskView, showing}
+use Rattle.avr_desk.specs.Record.{Bytes, Record, DeskView, showing}
+use Rattle.avr_desk.specs.Stream.{after_sent}
+use Rattle.avr_desk.specs.declared.stream.Stream.{Stream}
 use Rattle.avr_desk.specs.declared.desk.DeskFault.{DeskFault}
 use Rattle.avr_desk.specs.declared.desk.DeskFault.TheVariants.{Failed}
 
 -- the writers of the output and of the messages, the failures and those at the messages, and whether what is written to
--- the file goes to the output
+-- the file goes to the output; and what passed, which is kept for proofs alone
 pub record Shown (O E : Type 0) : Type 0 where
   pub output : O
   pub messages : E
   pub failures : ℕ
   pub unsaid : ℕ
   pub to_output : Bool
+  pub kept : Record
 
--- what it shows as any desk does: it keeps nothing
+-- what it shows as any desk does
 abbrev pub shown_view : {O E : Type 0} → Shown O E → DeskView
-shown_view d = showing None d.failures d.unsaid
+shown_view d = showing (Some d.kept) d.failures d.unsaid
 
 -- a writer whose bytes are known took a front of these
 abbrev pub AppendsFront : Option Bytes → Option Bytes → Bytes → Type 0
@@ -27,6 +30,18 @@ AppendsFront old new bytes = (front : Bytes) × ((back : Bytes) × (front ++ bac
 abbrev pub AppendsTaken : {F : Type 0} → Option Bytes → Option Bytes → Bytes → Result ℕ F → Type 0
 AppendsTaken old new bytes (Ok n) = Appends old new (take n bytes)
 AppendsTaken old new bytes (Err fault) = AppendsFront old new bytes
+
+-- What is recorded of a write is what the writer took: as many of the bytes as were answered, and after a fault a front
+-- of them.
+abbrev pub RecordsTaken : Stream → Bytes → Option Bytes → Option Bytes → Record → Record → ℕ → Type 0
+RecordsTaken stream bytes old new before now n =
+    (now ≡ after_sent stream (take n bytes) before) × Appends old new (take n bytes)
+
+abbrev pub TakesTruly : {F : Type 0} → Stream → Bytes → Option Bytes → Option Bytes → Record → Record → Result ℕ F
+    → Type 0
+TakesTruly stream bytes old new before now (Ok n) = RecordsTaken stream bytes old new before now n
+TakesTruly stream bytes old new before now (Err fault) =
+    (n : ℕ) × (n ≤ length bytes) × RecordsTaken stream bytes old new before now n
 
 -- the name of the standard streams
 abbrev pub is_dash : Bytes → Bool

@@ -23,6 +23,7 @@ mod message;
 
 // The desks.
 mod failing;
+mod journal;
 mod kept;
 mod mem_desk;
 mod system;

@@ -2,13 +2,15 @@
 ghost use Rattle.std.specs.Prelude.{◌≡◌, ◌≤◌, length, take, IfOk, IfErr, OnErr, true, false, []};
 ghost use Rattle.std.specs.Io.KnownBytes.{Keeps, Appends};
 ghost use Rattle.avr_desk.specs.Fault.{Counts, HasRisen, WriteCounts};
-ghost use Rattle.avr_desk.specs.Record.{HasOpen, is_to_read, is_to_write};
-ghost use Rattle.avr_desk.specs.Shown.{AppendsTaken, shown_view, to_output_opened, to_output_created};
+ghost use Rattle.avr_desk.specs.Record.{HasOpen, Passes, after_open, after_create, after_read, is_to_read, is_to_write, nothing_kept};
+ghost use Rattle.avr_desk.specs.Shown.{AppendsTaken, TakesTruly, shown_view, to_output_opened, to_output_created};
 ghost use Rattle.avr_desk.specs.Stream.{SendsTaken};
 ghost use Rattle.avr_desk.specs.declared.desk.DeskFault.TheVariants.{Failed};
 ghost use Rattle.avr_desk.specs.declared.stream.Stream.TheVariants.{File, Output, Messages};
 
 use crate::desk::{Desk, DeskFault};
+use crate::journal::{Call, Journal};
+use crate::stream::Stream;
 use std::io::{ErrorKind, Read, Write};
 use std::marker::Model;
 use std::rt::Files;
@@ -25,7 +27,7 @@ enum Held<F, I> {
 }
 
 /// The desk of a program: the files of `rt`, its standard input, and two writers, for output and
-/// for messages. It shows no record of what passes, but its two writers.
+/// for messages. The record of what passes is kept for proofs alone, and takes no memory.
 ///
 /// `-` is standard input to `open`, and the output to `create`. Files are written without a
 /// buffer, and the writers are flushed at each call, so nothing is left unwritten at the end; a
@@ -38,11 +40,12 @@ pub struct SystemDesk<'a, R: Files + Input, O: Write + Drop, E: Write + Drop> {
     held: Held<R::File, R::Reader>,
     failures: u64,
     unsaid: u64,
+    journal: Journal,
 }
 
 impl<'a, R: Files + Input, O: Write + Drop, E: Write + Drop> Model for SystemDesk<'a, R, O, E> {
     ghost use Rattle.avr_desk.specs.Shown.{Shown};
-    ghost use Rattle.avr_desk.specs.Standing.{is_output};
+    ghost use Rattle.avr_desk.specs.Standing.{is_output, Stands};
 
     ghost Value = { Shown O E };
 
@@ -52,7 +55,10 @@ impl<'a, R: Files + Input, O: Write + Drop, E: Write + Drop> Model for SystemDes
       failures = desk.failures;
       unsaid = desk.unsaid;
       to_output = is_output desk.held;
+      kept = desk.journal.kept;
     } };
+
+    ghost invariant = { λ desk. Stands desk.held desk.journal.kept.current };
 }
 
 /// Reads once, and again where a signal came in between.
@@ -98,13 +104,20 @@ fn flush<W: Write>(to: &mut W) -> io::Result<()>
     Err(io::Error::from(ErrorKind::Interrupted))
 }
 
-/// Writes once, and sees that it went out. A flush may fail behind bytes that were taken.
-fn write_through<W: Write>(to: &mut W, bytes: &[u8]) -> io::Result<usize>
+/// Writes once, and sees that it went out. A flush may fail behind bytes that were taken: these are recorded too.
+fn write_through<W: Write>(
+    to: &mut W,
+    stream: Stream,
+    bytes: &[u8],
+    journal: &mut Journal,
+) -> io::Result<usize>
     ensures bound { IfOk result (λ n. n ≤ length bytes.now) }
     ensures some { IfOk result (λ n. n ≡ 0 → bytes.now ≡ []) }
-    ensures taken { AppendsTaken (W.contents to.old) (W.contents to.new) bytes.now result }
+    ensures taken { TakesTruly stream bytes.now (W.contents to.old) (W.contents to.new) journal.old.kept
+        journal.new.kept result }
 {
     let count = write_some(to, bytes)?;
+    *journal = journal.then(&Call::Sent(stream, bytes, count));
     match flush(to) {
         Ok(()) => Ok(count),
         Err(error) => Err(error),
@@ -138,6 +151,7 @@ impl<'a, R: Files + Input, O: Write + Drop, E: Write + Drop> SystemDesk<'a, R, O
           failures = 0;
           unsaid = 0;
           to_output = false;
+          kept = nothing_kept;
         } }
     {
         SystemDesk {
@@ -147,6 +161,7 @@ impl<'a, R: Files + Input, O: Write + Drop, E: Write + Drop> SystemDesk<'a, R, O
             held: Held::Nothing,
             failures: 0,
             unsaid: 0,
+            journal: Journal::new(),
         }
     }
 }
@@ -155,23 +170,28 @@ impl<'a, R: Files + Input, O: Write + Drop, E: Write + Drop> Desk for SystemDesk
     ghost view = { shown_view };
 
     fn open(&mut self, name: &str) -> Result<(), DeskFault>
+        ensures kept { Passes (after_open name.now result) (shown_view self.old) (shown_view self.new) }
         ensures counts { Counts File (shown_view self.old) (shown_view self.new) result }
         ensures quiet { self.new ≡ record self.old {
           failures = self.new.failures;
           to_output = to_output_opened result self.old.to_output;
+          kept = self.new.kept;
         } }
     {
         if name == "-" {
             self.held = Held::Input(self.rt.reader());
+            self.journal = self.journal.then(&Call::Opened(name.as_bytes()));
             return Ok(());
         }
         match fs::open(self.rt, name) {
             Ok(file) => {
                 self.held = Held::ToRead(file);
+                self.journal = self.journal.then(&Call::Opened(name.as_bytes()));
                 Ok(())
             }
             Err(error) if error.kind() == ErrorKind::NotFound => {
                 self.held = Held::Nothing;
+                self.journal = self.journal.then(&Call::Absent(name.as_bytes()));
                 Err(DeskFault::NotFound)
             }
             Err(_) => Err(fail(&mut self.failures)),
@@ -179,20 +199,24 @@ impl<'a, R: Files + Input, O: Write + Drop, E: Write + Drop> Desk for SystemDesk
     }
 
     fn create(&mut self, name: &str) -> Result<(), DeskFault>
+        ensures kept { Passes (after_create name.now result) (shown_view self.old) (shown_view self.new) }
         ensures counts { Counts File (shown_view self.old) (shown_view self.new) result }
         ensures fault { IfErr result (λ e. e ≡ Failed) }
         ensures quiet { self.new ≡ record self.old {
           failures = self.new.failures;
           to_output = to_output_created name.now result self.old.to_output;
+          kept = self.new.kept;
         } }
     {
         if name == "-" {
             self.held = Held::Output;
+            self.journal = self.journal.then(&Call::Created(name.as_bytes()));
             return Ok(());
         }
         match fs::create(self.rt, name) {
             Ok(file) => {
                 self.held = Held::ToWrite(file);
+                self.journal = self.journal.then(&Call::Created(name.as_bytes()));
                 Ok(())
             }
             Err(_) => Err(fail(&mut self.failures)),
@@ -201,10 +225,11 @@ impl<'a, R: Files + Input, O: Write + Drop, E: Write + Drop> Desk for SystemDesk
 
     fn read(&mut self, buf: &mut [u8]) -> Result<usize, DeskFault>
         ensures bound { IfOk result (λ n. n ≤ length buf.new) }
+        ensures kept { Passes (after_read buf.new result) (shown_view self.old) (shown_view self.new) }
         ensures has_file { HasOpen is_to_read (shown_view self.old) result }
         ensures counts { Counts File (shown_view self.old) (shown_view self.new) result }
         ensures fault { IfErr result (λ e. e ≡ Failed) }
-        ensures quiet { self.new ≡ record self.old { failures = self.new.failures } }
+        ensures quiet { self.new ≡ record self.old { failures = self.new.failures; kept = self.new.kept } }
     {
         let result = match &mut self.held {
             Held::Input(input) => read_some(input, buf),
@@ -212,7 +237,10 @@ impl<'a, R: Files + Input, O: Write + Drop, E: Write + Drop> Desk for SystemDesk
             _ => Err(io::Error::from(ErrorKind::NotFound)),
         };
         match result {
-            Ok(count) => Ok(count),
+            Ok(count) => {
+                self.journal = self.journal.then(&Call::Read(&*buf, count));
+                Ok(count)
+            }
             Err(_) => Err(fail(&mut self.failures)),
         }
     }
@@ -225,15 +253,29 @@ impl<'a, R: Files + Input, O: Write + Drop, E: Write + Drop> Desk for SystemDesk
         ensures fault { IfErr result (λ e. e ≡ Failed) }
         ensures output { self.old.to_output ≡ true → AppendsTaken (O.contents self.old.output)
             (O.contents self.new.output) bytes.now result }
+        ensures truly { self.old.to_output ≡ true → TakesTruly File bytes.now (O.contents self.old.output)
+            (O.contents self.new.output) self.old.kept self.new.kept result }
         ensures elsewhere { self.old.to_output ≡ false → self.new.output ≡ self.old.output }
-        ensures quiet { self.new ≡ record self.old { output = self.new.output; failures = self.new.failures } }
+        ensures quiet { self.new ≡ record self.old {
+          output = self.new.output;
+          failures = self.new.failures;
+          kept = self.new.kept;
+        } }
     {
         match &mut self.held {
             Held::ToWrite(file) => match write_some(file, bytes) {
-                Ok(count) => Ok(count),
+                Ok(count) => {
+                    self.journal = self.journal.then(&Call::Sent(Stream::File, bytes, count));
+                    Ok(count)
+                }
                 Err(_) => Err(fail(&mut self.failures)),
             },
-            Held::Output => match write_through(&mut self.output, bytes) {
+            Held::Output => match write_through(
+                &mut self.output,
+                Stream::File,
+                bytes,
+                &mut self.journal,
+            ) {
                 Ok(count) => Ok(count),
                 Err(_) => Err(fail(&mut self.failures)),
             },
@@ -247,9 +289,15 @@ impl<'a, R: Files + Input, O: Write + Drop, E: Write + Drop> Desk for SystemDesk
         ensures counts { WriteCounts Output bytes.now (shown_view self.old) (shown_view self.new) result }
         ensures fault { IfErr result (λ e. e ≡ Failed) }
         ensures output { AppendsTaken (O.contents self.old.output) (O.contents self.new.output) bytes.now result }
-        ensures quiet { self.new ≡ record self.old { output = self.new.output; failures = self.new.failures } }
+        ensures truly { TakesTruly Output bytes.now (O.contents self.old.output) (O.contents self.new.output)
+            self.old.kept self.new.kept result }
+        ensures quiet { self.new ≡ record self.old {
+          output = self.new.output;
+          failures = self.new.failures;
+          kept = self.new.kept;
+        } }
     {
-        match write_through(&mut self.output, bytes) {
+        match write_through(&mut self.output, Stream::Output, bytes, &mut self.journal) {
             Ok(count) => Ok(count),
             Err(_) => Err(fail(&mut self.failures)),
         }
@@ -261,13 +309,21 @@ impl<'a, R: Files + Input, O: Write + Drop, E: Write + Drop> Desk for SystemDesk
         ensures counts { WriteCounts Messages bytes.now (shown_view self.old) (shown_view self.new) result }
         ensures fault { IfErr result (λ e. e ≡ Failed) }
         ensures messages { AppendsTaken (E.contents self.old.messages) (E.contents self.new.messages) bytes.now result }
+        ensures truly { TakesTruly Messages bytes.now (E.contents self.old.messages) (E.contents self.new.messages)
+            self.old.kept self.new.kept result }
         ensures quiet { self.new ≡ record self.old {
           messages = self.new.messages;
           failures = self.new.failures;
           unsaid = self.new.unsaid;
+          kept = self.new.kept;
         } }
     {
-        match write_through(&mut self.messages, bytes) {
+        match write_through(
+            &mut self.messages,
+            Stream::Messages,
+            bytes,
+            &mut self.journal,
+        ) {
             Ok(count) => Ok(count),
             Err(_) => {
                 raise(&mut self.unsaid);

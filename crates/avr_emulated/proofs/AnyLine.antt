@@ -7,7 +7,7 @@ use Rattle.avr_plan.specs.Plan.{Plan, IsFitted}
 use Rattle.stk_host.specs.declared.fault.HostFault.{HostFault}
 use Rattle.stk_host.specs.Dialog.{Done}
 use Rattle.stk_host.specs.Operations.{closing}
-use Rattle.stk_emu.specs.declared.fate.Fate.{Fate}
+use Rattle.stk_emu.specs.Turn.{Turn}
 use Rattle.stk_emu.specs.Programmer.{Programmer}
 use Rattle.stk_emu.specs.Device.{device}
 use Rattle.stk_emu.specs.Effect.{Memories, Item, effects, memories_of}
@@ -47,29 +47,29 @@ module _ (part : Part) (sound : IsPart part) (m : Memories) (f : FitsPart part m
       after_fault ⊤ (λ s. Ends part m all Check s q) fault rests rests
 
   -- to leave programming mode keeps the memories
-  leads_left : (before : Memories) (outcome_says : Result ⊤ HostFault → List Saying) (p : Programmer) (fates : List Fate) (During : Programmer → Type 0)
+  leads_left : (before : Memories) (outcome_says : Result ⊤ HostFault → List Saying) (p : Programmer) (turns : List Turn) (During : Programmer → Type 0)
       (Then : Standing → Programmer → Type 0)
       → ((q : Programmer) → Idle part before q → During q) → ((r : Result ⊤ HostFault) (q : Programmer) → Idle part before q → Then (standing r) q) → Idle part before p
-      → Leads device (reported closing outcome_says) p fates During Then
-  leads_left before outcome_says p fates During Then during after idle =
-      leads_reported closing outcome_says p fates During (λ result q. Idle part before q) Then (λ r q i. during q i) (λ r q i. after r q i)
-      (leads_wider device closing p fates (Idle part before) During (λ result q. Idle part before q) (λ result q. Idle part before q) (λ q i. during q i) (λ r q i. i)
-      (leads_closing part before p fates idle))
+      → Leads device (reported closing outcome_says) p turns During Then
+  leads_left before outcome_says p turns During Then during after idle =
+      leads_reported closing outcome_says p turns During (λ result q. Idle part before q) Then (λ r q i. during q i) (λ r q i. after r q i)
+      (leads_wider device closing p turns (Idle part before) During (λ result q. Idle part before q) (λ result q. Idle part before q) (λ q i. during q i) (λ r q i. i)
+      (leads_closing part before p turns idle))
 
-  leads_ending : (plan : Plan) (s : Standing) (p : Programmer) (fates : List Fate) → Comes part m all Check s p
-      → Leads device (ending part plan.switches s) p fates (Rests part (all_steps part all) m) (Ends part m all Check)
-  leads_ending plan Fine p fates came =
+  leads_ending : (plan : Plan) (s : Standing) (p : Programmer) (turns : List Turn) → Comes part m all Check s p
+      → Leads device (ending part plan.switches s) p turns (Rests part (all_steps part all) m) (Ends part m all Check)
+  leads_ending plan Fine p turns came =
       let after = effects part all m in
-      leads_left after (closed_says plan.switches.quiet part) p fates (Rests part (all_steps part all) m) (Ends part m all Check)
+      leads_left after (closed_says plan.switches.quiet part) p turns (Rests part (all_steps part all) m) (Ends part m all Check)
       (λ q idle. rests_all part sound all m q fits f idle) (λ r q idle. closed came.1 r q idle) (settled_idle part after p came.0)
-  leads_ending plan Faulty p fates rests =
+  leads_ending plan Faulty p turns rests =
       let steps = all_steps part all in
       let some = struck_by part rests.count steps m in
       leads_bind device (Rests part steps m) (λ t q. Rests part steps m q) (Ends part m all Check) (λ closed. Done Over)
-      (λ t q fs r. leads_done device Over q fs (Rests part steps m) (Ends part m all Check) r r) (reported closing (λ _. [])) p fates
-      (leads_left some (λ _. []) p fates (Rests part steps m) (λ t q. Rests part steps m q)
+      (λ t q fs r. leads_done device Over q fs (Rests part steps m) (Ends part m all Check) r r) (reported closing (λ _. [])) p turns
+      (leads_left some (λ _. []) p turns (Rests part steps m) (λ t q. Rests part steps m q)
       (λ q idle. record { count = rests.count; stands = idle }) (λ r q idle. record { count = rests.count; stands = idle }) rests.stands)
-  leads_ending plan Over p fates rests = leads_done device Over p fates (Rests part (all_steps part all) m) (Ends part m all Check) rests rests
+  leads_ending plan Over p turns rests = leads_done device Over p turns (Rests part (all_steps part all) m) (Ends part m all Check) rests rests
 
   ends_rests : (s : Standing) (q : Programmer) → Ends part m all Check s q → Rests part (all_steps part all) m q
   ends_rests Fine q ends = rests_all part sound all m q fits f ends.0
@@ -94,20 +94,20 @@ module _ (plan : Plan) (sound : IsPart plan.part) (fitted : All (IsFitted plan.p
       (goes_opening part sound s m f) (goes_phases part sound s (work plan) m (work_fits plan fitted) f)
 
   -- a session
-  leads_session : (p : Programmer) (fates : List Fate) → Idle plan.part m p
-      → Leads device (session plan) p fates (Rests plan.part (all_steps plan.part (items plan)) m) (Leaves plan.part m (items plan) (Agrees plan m))
+  leads_session : (p : Programmer) (turns : List Turn) → Idle plan.part m p
+      → Leads device (session plan) p turns (Rests plan.part (all_steps plan.part (items plan)) m) (Leaves plan.part m (items plan) (Agrees plan m))
   unfolding session
-  leads_session p fates idle =
+  leads_session p turns idle =
       let part = plan.part in
       let all = items plan in
       let During : Programmer → Type 0 = Rests part (all_steps part all) m in
       leads_bind device During (Ends part m all (Agrees plan m)) (Leaves part m all (Agrees plan m)) (λ standing. Done (status_of standing))
       (λ s q fs ends. leads_done device (status_of s) q fs During (Leaves part m all (Agrees plan m)) (ends_rests part sound m f all plan_fits (Agrees plan m) s q ends)
       (ends_leaves part sound m f all plan_fits (Agrees plan m) s q ends))
-      (playing plan) p fates
+      (playing plan) p turns
       (leads_bind device During (Comes part m all (Agrees plan m)) (Ends part m all (Agrees plan m)) (ending part plan.switches)
-      (λ s q fs came. leads_ending part sound m f all plan_fits (Agrees plan m) plan s q fs came) (phases part plan.switches (actions plan)) p fates
-      (goes_actions p fates idle))
+      (λ s q fs came. leads_ending part sound m f all plan_fits (Agrees plan m) plan s q fs came) (phases part plan.switches (actions plan)) p turns
+      (goes_actions p turns idle))
 
   touched : (q : Programmer) → Rests plan.part (all_steps plan.part (items plan)) m q → IsTouched plan m (memories_of q.chip)
   touched q r = record { count = r.count; memories = r.stands.memories ∙ items_counted plan.part (items plan) r.count m }
@@ -116,9 +116,9 @@ module _ (plan : Plan) (sound : IsPart plan.part) (fitted : All (IsFitted plan.p
   left status q leaves e = let after = leaves e in record { memories = after.0.memories; agrees = after.1 }
 
   -- what a session leaves
-  pub session_leaves : (p : Programmer) (fates : List Fate) → Idle plan.part m p
-      → Leads device (session plan) p fates (λ q. IsTouched plan m (memories_of q.chip)) (λ status q. status ≡ 0 → IsDone plan m (memories_of q.chip))
-  session_leaves p fates idle =
-      leads_wider device (session plan) p fates (Rests plan.part (all_steps plan.part (items plan)) m) (λ q. IsTouched plan m (memories_of q.chip))
+  pub session_leaves : (p : Programmer) (turns : List Turn) → Idle plan.part m p
+      → Leads device (session plan) p turns (λ q. IsTouched plan m (memories_of q.chip)) (λ status q. status ≡ 0 → IsDone plan m (memories_of q.chip))
+  session_leaves p turns idle =
+      leads_wider device (session plan) p turns (Rests plan.part (all_steps plan.part (items plan)) m) (λ q. IsTouched plan m (memories_of q.chip))
       (Leaves plan.part m (items plan) (Agrees plan m)) (λ status q. status ≡ 0 → IsDone plan m (memories_of q.chip))
-      (λ q r. touched q r) (λ status q leaves. left status q leaves) (leads_session p fates idle)
+      (λ q r. touched q r) (λ status q leaves. left status q leaves) (leads_session p turns idle)

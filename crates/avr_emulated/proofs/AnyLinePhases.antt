@@ -14,7 +14,7 @@ use Rattle.stk_host.specs.Dialog.{Dialog, Done, ◌>>=◌, lifted}
 use Rattle.stk_host.specs.WriteSteps.{write_steps}
 use Rattle.stk_host.specs.ReadSteps.{read_steps}
 use Rattle.stk_host.specs.Operations.{Difference, opening, no_result, difference_from, differs, comparison, operation}
-use Rattle.stk_emu.specs.declared.fate.Fate.{Fate}
+use Rattle.stk_emu.specs.Turn.{Turn}
 use Rattle.stk_emu.specs.Programmer.{Programmer}
 use Rattle.stk_emu.specs.Device.{device}
 use Rattle.stk_emu.specs.Effect.{Memories, Image, Item, Erase, Write, effects, memory_in}
@@ -38,20 +38,20 @@ use Rattle.avr_emulated.proofs.Standings.{after_fault}
 use Rattle.avr_emulated.proofs.Fitting.{FitsAction, AllFitActions, action_items_fit}
 use Rattle.avr_emulated.proofs.AnyLineSteps.{Rests, reached_rests, rests_here, rests_before, rests_all, rests_behind, effects_sizes, all_struck, quiet_stays, read_quiet}
 
-leads_says : {R : Type 0} (sayings : List Saying) (d : Dialog Saying R) (p : Programmer) (fates : List Fate) (During : Programmer → Type 0) (After : R → Programmer → Type 0)
-    → Leads device d p fates During After → Leads device (says sayings d) p fates During After
-leads_says [] d p fates During After l = l
-leads_says (saying ∷ sayings) d p fates During After l = leads_say device saying (says sayings d) p fates During After (leads_says sayings d p fates During After l)
+leads_says : {R : Type 0} (sayings : List Saying) (d : Dialog Saying R) (p : Programmer) (turns : List Turn) (During : Programmer → Type 0) (After : R → Programmer → Type 0)
+    → Leads device d p turns During After → Leads device (says sayings d) p turns During After
+leads_says [] d p turns During After l = l
+leads_says (saying ∷ sayings) d p turns During After l = leads_say device saying (says sayings d) p turns During After (leads_says sayings d p turns During After l)
 
 -- what is said of an operation's outcome changes nothing
-pub leads_reported : {A : Type 0} (call : Dialog ⊥ (Result A HostFault)) (outcome_says : Result A HostFault → List Saying) (p : Programmer) (fates : List Fate)
+pub leads_reported : {A : Type 0} (call : Dialog ⊥ (Result A HostFault)) (outcome_says : Result A HostFault → List Saying) (p : Programmer) (turns : List Turn)
     (During : Programmer → Type 0) (After : Result A HostFault → Programmer → Type 0) (Then : Standing → Programmer → Type 0)
     → ((r : Result A HostFault) (q : Programmer) → After r q → During q) → ((r : Result A HostFault) (q : Programmer) → After r q → Then (standing r) q)
-    → Leads device call p fates During After → Leads device (reported call outcome_says) p fates During Then
-leads_reported call outcome_says p fates During After Then during after l =
+    → Leads device call p turns During After → Leads device (reported call outcome_says) p turns During Then
+leads_reported call outcome_says p turns During After Then during after l =
     leads_bind device During After Then (λ outcome. says (outcome_says outcome) (Done (standing outcome)))
     (λ r q fs a. leads_says (outcome_says r) (Done (standing r)) q fs During Then (leads_done device (standing r) q fs During Then (during r q a) (after r q a)))
-    (lifted call) p fates (leads_lifted device call p fates During After l)
+    (lifted call) p turns (leads_lifted device call p turns During After l)
 
 -- After a phase of a session that does these items: where it is fine, it has done them all, and the check holds; after a
 -- fault the memories are those of some first steps.
@@ -67,7 +67,7 @@ CameTo part m items Check (Err fault) q = Rests part (all_steps part items) m q
 
 -- a phase of a session that does these items, from a programmer of these memories
 abbrev pub Goes : Part → (Programmer → Type 0) → Memories → List Item → Type 0 → Dialog Saying Standing → Type 0
-Goes part From m items Check d = (p : Programmer) (fates : List Fate) → From p → Leads device d p fates (Rests part (all_steps part items) m) (Comes part m items Check)
+Goes part From m items Check d = (p : Programmer) (turns : List Turn) → From p → Leads device d p turns (Rests part (all_steps part items) m) (Comes part m items Check)
 
 come_standing : {A : Type 0} (part : Part) (m : Memories) (items : List Item) (Check : Type 0) (r : Result A HostFault) (q : Programmer) → CameTo part m items Check r q
     → Comes part m items Check (standing r) q
@@ -85,9 +85,9 @@ module _ (part : Part) (sound : IsPart part) where
 
   -- nothing but what is said
   goes_saying : (m : Memories) (sayings : List Saying) → Goes part (Settled part m) m [] ⊤ (says sayings (Done Fine))
-  goes_saying m sayings p fates s =
-      leads_says sayings (Done Fine) p fates (Rests part [] m) (Comes part m [] ⊤)
-      (leads_done device Fine p fates (Rests part [] m) (Comes part m [] ⊤) (rests_here part [] m p (settled_idle part m p s)) (s, tt))
+  goes_saying m sayings p turns s =
+      leads_says sayings (Done Fine) p turns (Rests part [] m) (Comes part m [] ⊤)
+      (leads_done device Fine p turns (Rests part [] m) (Comes part m [] ⊤) (rests_here part [] m p (settled_idle part m p s)) (s, tt))
 
   -- an operation, by its steps, and what holds where it is judged to be good
   goes_operation : {A : Type 0} (m : Memories) (items : List Item) (Check : Type 0) (steps : List (List Command)) (judge : List ℕ → Result A HostFault) (outcome_says : Result A HostFault → List Saying)
@@ -95,11 +95,11 @@ module _ (part : Part) (sound : IsPart part) where
       → ((q : Programmer) → Reached part steps m q → Rests part (all_steps part items) m q) → struck_by part (length steps) steps m ≡ effects part items m
       → ((a : A) → judge (all_given part steps m) ≡ Ok a → Check)
       → Goes part (Settled part m) m items Check (reported (operation steps judge) outcome_says)
-  goes_operation {A = A} m items Check steps judge outcome_says fits f are rests whole judged p fates s =
-      leads_reported (operation steps judge) outcome_says p fates (Rests part (all_steps part items) m) (CameTo part m items Check) (Comes part m items Check)
+  goes_operation {A = A} m items Check steps judge outcome_says fits f are rests whole judged p turns s =
+      leads_reported (operation steps judge) outcome_says p turns (Rests part (all_steps part items) m) (CameTo part m items Check) (Comes part m items Check)
       (λ r q came. came_rests m items Check r q fits f came) (λ r q came. come_standing part m items Check r q came)
-      (leads_wider device (operation steps judge) p fates (Reached part steps m) (Rests part (all_steps part items) m) (AfterOperation part steps m judge) (CameTo part m items Check)
-      (λ q r. rests q r) (λ r q after. came r q after) (leads_operation part sound steps m judge p fates are f s))
+      (leads_wider device (operation steps judge) p turns (Reached part steps m) (Rests part (all_steps part items) m) (AfterOperation part steps m judge) (CameTo part m items Check)
+      (λ q r. rests q r) (λ r q after. came r q after) (leads_operation part sound steps m judge p turns are f s))
     where
       came : (r : Result A HostFault) (q : Programmer) → AfterOperation part steps m judge r q → CameTo part m items Check r q
       came (Ok a) q (inl made) = (subst (λ z. Settled part z q) whole made.0, judged a (sym made.1))
@@ -110,18 +110,18 @@ module _ (part : Part) (sound : IsPart part) where
   -- one phase, and the next one unless there was a fault
   pub goes_then : (From : Programmer → Type 0) (m : Memories) (xs ys : List Item) (Check More : Type 0) (d next : Dialog Saying Standing) → AllFitItems part xs → FitsPart part m
       → Goes part From m xs Check d → Goes part (Settled part (effects part xs m)) (effects part xs m) ys More next → Goes part From m (xs ++ ys) (Check × More) (d >>= unless_fault next)
-  goes_then From m xs ys Check More d next fits f goes more p fates from =
+  goes_then From m xs ys Check More d next fits f goes more p turns from =
       leads_bind device (Rests part (all_steps part (xs ++ ys)) m) (Comes part m xs Check) (Comes part m (xs ++ ys) (Check × More)) (unless_fault next)
-      (λ s q fs came. on s q fs came) d p fates
-      (leads_wider device d p fates (Rests part (all_steps part xs) m) (Rests part (all_steps part (xs ++ ys)) m) (Comes part m xs Check) (Comes part m xs Check)
-      (λ q r. rests_before part xs ys m q r) (λ s q came. came) (goes p fates from))
+      (λ s q fs came. on s q fs came) d p turns
+      (leads_wider device d p turns (Rests part (all_steps part xs) m) (Rests part (all_steps part (xs ++ ys)) m) (Comes part m xs Check) (Comes part m xs Check)
+      (λ q r. rests_before part xs ys m q r) (λ s q came. came) (goes p turns from))
     where
       comes : Check → (s : Standing) (q : Programmer) → Comes part (effects part xs m) ys More s q → Comes part m (xs ++ ys) (Check × More) s q
       comes check Fine q came = (subst (λ z. Settled part z q) (sym (effects_on part xs ys m)) came.0, (check, came.1))
       comes check Faulty q rests = rests_behind part sound xs ys m q fits f rests
       comes check Over q rests = rests_behind part sound xs ys m q fits f rests
 
-      on : (s : Standing) (q : Programmer) (fs : List Fate) → Comes part m xs Check s q
+      on : (s : Standing) (q : Programmer) (fs : List Turn) → Comes part m xs Check s q
           → Leads device (unless_fault next s) q fs (Rests part (all_steps part (xs ++ ys)) m) (Comes part m (xs ++ ys) (Check × More))
       on Fine q fs came =
           leads_wider device next q fs (Rests part (all_steps part ys) (effects part xs m)) (Rests part (all_steps part (xs ++ ys)) m) (Comes part (effects part xs m) ys More)
@@ -160,11 +160,11 @@ module _ (part : Part) (sound : IsPart part) where
     opened m (Err fault) q after = rests_here part [] m q after
 
     pub goes_opening : (m : Memories) → FitsPart part m → Goes part (Idle part m) m [] ⊤ (phase part s OpenSession)
-    goes_opening m f p fates idle =
-        leads_reported (opening part.signature s.force) (opening_says s.quiet part) p fates (Rests part [] m) (CameTo part m [] ⊤) (Comes part m [] ⊤)
+    goes_opening m f p turns idle =
+        leads_reported (opening part.signature s.force) (opening_says s.quiet part) p turns (Rests part [] m) (CameTo part m [] ⊤) (Comes part m [] ⊤)
         (λ r q came. came_rests m [] ⊤ r q tt f came) (λ r q came. come_standing part m [] ⊤ r q came)
-        (leads_wider device (opening part.signature s.force) p fates (Idle part m) (Rests part [] m) (AfterOpening part m) (CameTo part m [] ⊤)
-        (λ q i. rests_here part [] m q i) (λ r q after. opened m r q after) (leads_opening part sound part.signature s.force m p fates f idle))
+        (leads_wider device (opening part.signature s.force) p turns (Idle part m) (Rests part [] m) (AfterOpening part m) (CameTo part m [] ⊤)
+        (λ q i. rests_here part [] m q i) (λ r q after. opened m r q after) (leads_opening part sound part.signature s.force m p turns f idle))
 
     -- a comparison
     ok_same : (mem : Mem) (d : Option Difference) (a : ⊤) → differs mem d ≡ Ok a → d ≡ None

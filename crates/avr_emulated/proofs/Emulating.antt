@@ -14,7 +14,9 @@ use Rattle.avr_desk.specs.Stage.{Made}
 use Rattle.stk_host.specs.Talk.{Stays, sent}
 use Rattle.stk_emu.specs.Programmer.{fresh_programmer}
 use Rattle.stk_emu.specs.Wire.{fresh_wire}
-use Rattle.stk_emu.specs.Wired.{WiredState, ComesOf}
+use Rattle.stk_emu.specs.Wired.{WiredState, ComesOf, wired_view}
+use Rattle.avr_session.specs.Run.{RunsSession}
+use Rattle.avr_session.specs.Runs.{devices}
 use Rattle.avr_emulated.specs.AnyLine.{OverAnyLine}
 use Rattle.avr_emulated.specs.Emulated.{IsSaved, new_wire, RunsOverEmulator}
 
@@ -35,10 +37,11 @@ module _ (settings : Settings) (file : Bytes) (plan : Plan) (chip : Chip) (w v :
   pub runs_over_emulator : (old planned_desk loaded_desk played_desk now : DeskView) (ran status : ℕ)
       → Went (planned settings) old planned_desk (Made plan) → Went (chip_stage plan.part file) planned_desk loaded_desk (Made chip)
       → Follows loaded_desk played_desk → Follows played_desk now
+      → RunsSession plan (devices (wired_view w) loaded_desk) (devices (wired_view v) played_desk) ran
       → Stays ComesOf w v → (w.wire.programmer.chip.part ≡ plan.part → OverAnyLine plan w v loaded_desk played_desk ran)
       → IsSaved (sent v.talk) played_desk now file (chip_file v.wire.programmer.chip) ran status
       → RunsOverEmulator settings file old now status
-  runs_over_emulator old planned_desk loaded_desk played_desk now ran status made is_loaded by_playing by_saving comes line saved = record {
+  runs_over_emulator old planned_desk loaded_desk played_desk now ran status made is_loaded by_playing by_saving runs comes line saved = record {
     plan = plan;
     chip = chip;
     after = v;
@@ -51,6 +54,7 @@ module _ (settings : Settings) (file : Bytes) (plan : Plan) (chip : Chip) (w v :
     loaded = is_loaded;
     part = part_is;
     sound = is_sound;
+    runs = subst (λ (x : WiredState). RunsSession plan (devices (wired_view x) loaded_desk) (devices (wired_view v) played_desk) ran) is_new runs;
     comes = subst (λ (x : WiredState). Stays ComesOf x v) is_new comes;
     line = subst (λ (x : WiredState). OverAnyLine plan x v loaded_desk played_desk ran) is_new (line (ap (λ x. x.programmer.chip.part) begun ∙ part_is));
     saved = saved;

@@ -31,8 +31,8 @@ use Rattle.stk_host.specs.declared.fault.HostFault.{HostFault}
 use Rattle.stk_host.specs.declared.fault.HostFault.TheVariants.{Differs, ReadOnly}
 use Rattle.stk_host.specs.declared.fault.StepFault.{StepFault}
 use Rattle.stk_host.specs.declared.fault.StepFault.TheVariants as of_step
-use Rattle.stk_emu.specs.declared.fate.Fate.{Fate}
-use Rattle.stk_emu.specs.Along.{fate_reading, along}
+use Rattle.stk_emu.specs.Turn.{Turn, after_turn, turn_reading, first_turn, other_turns}
+use Rattle.stk_emu.specs.Along.{along}
 use Rattle.stk_emu.specs.Device.{Device, device}
 use Rattle.stk_emu.specs.Effect.{Memories, Image, Item, Erase, Write, effect, effects, memories_of, memory_in}
 use Rattle.stk_emu.specs.Given.{all_given}
@@ -40,7 +40,6 @@ use Rattle.stk_emu.specs.Leads.{Leads, Reached, AfterSteps, AfterBeginning}
 use Rattle.stk_emu.specs.Programmer.{Programmer}
 use Rattle.stk_emu.specs.Settled.{Idle, Settled, FitsPart}
 use Rattle.stk_emu.specs.Strokes.{struck_by, AreSteps}
-use Rattle.stk_emu.specs.Wire.{first_fate, other_fates, after_fate}
 use Rattle.stk_emu.proofs.Comparing.{no_difference}
 use Rattle.stk_emu.proofs.ItemStrokes.{struck_all, item_does, item_are_steps, read_are_steps}
 use Rattle.stk_emu.proofs.LeadsOn.{leads_done, leads_lifted, leads_wider, leads_bind, leads_play, leads_beginning}
@@ -75,37 +74,37 @@ hold_not T false xs e = absurd (cc)
 -- ---- dialogs
 
 module _ {P : Type 0} (m : Device P) where
-  true_bind : {E A B : Type 0} (T : P → E → Type 0) (k : ℕ) (d : Dialog E A) (next : A → Dialog E B) (p : P) (fates : List Fate) → TellsTrue m T k d p fates
-      → ((a : A) → (along m k d p fates).dialog ≡ Done a → TellsTrue m T (along m k d p fates).left (next a) (along m k d p fates).programmer (along m k d p fates).fates)
-      → TellsTrue m T k (d >>= next) p fates
-  true_bind T k (Done a) next p fates told more = more a refl
-  true_bind T k (Say e d) next p fates told more = (told.0, true_bind T k d next p fates told.1 more)
-  true_bind T zero (Ask bytes go_on) next p fates told more = tt
-  true_bind T (suc k) (Ask bytes go_on) next p fates told more =
-      true_bind T k (go_on (fate_reading (first_fate fates) (m.answer bytes p))) next (after_fate (first_fate fates) (m.after bytes p) p (m.reset p)) (other_fates fates) told more
+  true_bind : {E A B : Type 0} (T : P → E → Type 0) (k : ℕ) (d : Dialog E A) (next : A → Dialog E B) (p : P) (turns : List Turn) → TellsTrue m T k d p turns
+      → ((a : A) → (along m k d p turns).dialog ≡ Done a → TellsTrue m T (along m k d p turns).left (next a) (along m k d p turns).programmer (along m k d p turns).turns)
+      → TellsTrue m T k (d >>= next) p turns
+  true_bind T k (Done a) next p turns told more = more a refl
+  true_bind T k (Say e d) next p turns told more = (told.0, true_bind T k d next p turns told.1 more)
+  true_bind T zero (Ask bytes go_on) next p turns told more = tt
+  true_bind T (suc k) (Ask bytes go_on) next p turns told more =
+      true_bind T k (go_on (turn_reading (first_turn turns) (m.answer bytes p))) next (after_turn (first_turn turns) (m.after bytes p) p m.reset) (other_turns turns) told more
 
-  true_lifted : {E R : Type 0} (T : P → E → Type 0) (k : ℕ) (d : Dialog ⊥ R) (p : P) (fates : List Fate) → TellsTrue {E = E} m T k (lifted d) p fates
-  true_lifted T k (Done r) p fates = tt
-  true_lifted T k (Say e d) p fates = absurd e
-  true_lifted T zero (Ask bytes go_on) p fates = tt
-  true_lifted T (suc k) (Ask bytes go_on) p fates =
-      true_lifted T k (go_on (fate_reading (first_fate fates) (m.answer bytes p))) (after_fate (first_fate fates) (m.after bytes p) p (m.reset p)) (other_fates fates)
+  true_lifted : {E R : Type 0} (T : P → E → Type 0) (k : ℕ) (d : Dialog ⊥ R) (p : P) (turns : List Turn) → TellsTrue {E = E} m T k (lifted d) p turns
+  true_lifted T k (Done r) p turns = tt
+  true_lifted T k (Say e d) p turns = absurd e
+  true_lifted T zero (Ask bytes go_on) p turns = tt
+  true_lifted T (suc k) (Ask bytes go_on) p turns =
+      true_lifted T k (go_on (turn_reading (first_turn turns) (m.answer bytes p))) (after_turn (first_turn turns) (m.after bytes p) p m.reset) (other_turns turns)
 
-  true_says : {R : Type 0} (T : P → Saying → Type 0) (k : ℕ) (sayings : List Saying) (r : R) (p : P) (fates : List Fate) → AllHold (T p) sayings → TellsTrue m T k (says sayings (Done r)) p fates
-  true_says T k [] r p fates all = tt
-  true_says T k (saying ∷ sayings) r p fates all = (all.0, true_says T k sayings r p fates all.1)
+  true_says : {R : Type 0} (T : P → Saying → Type 0) (k : ℕ) (sayings : List Saying) (r : R) (p : P) (turns : List Turn) → AllHold (T p) sayings → TellsTrue m T k (says sayings (Done r)) p turns
+  true_says T k [] r p turns all = tt
+  true_says T k (saying ∷ sayings) r p turns all = (all.0, true_says T k sayings r p turns all.1)
 
   -- a call, and what is said of its outcome
   true_reported : {A : Type 0} (T : P → Saying → Type 0) (call : Dialog ⊥ (Result A HostFault)) (outcome_says : Result A HostFault → List Saying) (After : Result A HostFault → P → Type 0)
-      (k : ℕ) (p : P) (fates : List Fate) → Leads m call p fates (λ q. ⊤) After → ((r : Result A HostFault) (q : P) → After r q → AllHold (T q) (outcome_says r))
-      → TellsTrue m T k (reported call outcome_says) p fates
-  true_reported T call outcome_says After k p fates l each =
-      let s = along {E = Saying} m k (lifted call) p fates in
-      true_bind T k (lifted call) (λ outcome. says (outcome_says outcome) (Done (standing outcome))) p fates (true_lifted T k call p fates)
-      (λ r e. true_says T s.left (outcome_says r) (standing r) s.programmer s.fates (each r s.programmer ((leads_lifted m call p fates (λ q. ⊤) After l).after k r e)))
+      (k : ℕ) (p : P) (turns : List Turn) → Leads m call p turns (λ q. ⊤) After → ((r : Result A HostFault) (q : P) → After r q → AllHold (T q) (outcome_says r))
+      → TellsTrue m T k (reported call outcome_says) p turns
+  true_reported T call outcome_says After k p turns l each =
+      let s = along {E = Saying} m k (lifted call) p turns in
+      true_bind T k (lifted call) (λ outcome. says (outcome_says outcome) (Done (standing outcome))) p turns (true_lifted T k call p turns)
+      (λ r e. true_says T s.left (outcome_says r) (standing r) s.programmer s.turns (each r s.programmer ((leads_lifted m call p turns (λ q. ⊤) After l).after k r e)))
 
-  leads_any : {R : Type 0} (d : Dialog ⊥ R) (p : P) (fates : List Fate) → Leads m d p fates (λ q. ⊤) (λ r q. ⊤)
-  leads_any d p fates = record { during = λ k. tt; after = λ k r e. tt }
+  leads_any : {R : Type 0} (d : Dialog ⊥ R) (p : P) (turns : List Turn) → Leads m d p turns (λ q. ⊤) (λ r q. ⊤)
+  leads_any d p turns = record { during = λ k. tt; after = λ k r e. tt }
 
 ok_is : {A : Type 0} (a : A) (fault : HostFault) → ◌≡◌ {A = Result A HostFault} (Ok a) (Err fault) → ⊥
 ok_is a fault e = cc
@@ -122,7 +121,7 @@ module _ (plan : Plan) (sound : IsPart plan.part) (m0 : Memories) (f0 : FitsPart
 
   -- from such a programmer all that is told is true
   abbrev Tells : (Programmer → Type 0) → Dialog Saying Standing → Type 0
-  Tells From d = (k : ℕ) (p : Programmer) (fates : List Fate) → From p → TellsTrue device T k d p fates
+  Tells From d = (k : ℕ) (p : Programmer) (turns : List Turn) → From p → TellsTrue device T k d p turns
 
   informs_hold : (quiet : ℕ) (pieces : List Bytes) (q : Programmer) → T q (Line (information pieces)) → AllHold (T q) (informs quiet pieces)
   informs_hold quiet pieces q t = hold_unless (T q) (nat_lt 0 quiet) (Line (information pieces)) t
@@ -138,22 +137,22 @@ module _ (plan : Plan) (sound : IsPart plan.part) (m0 : Memories) (f0 : FitsPart
   after_call steps m judge (Ok got) q a = inl (a.0, ap judge a.1)
   after_call steps m judge (Err fault) q a = inr (fault, refl)
 
-  leads_call : {A : Type 0} (steps : List (List Command)) (m : Memories) (judge : List ℕ → Result A HostFault) (p : Programmer) (fates : List Fate) → AreSteps plan.part steps → FitsPart plan.part m
-      → Settled plan.part m p → Leads device (operation steps judge) p fates (λ q. ⊤) (AfterCall steps m judge)
+  leads_call : {A : Type 0} (steps : List (List Command)) (m : Memories) (judge : List ℕ → Result A HostFault) (p : Programmer) (turns : List Turn) → AreSteps plan.part steps → FitsPart plan.part m
+      → Settled plan.part m p → Leads device (operation steps judge) p turns (λ q. ⊤) (AfterCall steps m judge)
   unfolding operation
-  leads_call steps m judge p fates are f s =
+  leads_call steps m judge p turns are f s =
       leads_bind device (λ q. ⊤) (AfterSteps plan.part steps m []) (AfterCall steps m judge) (λ outcome. Done (judged_by judge outcome))
       (λ o q fs a. leads_done device (judged_by judge o) q fs (λ z. ⊤) (AfterCall steps m judge) tt (after_call steps m judge o q a))
-      (play steps []) p fates
-      (leads_wider device (play steps []) p fates (Reached plan.part steps m) (λ q. ⊤) (AfterSteps plan.part steps m []) (AfterSteps plan.part steps m []) (λ q r. tt) (λ o q a. a)
-      (leads_play plan.part sound steps m [] p fates are f s))
+      (play steps []) p turns
+      (leads_wider device (play steps []) p turns (Reached plan.part steps m) (λ q. ⊤) (AfterSteps plan.part steps m []) (AfterSteps plan.part steps m []) (λ q r. tt) (λ o q a. a)
+      (leads_play plan.part sound steps m [] p turns are f s))
 
   tells_call : {A : Type 0} (steps : List (List Command)) (m : Memories) (judge : List ℕ → Result A HostFault) (outcome_says : Result A HostFault → List Saying) → AreSteps plan.part steps → FitsPart plan.part m
       → ((q : Programmer) → Settled plan.part (struck_by plan.part (length steps) steps m) q → AllHold (T q) (outcome_says (judge (all_given plan.part steps m))))
       → ((fault : StepFault) (q : Programmer) → AllHold (T q) (outcome_says (Err (host_fault fault))))
       → Tells (Settled plan.part m) (reported (operation steps judge) outcome_says)
-  tells_call {A = A} steps m judge outcome_says are f good bad k p fates s =
-      true_reported device T (operation steps judge) outcome_says (AfterCall steps m judge) k p fates (leads_call steps m judge p fates are f s) each
+  tells_call {A = A} steps m judge outcome_says are f good bad k p turns s =
+      true_reported device T (operation steps judge) outcome_says (AfterCall steps m judge) k p turns (leads_call steps m judge p turns are f s) each
     where
       each : (r : Result A HostFault) (q : Programmer) → AfterCall steps m judge r q → AllHold (T q) (outcome_says r)
       each r q (inl made) = subst (λ x. AllHold (T q) (outcome_says x)) (sym made.1) (good q made.0)
@@ -165,11 +164,11 @@ module _ (plan : Plan) (sound : IsPart plan.part) (m0 : Memories) (f0 : FitsPart
   -- one phase, and the next one unless there was a fault
   tells_then : (From : Programmer → Type 0) (m : Memories) (xs : List Item) (Check : Type 0) (d next : Dialog Saying Standing) → Goes plan.part From m xs Check d
       → Tells From d → Tells (Settled plan.part (effects plan.part xs m)) next → Tells From (d >>= unless_fault next)
-  tells_then From m xs Check d next goes first more k p fates from =
-      let s = along device k d p fates in
-      true_bind device T k d (unless_fault next) p fates (first k p fates from) (λ standing e. on standing s.left s.programmer s.fates ((goes p fates from).after k standing e))
+  tells_then From m xs Check d next goes first more k p turns from =
+      let s = along device k d p turns in
+      true_bind device T k d (unless_fault next) p turns (first k p turns from) (λ standing e. on standing s.left s.programmer s.turns ((goes p turns from).after k standing e))
     where
-      on : (standing : Standing) (left : ℕ) (q : Programmer) (fs : List Fate) → Comes plan.part m xs Check standing q → TellsTrue device T left (unless_fault next standing) q fs
+      on : (standing : Standing) (left : ℕ) (q : Programmer) (fs : List Turn) → Comes plan.part m xs Check standing q → TellsTrue device T left (unless_fault next standing) q fs
       on Fine left q fs came = more left q fs came.0
       on Faulty left q fs came = tt
       on Over left q fs came = tt
@@ -184,14 +183,14 @@ module _ (plan : Plan) (sound : IsPart plan.part) (m0 : Memories) (f0 : FitsPart
       inl (subst (λ x. signature_judged plan.part.signature force (Ok x) ≡ Ok plan.part.signature) (sym a.1) (signature_taken plan.part.signature force))
   found_signature force (Err fault) q a = inr (fault, refl)
 
-  leads_signature : (force : Bool) (p : Programmer) (fates : List Fate) → Idle plan.part m0 p → Leads device (host.opening plan.part.signature force) p fates (λ q. ⊤) AfterSignature
+  leads_signature : (force : Bool) (p : Programmer) (turns : List Turn) → Idle plan.part m0 p → Leads device (host.opening plan.part.signature force) p turns (λ q. ⊤) AfterSignature
   unfolding host.opening
-  leads_signature force p fates idle =
+  leads_signature force p turns idle =
       leads_bind device (λ q. ⊤) (AfterBeginning plan.part m0) AfterSignature (λ outcome. Done (signature_judged plan.part.signature force outcome))
       (λ o q fs a. leads_done device (signature_judged plan.part.signature force o) q fs (λ z. ⊤) AfterSignature tt (found_signature force o q a))
-      host.handshake p fates
-      (leads_wider device host.handshake p fates (Idle plan.part m0) (λ q. ⊤) (AfterBeginning plan.part m0) (AfterBeginning plan.part m0) (λ q i. tt) (λ o q a. a)
-      (leads_beginning plan.part sound m0 p fates f0 idle))
+      host.handshake p turns
+      (leads_wider device host.handshake p turns (Idle plan.part m0) (λ q. ⊤) (AfterBeginning plan.part m0) (AfterBeginning plan.part m0) (λ q i. tt) (λ o q a. a)
+      (leads_beginning plan.part sound m0 p turns f0 idle))
 
   no_signature : (quiet : ℕ) (fault : StepFault) (q : Programmer) → AllHold (T q) (opening_says quiet plan.part (Err (host_fault fault)))
   no_signature quiet of_step.NoAnswer q = failed of_step.NoAnswer q
@@ -207,9 +206,9 @@ module _ (plan : Plan) (sound : IsPart plan.part) (m0 : Memories) (f0 : FitsPart
       (hold_not (T q) (bytes_eq plan.part.signature plan.part.signature) _ (bytes_same plan.part.signature))
 
   tells_opening : Tells (Idle plan.part m0) (phase plan.part plan.switches OpenSession)
-  tells_opening k p fates idle =
-      true_reported device T (host.opening plan.part.signature plan.switches.force) (opening_says plan.switches.quiet plan.part) AfterSignature k p fates
-      (leads_signature plan.switches.force p fates idle) each
+  tells_opening k p turns idle =
+      true_reported device T (host.opening plan.part.signature plan.switches.force) (opening_says plan.switches.quiet plan.part) AfterSignature k p turns
+      (leads_signature plan.switches.force p turns idle) each
     where
       each : (r : Result (List ℕ) HostFault) (q : Programmer) → AfterSignature r q → AllHold (T q) (opening_says plan.switches.quiet plan.part r)
       each r q (inl found) = subst (λ x. AllHold (T q) (opening_says plan.switches.quiet plan.part x)) (sym found) (own_signature plan.switches.quiet q)
@@ -301,13 +300,13 @@ module _ (plan : Plan) (sound : IsPart plan.part) (m0 : Memories) (f0 : FitsPart
           → Tells (Settled plan.part (effects plan.part (actions_items done) m0)) (phase plan.part plan.switches a)
       by_kind OpenSession fits has order = absurd fits
       by_kind EraseChip fits has order = tells_erasing (actions_items done) (erase_first plan (actions_items done) (actions_items later) order) has
-      by_kind LeaveErase fits has order = λ k p fates s.
-          true_says device T k (left_out_erase plan.switches.quiet) Fine p fates
+      by_kind LeaveErase fits has order = λ k p turns s.
+          true_says device T k (left_out_erase plan.switches.quiet) Fine p turns
           (hold_unless (T p) (nat_lt 1 plan.switches.quiet) (Line (warning (codes "chip not erased because of -n" ∷ []))) (EraseLeftOut has refl))
       by_kind (WriteImage mem image) fits has order =
           tells_writing mem image (actions_items done) (actions_items later) order (let size = fits.0 in omega (arith, size)) fits.1
-      by_kind (LeaveWrite mem image) fits has order = λ k p fates s.
-          true_says device T k (left_out_write plan.switches.quiet mem image) Fine p fates
+      by_kind (LeaveWrite mem image) fits has order = λ k p turns s.
+          true_says device T k (left_out_write plan.switches.quiet mem image) Fine p turns
           (counts_hold mem (byte_count image) (codes " bytes not written") p (WriteLeftOut mem image has refl))
       by_kind (CompareImage mem image) fits has order = tells_verifying mem image (effects plan.part (actions_items done) m0) f has
       by_kind (SaveMemory mem format file) fits has order = tells_reading mem format file (effects plan.part (actions_items done) m0) f has
@@ -321,7 +320,7 @@ module _ (plan : Plan) (sound : IsPart plan.part) (m0 : Memories) (f0 : FitsPart
 
   tells_actions : (later done : List Action) → AllFitActions plan.part later → actions plan ≡ done ++ later
       → Tells (Settled plan.part (effects plan.part (actions_items done) m0)) (phases plan.part plan.switches later)
-  tells_actions [] done fit order = λ k p fates s. tt
+  tells_actions [] done fit order = λ k p turns s. tt
   tells_actions (action ∷ later) done fit order =
       let m = effects plan.part (actions_items done) m0 in
       tells_then (Settled plan.part m) m (action_items action) (ActionAgrees plan.part action m) (phase plan.part plan.switches action) (phases plan.part plan.switches later)
@@ -339,23 +338,23 @@ module _ (plan : Plan) (sound : IsPart plan.part) (m0 : Memories) (f0 : FitsPart
   abbrev AfterClosing : Result ⊤ HostFault → Programmer → Type 0
   AfterClosing r q = (r ≡ Ok tt) ⊎ ((fault : StepFault) × (r ≡ Err (host_fault fault)))
 
-  leads_closed : (p : Programmer) (fates : List Fate) → Leads device host.closing p fates (λ q. ⊤) AfterClosing
+  leads_closed : (p : Programmer) (turns : List Turn) → Leads device host.closing p turns (λ q. ⊤) AfterClosing
   unfolding host.closing
-  leads_closed p fates =
+  leads_closed p turns =
       leads_bind device (λ q. ⊤) (λ o q. ⊤) AfterClosing (λ outcome. Done (without_bytes outcome))
-      (λ o q fs a. leads_done device (without_bytes o) q fs (λ z. ⊤) AfterClosing tt (after_ended o q)) (step (leave ∷ [])) p fates (leads_any device (step (leave ∷ [])) p fates)
+      (λ o q fs a. leads_done device (without_bytes o) q fs (λ z. ⊤) AfterClosing tt (after_ended o q)) (step (leave ∷ [])) p turns (leads_any device (step (leave ∷ [])) p turns)
 
   tells_ending : (standing : Standing) → Tells (λ q. ⊤) (ending plan.part plan.switches standing)
-  tells_ending Fine k p fates any =
-      true_reported device T host.closing (closed_says plan.switches.quiet plan.part) AfterClosing k p fates (leads_closed p fates) each
+  tells_ending Fine k p turns any =
+      true_reported device T host.closing (closed_says plan.switches.quiet plan.part) AfterClosing k p turns (leads_closed p turns) each
     where
       each : (r : Result ⊤ HostFault) (q : Programmer) → AfterClosing r q → AllHold (T q) (closed_says plan.switches.quiet plan.part r)
       each r q (inl e) = subst (λ x. AllHold (T q) (closed_says plan.switches.quiet plan.part x)) (sym e) (informs_hold plan.switches.quiet (codes "done" ∷ []) q (SessionDone refl))
       each r q (inr broke) = subst (λ x. AllHold (T q) (closed_says plan.switches.quiet plan.part x)) (sym broke.1) (failed broke.0 q)
-  tells_ending Faulty k p fates any =
-      true_bind device T k (reported host.closing (λ _. [])) (λ closed. Done Over) p fates
-      (true_reported device T host.closing (λ _. []) (λ r q. ⊤) k p fates (leads_any device host.closing p fates) (λ r q a. tt)) (λ closed e. tt)
-  tells_ending Over k p fates any = tt
+  tells_ending Faulty k p turns any =
+      true_bind device T k (reported host.closing (λ _. [])) (λ closed. Done Over) p turns
+      (true_reported device T host.closing (λ _. []) (λ r q. ⊤) k p turns (leads_any device host.closing p turns) (λ r q a. tt)) (λ closed e. tt)
+  tells_ending Over k p turns any = tt
 
   module _ (fitted : All (IsFitted plan.part) plan.tasks) where
     tells_phases : Tells (Idle plan.part m0) (phases plan.part plan.switches (actions plan))
@@ -365,11 +364,11 @@ module _ (plan : Plan) (sound : IsPart plan.part) (m0 : Memories) (f0 : FitsPart
         (tells_actions (work plan) (OpenSession ∷ []) (work_fits plan fitted) refl)
 
     -- a session
-    pub session_tells : (k : ℕ) (p : Programmer) (fates : List Fate) → Idle plan.part m0 p → TellsTrue device T k (session plan) p fates
+    pub session_tells : (k : ℕ) (p : Programmer) (turns : List Turn) → Idle plan.part m0 p → TellsTrue device T k (session plan) p turns
     unfolding session
-    session_tells k p fates idle =
-        let done = along device k (phases plan.part plan.switches (actions plan)) p fates in
-        true_bind device T k (playing plan) (λ standing. Done (status_of standing)) p fates
-        (true_bind device T k (phases plan.part plan.switches (actions plan)) (ending plan.part plan.switches) p fates (tells_phases k p fates idle)
-        (λ standing e. tells_ending standing done.left done.programmer done.fates tt))
+    session_tells k p turns idle =
+        let done = along device k (phases plan.part plan.switches (actions plan)) p turns in
+        true_bind device T k (playing plan) (λ standing. Done (status_of standing)) p turns
+        (true_bind device T k (phases plan.part plan.switches (actions plan)) (ending plan.part plan.switches) p turns (tells_phases k p turns idle)
+        (λ standing e. tells_ending standing done.left done.programmer done.turns tt))
         (λ standing e. tt)

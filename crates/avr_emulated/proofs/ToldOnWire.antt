@@ -1,5 +1,5 @@
 -- What is true along a line is true over a wire, where it is told.
-use Rattle.std.proofs.Common.{◌≡◌, ℕ, List, [], ◌∷◌, ◌++◌, length, append_assoc, refl, sym, ap, ◌∙◌, subst, arith, Option, Some, None}
+use Rattle.std.proofs.Common.{◌≡◌, ℕ, suc, List, [], ◌∷◌, ◌++◌, length, append_assoc, refl, sym, ap, ◌∙◌, subst, arith, Option, Some, None}
 use Rattle.stk_frame.specs.Cut.{frames}
 use Rattle.stk_frame.specs.Frame.{frame}
 use Rattle.stk_host.specs.Dialog.{Dialog, Done, Say, Ask, Event, Frame, Said, played, by_answer, next, bytes_sent, frames_in}
@@ -9,11 +9,12 @@ use Rattle.stk_host.specs.Tape.{Tape, Reading, answer}
 use Rattle.stk_host.proofs.Tapes.{answer_waits}
 use Rattle.stk_emu.proofs.Extending.{answer_extends}
 use Rattle.stk_emu.specs.declared.fate.Fate.{Fate}
-use Rattle.stk_emu.specs.Along.{fate_reading, AsksBodies}
+use Rattle.stk_emu.specs.Along.{AsksBodies}
+use Rattle.stk_emu.specs.Turn.{after_turn, turn_reading}
 use Rattle.stk_emu.specs.Device.{Device, device}
 use Rattle.stk_emu.specs.Lawful.{IsClear}
 use Rattle.stk_emu.specs.Programmer.{Programmer}
-use Rattle.stk_emu.specs.Wire.{AreLawful, first_fate, other_fates, Wire, wire_behind, tape_of, fresh_wire}
+use Rattle.stk_emu.specs.Wire.{AreLawful, first_fate, other_fates, turn_of, turns_of, Wire, wire_behind, tape_of, fresh_wire}
 use Rattle.stk_emu.specs.Wired.{brought}
 use Rattle.stk_emu.proofs.Bodies.{answers_bodies}
 use Rattle.stk_emu.proofs.Fused.{AnswersBodies, first_played, others_lawful, head_is, tail_is}
@@ -29,8 +30,13 @@ said_front m T (Said e ∷ x) y w all = (all.0, said_front m T x y w all.1)
 
 module _ {P : Type 0} (m : Device P) (answers : AnswersBodies m) where
   -- in a play over what a wire brings
+  tells_asks : {E R : Type 0} (T : P → E → Type 0) (k : ℕ) (bytes : List ℕ) (go_on : Reading → Dialog E R) (p : P) (fates : List Fate) → TellsTrue m T (suc k) (Ask bytes go_on) p (turns_of fates)
+      → TellsTrue m T k (go_on (turn_reading (turn_of (first_fate fates)) (m.answer bytes p))) (after_turn (turn_of (first_fate fates)) (m.after bytes p) p m.reset) (turns_of (other_fates fates))
+  tells_asks T k bytes go_on p [] told = told
+  tells_asks T k bytes go_on p (fate ∷ fates) told = told
+
   true_over : {E R : Type 0} (T : P → E → Type 0) (d : Dialog E R) (n : ℕ) (w : Wire P) (sent more : List (List ℕ)) → AsksBodies d → IsClear n w.late → AreLawful w.fates
-      → frames_in (played d n (tape_of m sent w)).events ≡ sent ++ more → TellsTrue m T (length sent) d w.programmer w.fates → SaidTrue m T (played d n (tape_of m sent w)).events w
+      → frames_in (played d n (tape_of m sent w)).events ≡ sent ++ more → TellsTrue m T (length sent) d w.programmer (turns_of w.fates) → SaidTrue m T (played d n (tape_of m sent w)).events w
   true_over T (Done r) n w sent more asks clear lawful e told = tt
   true_over T (Say s d) n w sent more asks clear lawful e told = (told.0, true_over T d n w sent more asks clear lawful e told.1)
   true_over T (Ask bytes go_on) n w [] more asks clear lawful e told =
@@ -39,15 +45,15 @@ module _ {P : Type 0} (m : Device P) (answers : AnswersBodies m) where
       let is : frame n bytes ≡ f = head_is (frame n bytes) f _ (sent ++ more) e in
       let first = first_played m answers bytes go_on n w sent asks.0 clear lawful in
       let w' = wire_behind m (frame n bytes) w in
-      let d' = go_on (fate_reading (first_fate w.fates) (m.answer bytes w.programmer)) in
+      let d' = go_on (turn_reading (turn_of (first_fate w.fates)) (m.answer bytes w.programmer)) in
       let leaves : w'.programmer ≡ _ = segment_leaves m n bytes w asks.0 in
       let over = ap (λ g. played (Ask bytes go_on) n (tape_of m (g ∷ sent) w)) (sym is) ∙ first in
       subst (λ p. SaidTrue m T p.events w) (sym over)
-      (true_over T d' (next n) w' sent more (asks.1 (fate_reading (first_fate w.fates) (m.answer bytes w.programmer)))
+      (true_over T d' (next n) w' sent more (asks.1 (turn_reading (turn_of (first_fate w.fates)) (m.answer bytes w.programmer)))
       (segment_late m n bytes w asks.0 (answers bytes w.programmer asks.0) clear)
       (others_lawful w.fates lawful)
       (tail_is (frame n bytes) f _ (sent ++ more) (sym (ap (λ p. frames_in p.events) over) ∙ e))
-      (subst (λ q. TellsTrue m T (length sent) d' q (other_fates w.fates)) (sym leaves) told))
+      (subst (λ q. TellsTrue m T (length sent) d' q (turns_of (other_fates w.fates))) (sym leaves) (tells_asks T (length sent) bytes go_on w.programmer w.fates told)))
 
 -- more of the tape, more events behind those that happened
 abbrev More : {E R : Type 0} → Dialog E R → ℕ → Tape → Tape → Type 0
@@ -74,7 +80,7 @@ played_more (Ask bytes go_on) n t u = more_asking bytes go_on n t u (answer n t)
 -- in a talk, over what was heard of what the wire brings
 pub told_over : {E R : Type 0} (T : Programmer → E → Type 0) (d : Dialog E R) (n : ℕ) (p : Programmer) (fates : List Fate) (talk : Talk) (waits : Tape)
     → AsksBodies d → AreLawful fates → brought p fates (sent talk) ≡ heard talk ++ waits
-    → IsPrefixOf (sent talk) (bytes_sent (played d n (heard talk)).events) → TellsTrue device T (length (frames (sent talk))) d p fates
+    → IsPrefixOf (sent talk) (bytes_sent (played d n (heard talk)).events) → TellsTrue device T (length (frames (sent talk))) d p (turns_of fates)
     → SaidTrue device T (played d n (heard talk)).events (fresh_wire p fates)
 told_over T d n p fates talk waits asks lawful brings front told =
     let f = frames_front (played d n (heard talk)).events (sent talk) front.0 (sends_whole d n (heard talk) asks) front.1 in

@@ -1,5 +1,5 @@
 -- A session that was played over a wire, as it went along the line of its fates.
-use Rattle.std.proofs.Common.{◌≡◌, ◌*◌, ◌⊎◌, ℕ, [], ◌++◌, All, length, sym, ap, ◌∙◌, subst, inl, inr, true, Option, Some, option_map}
+use Rattle.std.proofs.Common.{◌≡◌, ◌*◌, ◌⊎◌, ℕ, [], ◌++◌, All, length, sym, ap, ◌∙◌, subst, inl, inr, true, option_map}
 use Rattle.std.proofs.lemmas.List.{append-nil}
 use Rattle.avr_desk.specs.Said.{Saying, SaidPart, after_all}
 use Rattle.avr_part.specs.Part.{IsPart}
@@ -10,8 +10,8 @@ use Rattle.stk_frame.specs.Cut.{frames}
 use Rattle.stk_host.specs.Dialog.{played, bytes_sent, sayings}
 use Rattle.stk_host.specs.Play.{Plays, Breaks, InTurn, IsPrefixOf}
 use Rattle.stk_host.specs.Talk.{Talk, Stays, sent, heard}
-use Rattle.avr_session.specs.Actions.{takes_memory}
-use Rattle.avr_session.specs.Runs.{start, devices, RunsTo}
+use Rattle.avr_session.specs.Run.{RunsSession}
+use Rattle.avr_session.specs.Runs.{start, devices}
 use Rattle.avr_session.specs.Session.{session}
 use Rattle.avr_session.specs.Stopping.{IsPlayed}
 use Rattle.stk_emu.specs.Along.{along, said_along, AsksBodies}
@@ -22,6 +22,7 @@ use Rattle.stk_emu.specs.Leads.{Leads, GoesAlong}
 use Rattle.stk_emu.specs.Programmer.{Programmer, fresh_programmer}
 use Rattle.stk_emu.specs.Settled.{Idle, FitsPart}
 use Rattle.stk_emu.specs.Wire as line
+use Rattle.stk_emu.specs.Wire.{turns_of}
 use Rattle.stk_emu.specs.Wired.{WiredState, Keeps, ComesOf, IsFresh, wired_view}
 use Rattle.stk_emu.proofs.Beginning.{fresh_idle, fresh_fits}
 use Rattle.stk_emu.proofs.SaidAlong.{whole_said}
@@ -46,12 +47,9 @@ use Rattle.avr_emulated.proofs.ToldOnWire.{said_front, told_over}
 use Rattle.avr_emulated.proofs.Weighing.{session_weighs}
 use Rattle.avr_emulated.proofs.WrittenRuns.{run_written}
 
-some_is : {A : Type 0} (a b : A) → ◌≡◌ {A = Option A} (Some a) (Some b) → a ≡ b
-some_is a b e = cc
-
 -- a wire over which nothing had passed shows what passed in the call
-all_passed : (old new during : Talk) → old ≡ [] → ◌≡◌ {A = Option Talk} (Some new) (Some (old ++ during)) → during ≡ new
-all_passed old new during silent e = sym (some_is new during (e ∙ ap (λ t. Some (t ++ during)) silent))
+all_passed : (old new during : Talk) → old ≡ [] → new ≡ old ++ during → during ≡ new
+all_passed old new during silent e = sym (e ∙ ap (λ (t : Talk). t ++ during) silent)
 
 one_no : ◌≡◌ {A = ℕ} 1 0 → ⊥
 one_no e = cc
@@ -76,7 +74,7 @@ module _ (plan : Plan) (w v : WiredState) (fresh : IsFresh w) (stays : Stays Com
   Whole = IsPlayed (session plan) (devices (wired_view w) old) (devices (wired_view v) now) status
 
   abbrev Either : Type 0
-  Either = RunsTo (session plan) (devices (wired_view w) old) (devices (wired_view v) now) (takes_memory plan) status
+  Either = RunsSession plan (devices (wired_view w) old) (devices (wired_view v) now) status
 
   sound : IsPart plan.part
   sound = subst IsPart part_is is_sound.part
@@ -93,26 +91,26 @@ module _ (plan : Plan) (w v : WiredState) (fresh : IsFresh w) (stays : Stays Com
   keeps : Keeps begun w.wire.fates v
   keeps = stays (record { programmer = begun; fates = w.wire.fates }) fresh.begins
 
-  leads : Leads device (session plan) begun w.wire.fates (λ q. IsTouched plan before (memories_of q.chip)) (λ status q. status ≡ 0 → IsDone plan before (memories_of q.chip))
-  leads = session_leaves plan sound fitted before sizes begun w.wire.fates idle
+  leads : Leads device (session plan) begun (turns_of w.wire.fates) (λ q. IsTouched plan before (memories_of q.chip)) (λ status q. status ≡ 0 → IsDone plan before (memories_of q.chip))
+  leads = session_leaves plan sound fitted before sizes begun (turns_of w.wire.fates) idle
 
   -- a run that was played whole went along the line to its status
   module _ (whole : Whole) where
     plays : Plays (session plan) start v.talk whole.1.events status whole.0
     plays = subst (λ talk. Plays (session plan) start talk whole.1.events status whole.0) (all_passed w.talk v.talk whole.1.during fresh.silent whole.1.grows) whole.1.plays
 
-    goes : GoesAlong (session plan) begun w.wire.fates v status whole.0.unread
+    goes : GoesAlong (session plan) begun (turns_of w.wire.fates) v status whole.0.unread
     goes = whole_along (session plan) 1 begun w.wire.fates v asks fresh.lawful keeps plays.in_turn whole.1.events status whole.0 plays
 
-    says : sayings whole.1.events ≡ said_along device count (session plan) begun w.wire.fates
+    says : sayings whole.1.events ≡ said_along device count (session plan) begun (turns_of w.wire.fates)
     says = whole_said (session plan) 1 begun w.wire.fates v whole.1.events status whole.0 asks fresh.lawful keeps plays
 
     ran_done : status ≡ 0 → IsDone plan before after
     ran_done zero = subst (λ (q : Programmer). IsDone plan before (memories_of q.chip)) (sym goes.programmer) (leads.after count status goes.result zero)
 
     -- it has the course that it came to along the line
-    has_course : Came status (course plan before).status (said_along device count (session plan) begun w.wire.fates) (course plan before).says
-        (memories_of (along device count (session plan) begun w.wire.fates).programmer.chip ≡ (course plan before).memories) → IsCourse plan before after old now status
+    has_course : Came status (course plan before).status (said_along device count (session plan) begun (turns_of w.wire.fates)) (course plan before).says
+        (memories_of (along device count (session plan) begun (turns_of w.wire.fates)).programmer.chip ≡ (course plan before).memories) → IsCourse plan before after old now status
     has_course c = record {
       said = whole.1.kept ∙ ap (λ said. option_map (after_all said) old.kept) (says ∙ c.sayings);
       status_is = c.result;
@@ -120,10 +118,10 @@ module _ (plan : Plan) (w v : WiredState) (fresh : IsFresh w) (stays : Stays Com
     }
 
     ran_success : status ≡ 0 → IsCourse plan before after old now status
-    ran_success zero = has_course (session_succeeds plan sound fitted before begun w.wire.fates sizes idle count status goes.result zero)
+    ran_success zero = has_course (session_succeeds plan sound fitted before begun (turns_of w.wire.fates) sizes idle count status goes.result zero)
 
-    ran_few : AreFew w.wire.fates → IsCourse plan before after old now status
-    ran_few few = has_course (session_ends plan sound fitted before begun w.wire.fates sizes idle few count status goes.result)
+    ran_few : AreFew (turns_of w.wire.fates) → IsCourse plan before after old now status
+    ran_few few = has_course (session_ends plan sound fitted before begun (turns_of w.wire.fates) sizes idle few count status goes.result)
 
     ran_front : IsPrefixOf (sent v.talk) (bytes_sent (played (session plan) 1 (heard v.talk)).events)
     ran_front =
@@ -135,7 +133,7 @@ module _ (plan : Plan) (w v : WiredState) (fresh : IsFresh w) (stays : Stays Com
     breaks : Breaks SaidPart (session plan) start v.talk stopped.shown
     breaks = subst (λ talk. Breaks SaidPart (session plan) start talk stopped.shown) (all_passed w.talk v.talk stopped.during fresh.silent stopped.grows) stopped.breaks
 
-    broke_stands : v.wire.programmer ≡ (along device count (session plan) begun w.wire.fates).programmer
+    broke_stands : v.wire.programmer ≡ (along device count (session plan) begun (turns_of w.wire.fates)).programmer
     broke_stands = broken_along (session plan) 1 begun w.wire.fates v asks fresh.lawful keeps breaks.in_turn SaidPart stopped.shown breaks
 
     broke_front : IsPrefixOf (sent v.talk) (bytes_sent (played (session plan) 1 (heard v.talk)).events)
@@ -143,7 +141,7 @@ module _ (plan : Plan) (w v : WiredState) (fresh : IsFresh w) (stays : Stays Com
         let front = shown_front SaidPart stopped.shown (played (session plan) 1 (heard v.talk)).events breaks.front in
         (front.0, ap (λ bs. bs ++ front.0) (sym breaks.all_sent) ∙ front.1)
 
-  on_line : Either → v.wire.programmer ≡ (along device count (session plan) begun w.wire.fates).programmer
+  on_line : Either → v.wire.programmer ≡ (along device count (session plan) begun (turns_of w.wire.fates)).programmer
   on_line (inl whole) = (goes whole).programmer
   on_line (inr broke) = broke_stands broke.0
 
@@ -160,9 +158,9 @@ module _ (plan : Plan) (w v : WiredState) (fresh : IsFresh w) (stays : Stays Com
   is_course (inr broke) zero = absurd (one_no (sym broke.1 ∙ zero))
 
   -- so many strokes, by the frames that went out
-  makes : Either → MakesStrokes plan begun w.wire.fates count before after
+  makes : Either → MakesStrokes plan begun (turns_of w.wire.fates) count before after
   makes runs =
-      let made = session_makes plan sound fitted before sizes begun w.wire.fates idle in
+      let made = session_makes plan sound fitted before sizes begun (turns_of w.wire.fates) idle in
       record {
         count = made.count count;
         at_least = made.at_least count;
@@ -171,12 +169,12 @@ module _ (plan : Plan) (w v : WiredState) (fresh : IsFresh w) (stays : Stays Com
       }
 
   -- over a line on which few frames go wrong
-  goes_well : Either → AreFew w.wire.fates → IsCourse plan before after old now status ⊎ Stopped plan w v old now
+  goes_well : Either → AreFew (turns_of w.wire.fates) → IsCourse plan before after old now status ⊎ Stopped plan w v old now
   goes_well (inl whole) few = inl (ran_few whole few)
   goes_well (inr broke) few = inr broke.0
 
   -- and whatever the chip was, where the plan erases and agrees on a chip of 00 and on one of FF
-  succeeds_again : Either → AreFew w.wire.fates → has_erase (items plan) ≡ true → AgreesAnyway plan → (status ≡ 0) ⊎ Stopped plan w v old now
+  succeeds_again : Either → AreFew (turns_of w.wire.fates) → has_erase (items plan) ≡ true → AgreesAnyway plan → (status ≡ 0) ⊎ Stopped plan w v old now
   succeeds_again (inl whole) few erases both = inl (succeeds plan before status sizes erases both (ran_few whole few).status_is)
   succeeds_again (inr broke) few erases both = inr broke.0
 
@@ -196,7 +194,7 @@ module _ (plan : Plan) (w v : WiredState) (fresh : IsFresh w) (stays : Stays Com
   tells runs = subst (SaidTrue device IsSaidTrue (played (session plan) 1 (heard v.talk)).events) as_begun
       (told_over IsSaidTrue (session plan) 1 begun w.wire.fates v.talk v.waits asks fresh.lawful
       (keeps.brings (never_idle (session plan) 1 begun w.wire.fates v.talk asks fresh.lawful (in_turn runs)))
-      (is_front runs) (session_tells plan sound before sizes fitted count begun w.wire.fates idle))
+      (is_front runs) (session_tells plan sound before sizes fitted count begun (turns_of w.wire.fates) idle))
 
   pub over_any_line : Either → OverAnyLine plan w v old now status
   over_any_line runs = record {

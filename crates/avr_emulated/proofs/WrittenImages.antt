@@ -46,9 +46,9 @@ byte_of_over (x ∷ a) (y ∷ b) (suc i) l = byte_of_over a b i (omega (arith, l
 -- ---- a write to bytes
 
 -- The bytes stay as many, and keep theirs where the image holds none.
-record Keeps (image : Image) (old new : List ℕ) : Type 0 where
-  size : length new ≡ length old
-  rest : (i : ℕ) → byte_at image i ≡ None → get_or new i 0 ≡ get_or old i 0
+pub record Keeps (image : Image) (old new : List ℕ) : Type 0 where
+  pub size : length new ≡ length old
+  pub rest : (i : ℕ) → byte_at image i ≡ None → get_or new i 0 ≡ get_or old i 0
 
 keeps_all : (image : Image) (xs : List ℕ) → Keeps image xs xs
 keeps_all image xs = record { size = refl; rest = λ i none. refl }
@@ -95,7 +95,7 @@ kept_fuse false image x none = kept_byte (byte_at image 0) x none
 
 -- ---- a write to a memory
 
-write_keeps : (part : Part) (mem : Mem) (image : Image) (m : Memories) → Keeps image (memory_in part mem m) (memory_in part mem (write_effect mem image m))
+pub write_keeps : (part : Part) (mem : Mem) (image : Image) (m : Memories) → Keeps image (memory_in part mem m) (memory_in part mem (write_effect mem image m))
 write_keeps part Flash image m = keeps_flash (are_locked m) image m.flash
 write_keeps part Eeprom image m = keeps_eeprom_bytes (are_locked m) image m.eeprom
 write_keeps part Lfuse image m = keeps_one image m.lfuse (write_effect Lfuse image m).lfuse (λ none. kept_fuse (are_locked m) image m.lfuse none)
@@ -106,7 +106,7 @@ write_keeps part Signature image m = keeps_all image part.signature
 write_keeps part Calibration image m = keeps_all image (255 ∷ [])
 
 -- another memory stays whole
-others_stay : (part : Part) (other mem : Mem) (image : Image) (m : Memories) → (memory_number other == memory_number mem) ≡ false
+pub others_stay : (part : Part) (other mem : Mem) (image : Image) (m : Memories) → (memory_number other == memory_number mem) ≡ false
     → memory_in part mem (write_effect other image m) ≡ memory_in part mem m
 others_stay part Flash Flash image m e = absurd (true≢false e)
 others_stay part Flash mem image m e = refl
@@ -144,7 +144,7 @@ numbered_is Lock = refl
 numbered_is Signature = refl
 numbered_is Calibration = refl
 
-same_memory : (other mem : Mem) → (memory_number other == memory_number mem) ≡ true → other ≡ mem
+pub same_memory : (other mem : Mem) → (memory_number other == memory_number mem) ≡ true → other ≡ mem
 same_memory other mem e = sym (numbered_is other) ∙ (ap numbered (eqb-true (memory_number other) (memory_number mem) e) ∙ numbered_is mem)
 
 -- ---- what is left of one memory

@@ -4,13 +4,14 @@ use Rattle.std.specs.Prelude.{ℕ, ◌+◌, ◌*◌, ◌≡◌, ◌≤◌, ◌�
 use Rattle.avr_desk.specs.Record.{DeskView}
 use Rattle.avr_desk.specs.Said.{Saying}
 use Rattle.avr_plan.specs.Plan.{Plan}
-use Rattle.avr_session.specs.Runs.{devices, start, untold, BrokeOff}
-use Rattle.avr_session.specs.Actions.{takes_memory}
+use Rattle.avr_session.specs.Run.{StopsSession}
+use Rattle.avr_session.specs.Runs.{devices}
 use Rattle.avr_session.specs.Session.{session}
 use Rattle.stk_emu.specs.Device.{device}
 use Rattle.stk_emu.specs.Effect.{Memories, memories_of}
 use Rattle.stk_emu.specs.Few.{AreFew}
 use Rattle.stk_emu.specs.Programmer.{fresh_programmer}
+use Rattle.stk_emu.specs.Wire.{turns_of}
 use Rattle.stk_emu.specs.Wired.{WiredState, wired_view}
 use Rattle.stk_frame.specs.Commands.{body}
 use Rattle.stk_frame.specs.Cut.{body_of, frames}
@@ -44,12 +45,11 @@ memories w = memories_of w.wire.programmer.chip
 abbrev pub frames_over : WiredState → List (List ℕ)
 frames_over w = frames (sent w.talk)
 
--- It stopped as it was played: a device failed, by the count of its failures, or memory was refused to a plan that
--- takes memory.
+-- It stopped as it was played: a device failed, by the count of its failures and as the first, or memory was refused
+-- where an action takes it.
 abbrev pub Stopped : Plan → WiredState → WiredState → DeskView → DeskView → Type 0
 Stopped plan before after old now =
-    BrokeOff (session plan) start (devices (wired_view before) old) (devices (wired_view after) now)
-    (untold (takes_memory plan))
+    StopsSession plan (devices (wired_view before) old) (devices (wired_view after) now)
 
 -- Whatever is told among these events was true of the chip as the frames sent before had left it.
 abbrev pub WereTrue : Plan → WiredState → List (Event Saying) → Type 0
@@ -67,7 +67,7 @@ pub record OverAnyLine (plan : Plan) (before after : WiredState) (old now : Desk
   pub images : status ≡ 0 → plan.switches.no_verify ≡ false
       → IsWritten plan.part (asked_items plan) (memories before) (memories after)
   -- whatever the status: the first strokes of the plan were made, those that came to data, and perhaps one more
-  pub strokes : MakesStrokes plan (fresh_programmer before.wire.programmer.chip) before.wire.fates
+  pub strokes : MakesStrokes plan (fresh_programmer before.wire.programmer.chip) (turns_of before.wire.fates)
       (length (frames_over after)) (memories before) (memories after)
   -- where no frame went out the chip is untouched
   pub untouched : frames_over after ≡ [] → memories after ≡ memories before
@@ -79,8 +79,8 @@ pub record OverAnyLine (plan : Plan) (before after : WiredState) (old now : Desk
   pub believable : WereTrue plan before (played (session plan) 1 (heard after.talk)).events
   -- a line that is bad, but not too bad, changes nothing: where of any seven frames in a row at most three go wrong,
   -- of which a reset counts four, the session is its course, unless it stopped
-  pub few_bad : AreFew before.wire.fates
+  pub few_bad : AreFew (turns_of before.wire.fates)
       → IsCourse plan (memories before) (memories after) old now status ⊎ Stopped plan before after old now
   -- and then a plan that erases, and agrees on a chip of 00 and on one of FF, succeeds, whatever the chip was
-  pub again : AreFew before.wire.fates → has_erase (items plan) ≡ true → AgreesAnyway plan
+  pub again : AreFew (turns_of before.wire.fates) → has_erase (items plan) ≡ true → AgreesAnyway plan
       → (status ≡ 0) ⊎ Stopped plan before after old now

@@ -1,5 +1,5 @@
 -- Section 6 of the page (avr_tool's specs/Headline): a run over the emulator, whose chip has a file.
-use Rattle.std.specs.Prelude.{◌≡◌, ◌⊎◌, ℕ, List, [], ◌∷◌, All, Ok, Err}
+use Rattle.std.specs.Prelude.{◌≡◌, ◌⊎◌, ℕ, List, [], ◌∷◌, All, None, Ok, Err}
 use Rattle.avr_chip.specs.Loading.{chip_stage}
 use Rattle.avr_chip.specs.Saving.{Saves}
 use Rattle.avr_cli.specs.declared.settings.Settings.{Settings}
@@ -9,14 +9,16 @@ use Rattle.avr_part.specs.ChipFile.{chip_file}
 use Rattle.avr_part.specs.Sound.{IsSoundChip}
 use Rattle.avr_part.specs.State.{ChipState as Chip}
 use Rattle.avr_plan.specs.Plan.{Plan, IsFitted}
-use Rattle.avr_plan.specs.Planning.{planned}
+use Rattle.avr_plan.specs.Planning.{LacksPart, planned}
 use Rattle.avr_desk.specs.Playing.{Goes, Went}
 use Rattle.avr_desk.specs.Stage.{Made}
 use Rattle.stk_host.specs.Talk.{Stays, sent}
 use Rattle.stk_emu.specs.Programmer.{fresh_programmer}
 use Rattle.stk_emu.specs.Wire.{fresh_wire}
-use Rattle.stk_emu.specs.Wired.{WiredState, ComesOf}
+use Rattle.stk_emu.specs.Wired.{WiredState, ComesOf, wired_view}
 use Rattle.stk_emu.specs.declared.fate.Fate.{Fate}
+use Rattle.avr_session.specs.Run.{RunsSession}
+use Rattle.avr_session.specs.Runs.{devices}
 use Rattle.avr_emulated.specs.AnyLine.{OverAnyLine}
 
 -- The chip's file is written again if anything was sent; where it can't be, the status is 1.
@@ -32,9 +34,9 @@ new_wire chip fates =
     record { held = []; wire = fresh_wire (fresh_programmer chip) fates; waits = []; talk = []; failures = 0 }
 
 -- A plan was made, whose images have the sizes of their memories, and a chip of its part, with memories of its sizes,
--- was loaded from the file. The session was run, to a status, over a new wire to that chip, on which no frame goes
--- wrong: so it is its course, unless it stopped. Then, if anything was sent, the chip as the wire left it was saved to
--- the file, else nothing more was done. A failure of the desk in a stage is one since the stage before it.
+-- was loaded from the file. The session was run, to a status, as over any link, over a new wire to that chip, on which
+-- no frame goes wrong: so it is its course, unless it stopped. Then, if anything was sent, the chip as the wire left it
+-- was saved to the file, else nothing more was done. A failure of the desk in a stage is one since the stage before it.
 pub record RunsOverEmulator (settings : Settings) (file : Bytes) (old now : DeskView) (status : ℕ) : Type 0 where
   pub plan : Plan
   pub chip : Chip
@@ -48,6 +50,8 @@ pub record RunsOverEmulator (settings : Settings) (file : Bytes) (old now : Desk
   pub loaded : Went (chip_stage plan.part file) planned_desk loaded_desk (Made chip)
   pub part : chip.part ≡ plan.part
   pub sound : IsSoundChip chip
+  pub runs : RunsSession plan (devices (wired_view (new_wire chip [])) loaded_desk)
+      (devices (wired_view after) played_desk) ran
   pub comes : Stays ComesOf (new_wire chip []) after
   pub line : OverAnyLine plan (new_wire chip []) after loaded_desk played_desk ran
   pub saved : IsSaved (sent after.talk) played_desk now file (chip_file after.wire.programmer.chip) ran status
@@ -60,8 +64,14 @@ pub record LacksChip (settings : Settings) (file : Bytes) (old now : DeskView) (
   pub made : Went (planned settings) old between (Made plan)
   pub refused : Goes (chip_stage plan.part file) between now (Err status)
 
+-- There is no plan: nothing was sent. Without a part file and updates it is only that no part has the name.
+abbrev pub LacksPlan : Settings → DeskView → DeskView → ℕ → Type 0
+LacksPlan settings old now status =
+    Goes (planned settings) old now (Err status)
+    × (settings.parts ≡ None → settings.updates ≡ [] → LacksPart settings.part [] old now)
+
 -- a whole run; or there is no chip, or no plan, and the status is 1
 abbrev pub RunsEmulator : Settings → Bytes → DeskView → DeskView → ℕ → Type 0
 RunsEmulator settings file old now status =
     RunsOverEmulator settings file old now status
-    ⊎ (LacksChip settings file old now status ⊎ Goes (planned settings) old now (Err status))
+    ⊎ (LacksChip settings file old now status ⊎ LacksPlan settings old now status)

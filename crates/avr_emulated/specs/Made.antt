@@ -15,7 +15,7 @@ use Rattle.stk_emu.specs.Tallies.{Count, then_count}
 use Rattle.avr_emulated.specs.Items.{action_items}
 
 abbrev pub none_made : Count Programmer
-none_made k p fates = 0
+none_made k p turns = 0
 
 -- an action makes the strokes of its items, and to open, to compare and to save makes none
 abbrev pub action_made : Part → Action → Count Programmer

@@ -3,7 +3,7 @@ use Rattle.std.specs.Prelude.{ℕ, suc, ◌≡◌, ◌≤◌, ◌-◌, List, tak
 use Rattle.avr_desk.specs.Record.{DeskView, Passes}
 use Rattle.avr_desk.specs.Said.{after_all}
 use Rattle.avr_plan.specs.Plan.{Plan}
-use Rattle.stk_emu.specs.declared.fate.Fate.{Fate}
+use Rattle.stk_emu.specs.Turn.{Turn}
 use Rattle.stk_emu.specs.Effect.{Item, Memories, effects}
 use Rattle.stk_emu.specs.Programmer.{Programmer}
 use Rattle.stk_emu.specs.Strokes.{all_steps, strokes_of}
@@ -21,13 +21,13 @@ pub record IsTouched (plan : Plan) (before after : Memories) : Type 0 where
   pub count : ℕ
   pub memories : after ≡ effects plan.part (take count (strokes plan)) before
 
--- The same, sharper, after so many frames over a line of these fates: at least as many strokes as have come to data by
+-- The same, sharper, after so many frames over a line of these turns: at least as many strokes as have come to data by
 -- then, and at most one more than had before the last frame, whose answer may not have come.
-pub record MakesStrokes (plan : Plan) (p : Programmer) (fates : List Fate) (frames : ℕ)
+pub record MakesStrokes (plan : Plan) (p : Programmer) (turns : List Turn) (frames : ℕ)
     (before after : Memories) : Type 0 where
   pub count : ℕ
-  pub at_least : made_by plan frames p fates ≤ count
-  pub at_most : count ≤ suc (made_by plan (frames - 1) p fates)
+  pub at_least : made_by plan frames p turns ≤ count
+  pub at_most : count ≤ suc (made_by plan (frames - 1) p turns)
   pub memories : after ≡ effects plan.part (take count (strokes plan)) before
 
 -- After a run of status 0: all that the plan writes was written, and all that it compares agreed.

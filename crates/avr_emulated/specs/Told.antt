@@ -16,22 +16,22 @@ use Rattle.stk_host.specs.Dialog.{Dialog, Done, Say, Ask, Event, Frame, Said}
 use Rattle.stk_host.specs.Operations.{comparison, host_fault}
 use Rattle.stk_host.specs.declared.fault.HostFault.{HostFault}
 use Rattle.stk_host.specs.declared.fault.StepFault.{StepFault}
-use Rattle.stk_emu.specs.Along.{fate_reading}
-use Rattle.stk_emu.specs.Device.{Device}
+use Rattle.stk_emu.specs.Device.{Device, after_frame}
 use Rattle.stk_emu.specs.Effect.{Image, Item, Erase, Write, Memories, effect, effects, memory_in}
-use Rattle.stk_emu.specs.Wire.{first_fate, other_fates, after_fate, Wire, wire_behind}
-use Rattle.stk_emu.specs.declared.fate.Fate.{Fate}
+use Rattle.stk_emu.specs.Wire.{Wire, wire_behind}
+use Rattle.stk_emu.specs.AnyTape.{first_became, other_becames}
+use Rattle.stk_emu.specs.Turn.{Turn, Became, after_became, after_turn, turn_reading, first_turn, other_turns}
 use Rattle.avr_emulated.specs.Agrees.{Shows}
 use Rattle.avr_emulated.specs.Items.{items}
 
 -- Whatever a dialog says along a line holds of the programmer that obeyed what was asked before.
-abbrev pub TellsTrue : {E R P : Type 0} → Device P → (P → E → Type 0) → ℕ → Dialog E R → P → List Fate → Type 0
-TellsTrue m IsTrue k (Done r) p fates = ⊤
-TellsTrue m IsTrue k (Say e dialog) p fates = IsTrue p e × TellsTrue m IsTrue k dialog p fates
-TellsTrue m IsTrue zero (Ask bytes go_on) p fates = ⊤
-TellsTrue m IsTrue (suc k) (Ask bytes go_on) p fates =
-    TellsTrue m IsTrue k (go_on (fate_reading (first_fate fates) (m.answer bytes p)))
-    (after_fate (first_fate fates) (m.after bytes p) p (m.reset p)) (other_fates fates)
+abbrev pub TellsTrue : {E R P : Type 0} → Device P → (P → E → Type 0) → ℕ → Dialog E R → P → List Turn → Type 0
+TellsTrue m IsTrue k (Done r) p turns = ⊤
+TellsTrue m IsTrue k (Say e dialog) p turns = IsTrue p e × TellsTrue m IsTrue k dialog p turns
+TellsTrue m IsTrue zero (Ask bytes go_on) p turns = ⊤
+TellsTrue m IsTrue (suc k) (Ask bytes go_on) p turns =
+    TellsTrue m IsTrue k (go_on (turn_reading (first_turn turns) (m.answer bytes p)))
+    (after_turn (first_turn turns) (m.after bytes p) p m.reset) (other_turns turns)
 
 -- the line of a memory: so many bytes were written, verified or read
 abbrev pub count_line : Mem → ℕ → Bytes → Saying
@@ -79,3 +79,11 @@ abbrev pub SaidTrue : {E P : Type 0} → Device P → (P → E → Type 0) → L
 SaidTrue m IsTrue [] w = ⊤
 SaidTrue m IsTrue (Frame bytes ∷ events) w = SaidTrue m IsTrue events (wire_behind m bytes w)
 SaidTrue m IsTrue (Said e ∷ events) w = IsTrue w.programmer e × SaidTrue m IsTrue events w
+
+-- the same over any line, by what became of the programmer at each frame
+abbrev pub SaidTrueBy : {E P : Type 0} → Device P → (P → E → Type 0) → List (Event E) → List Became → P → Type 0
+SaidTrueBy m IsTrue [] becames p = ⊤
+SaidTrueBy m IsTrue (Frame bytes ∷ events) becames p =
+    SaidTrueBy m IsTrue events (other_becames becames)
+    (after_became (first_became becames) (after_frame m bytes p) p m.reset)
+SaidTrueBy m IsTrue (Said e ∷ events) becames p = IsTrue p e × SaidTrueBy m IsTrue events becames p

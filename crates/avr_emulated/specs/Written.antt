@@ -1,10 +1,10 @@
 -- What the memories hold after a verified run of status 0, address by address.
-use Rattle.std.specs.Prelude.{ℕ, true, ◌≡◌, ◌==◌, ◌<◌, ◌⊎◌, ◌&&◌, not, bit_and, List, [], ◌∷◌, length, slice_index, Some, None, if◌then◌else◌, ⊤}
+use Rattle.std.specs.Prelude.{ℕ, true, false, ◌≡◌, ◌==◌, ◌<◌, ◌⊎◌, ◌&&◌, not, bit_and, List, [], ◌∷◌, length, slice_index, Some, None, if◌then◌else◌, ⊤}
 use Rattle.avr_image.specs.Image.{empty, byte_at, over}
 use Rattle.avr_part.specs.Part.{Part, size_of}
 use Rattle.avr_part.specs.declared.part.Mem.{Mem}
 use Rattle.avr_part.specs.declared.part.Mem.TheVariants.{Flash, Eeprom, Lfuse, Hfuse, Efuse, Lock, Signature, Calibration}
-use Rattle.stk_emu.specs.Effect.{Image, Item, Erase, Write, Memories, erase_keeps_eeprom, memory_in}
+use Rattle.stk_emu.specs.Effect.{Image, Item, Erase, Write, Memories, are_locked, erase_keeps_eeprom, memory_in}
 use Rattle.avr_emulated.specs.Agrees.{Shows}
 use Rattle.avr_emulated.specs.Items.{has_erase}
 
@@ -77,3 +77,27 @@ pub record IsMade (items : List Item) (addr before after : ℕ) : Type 0 where
   pub first_is : (first ≡ before) ⊎ ((first ≡ 255) × (has_erase items ≡ true))
   pub are_there : AreThere items addr bytes
   pub is : after ≡ and_all first bytes
+
+-- no image among these items has a byte of this memory at an address
+abbrev pub LeaveFree : List Item → Mem → ℕ → Type 0
+LeaveFree [] mem addr = ⊤
+LeaveFree (Erase ∷ items) mem addr = LeaveFree items mem addr
+LeaveFree (Write other image ∷ items) mem addr =
+    (memory_number other ≡ memory_number mem → byte_at image addr ≡ None) × LeaveFree items mem addr
+
+-- These items erase the chip, and lay no other image where this one has bytes.
+abbrev pub IsErasedFor : Mem → Image → List Item → Type 0
+IsErasedFor mem image items = (has_erase items ≡ true)
+    × ((addr byte : ℕ) → byte_at image addr ≡ Some byte → LeaveFree items mem addr)
+
+-- What lets a memory take an image behind some items that left the chip so: it isn't locked, and where a write can only
+-- clear bits, in flash and in the lock, it was erased for the image. What can't be written takes none.
+abbrev pub IsTaken : Mem → Image → List Item → Memories → Type 0
+IsTaken Flash image items m = (are_locked m ≡ false) × IsErasedFor Flash image items
+IsTaken Eeprom image items m = are_locked m ≡ false
+IsTaken Lfuse image items m = are_locked m ≡ false
+IsTaken Hfuse image items m = are_locked m ≡ false
+IsTaken Efuse image items m = are_locked m ≡ false
+IsTaken Lock image items m = IsErasedFor Lock image items
+IsTaken Signature image items m = ⊥
+IsTaken Calibration image items m = ⊥

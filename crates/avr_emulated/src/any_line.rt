@@ -17,31 +17,34 @@ ghost use Rattle.stk_emu.specs.Programmer.{Programmer};
 ghost use Rattle.stk_emu.specs.Settled.{Idle, FitsPart};
 ghost use Rattle.stk_emu.specs.Tallies.{Tallies};
 ghost use Rattle.stk_emu.specs.Wired.{WiredState, wired_view};
-ghost use Rattle.stk_emu.specs.declared.fate.Fate.{Fate};
+ghost use Rattle.stk_emu.specs.Turn.{Turn, Became};
+ghost use Rattle.stk_emu.specs.AnyTape.{AreHonest};
+ghost use Rattle.stk_host.specs.Tape.{Tape};
+ghost use Rattle.stk_host.specs.Dialog.{played};
 ghost use Rattle.stk_host.specs.Bound.{SendsAtMost, commands_in};
 ghost use Rattle.avr_emulated.specs.AnyLine.{OverAnyLine, Stopped, WereTrue};
 ghost use Rattle.avr_emulated.specs.Bound.{run_steps, ListensAtMost};
 ghost use Rattle.avr_emulated.specs.Made.{made_by};
-ghost use Rattle.avr_emulated.specs.Told.{TellsTrue, IsTrue};
+ghost use Rattle.avr_emulated.specs.Told.{TellsTrue, SaidTrueBy, IsTrue};
 ghost use Rattle.avr_emulated.specs.Outcome.{strokes, IsTouched, IsDone};
 
 /// At each moment of a session the memories are those of the first so many strokes of its plan; where it ends with
 /// status 0, all was written, and all comparisons agreed. Whatever it asks fits a frame.
 pub fn a_run_leaves_its_strokes()
     ensures asks { (plan : Plan) → IsPart plan.part → All (IsFitted plan.part) plan.tasks → AsksBodies (session plan) }
-    ensures leads { (plan : Plan) (m : Memories) (p : Programmer) (fates : List Fate)
+    ensures leads { (plan : Plan) (m : Memories) (p : Programmer) (turns : List Turn)
         → IsPart plan.part → All (IsFitted plan.part) plan.tasks → FitsPart plan.part m → Idle plan.part m p
-        → Leads device (session plan) p fates (λ q. IsTouched plan m (memories_of q.chip))
+        → Leads device (session plan) p turns (λ q. IsTouched plan m (memories_of q.chip))
         (λ status q. status ≡ 0 → IsDone plan m (memories_of q.chip)) }
 {}
 
 /// At each moment of a session the memories are those of the first strokes of its plan, in their order: of those that
 /// came to data, and perhaps of one more.
 pub fn a_run_makes_its_strokes_in_order()
-    ensures { (plan : Plan) (m : Memories) (p : Programmer) (fates : List Fate)
+    ensures { (plan : Plan) (m : Memories) (p : Programmer) (turns : List Turn)
         → IsPart plan.part → All (IsFitted plan.part) plan.tasks → FitsPart plan.part m → Idle plan.part m p
         → Tallies device (session plan) (made_by plan) (λ j q. memories_of q.chip
-        ≡ effects plan.part (take j (strokes plan)) m) p fates }
+        ≡ effects plan.part (take j (strokes plan)) m) p turns }
 {}
 
 /// Whatever the line does, a run sends at most four times as many frames as there are commands in all the steps that
@@ -61,9 +64,9 @@ pub fn a_run_listens_at_most_once_for_each_frame()
 /// run that failed later can be believed. What was written is there as the plan's writes so far make it, what was
 /// verified is held, what was read and saved is what the chip has, and a difference told is one.
 pub fn what_a_run_tells_is_true()
-    ensures { (plan : Plan) (m : Memories) (k : ℕ) (p : Programmer) (fates : List Fate)
+    ensures { (plan : Plan) (m : Memories) (k : ℕ) (p : Programmer) (turns : List Turn)
         → IsPart plan.part → All (IsFitted plan.part) plan.tasks → FitsPart plan.part m → Idle plan.part m p
-        → TellsTrue device (λ q saying. IsTrue plan m (memories_of q.chip) saying) k (session plan) p fates }
+        → TellsTrue device (λ q saying. IsTrue plan m (memories_of q.chip) saying) k (session plan) p turns }
 {}
 
 /// Whatever was told over a wire was true of the chip when it was told: of a session that was played to its end all of
@@ -76,4 +79,14 @@ pub fn what_was_told_was_true()
     ensures stopped { (plan : Plan) (w v : WiredState) (d e : DeskView) (status : ℕ)
         → w.talk ≡ [] → OverAnyLine plan w v d e status
         → (stopped : Stopped plan w v d e) → WereTrue plan w stopped.breaks.front.whole }
+{}
+
+/// Over any line that makes no answer, however the session ends: each thing told is true of the chip as the frames sent
+/// before have left it.
+pub fn what_is_told_over_any_line_is_true()
+    ensures { (plan : Plan) (m : Memories) (p : Programmer) (tape : Tape) (becames : List Became)
+        → IsPart plan.part → All (IsFitted plan.part) plan.tasks → FitsPart plan.part m → Idle plan.part m p
+        → AreHonest device (session plan) 1 tape p becames
+        → SaidTrueBy device (λ q saying. IsTrue plan m (memories_of q.chip) saying)
+        (played (session plan) 1 tape).events becames p }
 {}

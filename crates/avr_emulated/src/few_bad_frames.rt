@@ -13,7 +13,7 @@ ghost use Rattle.stk_emu.specs.Effect.{Memories, memories_of};
 ghost use Rattle.stk_emu.specs.Few.{AreFew};
 ghost use Rattle.stk_emu.specs.Programmer.{Programmer};
 ghost use Rattle.stk_emu.specs.Settled.{Idle, FitsPart};
-ghost use Rattle.stk_emu.specs.declared.fate.Fate.{Fate};
+ghost use Rattle.stk_emu.specs.Turn.{Turn};
 ghost use Rattle.avr_emulated.specs.Bound.{run_steps};
 ghost use Rattle.avr_emulated.specs.Course.{course};
 
@@ -21,23 +21,23 @@ ghost use Rattle.avr_emulated.specs.Course.{course};
 /// after at most four times its commands, and one that is done has said what its course says, and no more, with its
 /// status and its memories.
 pub fn a_run_with_few_bad_frames_has_its_course()
-    ensures done { (plan : Plan) (m : Memories) (k : ℕ) (p : Programmer) (fates : List Fate)
+    ensures done { (plan : Plan) (m : Memories) (k : ℕ) (p : Programmer) (turns : List Turn)
         → IsPart plan.part → All (IsFitted plan.part) plan.tasks → FitsPart plan.part m → Idle plan.part m p
-        → AreFew fates
-        → 4 * commands_in (run_steps plan) ≤ k → (along device k (session plan) p fates).dialog
+        → AreFew turns
+        → 4 * commands_in (run_steps plan) ≤ k → (along device k (session plan) p turns).dialog
         ≡ Done (course plan m).status }
-    ensures status { (plan : Plan) (m : Memories) (k status : ℕ) (p : Programmer) (fates : List Fate)
+    ensures status { (plan : Plan) (m : Memories) (k status : ℕ) (p : Programmer) (turns : List Turn)
         → IsPart plan.part → All (IsFitted plan.part) plan.tasks → FitsPart plan.part m → Idle plan.part m p
-        → AreFew fates
-        → (along device k (session plan) p fates).dialog ≡ Done status → status ≡ (course plan m).status }
-    ensures memories { (plan : Plan) (m : Memories) (k status : ℕ) (p : Programmer) (fates : List Fate)
+        → AreFew turns
+        → (along device k (session plan) p turns).dialog ≡ Done status → status ≡ (course plan m).status }
+    ensures memories { (plan : Plan) (m : Memories) (k status : ℕ) (p : Programmer) (turns : List Turn)
         → IsPart plan.part → All (IsFitted plan.part) plan.tasks → FitsPart plan.part m → Idle plan.part m p
-        → AreFew fates
-        → (along device k (session plan) p fates).dialog ≡ Done status
-        → memories_of (along device k (session plan) p fates).programmer.chip ≡ (course plan m).memories }
-    ensures says { (plan : Plan) (m : Memories) (k status : ℕ) (p : Programmer) (fates : List Fate)
+        → AreFew turns
+        → (along device k (session plan) p turns).dialog ≡ Done status
+        → memories_of (along device k (session plan) p turns).programmer.chip ≡ (course plan m).memories }
+    ensures says { (plan : Plan) (m : Memories) (k status : ℕ) (p : Programmer) (turns : List Turn)
         → IsPart plan.part → All (IsFitted plan.part) plan.tasks → FitsPart plan.part m → Idle plan.part m p
-        → AreFew fates
-        → (along device k (session plan) p fates).dialog ≡ Done status
-        → said_along device k (session plan) p fates ≡ (course plan m).says }
+        → AreFew turns
+        → (along device k (session plan) p turns).dialog ≡ Done status
+        → said_along device k (session plan) p turns ≡ (course plan m).says }
 {}

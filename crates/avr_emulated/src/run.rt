@@ -2,9 +2,8 @@
 ghost use Rattle.std.specs.Prelude.{◌≡◌};
 ghost use Rattle.avr_desk.specs.Fault.{Follows};
 ghost use Rattle.avr_emulated.specs.AnyLine.{OverAnyLine};
-ghost use Rattle.avr_session.specs.Actions.{takes_memory};
-ghost use Rattle.avr_session.specs.Runs.{RunsTo, devices};
-ghost use Rattle.avr_session.specs.Session.{session};
+ghost use Rattle.avr_session.specs.Run.{RunsSession};
+ghost use Rattle.avr_session.specs.Runs.{devices};
 ghost use Rattle.stk_emu.specs.Wired.{ComesOf, IsFresh, wired_view};
 ghost use Rattle.stk_host.specs.Talk.{Stays, sent};
 ghost use Rattle.avr_part.specs.ChipFile.{chip_file};
@@ -24,8 +23,8 @@ use stk_emu::Wired;
 pub fn drive_wired<D: Desk>(alloc: Global, plan: &Plan, desk: &mut D, wire: &mut Wired) -> u8
     requires fresh { IsFresh wire.old }
     // What is sent, said and answered is the play of the session.
-    ensures runs { RunsTo (session plan.now) (devices (wired_view wire.old) (D.view desk.old))
-        (devices (wired_view wire.new) (D.view desk.new)) (takes_memory plan.now) result }
+    ensures runs { RunsSession plan.now (devices (wired_view wire.old) (D.view desk.old))
+        (devices (wired_view wire.new) (D.view desk.new)) result }
     // The count of the desk's failures never falls.
     ensures follows { Follows (D.view desk.old) (D.view desk.new) }
     // Whatever the wire began as, it is still one that did.

@@ -1,20 +1,21 @@
 //! What a plan writes, and what the memories hold after a verified run, address by address. No code.
 #![tactic(auto)]
 
-ghost use Rattle.std.specs.Prelude.{◌≡◌, ◌↔◌, ◌<◌, ℕ, false, List, All, length, map};
+ghost use Rattle.std.specs.Prelude.{◌≡◌, ◌↔◌, ◌<◌, ◌++◌, ◌∷◌, [], ℕ, false, List, All, length, map};
 ghost use Rattle.avr_cli.specs.declared.settings.Switches.{Switches};
+ghost use Rattle.avr_image.specs.Image.{HoldsBytes};
 ghost use Rattle.avr_part.specs.Part.{Part, IsPart};
 ghost use Rattle.avr_part.specs.declared.part.Mem.{Mem};
 ghost use Rattle.avr_part.specs.declared.part.Mem.TheVariants.{Flash};
 ghost use Rattle.avr_plan.specs.Plan.{Plan, IsFitted};
 ghost use Rattle.avr_plan.specs.declared.planned.Task.{Task};
-ghost use Rattle.stk_emu.specs.Effect.{Item, Memories, effects};
+ghost use Rattle.stk_emu.specs.Effect.{Image, Item, Write, Memories, effects};
 ghost use Rattle.stk_emu.specs.Settled.{FitsPart};
-ghost use Rattle.avr_emulated.specs.Agrees.{Agrees};
+ghost use Rattle.avr_emulated.specs.Agrees.{Agrees, Shows};
 ghost use Rattle.avr_emulated.specs.Course.{course};
 ghost use Rattle.avr_emulated.specs.Items.{asked_items, items};
 ghost use Rattle.avr_emulated.specs.Outcome.{strokes, IsTouched, IsDone};
-ghost use Rattle.avr_emulated.specs.Written.{IsMade, IsWritten, byte_in, written_to};
+ghost use Rattle.avr_emulated.specs.Written.{IsMade, IsTaken, IsWritten, byte_in, written_to};
 
 /// What a plan does to a chip, by its switches and its tasks: nothing in a dry run; else an erase, where that is due,
 /// and the writes of its tasks in their order.
@@ -60,4 +61,13 @@ pub fn a_byte_of_flash_is_made_by_images()
     ensures touched { (plan : Plan) (before after : Memories) (addr : ℕ) → addr < length before.flash
         → IsTouched plan before after
         → IsMade (strokes plan) addr (byte_in plan.part Flash addr before) (byte_in plan.part Flash addr after) }
+{}
+
+/// Behind the line that an image was written the memory holds it, where it can: unless the memory was locked then, or
+/// is flash or the lock and was not erased by the same plan before, or had another image laid over the same place
+/// since. Elsewhere `written` says that each command was answered with OK, and only `verified` what is there.
+pub fn what_is_written_is_there()
+    ensures { (part : Part) (before now : Memories) (mem : Mem) (image : Image) (first : List Item)
+        → HoldsBytes image → now ≡ effects part (first ++ Write mem image ∷ []) before
+        → IsTaken mem image first (effects part first before) → Shows part mem image now }
 {}

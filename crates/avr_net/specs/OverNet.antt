@@ -1,30 +1,31 @@
 -- A run over a port of the network, from settings to status.
-use Rattle.std.specs.Prelude.{ℕ, ◌≡◌, ◌⊎◌, None, Err, codes}
+use Rattle.std.specs.Prelude.{ℕ, ◌≡◌, ◌⊎◌, [], None, Err, codes}
 use Rattle.avr_cli.specs.declared.settings.Settings.{Settings}
 use Rattle.avr_desk.specs.Record.{DeskView, Bytes}
 use Rattle.avr_desk.specs.Said.{Tells}
 use Rattle.avr_plan.specs.Plan.{Plan}
-use Rattle.avr_plan.specs.Planning.{planned}
+use Rattle.avr_plan.specs.Planning.{LacksPart, planned}
 use Rattle.avr_desk.specs.Playing.{Goes, Went}
 use Rattle.avr_desk.specs.Stage.{Made}
-use Rattle.avr_session.specs.Actions.{takes_memory}
-use Rattle.avr_session.specs.Runs.{devices, RunsTo}
-use Rattle.avr_session.specs.Session.{session}
-use Rattle.stk_host.specs.Talk.{LinkView}
+use Rattle.avr_session.specs.Run.{RunsSession}
+use Rattle.avr_session.specs.Runs.{devices}
+use Rattle.stk_host.specs.Talk.{Talk, LinkView}
 use Rattle.avr_net.specs.Lines.{unopened_line}
 
--- what a connection shows as a link: nothing of what passed over it, and its failures, which it counts from 0
-abbrev pub connection : ℕ → LinkView
-connection failures = record { talk = None; failures = failures }
+-- what a connection shows as a link: what passed over it, which is kept for proofs alone, and its failures, which it
+-- counts from 0
+abbrev pub connection : Talk → ℕ → LinkView
+connection talk failures = record { talk = talk; failures = failures }
 
 -- The plan was made, and its session was run over the port.
 pub record PlaysOverNet (settings : Settings) (old new : DeskView) (status : ℕ) : Type 0 where
   pub plan : Plan
   pub planned_desk : DeskView
+  pub talk : Talk
   pub link_failures : ℕ
   pub made : Went (planned settings) old planned_desk (Made plan)
-  pub runs : RunsTo (session plan) (devices (connection 0) planned_desk) (devices (connection link_failures) new)
-      (takes_memory plan) status
+  pub runs : RunsSession plan (devices (connection [] 0) planned_desk) (devices (connection talk link_failures) new)
+      status
 
 -- The plan was made, but the port could not be opened: that was told, nothing else was done at the desk, and the status
 -- is 1.
@@ -35,8 +36,11 @@ pub record LacksPort (settings : Settings) (address : Bytes) (old new : DeskView
   pub told : Tells planned_desk new (unopened_line (codes "net:") address)
   pub status_is : status ≡ 1
 
--- the one or the other, or there is no plan (that the port was left alone then, no clause says)
+-- The one or the other, or there is no plan (that the port was left alone then, no clause says). Without a part file
+-- and updates that is only since no part has the name.
 abbrev pub RunsOverNet : Settings → Bytes → DeskView → DeskView → ℕ → Type 0
 RunsOverNet settings address old new status =
     PlaysOverNet settings old new status
-    ⊎ (LacksPort settings address old new status ⊎ Goes (planned settings) old new (Err status))
+    ⊎ (LacksPort settings address old new status
+    ⊎ (Goes (planned settings) old new (Err status)
+    × (settings.parts ≡ None → settings.updates ≡ [] → LacksPart settings.part [] old new)))

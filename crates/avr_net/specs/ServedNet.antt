@@ -10,11 +10,14 @@ use Rattle.avr_desk.specs.Stage.{Made}
 use Rattle.avr_serve.specs.ServedRun.{sides, ServesChip, settings_chip}
 use Rattle.avr_net.specs.Lines.{unopened_line}
 use Rattle.avr_net.specs.OverNet.{connection}
+use Rattle.stk_host.specs.Talk.{Talk}
 
 -- a connection was accepted, and the chip was served over it
 pub record ServesCaller (chip : chips.ChipState) (file : Bytes) (old new : DeskView) (status : ℕ) : Type 0 where
+  pub talk : Talk
   pub link_failures : ℕ
-  pub serves : ServesChip chip file 16777216 (sides (connection 0) old) (sides (connection link_failures) new) status
+  pub serves : ServesChip chip file 16777216 (sides (connection [] 0) old) (sides (connection talk link_failures) new)
+      status
 
 -- No connection could be accepted: that was told, nothing else was done at the desk, and the status is 1.
 pub record LacksCaller (port : Bytes) (old new : DeskView) (status : ℕ) : Type 0 where

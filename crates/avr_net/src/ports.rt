@@ -1,5 +1,5 @@
 //! Links over sockets, whoever called.
-ghost use Rattle.std.specs.Prelude.{◌≡◌, IfOk};
+ghost use Rattle.std.specs.Prelude.{◌≡◌, [], IfOk};
 
 use std::io;
 use std::io::{Read, Write};
@@ -13,6 +13,7 @@ const SECONDS_OF_SILENCE: u64 = 1;
 /// A link that hears and sends over a socket, where each piece goes out at once.
 fn link_over<S: Read + Write + OpenStream + Drop>(stream: S) -> io::Result<StreamLink<S, S>>
     ensures fresh { IfOk result (λ link. link.failures ≡ 0) }
+    ensures quiet { IfOk result (λ link. link.talk ≡ []) }
 {
     stream.set_nodelay(true)?;
     let writer = stream.try_clone()?;
@@ -22,6 +23,7 @@ fn link_over<S: Read + Write + OpenStream + Drop>(stream: S) -> io::Result<Strea
 /// Connects to `HOST:PORT`. A silence on this link takes a second.
 pub(crate) fn connect<R: Net>(rt: &R, address: &str) -> io::Result<StreamLink<R::Stream, R::Stream>>
     ensures fresh { IfOk result (λ link. link.failures ≡ 0) }
+    ensures quiet { IfOk result (λ link. link.talk ≡ []) }
 {
     let stream = TcpStream::connect(rt, address)?;
     stream.set_read_timeout(Some(Duration::from_secs(SECONDS_OF_SILENCE)))?;
@@ -39,6 +41,7 @@ pub fn accept<L: OpenListener>(listener: &L) -> io::Result<StreamLink<L::Stream,
 where
     L::Stream: Read + Write + OpenStream,
     ensures fresh { IfOk result (λ link. link.failures ≡ 0) }
+    ensures quiet { IfOk result (λ link. link.talk ≡ []) }
 {
     let (stream, _) = listener.accept()?;
     link_over(stream)

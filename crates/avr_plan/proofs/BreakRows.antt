@@ -64,7 +64,7 @@ begins =
 
 -- a line and a text that differ at this place
 differs : (place : ℕ) (line told : Bytes) (old new : DeskView) → ((back : Bytes) → get_or (told ++ back) place 0 ≡ get_or line place 0 → ⊥) → TellsLine line told old new → ⊥
-differs place line told old new apart (inl whole) = apart [] (ap (λ (bytes : Bytes). get_or bytes place 0) (append-nil told ∙ whole))
+differs place line told old new apart (inl whole) = apart [] (ap (λ (bytes : Bytes). get_or bytes place 0) (append-nil told ∙ whole.0))
 differs place line told old new apart (inr part) = apart part.0.0 (ap (λ (bytes : Bytes). get_or bytes place 0) part.0.1)
 
 module _ (r : Record) (k l m n status : ℕ) where
@@ -100,14 +100,14 @@ module _ (r : Record) (k l m n status : ℕ) where
   -- half of its line, though the desk failed once, and so at the file
   half_told : (count unsaid : ℕ) → l ≡ k + 1 → l < 2 ^ 64 - 1 → k ≤ count → count ≤ l → HasRisen k count → TellsLine (not_opened_line file) half (showing None count unsaid) (showing None l n)
       → ⊥
-  half_told count unsaid one few since until failed (inl whole) = let e : ◌≡◌ {A = ℕ} 0 101 = ap (λ (bytes : Bytes). get_or bytes 30 0) whole in omega (arith, e)
+  half_told count unsaid one few since until failed (inl whole) = let e : ◌≡◌ {A = ℕ} 0 101 = ap (λ (bytes : Bytes). get_or bytes 30 0) whole.0 in omega (arith, e)
   half_told count unsaid one few since until (inl rose) (inr (part, (inl again, quiet))) = omega (arith, one, rose, again)
   half_told count unsaid one few since until (inl rose) (inr (part, (inr end, quiet))) = omega (arith, few, end)
   half_told count unsaid one few since until (inr end) (inr part) = omega (arith, few, end, until)
 
   half_of_it : l ≡ k + 1 → l < 2 ^ 64 - 1 → Told half → ⊥
   half_of_it one few (inl failure) =
-      half_told failure.between.failures failure.between.unsaid one few failure.since.0 failure.until.0 failure.failed failure.tells
+      half_told failure.between.failures failure.between.unsaid one few failure.since.0 failure.until.0 failure.failed.0 failure.tells
   half_of_it one few (inr memory) = differs 15 memory_line half (showing None k m) (showing None l n) (λ back is. let e : ◌≡◌ {A = ℕ} 120 111 = is in omega (arith, e)) memory
 
   half_a_line : l ≡ k + 1 → l < 2 ^ 64 - 1 → Ends half → ⊥
@@ -115,8 +115,8 @@ module _ (r : Record) (k l m n status : ℕ) where
 
   -- silence, where the desk has not failed
   nothing_told : (HasRisen k l → ⊥) → Told [] → ⊥
-  nothing_told sound (inl failure) = sound (risen_before k failure.between.failures l failure.since.0 failure.until.0 failure.failed)
-  nothing_told sound (inr (inl whole)) = let e : ◌≡◌ {A = ℕ} 0 97 = ap (λ (bytes : Bytes). get_or bytes 0 0) whole in omega (arith, e)
+  nothing_told sound (inl failure) = sound (risen_before k failure.between.failures l failure.since.0 failure.until.0 failure.failed.0)
+  nothing_told sound (inr (inl whole)) = let e : ◌≡◌ {A = ℕ} 0 97 = ap (λ (bytes : Bytes). get_or bytes 0 0) whole.0 in omega (arith, e)
   nothing_told sound (inr (inr part)) = sound part.1.0
 
   silence : (HasRisen k l → ⊥) → Goes (planned wanted) (showing (Some r) k m) (showing (Some r) l n) (Err status) → ⊥
@@ -129,9 +129,9 @@ module _ (r : Record) (k l m n status : ℕ) where
   told_whole told sound (inl failure) = of_file failure.tells
     where
       of_file : TellsLine (not_opened_line file) told failure.between (showing None l n) → (told ≡ not_opened_line file) ⊎ (told ≡ memory_line)
-      of_file (inl whole) = inl whole
+      of_file (inl whole) = inl whole.0
       of_file (inr part) = absurd (sound (risen_later m failure.between.unsaid n failure.since.1 part.1.1))
-  told_whole told sound (inr (inl whole)) = inr whole
+  told_whole told sound (inr (inl whole)) = inr whole.0
   told_whole told sound (inr (inr part)) = absurd (sound part.1.1)
 
   nothing_of_either : ([] ≡ not_opened_line file) ⊎ ([] ≡ memory_line) → ⊥

@@ -2,7 +2,7 @@
 use Rattle.std.proofs.Common.{◌≡◌, sym, ap, ℕ, List, Option, Ok, Err}
 use Rattle.avr_cli.specs.declared.settings.Switches.{Switches}
 use Rattle.avr_cli.specs.declared.update.Format.{Format}
-use Rattle.avr_desk.specs.Fault.{Follows}
+use Rattle.avr_desk.specs.Fault.{Follows, HasSameCounts}
 use Rattle.avr_desk.specs.Record.{DeskView, Bytes}
 use Rattle.avr_desk.specs.Said.{Tells}
 use Rattle.avr_records.specs.declared.kind.Ending.{Ending}
@@ -25,46 +25,46 @@ abbrev behind_file : Switches → Bytes → Image × Ending → Stage Image
 behind_file switches file given = saying_stage (warning_says switches file given.1) >>= λ ok. verdict_stage (Ok given.0)
 
 went_file : (file : Bytes) (format : Format) (size : ℕ) (old mid : DeskView) (image : Image) (ending : Ending)
-    → ReadsImage 4194304 format size file old mid (Ok (image, ending)) → Follows old mid
+    → ReadsImage 4194304 format size file old mid (Ok (image, ending)) → HasSameCounts old mid
     → Went (file_stage file 4194304 (judged_image file format size)) old mid (Made (image, ending))
-went_file file format size old mid image ending reads rises =
+went_file file format size old mid image ending reads same =
     let judge = judged_image file format size in
     let given : judge reads.bytes ≡ Ok (image, ending) = ap (image_or_line file) (sym reads.gives) in
-    went_whole file 4194304 judge reads.bytes reads.ended old mid (image, ending) reads.kept reads.whole rises
+    went_whole file 4194304 judge reads.bytes reads.ended old mid (image, ending) reads.kept reads.whole same
     (went_settled (judge reads.bytes) (image, ending) mid given)
 
 -- a file that is an image, and its warning
 pub went_image : (switches : Switches) (file : Bytes) (format : Format) (size : ℕ) (old mid new : DeskView) (image : Image) (ending : Ending)
-    → ReadsImage 4194304 format size file old mid (Ok (image, ending)) → Follows old mid → Went (saying_stage (warning_says switches file ending)) mid new (Made tt)
+    → ReadsImage 4194304 format size file old mid (Ok (image, ending)) → HasSameCounts old mid → Went (saying_stage (warning_says switches file ending)) mid new (Made tt)
     → Went (file_image_stage switches file format size) old new (Made image)
-went_image switches file format size old mid new image ending reads rises warns =
+went_image switches file format size old mid new image ending reads same warns =
     went_went (file_stage file 4194304 (judged_image file format size)) (behind_file switches file) old mid new (image, ending) (Made image)
-    (went_file file format size old mid image ending reads rises)
+    (went_file file format size old mid image ending reads same)
     (went_went (saying_stage (warning_says switches file ending)) (λ ok. verdict_stage (Ok image)) mid new new tt (Made image) warns (went_nowhere new image))
 
 -- its warning broke off
 pub goes_unwarned : (switches : Switches) (file : Bytes) (format : Format) (size : ℕ) (old mid new : DeskView)
     (image : Image) (ending : Ending) (status : ℕ)
-    → ReadsImage 4194304 format size file old mid (Ok (image, ending)) → Follows old mid
+    → ReadsImage 4194304 format size file old mid (Ok (image, ending)) → HasSameCounts old mid
     → Goes (saying_stage (warning_says switches file ending)) mid new (Err status)
     → Goes (file_image_stage switches file format size) old new (Err status)
-goes_unwarned switches file format size old mid new image ending status reads rises warns =
+goes_unwarned switches file format size old mid new image ending status reads same warns =
     goes_on (file_stage file 4194304 (judged_image file format size)) (behind_file switches file) old mid new (image, ending)
     (Err status)
-    (went_file file format size old mid image ending reads rises)
+    (went_file file format size old mid image ending reads same)
     (goes_no_further (saying_stage (warning_says switches file ending)) (λ ok. verdict_stage (Ok image)) mid new status warns)
 
 -- a file that is none
 goes_bad : (switches : Switches) (file : Bytes) (format : Format) (size : ℕ) (old mid new : DeskView)
     (bad : BadFile) (status : ℕ)
-    → ReadsImage 4194304 format size file old mid (Err bad) → Follows old mid → status ≡ 1 → Tells mid new (bad_file_line file bad)
+    → ReadsImage 4194304 format size file old mid (Err bad) → HasSameCounts old mid → status ≡ 1 → Tells mid new (bad_file_line file bad)
     → Goes (file_image_stage switches file format size) old new (Err status)
-goes_bad switches file format size old mid new bad status reads rises one told =
+goes_bad switches file format size old mid new bad status reads same one told =
     let judge = judged_image file format size in
     let given : judge reads.bytes ≡ Err (bad_file_line file bad) = ap (image_or_line file) (sym reads.gives) in
     goes_no_further (file_stage file 4194304 judge) (behind_file switches file) old new status
     (goes_whole file 4194304 judge reads.bytes reads.ended old mid new (Err status)
-    reads.kept reads.whole rises (goes_unsettled (judge reads.bytes) (bad_file_line file bad) mid new status given one told))
+    reads.kept reads.whole same (goes_unsettled (judge reads.bytes) (bad_file_line file bad) mid new status given one told))
 
 -- a file that was not read
 goes_unread : (switches : Switches) (file : Bytes) (format : Format) (size : ℕ) (old new : DeskView) (status : ℕ)
@@ -82,4 +82,4 @@ goes_without_image switches file format size old mid new (fault_of.File fault) s
     goes_unread switches file format size old new status
     (goes_file_fault file 4194304 (judged_image file format size) fault old mid new status reads rose counted one told)
 goes_without_image switches file format size old mid new (fault_of.Image bad) status reads rose counted one told =
-    goes_bad switches file format size old mid new bad status reads rose one told
+    goes_bad switches file format size old mid new bad status reads counted one told

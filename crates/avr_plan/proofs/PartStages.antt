@@ -1,7 +1,7 @@
 -- The parts of a part file.
 use Rattle.std.proofs.Common.{◌≡◌, ◌∙◌, sym, ap, refl, arith, ℕ, List, length, Bool, true, false, nat_le, Ok, Err, inl, inr, subst}
 use Rattle.std.proofs.lemmas.Bool.Decides.{nat_tests}
-use Rattle.avr_desk.specs.Fault.{Follows}
+use Rattle.avr_desk.specs.Fault.{HasSameCounts}
 use Rattle.avr_desk.specs.Files.{IsWhole, with_read}
 use Rattle.avr_desk.specs.Record.{DeskView, Passes, Bytes}
 use Rattle.avr_desk.specs.Lines.{too_long_line}
@@ -24,41 +24,41 @@ judged-within file bytes whole = let fits : nat_le (length bytes) 65536 ≡ true
 
 pub goes_long_parts : (file bytes : Bytes) (ended : Bool) (old mid new : DeskView) (status : ℕ)
     → Passes (with_read file bytes ended) old mid
-    → IsWhole 65536 (record { bytes = bytes; ended = ended }) → ended ≡ false → Follows old mid → status ≡ 1
+    → IsWhole 65536 (record { bytes = bytes; ended = ended }) → ended ≡ false → HasSameCounts old mid → status ≡ 1
     → Tells mid new (too_long_line file 65536)
     → Goes (file_stage file 65536 (judged_parts file)) old new (Err status)
-goes_long_parts file bytes true old mid new status kept whole is rises one told = cc
-goes_long_parts file bytes false old mid new status kept whole is rises one told =
+goes_long_parts file bytes true old mid new status kept whole is same one told = cc
+goes_long_parts file bytes false old mid new status kept whole is same one told =
     let past : nat_le (length bytes) 65536 ≡ false = let more = whole.0 in grind (arith, nat_tests, more) in
     let given : judged_parts file bytes ≡ Err (too_long_line file 65536) = rw past refl in
     goes_whole file 65536 (judged_parts file) bytes false old mid new (Err status)
-    kept whole rises
+    kept whole same
     (goes_unsettled (judged_parts file bytes) (too_long_line file 65536) mid new status given one told)
 
 pub went_parts : (file bytes : Bytes) (ended : Bool) (old mid : DeskView) (parts : List Part)
     → Passes (with_read file bytes ended) old mid
-    → IsWhole 65536 (record { bytes = bytes; ended = ended }) → ended ≡ true → Follows old mid → GivesOrMemory (parts_of bytes) (Ok parts)
+    → IsWhole 65536 (record { bytes = bytes; ended = ended }) → ended ≡ true → HasSameCounts old mid → GivesOrMemory (parts_of bytes) (Ok parts)
     → Went (file_stage file 65536 (judged_parts file)) old mid (Made parts)
-went_parts file bytes false old mid parts kept whole is rises gives = cc
-went_parts file bytes true old mid parts kept whole is rises (inl gives) =
+went_parts file bytes false old mid parts kept whole is same gives = cc
+went_parts file bytes true old mid parts kept whole is same (inl gives) =
     let given : judged_parts file bytes ≡ Ok parts = judged-within file bytes whole ∙ ap (parts_or_line file) (sym gives) in
-    went_whole file 65536 (judged_parts file) bytes true old mid parts kept whole rises
+    went_whole file 65536 (judged_parts file) bytes true old mid parts kept whole same
     (went_settled (judged_parts file bytes) parts mid given)
-went_parts file bytes true old mid parts kept whole is rises (inr memory) = cc
+went_parts file bytes true old mid parts kept whole is same (inr memory) = cc
 
 pub goes_bad_parts : (file bytes : Bytes) (ended : Bool) (old mid new : DeskView) (status : ℕ) (fault : PartFault)
-    → Passes (with_read file bytes ended) old mid → IsWhole 65536 (record { bytes = bytes; ended = ended }) → ended ≡ true → Follows old mid
+    → Passes (with_read file bytes ended) old mid → IsWhole 65536 (record { bytes = bytes; ended = ended }) → ended ≡ true → HasSameCounts old mid
     → GivesOrMemory (parts_of bytes) (Err fault) → status ≡ 1 → Tells mid new (part_file_line file fault)
     → Goes (file_stage file 65536 (judged_parts file)) old new (Err status)
-goes_bad_parts file bytes false old mid new status fault kept whole is rises gives one told = cc
-goes_bad_parts file bytes true old mid new status fault kept whole is rises (inl gives) one told =
+goes_bad_parts file bytes false old mid new status fault kept whole is same gives one told = cc
+goes_bad_parts file bytes true old mid new status fault kept whole is same (inl gives) one told =
     let given : judged_parts file bytes ≡ Err (part_file_line file fault) = judged-within file bytes whole ∙ ap (parts_or_line file) (sym gives) in
     goes_whole file 65536 (judged_parts file) bytes true old mid new (Err status)
-    kept whole rises
+    kept whole same
     (goes_unsettled (judged_parts file bytes) (part_file_line file fault) mid new status given one told)
-goes_bad_parts file bytes true old mid new status fault kept whole is rises (inr memory) one told =
-    let same : fault ≡ Memory = cc in
-    let refused = subst (λ f. Tells mid new (part_file_line file f)) same told in
+goes_bad_parts file bytes true old mid new status fault kept whole is same (inr memory) one told =
+    let memory_is : fault ≡ Memory = cc in
+    let refused = subst (λ f. Tells mid new (part_file_line file f)) memory_is told in
     goes_whole file 65536 (judged_parts file) bytes true old mid new (Err status)
-    kept whole rises
+    kept whole same
     (goes_without_memory (verdict_stage (judged_parts file bytes)) mid new status one refused)

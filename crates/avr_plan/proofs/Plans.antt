@@ -1,12 +1,12 @@
 -- The stages of a plan, one after the other.
-use Rattle.std.proofs.Common.{◌≡◌, sym, subst, ℕ, List, [], Ok, Err}
+use Rattle.std.proofs.Common.{◌≡◌, sym, subst, ℕ, List, [], Result, Ok, Err}
 use Rattle.avr_cli.specs.declared.settings.Settings.{Settings}
 use Rattle.avr_cli.specs.declared.update.Update.{Update}
 use Rattle.avr_desk.specs.Record.{DeskView, Bytes}
 use Rattle.avr_part.specs.Part.{Part}
 use Rattle.avr_desk.proofs.Played.{goes_on, goes_no_further, went_went, went_into}
 use Rattle.avr_plan.specs.Plan.{Plan}
-use Rattle.avr_plan.specs.Planning.{parts_stage, part_stage, tasks_stage, planned}
+use Rattle.avr_plan.specs.Planning.{LacksPart, parts_stage, part_stage, tasks_stage, planned}
 use Rattle.avr_desk.specs.Playing.{Goes, Went}
 use Rattle.avr_desk.specs.Stage.{Stage, Made, ◌>>=◌, verdict_stage}
 use Rattle.avr_plan.specs.declared.planned.Task.{Task}
@@ -57,3 +57,10 @@ went_whole_plan s id updates old first mid new parts part tasks plan same all is
     (went_went (parts_stage s.parts) (behind_parts s) old first new parts (Made (plan_of s part tasks)) went
     (went_went (part_stage s.part parts) (behind_part s) first mid new part (Made (plan_of s part tasks)) own
     (went_into (tasks_stage s.switches part [] s.updates) (plan_of s part) mid new tasks done)))
+
+-- no part has the id, whatever it is called here
+pub lacks_part : (id own : Bytes) (parts : List Part) (old mid new : DeskView) → id ≡ own → ◌≡◌ {A = Result (List Part) ℕ} (Ok parts) (Ok []) → mid ≡ old → LacksPart id parts mid new → LacksPart own [] old new
+lacks_part id own parts old mid new same given view lacks =
+    let none : parts ≡ [] = cc in
+    subst (λ (d : DeskView). LacksPart own [] d new) view
+    (subst (λ (ps : List Part). LacksPart own ps mid new) none (subst (λ (i : Bytes). LacksPart i parts mid new) same lacks))

@@ -1,6 +1,7 @@
 -- What passes at a desk as an image file is read.
 use Rattle.std.specs.Prelude.{◌≡◌, ◌≤◌, ◌+◌, ℕ, List, ◌++◌, length, Option, Bool, false, Result, Ok, Err, MatchBool}
 use Rattle.avr_cli.specs.declared.update.Format.{Format}
+use Rattle.avr_desk.specs.Fault.{HasSameCounts}
 use Rattle.avr_desk.specs.Files.{after_reading, with_read, FileBreaks, IsCounted, IsWhole}
 use Rattle.avr_desk.specs.Record.{DeskView, Passes, Bytes}
 use Rattle.avr_desk.specs.declared.files.FileFault.{FileFault}
@@ -24,9 +25,10 @@ IsGiven given (Ok good) = Ok good ≡ given
 IsGiven given (Err (Image bad)) = Err bad ≡ given
 IsGiven given (Err (File fault)) = ⊥
 
+-- what the counts of failures say of a fault
 abbrev pub IsCountedRead : DeskView → DeskView → ReadFault → Type 0
 IsCountedRead old new (File fault) = IsCounted old new fault
-IsCountedRead old new (Image bad) = Unit {0}
+IsCountedRead old new (Image bad) = HasSameCounts old new
 
 -- all that the open file has was read, or so much of it as shows its format
 pub record ReadsFront (old new : DeskView) (front : Front) : Type 0 where

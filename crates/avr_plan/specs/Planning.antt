@@ -1,6 +1,6 @@
 -- The plan of a run, in its order: the part file, the part, and each update with its file.
-use Rattle.std.specs.Prelude.{ℕ, Bool, false, nat_le, nat_lt, List, [], ◌∷◌, ◌++◌, length, Option, Some, None, Result, Ok, Err, if◌then◌else◌}
-use Rattle.avr_desk.specs.Record.{Bytes}
+use Rattle.std.specs.Prelude.{ℕ, Bool, false, nat_le, nat_lt, List, [], ◌∷◌, ◌++◌, length, Option, Some, None, Result, Ok, Err, IsErr, if◌then◌else◌}
+use Rattle.avr_desk.specs.Record.{DeskView, Bytes}
 use Rattle.avr_cli.specs.declared.settings.Settings.{Settings}
 use Rattle.avr_cli.specs.declared.settings.Switches.{Switches}
 use Rattle.avr_cli.specs.declared.update.Format.{Format}
@@ -11,7 +11,7 @@ use Rattle.avr_cli.specs.declared.update.Update.{Update}
 use Rattle.avr_image.specs.Values.{values}
 use Rattle.avr_image.specs.declared.fault.ImageFault.{ImageFault}
 use Rattle.avr_desk.specs.Lines.{too_long_line}
-use Rattle.avr_desk.specs.Said.{Saying, Line}
+use Rattle.avr_desk.specs.Said.{Saying, Line, Tells}
 use Rattle.avr_part.specs.BuiltIn.{part_of_id}
 use Rattle.avr_part.specs.Mem.{is_writable}
 use Rattle.avr_part.specs.Part.{Part, size_of}
@@ -49,6 +49,10 @@ part_or_line id (Err fault) = Err (no_part_line id)
 -- the part of this id, in the file before the built-in ones
 abbrev pub part_stage : Bytes → List Part → Stage Part
 part_stage id parts = verdict_stage (part_or_line id (part_of_id id parts))
+
+-- no part has this id, and that was told
+abbrev pub LacksPart : Bytes → List Part → DeskView → DeskView → Type 0
+LacksPart id parts old new = IsErr (part_of_id id parts) × Tells old new (no_part_line id)
 
 -- ---- the image of an update
 

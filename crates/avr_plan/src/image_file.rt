@@ -1,6 +1,6 @@
 //! An image file over a desk: read in pieces to its end, or past the limit, and only then judged.
-ghost use Rattle.std.specs.Prelude.{◌≡◌, ◌+◌, ◌<◌, ◌≤◌, ◌^◌, ℕ, IfErr, length};
-ghost use Rattle.avr_desk.specs.Fault.{Follows};
+ghost use Rattle.std.specs.Prelude.{◌≡◌, ◌+◌, ◌<◌, ◌≤◌, ◌^◌, ℕ, IfErr, OnOk, length};
+ghost use Rattle.avr_desk.specs.Fault.{Follows, HasSameCounts};
 ghost use Rattle.avr_desk.specs.Record.{DeskView, Bytes};
 ghost use Rattle.avr_records.specs.declared.kind.Found.{Found as AnyFound};
 ghost use Rattle.avr_plan.specs.Faults.{read_fault_number};
@@ -74,6 +74,7 @@ fn read_front<D: Desk>(desk: &mut D) -> Result<Front, FileFault>
     ensures kept { FrontIsRead (D.view desk.old) (D.view desk.new) result }
     ensures rises { Follows (D.view desk.old) (D.view desk.new) }
     ensures counted { IfErr result (IsCounted (D.view desk.old) (D.view desk.new)) }
+    ensures sound { OnOk result (HasSameCounts (D.view desk.old) (D.view desk.new)) }
 {
     let mut bytes: ArrayVec<u8, FRONT> = ArrayVec::new();
     let mut piece = [0u8; FRONT];
@@ -97,7 +98,8 @@ fn read_front<D: Desk>(desk: &mut D) -> Result<Front, FileFault>
 fn finish(intake: Intake) -> Result<(Image, Ending), ReadFault>
     ensures given { (found : AnyFound) (size : ℕ) (text : Bytes) → Takes found size intake text
         → IsGiven (whole_file found text size) result }
-    ensures counted { IfErr result (λ fault. (old new : DeskView) → IsCountedRead old new fault) }
+    ensures counted { IfErr result (λ fault. (old new : DeskView) → HasSameCounts old new
+        → IsCountedRead old new fault) }
 {
     match intake.finish() {
         Ok(good) => Ok(good),
@@ -117,6 +119,7 @@ fn read_rest<D: Desk>(
         → RestIsRead limit found size before (D.view desk.old) (D.view desk.new) result }
     ensures rises { Follows (D.view desk.old) (D.view desk.new) }
     ensures counted { IfErr result (IsCountedRead (D.view desk.old) (D.view desk.new)) }
+    ensures sound { OnOk result (HasSameCounts (D.view desk.old) (D.view desk.new)) }
 {
     let mut piece = [0u8; PIECE];
     'pieces: loop {
@@ -147,6 +150,7 @@ fn read_open<D: Desk>(
     ensures read { OpenIsRead limit format size (D.view desk.old) (D.view desk.new) result }
     ensures rises { Follows (D.view desk.old) (D.view desk.new) }
     ensures counted { IfErr result (IsCountedRead (D.view desk.old) (D.view desk.new)) }
+    ensures sound { OnOk result (HasSameCounts (D.view desk.old) (D.view desk.new)) }
 {
     let front = match read_front(desk) {
         Ok(front) => front,
@@ -188,6 +192,7 @@ pub fn read_image<D: Desk>(
     ensures read { ImageIsRead 4194304 format size name.now (D.view desk.old) (D.view desk.new) result }
     ensures rises { Follows (D.view desk.old) (D.view desk.new) }
     ensures counted { IfErr result (IsCountedRead (D.view desk.old) (D.view desk.new)) }
+    ensures sound { OnOk result (HasSameCounts (D.view desk.old) (D.view desk.new)) }
 {
     match desk.open(name) {
         Ok(()) => read_open(alloc, desk, format, size, LIMIT),

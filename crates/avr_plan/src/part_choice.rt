@@ -1,6 +1,6 @@
 //! The part: the part file is read and judged, and the part looked up.
-ghost use Rattle.std.specs.Prelude.{Some};
-ghost use Rattle.avr_plan.specs.Planning.{parts_stage, part_stage};
+ghost use Rattle.std.specs.Prelude.{◌≡◌, [], Some, None, Ok, IfErr};
+ghost use Rattle.avr_plan.specs.Planning.{LacksPart, parts_stage, part_stage};
 ghost use Rattle.avr_desk.specs.Playing.{Goes};
 
 use crate::messages::{no_part_message, part_file_message};
@@ -34,7 +34,8 @@ fn file_parts<D: Desk>(alloc: Global, desk: &mut D, file: &str) -> Result<Parts,
 /// The file has at most 65,536 bytes. Where it can't be read, is longer or is no part file, and where memory is
 /// refused, the line that tells why was printed, as far as the desk takes it, and the answer is the status, 1.
 pub fn given_parts<D: Desk>(alloc: Global, desk: &mut D, file: &Option<Text>) -> Result<Parts, u8>
-    ensures { Goes (parts_stage file.now) (D.view desk.old) (D.view desk.new) result }
+    ensures goes { Goes (parts_stage file.now) (D.view desk.old) (D.view desk.new) result }
+    ensures none { file.now ≡ None → (result ≡ Ok []) × (D.view desk.new ≡ D.view desk.old) }
 {
     match file {
         Some(file) => file_parts(alloc, desk, file.as_str()),
@@ -52,7 +53,8 @@ pub fn given_parts<D: Desk>(alloc: Global, desk: &mut D, file: &Option<Text>) ->
 /// let part = chosen_part(&mut desk, &parts, "m328p")?;
 /// ```
 pub fn chosen_part<D: Desk>(desk: &mut D, parts: &Parts, id: &str) -> Result<Part, u8>
-    ensures { Goes (part_stage id.now parts.now) (D.view desk.old) (D.view desk.new) result }
+    ensures goes { Goes (part_stage id.now parts.now) (D.view desk.old) (D.view desk.new) result }
+    ensures refused { IfErr result (λ status. LacksPart id.now parts.now (D.view desk.old) (D.view desk.new)) }
 {
     match parts.find(id) {
         Ok(part) => Ok(part),

@@ -1,9 +1,9 @@
 //! The plan of a run: everything that it needs is read and judged, before any frame is sent.
-ghost use Rattle.std.specs.Prelude.{[], All, IfOk};
+ghost use Rattle.std.specs.Prelude.{◌≡◌, [], None, All, IfOk, IfErr, IsOk};
 ghost use Rattle.avr_cli.specs.declared.settings.Switches.{Switches as AnySwitches};
 ghost use Rattle.avr_part.specs.Part.{Part as PartData};
 ghost use Rattle.avr_plan.specs.Plan.{IsFitted};
-ghost use Rattle.avr_plan.specs.Planning.{task_stage, op_stage, write_stage, tasks_stage, planned};
+ghost use Rattle.avr_plan.specs.Planning.{LacksPart, task_stage, op_stage, write_stage, tasks_stage, planned};
 ghost use Rattle.avr_desk.specs.Playing.{Goes};
 
 use crate::messages::read_only_message;
@@ -100,6 +100,8 @@ fn update_tasks<D: Desk>(
     ensures goes { Goes (tasks_stage switches part.now [] updates.now)
         (D.view desk.old) (D.view desk.new) result }
     ensures fitted { IfOk result (All (IsFitted part.now)) }
+    // Without updates no memory is taken.
+    ensures none { updates.now ≡ [] → IsOk result }
 {
     let mut tasks = Tasks::new(alloc);
     for update in updates {
@@ -119,7 +121,10 @@ fn update_tasks<D: Desk>(
 /// The first refusal prints its line, and the answer is the status, 1. It is also 1 where the desk fails or memory is
 /// refused; then nothing more is opened, and the line of that was printed as far as the desk takes it.
 pub fn plan<D: Desk>(alloc: Global, settings: &Settings, desk: &mut D) -> Result<Plan, u8>
-    ensures { Goes (planned settings.now) (D.view desk.old) (D.view desk.new) result }
+    ensures goes { Goes (planned settings.now) (D.view desk.old) (D.view desk.new) result }
+    // Without a part file and updates nothing is read and no memory is taken: only the part can be wanting.
+    ensures bare { settings.now.parts ≡ None → settings.now.updates ≡ []
+        → IfErr result (λ status. LacksPart settings.now.part [] (D.view desk.old) (D.view desk.new)) }
 {
     let parts = given_parts(alloc, desk, &settings.parts)?;
     let part = chosen_part(desk, &parts, settings.part.as_str())?;

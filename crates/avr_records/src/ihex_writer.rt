@@ -1,7 +1,7 @@
 //! A writer of Intel HEX, as Intel's "Hexadecimal Object File Format Specification" (revision A, 1988) has it.
 //!
 //! Rows of 32 bytes that never cross a multiple of 65,536; an extended linear address record wherever the upper 16 bits
-//! of the address change; upper-case digits; each line ends with LF.
+//! of the address change; no start address; upper-case digits; each line ends with LF.
 ghost use Rattle.std.specs.Prelude.{◌≡◌, ◌+◌, ◌/◌, ◌%◌, ◌^◌, ◌<◌, ◌≤◌, ◌==◌, ◌↔◌, [], ◌++◌, length, IsTrue, if◌then◌else◌};
 ghost use Rattle.avr_records.specs.Text.{IsLine, ihex_text, ihex_record as spec_record, ihex_row_size, two};
 

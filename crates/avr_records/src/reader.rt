@@ -14,7 +14,8 @@ use std::marker::Model;
 /// Reads a record file of one kind into an image, from pieces of any length.
 ///
 /// A reader keeps no text: one line of at most 600 bytes, and the image. The contracts speak of the texts that it may
-/// have been fed (`StandsFor`): whatever the pieces, the answers are those of the whole text.
+/// have been fed (`StandsFor`): whatever the pieces, the answers are those of the whole text. Start addresses and
+/// headers (S0) are judged as records, and dropped.
 ///
 /// ```text
 /// let mut reader = RecordReader::new(alloc, Kind::Ihex, 32_768)?;
@@ -148,7 +149,8 @@ impl RecordReader {
 }
 
 /// What a whole record file of fewer than 2 to the power 32 bytes says, for a memory of `size` bytes: the image, and
-/// whether the end record came; or the first fault; or `Memory`, where memory is refused.
+/// whether the end record came; or the first fault; or `Memory`, where memory is refused. Start addresses and headers
+/// (S0) are dropped.
 ///
 /// ```text
 /// let (image, ending) = read_records(alloc, Kind::Ihex, 4, b":0400000001020304F2\n:00000001FF\n")?;

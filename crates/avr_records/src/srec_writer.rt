@@ -1,7 +1,7 @@
 //! A writer of S-records, as Motorola's "M68000 Family Programmer's Reference Manual" (appendix C) has them.
 //!
-//! Rows of 32 bytes; S1, S2 or S3, the narrowest that holds the last address, and S9, S8 or S7 at the end; no header
-//! record; upper-case digits; each line ends with LF.
+//! Rows of 32 bytes; S1, S2 or S3, the narrowest that holds the last address, and S9, S8 or S7 at the end, with start
+//! address 0; no header record; upper-case digits; each line ends with LF.
 ghost use Rattle.std.specs.Prelude.{◌≡◌, ◌+◌, ◌-◌, ◌*◌, ◌^◌, ◌<◌, ◌≤◌, ◌↔◌, ◌++◌, length, IsTrue};
 ghost use Rattle.avr_records.specs.Text.{IsLine, srec_text, srec_record as spec_record, low_bytes, address_size};
 

@@ -20,7 +20,8 @@ fn asked_read(kind: u8, text: usize, size: usize, present: usize) -> Option<Kind
 }
 
 /// Reads a whole record file of this kind (1 for Intel HEX, 2 for S-records) into the bytes of a memory, FF in gaps,
-/// and a bitmap of the bytes that are there, which has an octet for each eight bytes, the last perhaps in part.
+/// and a bitmap of the bytes that are there, which has an octet for each eight bytes, the last perhaps in part. Start
+/// addresses and headers (S0) are dropped.
 ///
 /// After a fault bytes and bitmap are as they were. The faults have the numbers of `RecordFault`; 11 is that of
 /// arguments that do not fit one another: another kind, a bitmap of another length, a file or a memory of 2 to the

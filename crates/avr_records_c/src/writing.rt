@@ -68,7 +68,8 @@ fn put_from(text: &[u8], from: usize, room: &mut [u8]) -> Piece
 }
 
 /// Puts a piece of the record file of a memory into a room that the caller lends: the file's bytes from the one
-/// numbered `from` on (the first is 0), as many as the room takes. A piece of no bytes is behind the file's end.
+/// numbered `from` on (the first is 0), as many as the room takes. A piece of no bytes is behind the file's end. The
+/// file has no header and no start address (0 in the end record of S-records).
 ///
 /// The kind is 1 for Intel HEX and 2 for S-records; the bitmap is that of `avr_records_read`, and says which bytes of
 /// the memory belong to the file. The faults are 10, where memory is refused, and 11, where the arguments do not fit

@@ -1,5 +1,5 @@
 -- Answers to one piece, frame by frame, and the sending of each.
-use Rattle.std.proofs.Common.{◌≡◌, ℕ, ◌+◌, List, [], ◌++◌, take, drop, refl, sym, ap, ◌∙◌, subst, Option}
+use Rattle.std.proofs.Common.{◌≡◌, ℕ, ◌+◌, List, [], ◌++◌, take, drop, refl, sym, ap, ◌∙◌, subst}
 use Rattle.std.proofs.lemmas.List.{take-append-drop}
 use Rattle.std.proofs.Math.Seq.{take-add}
 use Rattle.stk_host.specs.Talk.{Talk, LinkView, sent}
@@ -10,7 +10,7 @@ use Rattle.avr_serve.specs.Serving.{AnswersAll, BreaksOff}
 use Rattle.avr_serve.specs.Replying.{Replies, RepliesPart}
 use Rattle.avr_serve.proofs.Answering.{all_nothing, all_fed, all_more, breaks_here, breaks_more}
 
-says_both : (x y : List ℕ) (a b c : Option Talk) → Says x a b → Says y b c → Says (x ++ y) a c
+says_both : (x y : List ℕ) (a b c : Talk) → Says x a b → Says y b c → Says (x ++ y) a c
 says_both x y a b c first then = record {
   during = first.during ++ then.during;
   grows = grows_on a b c first.during then.during first.grows then.grows;

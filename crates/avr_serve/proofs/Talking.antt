@@ -2,21 +2,12 @@
 use Rattle.std.proofs.Common.{◌≡◌, ℕ, ◌+◌, List, [], ◌∷◌, ◌++◌, refl, sym, ap, ◌∙◌, subst, append_assoc, arith}
 use Rattle.std.proofs.lemmas.List.{append-nil}
 use Rattle.stk_host.specs.declared.link.Item.TheVariants.{Byte, Silence, End}
-use Rattle.stk_host.specs.Tape.{Tape, on_tape}
+use Rattle.stk_host.specs.Tape.{Tape, on_tape, bytes_of}
 use Rattle.stk_host.specs.Talk.{Talk, Sent, Got, sent, heard}
 use Rattle.stk_host.specs.Reach.{IsQuiet}
+use Rattle.stk_host.proofs.Tapes.{bytes_of_append}
 use Rattle.stk_emu.specs.Programmer.{Programmer}
-use Rattle.avr_serve.specs.Serving.{bytes_of, HasNoEnd, reads, AnswersInTurn}
-
-pub bytes_append : (x y : Tape) → bytes_of (x ++ y) ≡ bytes_of x ++ bytes_of y
-bytes_append [] y = refl
-bytes_append (Byte b ∷ x) y = ap (λ bs. b ∷ bs) (bytes_append x y)
-bytes_append (Silence ∷ x) y = bytes_append x y
-bytes_append (End ∷ x) y = bytes_append x y
-
-pub bytes_on_tape : (bytes : List ℕ) → bytes_of (on_tape bytes) ≡ bytes
-bytes_on_tape [] = refl
-bytes_on_tape (b ∷ bytes) = ap (λ bs. b ∷ bs) (bytes_on_tape bytes)
+use Rattle.avr_serve.specs.Serving.{HasNoEnd, reads, AnswersInTurn}
 
 pub no_end_append : (x y : Tape) → HasNoEnd x → HasNoEnd y → HasNoEnd (x ++ y)
 no_end_append [] y f g = g
@@ -55,6 +46,6 @@ in_turn_append p text out (Got tape ∷ x) y f g = (
   f.0,
   in_turn_append p (text ++ bytes_of tape) out x y f.1
       (subst (λ t. AnswersInTurn p t (out ++ sent x) y)
-      (ap (λ bs. text ++ bs) (bytes_append tape (heard x)) ∙ sym (append_assoc text (bytes_of tape) (bytes_of (heard x))))
+      (ap (λ bs. text ++ bs) (bytes_of_append tape (heard x)) ∙ sym (append_assoc text (bytes_of tape) (bytes_of (heard x))))
       g),
 )

@@ -3,22 +3,23 @@ use Rattle.std.proofs.Common.{◌≡◌, ℕ, ◌+◌, ◌≤◌, List, [], ◌�
 use Rattle.std.specs.Prelude.{◌≢◌}
 use Rattle.std.proofs.lemmas.List.{append-nil}
 use Rattle.stk_host.specs.declared.link.Item.TheVariants.{Silence, End}
-use Rattle.stk_host.specs.Tape.{on_tape}
+use Rattle.stk_host.specs.Tape.{on_tape, bytes_of}
 use Rattle.stk_host.specs.Talk.{Talk, Got, sent, heard as heard_in, Grows, LinkView, HasRisen}
 use Rattle.stk_host.specs.Reach.{IsQuiet}
 use Rattle.stk_host.proofs.Talks.{sent_append, heard_append, heard_quiet, grows_none, grows_on}
+use Rattle.stk_host.proofs.Tapes.{bytes_of_append, bytes_of_on_tape}
 use Rattle.stk_emu.specs.Programmer.{Programmer}
 use Rattle.stk_emu.specs.Emulator.{Machine, emulate}
 use Rattle.avr_serve.specs.declared.serving.Served.{Served}
 use Rattle.avr_serve.specs.declared.serving.Served.TheVariants.{Ended, RecvFailed, SendFailed, TooManyReads}
-use Rattle.avr_serve.specs.Serving.{bytes_of, HasNoEnd, HearsUntil, AnswersInTurn, AnswersAll, BreaksOff, ServingLeaves, Serves, FailsBy}
+use Rattle.avr_serve.specs.Serving.{HasNoEnd, HearsUntil, AnswersInTurn, AnswersAll, BreaksOff, ServingLeaves, Serves, FailsBy}
 use Rattle.avr_serve.specs.Replying.{Replies, RepliesPart}
-use Rattle.avr_serve.proofs.Talking.{bytes_append, bytes_on_tape, no_end_append, no_end_on_tape, reads_append, reads_quiet, in_turn_quiet, in_turn_append}
+use Rattle.avr_serve.proofs.Talking.{no_end_append, no_end_on_tape, reads_append, reads_quiet, in_turn_quiet, in_turn_append}
 use Rattle.avr_serve.proofs.Answering.{all_nothing, all_more, breaks_more, breaks_front}
 
 -- what was heard and sent in two talks
 bytes_both : (x y : Talk) → bytes_of (heard_in x) ++ bytes_of (heard_in y) ≡ bytes_of (heard_in (x ++ y))
-bytes_both x y = sym (ap bytes_of (heard_append x y) ∙ bytes_append (heard_in x) (heard_in y))
+bytes_both x y = sym (ap bytes_of (heard_append x y) ∙ bytes_of_append (heard_in x) (heard_in y))
 
 all_talk : (p : Programmer) (text : List ℕ) (x y : Talk) (mid now : Machine) → AnswersAll p text (bytes_of (heard_in x)) (sent x) mid
     → AnswersAll p (text ++ bytes_of (heard_in x)) (bytes_of (heard_in y)) (sent y) now → AnswersAll p text (bytes_of (heard_in (x ++ y))) (sent (x ++ y)) now
@@ -138,7 +139,7 @@ heard_piece : (piece : List ℕ) (talk : Talk) → IsQuiet talk → on_tape piec
 heard_piece piece talk quiet = ap (λ t. on_tape piece ++ t) (heard_quiet talk quiet) ∙ append-nil (on_tape piece)
 
 bytes_heard : (piece : List ℕ) (talk : Talk) → IsQuiet talk → piece ≡ bytes_of (on_tape piece ++ heard_in talk)
-bytes_heard piece talk quiet = sym (ap bytes_of (heard_piece piece talk quiet) ∙ bytes_on_tape piece)
+bytes_heard piece talk quiet = sym (ap bytes_of (heard_piece piece talk quiet) ∙ bytes_of_on_tape piece)
 
 pub read_answered : (piece : List ℕ) (old now : Machine) (a b c : LinkView) → Grows a.talk (Got (on_tape piece) ∷ []) b.talk → Replies old piece b c now → Serves old 1 TooManyReads a c now
 read_answered piece old now a b c g r =

@@ -2,7 +2,7 @@
 use Rattle.std.specs.Prelude.{ℕ, List, [], ◌∷◌, ◌++◌, ◌+◌, ◌≡◌, ◌<◌, ◌≤◌, length}
 use Rattle.stk_frame.specs.Cut.{frames}
 use Rattle.stk_host.specs.declared.link.Item.TheVariants.{Byte, Silence, End}
-use Rattle.stk_host.specs.Tape.{Tape}
+use Rattle.stk_host.specs.Tape.{Tape, bytes_of}
 use Rattle.stk_host.specs.Talk.{Talk, LinkView, Sent, Got, sent, heard, Grows, HasFailed}
 use Rattle.stk_host.specs.Play.{IsPrefixOf}
 use Rattle.stk_emu.specs.Programmer.{Programmer}
@@ -10,13 +10,6 @@ use Rattle.stk_emu.specs.Device.{device, answers, answer_frame, after_frames}
 use Rattle.stk_emu.specs.Emulator.{Machine, IsFed, emulate}
 use Rattle.avr_serve.specs.declared.serving.Served.{Served}
 use Rattle.avr_serve.specs.declared.serving.Served.TheVariants.{Ended, RecvFailed, SendFailed, TooManyReads}
-
--- the bytes of a tape, its silences and ends left out
-abbrev pub bytes_of : Tape → List ℕ
-bytes_of [] = []
-bytes_of (Byte byte ∷ tape) = byte ∷ bytes_of tape
-bytes_of (Silence ∷ tape) = bytes_of tape
-bytes_of (End ∷ tape) = bytes_of tape
 
 -- no end is among its items
 abbrev pub HasNoEnd : Tape → Type 0

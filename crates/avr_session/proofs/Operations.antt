@@ -20,14 +20,16 @@ use Rattle.stk_host.specs.Dialog.{Dialog, Done, ◌>>=◌, Played, played}
 use Rattle.stk_host.specs.declared.fault.Broken.{Broken}
 use Rattle.stk_host.specs.declared.fault.Broken.TheVariants.{Send, Recv}
 use Rattle.stk_host.specs.Play.{Position, PlaysOver, FailsOver}
-use Rattle.stk_host.specs.Calls.{EndsCall, EndsOrLacks, IsBroken}
+use Rattle.stk_host.specs.Calls.{EndsCall, EndsOrLacks, IsBroken, UnlessBroken}
 use Rattle.stk_host.proofs.Leading.{continued, played_bind}
 use Rattle.avr_desk.specs.Said.{Saying, Tells}
 use Rattle.avr_session.specs.declared.standing.Stopped.{Stopped}
 use Rattle.avr_session.specs.Concluding.{after_outcome, conclusion}
 use Rattle.avr_session.specs.Lines.{fault_line}
 use Rattle.avr_session.specs.Session.{says, standing, reported, fault_or}
-use Rattle.avr_session.specs.Runs.{Cause, OfSending, OfListening, OfMemory, Devices, devices, Terms, cause_line, HasCome, PrintStops, SaysOrStops, Reports, Runs}
+use Rattle.avr_session.specs.Taking.{AtOnce}
+use Rattle.avr_session.specs.Runs.{Cause, OfSending, OfListening, OfMemory, devices, Terms, cause_line, HasCome, PrintStops, SaysOrStops, Reports, Runs}
+use Rattle.avr_desk.proofs.Telling.{same_here}
 use Rattle.avr_session.proofs.Reporting.{told_some}
 use Rattle.avr_session.proofs.Running.{came_lifted, came_said, came_on, ran_from, broke_lifted, broke_saying, broke_operation, broke_lacking, broken_cause, StopsReport, ToldBy}
 
@@ -244,39 +246,57 @@ told_of old new part good (Err (ReadOnly mem)) told reports stop = absurd stop
 told_of old new part good (Err Memory) told reports stop = told_some old new (fault_line part Memory) told reports
 told_of old new part good (Err RecvFailed) told reports stop = told_some old new (fault_line part RecvFailed) told reports
 
+-- the link fails only where the outcome says so
+unbroken : {A P : Type 0} (outcome : Result A HostFault) → after_outcome outcome ≡ Ok (standing outcome) → UnlessBroken outcome P → P
+unbroken (Ok x) goes p = p
+unbroken (Err NoAnswer) goes p = p
+unbroken (Err LinkEnded) goes p = p
+unbroken (Err SendFailed) goes p = absurd (cc)
+unbroken (Err Babble) goes p = p
+unbroken (Err (Refused command status)) goes p = p
+unbroken (Err (BadAnswer command)) goes p = p
+unbroken (Err (WrongSignature found)) goes p = p
+unbroken (Err (Differs mem address want found)) goes p = p
+unbroken (Err (ReadOnly mem)) goes p = p
+unbroken (Err Memory) goes p = p
+unbroken (Err RecvFailed) goes p = absurd (cc)
+
+pub sound_lack : {A P : Type 0} (outcome : Result A HostFault) → IsMemory outcome → UnlessBroken outcome P → P
+sound_lack {P = P} outcome is p = subst (λ x. UnlessBroken x P) (memory_is outcome is) p
+
 -- what stops a run is counted, or is want of memory
-pub stop_is : {A : Type 0} (outcome : Result A HostFault) (takes : Bool) (o p : Devices) → (IsBroken outcome → link.HasFailed o.link p.link) → (IsMemory outcome → takes ≡ true) → IsStop outcome → HasCome takes o p (cause_of outcome)
-stop_is (Ok x) takes o p failed lacks stop = absurd stop
-stop_is (Err NoAnswer) takes o p failed lacks stop = absurd stop
-stop_is (Err LinkEnded) takes o p failed lacks stop = absurd stop
-stop_is (Err SendFailed) takes o p failed lacks stop = failed tt
-stop_is (Err Babble) takes o p failed lacks stop = absurd stop
-stop_is (Err (Refused command status)) takes o p failed lacks stop = absurd stop
-stop_is (Err (BadAnswer command)) takes o p failed lacks stop = absurd stop
-stop_is (Err (WrongSignature found)) takes o p failed lacks stop = absurd stop
-stop_is (Err (Differs mem address want found)) takes o p failed lacks stop = absurd stop
-stop_is (Err (ReadOnly mem)) takes o p failed lacks stop = absurd stop
-stop_is (Err Memory) takes o p failed lacks stop = lacks tt
-stop_is (Err RecvFailed) takes o p failed lacks stop = failed tt
+pub stop_is : {A : Type 0} (outcome : Result A HostFault) (takes : Bool) (o p : LinkView) (d : DeskView) → (IsBroken outcome → link.HasFailed o p) → (IsMemory outcome → (takes ≡ true) × (p.failures ≡ o.failures)) → IsStop outcome → HasCome takes (devices o d) (devices p d) (cause_of outcome)
+stop_is (Ok x) takes o p d failed lacks stop = absurd stop
+stop_is (Err NoAnswer) takes o p d failed lacks stop = absurd stop
+stop_is (Err LinkEnded) takes o p d failed lacks stop = absurd stop
+stop_is (Err SendFailed) takes o p d failed lacks stop = (failed tt, same_here d)
+stop_is (Err Babble) takes o p d failed lacks stop = absurd stop
+stop_is (Err (Refused command status)) takes o p d failed lacks stop = absurd stop
+stop_is (Err (BadAnswer command)) takes o p d failed lacks stop = absurd stop
+stop_is (Err (WrongSignature found)) takes o p d failed lacks stop = absurd stop
+stop_is (Err (Differs mem address want found)) takes o p d failed lacks stop = absurd stop
+stop_is (Err (ReadOnly mem)) takes o p d failed lacks stop = absurd stop
+stop_is (Err Memory) takes o p d failed lacks stop = let lack = lacks tt in (lack.0, (lack.1, same_here d))
+stop_is (Err RecvFailed) takes o p d failed lacks stop = (failed tt, same_here d)
 
 -- An operation and its report are a phase of a session.
 pub operation_runs : {A : Type 0} {operation : Dialog ⊥ (Result A HostFault)} (takes : Bool) (outcome_says : Result A HostFault → List Saying) {m n : Position} {o p : LinkView} {d e : DeskView} (outcome : Result A HostFault)
     (said : Result (Unit {0}) Stopped) (terms : Terms) (By : DeskView → DeskView → Cause → List ℕ → Type 0) → StopsReport terms p d e (outcome_says outcome) By
-    → Ended takes operation m o p outcome n → length n.unread ≤ 281 → o.failures ≤ p.failures → SaysOrStops By d e (outcome_says outcome) said → (IsStop outcome → ToldBy terms (cause_of outcome) (devices o d) (devices p e))
-    → Runs (reported operation outcome_says) m (devices o d) (devices p e) terms (conclusion outcome said) n
+    → Ended takes operation m o p outcome n → length n.unread ≤ 281 → UnlessBroken outcome (p.failures ≡ o.failures) → SaysOrStops By d e (outcome_says outcome) said → (IsStop outcome → ToldBy terms (cause_of outcome) (devices o d) (devices p e))
+    → Runs (reported operation outcome_says) m (devices o d) (devices p e) terms (AtOnce takes) (conclusion outcome said) n
 operation_runs {operation = operation} takes outcome_says {m = m} {n = n} {o = o} {p = p} {d = d} {e = e} outcome (Ok done) terms By why (inl played) few link reports some =
-    subst (λ r. Runs (reported operation outcome_says) m (devices o d) (devices p e) terms r n) (sym played.1)
-    (ran_from (came_on (came_lifted (λ outcome. says (outcome_says outcome) (Done (standing outcome))) d played.0 few) (came_said (outcome_says outcome) (Done (standing outcome)) n p reports)))
+    subst (λ r. Runs (reported operation outcome_says) m (devices o d) (devices p e) terms (AtOnce takes) r n) (sym played.1)
+    (ran_from (came_on (came_lifted (λ outcome. says (outcome_says outcome) (Done (standing outcome))) d played.0 few (unbroken outcome played.1 link)) (came_said (outcome_says outcome) (Done (standing outcome)) n p reports)))
 operation_runs {operation = operation} takes outcome_says {m = m} {n = n} {o = o} {p = p} {d = d} {e = e} outcome (Err stopped) terms By why (inl played) few link reports some =
-    broke_lifted (λ outcome. says (outcome_says outcome) (Done (standing outcome))) played.0 few link
+    broke_lifted (λ outcome. says (outcome_says outcome) (Done (standing outcome))) played.0 few (unbroken outcome played.1 link)
     (broke_saying (outcome_says outcome) (Done (standing outcome)) n p why reports)
 operation_runs {operation = operation} takes outcome_says {m = m} {n = n} {o = o} {p = p} {d = d} {e = e} outcome said terms By why (inr (inl broke)) few link reports some =
     let stop = link_stops broke.0 outcome broke.1 in
     let why_not : ToldBy terms (broken_cause broke.0) (devices o d) (devices p e) = subst (λ cause. ToldBy terms cause (devices o d) (devices p e)) (link_cause broke.0 outcome broke.1) (some stop) in
-    subst (λ r. Runs (reported operation outcome_says) m (devices o d) (devices p e) terms r n) (sym (stop_goes outcome said stop))
+    subst (λ r. Runs (reported operation outcome_says) m (devices o d) (devices p e) terms (AtOnce takes) r n) (sym (stop_goes outcome said stop))
     (broke_operation broke.0 (λ outcome. says (outcome_says outcome) (Done (standing outcome))) broke.2 why_not)
 operation_runs {operation = operation} takes outcome_says {m = m} {n = n} {o = o} {p = p} {d = d} {e = e} outcome said terms By why (inr (inr lacks)) few link reports some =
     let stop = memory_stops outcome lacks.1 in
     let why_not : ToldBy terms OfMemory (devices o d) (devices p e) = subst (λ cause. ToldBy terms cause (devices o d) (devices p e)) (ap cause_of (memory_is outcome lacks.1)) (some stop) in
-    subst (λ r. Runs (reported operation outcome_says) m (devices o d) (devices p e) terms r n) (sym (stop_goes outcome said stop))
-    (broke_lacking (reported operation outcome_says) m lacks.2 why_not)
+    subst (λ r. Runs (reported operation outcome_says) m (devices o d) (devices p e) terms (AtOnce takes) r n) (sym (stop_goes outcome said stop))
+    (broke_lacking (reported operation outcome_says) m lacks.2 why_not (lacks.0, refl))

@@ -2,26 +2,26 @@
 use Rattle.std.proofs.Common.{◌≡◌, ◌≤◌, ℕ, arith, List, [], ◌∷◌, ◌++◌, Option, option_map, Result, Ok, Err, refl, sym, ap, ◌∙◌, subst, inl, inr, IfErr, append-nil, Some, None, nat_lt, false}
 use Rattle.std.proofs.lemmas.Bool.Decides.{nat_tests}
 use Rattle.avr_desk.specs.Record.{Record, DeskView, Passes, after_err}
-use Rattle.avr_desk.specs.Fault.{Counts, Follows, HasFailed, HasFailedToSay}
+use Rattle.avr_desk.specs.Fault.{Counts, Follows, HasFailedAt, HasFailedToSay, HasSameCounts}
 use Rattle.avr_desk.specs.declared.desk.DeskFault.{DeskFault}
 use Rattle.avr_desk.specs.declared.desk.DeskFault.TheVariants.{NotFound, Failed}
-use Rattle.avr_desk.specs.declared.stream.Stream.TheVariants.{Messages}
+use Rattle.avr_desk.specs.declared.stream.Stream.TheVariants.{File, Messages}
 use Rattle.stk_host.specs.Dialog.{sayings}
 use Rattle.avr_desk.specs.Said.{Saying, Line, IsPrefixOf, IsPrinted, Tells, after_all}
 use Rattle.avr_desk.proofs.Saying.{kept_append, kept_none}
-use Rattle.avr_desk.proofs.Telling.{failure_in, failure_told, follows_here, follows_on, unsaid_later}
+use Rattle.avr_desk.proofs.Telling.{failure_since, failure_told, follows_here, follows_on, same_here, same_on, unsaid_since}
 use Rattle.avr_session.specs.Runs.{cause_line, Cause, OfSending, OfListening, OfFile, OfPrinting, OfMemory, FileTrouble, SaysFront, SaidSome, SaysOrStops, Reports, PrintStops, FileStops, DeskStops}
 use Rattle.avr_session.specs.declared.standing.Stopped.{Stopped}
 use Rattle.avr_session.specs.Concluding.{stopped_of}
 use Rattle.avr_session.specs.Saving.{SaveStops}
 use Rattle.avr_session.proofs.Places.{sayings_by, line_part, front_behind, front_of}
 
-pub print_stops_later : (a b c : DeskView) → Follows a b → (cause : Cause) (told : List ℕ) → PrintStops b c cause told → PrintStops a c cause told
-print_stops_later a b c le OfSending told stops = absurd stops
-print_stops_later a b c le OfListening told stops = absurd stops
-print_stops_later a b c le (OfFile file trouble) told stops = absurd stops
-print_stops_later a b c le OfPrinting told stops = (unsaid_later a b c le stops.0, stops.1)
-print_stops_later a b c le OfMemory told stops = absurd stops
+pub print_stops_later : (a b c : DeskView) → HasSameCounts a b → (cause : Cause) (told : List ℕ) → PrintStops b c cause told → PrintStops a c cause told
+print_stops_later a b c same OfSending told stops = absurd stops
+print_stops_later a b c same OfListening told stops = absurd stops
+print_stops_later a b c same (OfFile file trouble) told stops = absurd stops
+print_stops_later a b c same OfPrinting told stops = (unsaid_since a b c same stops.0, stops.1)
+print_stops_later a b c same OfMemory told stops = absurd stops
 
 pub print_is_desk : (a b : DeskView) (cause : Cause) (told : List ℕ) → PrintStops a b cause told → DeskStops a b cause told
 print_is_desk a b OfSending told stops = stops
@@ -30,8 +30,8 @@ print_is_desk a b (OfFile file trouble) told stops = absurd stops
 print_is_desk a b OfPrinting told stops = stops
 print_is_desk a b OfMemory told stops = stops
 
-pub file_stops_in : (a b c d : DeskView) (file : List ℕ) (trouble : FileTrouble) (told : List ℕ) → Follows a b → Follows c d → FileStops b c file trouble told → FileStops a d file trouble told
-file_stops_in a b c d file trouble told first last stops = failure_in (cause_line (OfFile file trouble)) told a b c d first last stops
+pub file_stops_in : (a b c : DeskView) (file : List ℕ) (trouble : FileTrouble) (told : List ℕ) → HasSameCounts a b → FileStops b c file trouble told → FileStops a c file trouble told
+file_stops_in a b c file trouble told same stops = failure_since (cause_line (OfFile file trouble)) told a b c same stops
 
 pub nothing_printed : (r : Record) → after_err [] r ≡ r
 nothing_printed r = ap (λ bytes. record r { messages = bytes }) (append-nil r.messages)
@@ -53,7 +53,7 @@ said_until old new sayings front failed = record {
 
 line_said : (old new : DeskView) (bytes : List ℕ) (printed : Result (Unit {0}) DeskFault) (result : Result (Unit {0}) Stopped)
     → IsPrinted old new bytes printed → Counts Messages old new printed → IfErr printed (λ e. e ≡ Failed) → result ≡ stopped_of printed → SaysOrStops PrintStops old new (Line bytes ∷ []) result
-line_said old new bytes (Ok done) (Ok ok) is counts only same = is
+line_said old new bytes (Ok done) (Ok ok) is counts only same = (is, counts.1)
 line_said old new bytes (Ok done) (Err stopped) is counts only same = cc
 line_said old new bytes (Err fault) (Ok ok) is counts only same = cc
 line_said old new bytes (Err NotFound) (Err stopped) is counts only same = cc
@@ -66,16 +66,16 @@ reports_line old new bytes printed result is counts only same = record { says = 
 
 -- nothing is said
 pub reports_none : (By : DeskView → DeskView → Cause → List ℕ → Type 0) (desk : DeskView) → Reports By desk desk [] (Ok tt)
-reports_none By desk = record { says = kept_none desk.kept; follows = follows_here desk }
+reports_none By desk = record { says = (kept_none desk.kept, same_here desk); follows = follows_here desk }
 
 -- a report and then a line, where a cause that stops the line stops both
 said_then : (By : DeskView → DeskView → Cause → List ℕ → Type 0) (old mid new : DeskView) (first more : List Saying) (result : Result (Unit {0}) Stopped)
-    → ((cause : Cause) (told : List ℕ) → PrintStops mid new cause told → By old new cause told) → Passes (after_all first) old mid → SaysOrStops PrintStops mid new more result → SaysOrStops By old new (first ++ more) result
-said_then By old mid new first more (Ok done) why kept then = kept_append first more old.kept mid.kept new.kept kept then
-said_then By old mid new first more (Err stopped) why kept then = record {
+    → ((cause : Cause) (told : List ℕ) → PrintStops mid new cause told → By old new cause told) → Passes (after_all first) old mid × HasSameCounts old mid → SaysOrStops PrintStops mid new more result → SaysOrStops By old new (first ++ more) result
+said_then By old mid new first more (Ok done) why was then = (kept_append first more old.kept mid.kept new.kept was.0 then.0, same_on old mid new was.1 then.1)
+said_then By old mid new first more (Err stopped) why was then = record {
   between = then.between;
   cause = then.cause;
-  front = front_behind first more kept then.front;
+  front = front_behind first more was.0 then.front;
   told = then.told;
   stops = why then.cause then.told then.stops;
   kept = then.kept;
@@ -84,14 +84,14 @@ said_then By old mid new first more (Err stopped) why kept then = record {
 -- one report and then another
 pub reports_then : (old mid new : DeskView) (first more : List Saying) {done : Unit {0}} (result : Result (Unit {0}) Stopped) → Reports PrintStops old mid first (Ok done) → Reports PrintStops mid new more result → Reports PrintStops old new (first ++ more) result
 reports_then old mid new first more result was then = record {
-  says = said_then PrintStops old mid new first more result (print_stops_later old mid new was.follows) was.says then.says;
+  says = said_then PrintStops old mid new first more result (print_stops_later old mid new was.says.1) was.says then.says;
   follows = follows_on old mid new was.follows then.follows;
 }
 
 -- something is saved, and then a line is printed
 pub saves_then : (old mid new : DeskView) (file : List ℕ) (first more : List Saying) {done : Unit {0}} (result : Result (Unit {0}) Stopped) → Reports (SaveStops file) old mid first (Ok done) → Reports PrintStops mid new more result → Reports DeskStops old new (first ++ more) result
 saves_then old mid new file first more result was then = record {
-  says = said_then DeskStops old mid new first more result (λ cause told stops. print_is_desk old new cause told (print_stops_later old mid new was.follows cause told stops)) was.says then.says;
+  says = said_then DeskStops old mid new first more result (λ cause told stops. print_is_desk old new cause told (print_stops_later old mid new was.says.1 cause told stops)) was.says then.says;
   follows = follows_on old mid new was.follows then.follows;
 }
 
@@ -138,7 +138,7 @@ told_line (OfFile file trouble) told l old new between follows front stops kept 
 told_line OfMemory told l old new between follows front stops kept = absurd stops
 
 some_told : (old new : DeskView) (l : List ℕ) (result : Result (Unit {0}) Stopped) → Follows old new → SaysOrStops PrintStops old new (Line l ∷ []) result → Tells old new l
-some_told old new l (Ok done) follows kept = record { told = l; tells = inl refl; kept = kept; follows = follows }
+some_told old new l (Ok done) follows said = record { told = l; tells = inl (refl, said.1); kept = said.0; follows = follows }
 some_told old new l (Err stopped) follows some = told_line some.cause some.told l old new some.between follows some.front some.stops some.kept
 
 -- what was printed of a line that was told
@@ -147,7 +147,7 @@ told_some old new l result reports = some_told old new l result reports.follows 
 
 -- a file's trouble is told behind what was done
 pub file_stops : (By : DeskView → DeskView → Cause → List ℕ → Type 0) (old mid new : DeskView) (sayings : List Saying) (file : List ℕ) (trouble : FileTrouble) → SaysFront (OfFile file trouble) old mid sayings
-    → HasFailed old mid → Follows old mid → ((told : List ℕ) → FileStops old new file trouble told → By old new (OfFile file trouble) told) → Tells mid new (cause_line (OfFile file trouble)) → SaidSome By old new sayings
+    → HasFailedAt File old mid → Follows old mid → ((told : List ℕ) → FileStops old new file trouble told → By old new (OfFile file trouble) told) → Tells mid new (cause_line (OfFile file trouble)) → SaidSome By old new sayings
 file_stops By old mid new sayings file trouble front failed first why some = record {
   between = mid;
   cause = OfFile file trouble;

@@ -12,23 +12,25 @@ use Rattle.stk_host.specs.Play.{Position}
 use Rattle.stk_host.specs.Talk.{Talk, LinkView, heard, Grows}
 use Rattle.stk_host.specs.Dialog.{Dialog, Event, Said, Played, played, sayings}
 use Rattle.avr_desk.specs.Said.{Saying, Line, Creates, Writes, Outs, after_all}
-use Rattle.avr_session.specs.Actions.{takes_memory}
-use Rattle.avr_session.specs.Runs.{Cause, OfSending, OfListening, OfFile, OfPrinting, OfMemory, NotCreated, NotWritten, Devices, devices, start, cause_line, tells_fault, TellsCause, StopsAt, untold, StopsBehind, BrokeOff, RunsTo}
+use Rattle.avr_session.specs.Actions.{actions, takes_memory}
+use Rattle.avr_session.specs.Runs.{Cause, OfSending, OfListening, OfFile, OfPrinting, OfMemory, NotCreated, NotWritten, Devices, devices, start, cause_line, tells_fault, TellsCause, StopsAt, untold, StopsBehind, Lacking, BrokeOff, RunsTo}
+use Rattle.avr_session.specs.Run.{RunsSession}
+use Rattle.avr_session.specs.Taking.{AtTaking}
 use Rattle.avr_session.specs.Session.{session}
 use Rattle.avr_session.specs.Stopping.{keeping, talking, IsSound, LacksMemory, IsPlayed}
 use Rattle.avr_desk.proofs.Telling.{failed_later, failed_before, risen_later}
 
 -- of sound devices only memory is left, and its line was told whole
 told_of_memory : (flag : Bool) (told : Bytes) (a between b : DeskView) → Follows a between → (HasFailed a b → ⊥) → TellsCause flag OfMemory told between b → told ≡ cause_line OfMemory
-told_of_memory false told a between b since sound (inl whole) = whole
+told_of_memory false told a between b since sound (inl whole) = whole.0
 told_of_memory false told a between b since sound (inr part) = absurd (sound (failed_later a between b since part.1.0))
 told_of_memory true told a between b since sound tells = absurd tells
 
 lacks : {takes : Bool} {old new : Devices} {said : List Saying} {told : Bytes} (cause : Cause) → IsSound old new → StopsBehind (untold takes) old new said cause told → told ≡ cause_line OfMemory
-lacks OfSending sound stops = absurd (sound.link stops.has_come)
-lacks OfListening sound stops = absurd (sound.link stops.has_come)
-lacks {old = old} {new = new} (OfFile file trouble) sound stops = absurd (sound.desk (failed_before old.desk stops.between new.desk stops.since stops.until stops.has_come))
-lacks {old = old} {new = new} OfPrinting sound stops = absurd (sound.desk (failed_before old.desk stops.between new.desk stops.since stops.until stops.has_come.0))
+lacks OfSending sound stops = absurd (sound.link stops.has_come.0)
+lacks OfListening sound stops = absurd (sound.link stops.has_come.0)
+lacks {old = old} {new = new} (OfFile file trouble) sound stops = absurd (sound.desk (failed_before old.desk stops.between new.desk stops.since stops.until stops.has_come.0.0))
+lacks {old = old} {new = new} OfPrinting sound stops = absurd (sound.desk (failed_before old.desk stops.between new.desk stops.since stops.until stops.has_come.0.0))
 lacks {old = old} {new = new} {said = said} {told = told} OfMemory sound stops = told_of_memory (tells_fault said) told old.desk stops.between new.desk stops.since sound.desk stops.tells
 
 -- a line told stands at the end of the messages
@@ -39,42 +41,43 @@ told_last before after said told line whole kept =
     (r.messages, ap (λ (x : Record). x.messages) same ∙ ap (λ (xs : Bytes). r.messages ++ xs) whole)
 
 -- so what broke off says so
-pub broke_lacks : {R : Type 0} (dialog : Dialog Saying R) (m : Position) (o p : LinkView) (before after : Record) (a b : ℕ × ℕ) (takes : Bool) → IsSound (devices o (keeping before a)) (devices p (keeping after b))
-    → BrokeOff dialog m (devices o (keeping before a)) (devices p (keeping after b)) (untold takes) → LacksMemory after.messages
+pub broke_lacks : {R : Type 0} {L : Lacking} (dialog : Dialog Saying R) (m : Position) (o p : LinkView) (before after : Record) (a b : ℕ × ℕ) (takes : Bool) → IsSound (devices o (keeping before a)) (devices p (keeping after b))
+    → BrokeOff dialog m (devices o (keeping before a)) (devices p (keeping after b)) (untold takes) L → LacksMemory after.messages
 broke_lacks dialog m o p before after a b takes sound f = told_last before after (sayings f.shown) f.told (cause_line OfMemory) (lacks f.cause sound f.stops) f.kept
 
 -- and a run is played whole where no device failed and memory was not refused, by its messages.
-pub sound_run : (dialog : Dialog Saying ℕ) (o p : LinkView) (before after : Record) (a b : ℕ × ℕ) (takes : Bool) (status : ℕ) → IsSound (devices o (keeping before a)) (devices p (keeping after b)) → (LacksMemory after.messages → ⊥)
-    → RunsTo dialog (devices o (keeping before a)) (devices p (keeping after b)) takes status → IsPlayed dialog (devices o (keeping before a)) (devices p (keeping after b)) status
-sound_run dialog o p before after a b takes status sound has_memory (inl ran) = ran
-sound_run dialog o p before after a b takes status sound has_memory (inr broke) = absurd (has_memory (broke_lacks dialog start o p before after a b takes sound broke.0))
+sound_ends : {L : Lacking} (dialog : Dialog Saying ℕ) (o p : LinkView) (before after : Record) (a b : ℕ × ℕ) (takes : Bool) (status : ℕ) → IsSound (devices o (keeping before a)) (devices p (keeping after b)) → (LacksMemory after.messages → ⊥)
+    → RunsTo dialog (devices o (keeping before a)) (devices p (keeping after b)) takes L status → IsPlayed dialog (devices o (keeping before a)) (devices p (keeping after b)) status
+sound_ends dialog o p before after a b takes status sound has_memory (inl ran) = ran
+sound_ends dialog o p before after a b takes status sound has_memory (inr broke) = absurd (has_memory (broke_lacks dialog start o p before after a b takes sound broke.0))
+
+pub sound_run : (plan : Plan) (o p : LinkView) (before after : Record) (a b : ℕ × ℕ) (status : ℕ) → IsSound (devices o (keeping before a)) (devices p (keeping after b)) → (LacksMemory after.messages → ⊥)
+    → RunsSession plan (devices o (keeping before a)) (devices p (keeping after b)) status → IsPlayed (session plan) (devices o (keeping before a)) (devices p (keeping after b)) status
+sound_run plan o p before after a b status = sound_ends (session plan) o p before after a b (takes_memory plan) status
 
 -- Where no memory is taken it is played whole, whatever the messages are.
 never_lacks : {old new : Devices} {said : List Saying} {told : Bytes} (cause : Cause) → IsSound old new → StopsBehind (untold false) old new said cause told → ⊥
-never_lacks OfSending sound stops = sound.link stops.has_come
-never_lacks OfListening sound stops = sound.link stops.has_come
-never_lacks {old = old} {new = new} (OfFile file trouble) sound stops = absurd (sound.desk (failed_before old.desk stops.between new.desk stops.since stops.until stops.has_come))
-never_lacks {old = old} {new = new} OfPrinting sound stops = absurd (sound.desk (failed_before old.desk stops.between new.desk stops.since stops.until stops.has_come.0))
-never_lacks OfMemory sound stops = let e = stops.has_come in absurd (cc)
+never_lacks OfSending sound stops = sound.link stops.has_come.0
+never_lacks OfListening sound stops = sound.link stops.has_come.0
+never_lacks {old = old} {new = new} (OfFile file trouble) sound stops = absurd (sound.desk (failed_before old.desk stops.between new.desk stops.since stops.until stops.has_come.0.0))
+never_lacks {old = old} {new = new} OfPrinting sound stops = absurd (sound.desk (failed_before old.desk stops.between new.desk stops.since stops.until stops.has_come.0.0))
+never_lacks OfMemory sound stops = let e = stops.has_come.0 in absurd (cc)
 
 abbrev pub Exact : Bool → Plan → Devices → Devices → ℕ → Type 0
-Exact takes plan old new status = RunsTo (session plan) old new takes status → IsPlayed (session plan) old new status
+Exact takes plan old new status = RunsTo (session plan) old new takes (AtTaking plan.part plan.switches (actions plan)) status → IsPlayed (session plan) old new status
 
 exact_without : (plan : Plan) (old new : Devices) (status : ℕ) → IsSound old new → Exact false plan old new status
 exact_without plan old new status sound (inl ran) = ran
 exact_without plan old new status sound (inr broke) = absurd (never_lacks broke.0.cause sound broke.0.stops)
 
-pub exact_run : (plan : Plan) (old new : Devices) (status : ℕ) → IsSound old new → takes_memory plan ≡ false → RunsTo (session plan) old new (takes_memory plan) status → IsPlayed (session plan) old new status
+pub exact_run : (plan : Plan) (old new : Devices) (status : ℕ) → IsSound old new → takes_memory plan ≡ false → RunsSession plan old new status → IsPlayed (session plan) old new status
 exact_run plan old new status sound none = subst (λ takes. Exact takes plan old new status) (sym none) (exact_without plan old new status sound)
 
 -- ---- wrong ends that the contract refuses
 
 -- one talk has one status
-same_talk : (old new x y : Talk) → Grows (Some old) x (Some new) → Grows (Some old) y (Some new) → x ≡ y
-same_talk old new x y first second =
-    let both : ◌≡◌ {A = Option Talk} (Some (old ++ x)) (Some (old ++ y)) = sym first ∙ second in
-    let inner : old ++ x ≡ old ++ y = cc in
-    append_cancel_left old x y inner
+same_talk : (old new x y : Talk) → Grows old x new → Grows old y new → x ≡ y
+same_talk old new x y first second = append_cancel_left old x y (sym first ∙ second)
 
 abbrev status_in : Option (ℕ × ℕ × Tape) → ℕ
 status_in None = 0
@@ -92,22 +95,21 @@ one_status dialog old new k l d e m n x y =
     ap_status p = status_in p.outcome
 
 -- a session that was played to status 0 has no other
-pub perfect_is_0 : (dialog : Dialog Saying ℕ) (old new : Talk) (k l : ℕ) (before after : Record) (a b : ℕ × ℕ) (takes : Bool) → IsSound (devices (talking old k) (keeping before a)) (devices (talking new l) (keeping after b)) → (LacksMemory after.messages → ⊥)
-    → IsPlayed dialog (devices (talking old k) (keeping before a)) (devices (talking new l) (keeping after b)) 0 → RunsTo dialog (devices (talking old k) (keeping before a)) (devices (talking new l) (keeping after b)) takes 1 → ⊥
-perfect_is_0 dialog old new k l before after a b takes sound has_memory ran other =
-    let e : ◌≡◌ {A = ℕ} 0 1 = one_status dialog old new k l (keeping before a) (keeping after b) 0 1 ran (sound_run dialog (talking old k) (talking new l) before after a b takes 1 sound has_memory other) in
+pub perfect_is_0 : (plan : Plan) (old new : Talk) (k l : ℕ) (before after : Record) (a b : ℕ × ℕ) → IsSound (devices (talking old k) (keeping before a)) (devices (talking new l) (keeping after b)) → (LacksMemory after.messages → ⊥)
+    → IsPlayed (session plan) (devices (talking old k) (keeping before a)) (devices (talking new l) (keeping after b)) 0 → RunsSession plan (devices (talking old k) (keeping before a)) (devices (talking new l) (keeping after b)) 1 → ⊥
+perfect_is_0 plan old new k l before after a b sound has_memory ran other =
+    let e : ◌≡◌ {A = ℕ} 0 1 = one_status (session plan) old new k l (keeping before a) (keeping after b) 0 1 ran (sound_run plan (talking old k) (talking new l) before after a b 1 sound has_memory other) in
     cc
 
 -- a run that ends though its play waits
-grown : (talk x y : Talk) → Grows (Some talk) x (Some (talk ++ y)) → x ≡ y
-grown talk x y is =
-    let inner : talk ++ y ≡ talk ++ x = cc in
-    append_cancel_left talk x y (sym inner)
+grown : (talk x y : Talk) → Grows talk x (talk ++ y) → x ≡ y
+grown talk x y is = append_cancel_left talk x y (sym is)
 
-pub waiting_is_no_run : (dialog : Dialog Saying ℕ) (talk during : Talk) (k l : ℕ) (before after : Record) (a b : ℕ × ℕ) (takes : Bool) (status : ℕ) → IsSound (devices (talking talk k) (keeping before a)) (devices (talking (talk ++ during) l) (keeping after b))
-    → (LacksMemory after.messages → ⊥) → (played dialog 1 (heard during)).outcome ≡ None → RunsTo dialog (devices (talking talk k) (keeping before a)) (devices (talking (talk ++ during) l) (keeping after b)) takes status → ⊥
-waiting_is_no_run dialog talk during k l before after a b takes status sound has_memory waits runs =
-    let p = sound_run dialog (talking talk k) (talking (talk ++ during) l) before after a b takes status sound has_memory runs in
+pub waiting_is_no_run : (plan : Plan) (talk during : Talk) (k l : ℕ) (before after : Record) (a b : ℕ × ℕ) (status : ℕ) → IsSound (devices (talking talk k) (keeping before a)) (devices (talking (talk ++ during) l) (keeping after b))
+    → (LacksMemory after.messages → ⊥) → (played (session plan) 1 (heard during)).outcome ≡ None → RunsSession plan (devices (talking talk k) (keeping before a)) (devices (talking (talk ++ during) l) (keeping after b)) status → ⊥
+waiting_is_no_run plan talk during k l before after a b status sound has_memory waits runs =
+    let dialog : Dialog Saying ℕ = session plan in
+    let p = sound_run plan (talking talk k) (talking (talk ++ during) l) before after a b status sound has_memory runs in
     let f = p.1 in
     let same = grown talk f.during during f.grows in
     let comes = subst (λ (x : Talk). (played dialog 1 (heard x ++ [])).outcome ≡ Some (status, p.0.next, on_tape p.0.unread ++ [])) same (ap (λ (p : Played Saying ℕ). p.outcome) (f.plays.plays [])) in
@@ -119,12 +121,12 @@ waits_at_once : (plan : Plan) → (played (session plan) 1 []).outcome ≡ None
 unfolding session opening operations.handshake tries attempt exchange answer
 waits_at_once plan = refl
 
-pub nothing_is_no_run : (plan : Plan) (talk : Talk) (k l : ℕ) (r : Record) (a b : ℕ × ℕ) (takes : Bool) (status : ℕ) → IsSound (devices (talking talk k) (keeping r a)) (devices (talking talk l) (keeping r b)) → (LacksMemory r.messages → ⊥)
-    → RunsTo (session plan) (devices (talking talk k) (keeping r a)) (devices (talking talk l) (keeping r b)) takes status → ⊥
-nothing_is_no_run plan talk k l r a b takes status sound has_memory runs =
-    waiting_is_no_run (session plan) talk [] k l r r a b takes status
+pub nothing_is_no_run : (plan : Plan) (talk : Talk) (k l : ℕ) (r : Record) (a b : ℕ × ℕ) (status : ℕ) → IsSound (devices (talking talk k) (keeping r a)) (devices (talking talk l) (keeping r b)) → (LacksMemory r.messages → ⊥)
+    → RunsSession plan (devices (talking talk k) (keeping r a)) (devices (talking talk l) (keeping r b)) status → ⊥
+nothing_is_no_run plan talk k l r a b status sound has_memory runs =
+    waiting_is_no_run plan talk [] k l r r a b status
     (subst (λ (new : Talk). IsSound (devices (talking talk k) (keeping r a)) (devices (talking new l) (keeping r b))) (sym (append-nil talk)) sound) has_memory (waits_at_once plan)
-    (subst (λ (new : Talk). RunsTo (session plan) (devices (talking talk k) (keeping r a)) (devices (talking new l) (keeping r b)) takes status) (sym (append-nil talk)) runs)
+    (subst (λ (new : Talk). RunsSession plan (devices (talking talk k) (keeping r a)) (devices (talking new l) (keeping r b)) status) (sym (append-nil talk)) runs)
 
 -- behind the line of a fault nothing more is told
 silent : (cause : Cause) (told : Bytes) (d e : DeskView) → TellsCause true cause told d e → told ≡ []
@@ -139,7 +141,7 @@ told_once takes old new said cause told stops is = silent cause told stops.betwe
 
 -- where nothing was told before, a line is cut short only as messages fail
 told_whole : (cause : Cause) (told : Bytes) (old between new : DeskView) → Follows old between → (HasRisen old.unsaid new.unsaid → ⊥) → TellsCause false cause told between new → told ≡ cause_line cause
-told_whole cause told old between new since sound (inl whole) = whole
+told_whole cause told old between new since sound (inl whole) = whole.0
 told_whole cause told old between new since sound (inr part) = absurd (sound (risen_later old.unsaid between.unsaid new.unsaid since.1 part.1.1))
 
 pub told_aloud : (takes : Bool) (old new : Devices) (said : List Saying) (cause : Cause) (told : Bytes) → StopsBehind (untold takes) old new said cause told → tells_fault said ≡ false
@@ -150,7 +152,7 @@ told_aloud takes old new said cause told stops none sound =
 -- memory is not refused where none is taken
 pub no_memory : (plan : Plan) (old new : Devices) (said : List Saying) (told : Bytes) → takes_memory plan ≡ false → StopsBehind (untold (takes_memory plan)) old new said OfMemory told → ⊥
 no_memory plan old new said told none stops =
-    let clash = sym none ∙ stops.has_come in
+    let clash = sym none ∙ stops.has_come.0 in
     absurd (cc)
 
 -- a file that was not created is the one that was due

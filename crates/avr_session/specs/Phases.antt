@@ -12,8 +12,9 @@ use Rattle.avr_session.specs.declared.standing.Standing.TheVariants.{Fine}
 use Rattle.avr_session.specs.declared.standing.Stopped.{Stopped}
 use Rattle.avr_session.specs.Actions.{Action, action_takes_memory}
 use Rattle.avr_session.specs.Concluding.{HostServes, fine_if_said}
-use Rattle.avr_session.specs.Runs.{Devices, Terms, untold, PrintStops, Reports, Runs}
+use Rattle.avr_session.specs.Runs.{Devices, Lacking, Terms, untold, PrintStops, Reports, Runs}
 use Rattle.avr_session.specs.Session.{phases}
+use Rattle.avr_session.specs.Taking.{AtOnce, AtTaking}
 
 -- whether a fault was told, by how a session stands
 abbrev pub is_told : Standing → Bool
@@ -21,25 +22,25 @@ is_told Fine = false
 is_told standing = true
 
 -- A phase was played on these terms by a host, over devices that showed this before and after it.
-pub record PerformsBehind (terms : Terms) (dialog : Dialog Saying Standing) (host_old host_new : HostState)
-    (old new : Devices) (result : Result Standing Stopped) : Type 0 where
-  pub runs : Runs dialog host_old.progress old new terms result host_new.progress
+pub record PerformsBehind (terms : Terms) (Lacks : Lacking) (dialog : Dialog Saying Standing)
+    (host_old host_new : HostState) (old new : Devices) (result : Result Standing Stopped) : Type 0 where
+  pub runs : Runs dialog host_old.progress old new terms Lacks result host_new.progress
   pub serves : HostServes result host_new.broken
   pub part : host_new.part ≡ host_old.part
   pub link : old.link.failures ≤ new.link.failures
   pub desk : Follows old.desk new.desk
 
--- the same where no fault was told before it
+-- the same where no fault was told before it, and memory is taken at once if at all
 abbrev pub Performs : Bool → Dialog Saying Standing → HostState → HostState → Devices → Devices
     → Result Standing Stopped → Type 0
 Performs takes dialog host_old host_new old new result =
-    PerformsBehind (untold takes) dialog host_old host_new old new result
+    PerformsBehind (untold takes) (AtOnce takes) dialog host_old host_new old new result
 
--- these actions of a plan were done in their order, up to the first fault
+-- these actions of a plan were done in their order, up to the first fault, and memory is taken only where one does
 abbrev pub Does : Plan → List Action → HostState → HostState → Devices → Devices → Result Standing Stopped → Type 0
 Does plan actions host_old host_new old new result =
-    Performs (list_any action_takes_memory actions) (phases plan.part plan.switches actions)
-    host_old host_new old new result
+    PerformsBehind (untold (list_any action_takes_memory actions)) (AtTaking plan.part plan.switches actions)
+    (phases plan.part plan.switches actions) host_old host_new old new result
 
 -- something was said in place of an action
 pub record LeavesOut (sayings : List Saying) (old new : DeskView) (result : Result Standing Stopped) : Type 0 where

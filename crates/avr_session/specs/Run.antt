@@ -1,27 +1,42 @@
 -- A run, from settings to status.
-use Rattle.std.specs.Prelude.{ℕ, ◌≡◌, ◌⊎◌}
+use Rattle.std.specs.Prelude.{ℕ, ◌≡◌, ◌⊎◌, [], None}
 use Rattle.avr_cli.specs.declared.settings.Settings.{Settings}
 use Rattle.avr_desk.specs.Record.{DeskView}
 use Rattle.avr_plan.specs.Plan.{Plan}
-use Rattle.avr_plan.specs.Planning.{planned}
+use Rattle.avr_plan.specs.Planning.{LacksPart, planned}
 use Rattle.avr_desk.specs.Playing as planning
 use Rattle.avr_desk.specs.Playing.{Went}
 use Rattle.avr_desk.specs.Stage.{Made, Refused}
-use Rattle.avr_session.specs.Actions.{takes_memory}
-use Rattle.avr_session.specs.Runs.{Devices, devices, RunsTo}
+use Rattle.avr_session.specs.Actions.{actions, takes_memory}
+use Rattle.avr_session.specs.Runs.{Devices, devices, start, untold, BrokeOff, RunsTo}
 use Rattle.avr_session.specs.Session.{session}
+use Rattle.avr_session.specs.Taking.{AtTaking}
+
+-- The session of a plan was run: it was played to its status, or it broke off, and want of memory stopped it only where
+-- an action takes memory.
+abbrev pub RunsSession : Plan → Devices → Devices → ℕ → Type 0
+RunsSession plan old new status =
+    RunsTo (session plan) old new (takes_memory plan) (AtTaking plan.part plan.switches (actions plan)) status
+
+-- it broke off so
+abbrev pub StopsSession : Plan → Devices → Devices → Type 0
+StopsSession plan old new =
+    BrokeOff (session plan) start old new (untold (takes_memory plan))
+    (AtTaking plan.part plan.switches (actions plan))
 
 -- the plan was made, of what the files gave, and its session was run from there
 pub record RunsPlan (settings : Settings) (old new : Devices) (status : ℕ) : Type 0 where
   pub plan : Plan
   pub between : DeskView
   pub made : Went (planned settings) old.desk between (Made plan)
-  pub runs : RunsTo (session plan) (devices old.link between) new (takes_memory plan) status
+  pub runs : RunsSession plan (devices old.link between) new status
 
--- there is no plan, or planning broke off: nothing was sent or heard, and the status is 1
+-- There is no plan, or planning broke off: nothing was sent or heard, and the status is 1. Without a part file and
+-- updates it is only that no part has the name, and that was told.
 pub record RunsNone (settings : Settings) (old new : Devices) (status : ℕ) : Type 0 where
   pub refused : Went (planned settings) old.desk new.desk Refused
       ⊎ planning.StageBrokeOff (planned settings) old.desk new.desk
+  pub bare : settings.parts ≡ None → settings.updates ≡ [] → LacksPart settings.part [] old.desk new.desk
   pub same : new.link ≡ old.link
   pub status_is : status ≡ 1
 

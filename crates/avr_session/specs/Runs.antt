@@ -3,7 +3,8 @@ use Rattle.std.specs.Prelude.{ℕ, Bool, true, false, ◌||◌, List, [], ◌∷
 use Rattle.std.specs.List.{list_any, starts_with}
 use Rattle.avr_desk.specs.Record.{DeskView, Passes, after_err, Bytes}
 use Rattle.avr_desk.specs.Fault as desk
-use Rattle.avr_desk.specs.Fault.{Follows}
+use Rattle.avr_desk.specs.Fault.{Follows, HasSameCounts, HasFailedAt}
+use Rattle.avr_desk.specs.declared.stream.Stream.TheVariants.{File}
 use Rattle.stk_host.specs.Talk as link
 use Rattle.stk_host.specs.Tape.{on_tape}
 use Rattle.stk_host.specs.Talk.{Talk, LinkView, heard, Grows}
@@ -20,6 +21,10 @@ pub record Devices : Type 0 where
 
 abbrev pub devices : LinkView → DeskView → Devices
 devices link desk = record { link = link; desk = desk }
+
+-- no call of the link or of the desk failed
+abbrev pub NoneFailed : Devices → Devices → Type 0
+NoneFailed old new = (new.link.failures ≡ old.link.failures) × HasSameCounts old.desk new.desk
 
 -- where a conversation begins
 abbrev pub start : Position
@@ -126,14 +131,15 @@ IsOfDesk (OfFile file trouble) = Unit {0}
 IsOfDesk OfPrinting = Unit {0}
 IsOfDesk cause = ⊥
 
--- The cause has come: a device has failed, by the counts of their failures before and then, and where printing failed a
--- write to the messages has. No count shows that memory was refused; that comes only where memory is taken (`takes`).
+-- The cause has come, and it is the first: that device has failed at that, by the counts of their failures before and
+-- then, and nothing else has. No count shows that memory was refused; that comes only where memory is taken (`takes`).
 abbrev pub HasCome : Bool → Devices → Devices → Cause → Type 0
-HasCome takes old then OfSending = link.HasFailed old.link then.link
-HasCome takes old then OfListening = link.HasFailed old.link then.link
-HasCome takes old then OfMemory = takes ≡ true
-HasCome takes old then OfPrinting = desk.HasFailedToSay old.desk then.desk
-HasCome takes old then cause = desk.HasFailed old.desk then.desk
+HasCome takes old then OfSending = link.HasFailed old.link then.link × HasSameCounts old.desk then.desk
+HasCome takes old then OfListening = link.HasFailed old.link then.link × HasSameCounts old.desk then.desk
+HasCome takes old then OfMemory = (takes ≡ true) × NoneFailed old then
+HasCome takes old then OfPrinting =
+    desk.HasFailedToSay old.desk then.desk × (then.link.failures ≡ old.link.failures)
+HasCome takes old then cause = HasFailedAt File old.desk then.desk × (then.link.failures ≡ old.link.failures)
 
 -- The cause's line was told. But behind the line of a fault only the link or the printing fails, and nothing more is
 -- told.
@@ -153,6 +159,10 @@ pub record Terms : Type 0 where
 abbrev pub untold : Bool → Terms
 untold takes = record { takes = takes; was_told = false }
 
+-- where want of memory may stop a dialog: by where it began, what passed and what happened
+abbrev pub Lacking : Type 1
+Lacking = Position → Talk → List (Event Saying) → Type 0
+
 -- Why it stops behind these sayings, and what is told of it: the cause has come while the desk stood so between, and
 -- from then on it was told.
 pub record StopsBehind (terms : Terms) (old new : Devices) (said : List Saying) (cause : Cause)
@@ -164,7 +174,8 @@ pub record StopsBehind (terms : Terms) (old new : Devices) (said : List Saying) 
   pub until : Follows between new.desk
 
 -- The dialog was played whole over what was unread and what was heard: what was sent, said and answered is its play's,
--- whatever may follow on the line, and at most one piece heard is left.
+-- whatever may follow on the line, and at most one piece heard is left. No call of a device failed: what fails stops a
+-- run.
 pub record Ran {R : Type 0} (dialog : Dialog Saying R) (before : Position) (old new : Devices) (result : R)
     (after : Position) : Type 0 where
   pub during : Talk
@@ -173,11 +184,12 @@ pub record Ran {R : Type 0} (dialog : Dialog Saying R) (before : Position) (old 
   pub plays : Plays dialog before during events result after
   pub few : length before.unread ≤ 281 → length after.unread ≤ 281
   pub kept : Passes (after_all (sayings events)) old.desk new.desk
+  pub sound : NoneFailed old new
 
 -- The dialog broke off: what was sent and said is a front of its events, the last one perhaps in part, where its cause
--- stops it; and behind it stands what was told of the cause.
+-- stops it; and behind it stands what was told of the cause. Want of memory stops it only where it may.
 pub record BrokeOff {R : Type 0} (dialog : Dialog Saying R) (before : Position) (old new : Devices)
-    (terms : Terms) : Type 0 where
+    (terms : Terms) (Lacks : Lacking) : Type 0 where
   pub during : Talk
   pub shown : List (Event Saying)
   pub cause : Cause
@@ -187,19 +199,20 @@ pub record BrokeOff {R : Type 0} (dialog : Dialog Saying R) (before : Position) 
   pub place : StopsAt cause breaks.front.whole breaks.front.begun breaks.front.later
   pub listens : Listens cause (played dialog before.next (on_tape before.unread ++ heard during)).outcome
   pub stops : StopsBehind terms old new (sayings shown) cause told
+  pub lacks : cause ≡ OfMemory → Lacks before during shown
   pub kept : Passes (λ r. after_err told (after_all (sayings shown) r)) old.desk new.desk
 
 -- the one or the other, as a call answers
-abbrev pub Runs : {R : Type 0} → Dialog Saying R → Position → Devices → Devices → Terms → Result R Stopped → Position
-    → Type 0
-Runs dialog before old new terms (Ok result) after = Ran dialog before old new result after
-Runs dialog before old new terms (Err stopped) after = BrokeOff dialog before old new terms
+abbrev pub Runs : {R : Type 0} → Dialog Saying R → Position → Devices → Devices → Terms → Lacking → Result R Stopped
+    → Position → Type 0
+Runs dialog before old new terms Lacks (Ok result) after = Ran dialog before old new result after
+Runs dialog before old new terms Lacks (Err stopped) after = BrokeOff dialog before old new terms Lacks
 
 -- A whole run: it was played to its status, or it broke off, and then the status is 1.
-abbrev pub RunsTo : Dialog Saying ℕ → Devices → Devices → Bool → ℕ → Type 0
-RunsTo dialog old new takes status =
+abbrev pub RunsTo : Dialog Saying ℕ → Devices → Devices → Bool → Lacking → ℕ → Type 0
+RunsTo dialog old new takes Lacks status =
     ((after : Position) × Ran dialog start old new status after)
-    ⊎ (BrokeOff dialog start old new (untold takes) × (status ≡ 1))
+    ⊎ (BrokeOff dialog start old new (untold takes) Lacks × (status ≡ 1))
 
 -- A front of the sayings was done: some of them, and perhaps a part of the next, where this cause stops them.
 pub record SaysFront (cause : Cause) (old new : DeskView) (sayings : List Saying) : Type 0 where
@@ -221,10 +234,10 @@ pub record SaidSome (By : DeskView → DeskView → Cause → Bytes → Type 0) 
   pub stops : By old new cause told
   pub kept : Passes (after_err told) between new
 
--- the sayings were done, or a front of them
+-- the sayings were done, and no call failed; or a front of them was
 abbrev pub SaysOrStops : (DeskView → DeskView → Cause → Bytes → Type 0) → DeskView → DeskView → List Saying
     → Result ⊤ Stopped → Type 0
-SaysOrStops By old new sayings (Ok done) = Passes (after_all sayings) old new
+SaysOrStops By old new sayings (Ok done) = Passes (after_all sayings) old new × HasSameCounts old new
 SaysOrStops By old new sayings (Err stopped) = SaidSome By old new sayings
 
 -- the same, and the desk follows

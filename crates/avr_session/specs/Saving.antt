@@ -1,10 +1,17 @@
 -- Bytes that go to a file or to standard output. (For contracts inside this crate.)
 use Rattle.std.specs.Prelude.{◌≡◌, ◌++◌, Result, Ok, Err, ⊤}
+use Rattle.avr_desk.specs.Fault.{HasSameCounts}
 use Rattle.avr_desk.specs.Record.{DeskView, Passes, after_err, Bytes}
 use Rattle.avr_desk.specs.Stream.{SendsPart, after_sent}
 use Rattle.avr_desk.specs.declared.stream.Stream.{Stream}
+use Rattle.avr_desk.specs.declared.stream.Stream.TheVariants.{Messages}
 use Rattle.avr_session.specs.Runs.{Cause, OfFile, NotCreated, NotWritten, FileStops}
 use Rattle.avr_session.specs.declared.standing.Stopped.{Stopped}
+
+-- a file and standard output are written to, and not the messages
+abbrev pub IsWritten : Stream → Type 0
+IsWritten Messages = ⊥
+IsWritten stream = Unit {0}
 
 -- of these bytes those went there that stand before the ones that wait
 abbrev pub SendsFront : Stream → DeskView → DeskView → Bytes → Bytes → Type 0
@@ -25,7 +32,7 @@ pub record WritesSome (stream : Stream) (file : Bytes) (old new : DeskView) (byt
   pub stops : FileStops old new file NotWritten told
   pub kept : Passes (after_err told) between new
 
--- the bytes went there, or a front of them
+-- the bytes went there, and no call failed; or a front of them did
 abbrev pub WritesAll : Stream → Bytes → DeskView → DeskView → Bytes → Result ⊤ Stopped → Type 0
-WritesAll stream file old new bytes (Ok done) = Passes (after_sent stream bytes) old new
+WritesAll stream file old new bytes (Ok done) = Passes (after_sent stream bytes) old new × HasSameCounts old new
 WritesAll stream file old new bytes (Err stopped) = WritesSome stream file old new bytes

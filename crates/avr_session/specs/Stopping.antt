@@ -15,7 +15,7 @@ keeping kept counts = showing (Some kept) counts.0 counts.1
 
 -- what a link shows over which this passed, and which has failed so often
 abbrev pub talking : Talk → ℕ → LinkView
-talking talk failures = record { talk = Some talk; failures = failures }
+talking talk failures = record { talk = talk; failures = failures }
 
 -- no device failed, by the counts of failures before and now
 pub record IsSound (old new : Devices) : Type 0 where

@@ -5,10 +5,11 @@ ghost use Rattle.avr_session.specs.declared.standing.Standing.TheVariants.{Fine,
 ghost use Rattle.avr_session.specs.Actions.{actions, takes_memory};
 ghost use Rattle.avr_session.specs.Concluding.{HostServes};
 ghost use Rattle.avr_session.specs.Phases.{is_told, Performs, PerformsBehind, Does};
-ghost use Rattle.avr_session.specs.Runs.{devices, RunsTo};
-ghost use Rattle.avr_session.specs.Session.{ending, playing, session};
+ghost use Rattle.avr_session.specs.Runs.{devices, untold};
+ghost use Rattle.avr_session.specs.Session.{ending, playing};
 ghost use Rattle.stk_host.specs.Talk.{Stays};
-ghost use Rattle.avr_session.specs.Run.{RunsSettings};
+ghost use Rattle.avr_session.specs.Run.{RunsSession, RunsSettings};
+ghost use Rattle.avr_session.specs.Taking.{AtOnce, AtTaking};
 
 use crate::phases::{erase_if_due, open_session, perform_all};
 use crate::reports::report_closing;
@@ -67,7 +68,7 @@ fn close_after_fault<D: Desk, L: Link>(
     plan: &Plan,
 ) -> Result<Standing, Stopped>
     requires { host.old.broken ≡ None }
-    ensures performs { PerformsBehind (record { takes = false; was_told = true })
+    ensures performs { PerformsBehind (record { takes = false; was_told = true }) (AtOnce false)
         (ending plan.now.part plan.now.switches Faulty) host.old host.new
         (devices (L.view link.old) (D.view desk.old)) (devices (L.view link.new) (D.view desk.new)) result }
     ensures comes { Stays L.comes_of link.old link.new }
@@ -86,7 +87,7 @@ fn end<D: Desk, L: Link>(
     standing: Standing,
 ) -> Result<Standing, Stopped>
     requires { HostServes (Ok standing) host.old.broken }
-    ensures performs { PerformsBehind (record { takes = false; was_told = is_told standing })
+    ensures performs { PerformsBehind (record { takes = false; was_told = is_told standing }) (AtOnce false)
         (ending plan.now.part plan.now.switches standing) host.old host.new
         (devices (L.view link.old) (D.view desk.old)) (devices (L.view link.new) (D.view desk.new)) result }
     ensures comes { Stays L.comes_of link.old link.new }
@@ -108,7 +109,8 @@ fn play<D: Desk, L: Link>(
 ) -> Result<Standing, Stopped>
     requires sound { host.old.broken ≡ None }
     requires part { host.old.part ≡ plan.now.part }
-    ensures performs { Performs (takes_memory plan.now) (playing plan.now) host.old host.new
+    ensures performs { PerformsBehind (untold (takes_memory plan.now))
+        (AtTaking plan.now.part plan.now.switches (actions plan.now)) (playing plan.now) host.old host.new
         (devices (L.view link.old) (D.view desk.old)) (devices (L.view link.new) (D.view desk.new)) result }
     ensures comes { Stays L.comes_of link.old link.new }
 {
@@ -119,11 +121,12 @@ fn play<D: Desk, L: Link>(
 /// Plays the session of a plan over a link, reports it at the desk, writes the files that were read, and answers the
 /// status: 0 where no fault came, else 1.
 ///
-/// After a fault of the link or the desk, or where memory was refused to read or to compare, its line is printed, whole
-/// unless the desk fails, and nothing more is sent or said. Behind the line of a fault a second one is not told.
+/// The status is 0 only where no call of a device failed. After a fault of the link or the desk, or where memory was
+/// refused before a read or a comparison, its line is printed, whole unless the desk fails, and nothing more is sent or
+/// said. Behind the line of a fault a second one is not told.
 pub fn drive<D: Desk, L: Link>(alloc: Global, plan: &Plan, desk: &mut D, link: &mut L) -> u8
-    ensures runs { RunsTo (session plan.now) (devices (L.view link.old) (D.view desk.old))
-        (devices (L.view link.new) (D.view desk.new)) (takes_memory plan.now) result }
+    ensures runs { RunsSession plan.now (devices (L.view link.old) (D.view desk.old))
+        (devices (L.view link.new) (D.view desk.new)) result }
     ensures follows { Follows (D.view desk.old) (D.view desk.new) }
     ensures comes { Stays L.comes_of link.old link.new }
 {

@@ -3,48 +3,49 @@ ghost use Rattle.std.specs.Prelude.{◌≡◌, ◌∷◌, ◌++◌, [], ℕ, Boo
 ghost use Rattle.avr_desk.specs.Fault.{HasRisen};
 ghost use Rattle.avr_desk.specs.Record.{Record, Bytes};
 ghost use Rattle.avr_desk.specs.Said.{Saying, Line, Creates, Writes};
-ghost use Rattle.stk_host.specs.Dialog.{Dialog, Event, Said, played};
+ghost use Rattle.stk_host.specs.Dialog.{Event, Said, played};
 ghost use Rattle.stk_host.specs.Talk.{Talk, LinkView, heard};
 ghost use Rattle.avr_plan.specs.Plan.{Plan};
 ghost use Rattle.avr_session.specs.Actions.{takes_memory};
-ghost use Rattle.avr_session.specs.Runs.{Cause, OfFile, OfPrinting, OfMemory, NotCreated, NotWritten, Devices, devices, tells_fault, StopsAt, untold, StopsBehind, RunsTo, cause_line};
+ghost use Rattle.avr_session.specs.Runs.{Cause, OfFile, OfPrinting, OfMemory, NotCreated, NotWritten, Devices, devices, tells_fault, StopsAt, untold, StopsBehind, cause_line};
+ghost use Rattle.avr_session.specs.Run.{RunsSession};
 ghost use Rattle.avr_session.specs.Session.{session};
 ghost use Rattle.avr_session.specs.Stopping.{IsSound, LacksMemory, IsPlayed, keeping, talking};
 
 /// Where no device failed, a run was played whole, if the messages do not say that memory was refused, or if its plan
 /// takes none.
 pub fn a_sound_run_is_played()
-    ensures played { (dialog : Dialog Saying ℕ) (o p : LinkView) (before after : Record) (a b : ℕ × ℕ) (takes : Bool)
+    ensures played { (plan : Plan) (o p : LinkView) (before after : Record) (a b : ℕ × ℕ)
         (status : ℕ)
         → IsSound (devices o (keeping before a)) (devices p (keeping after b)) → (LacksMemory after.messages → ⊥)
-        → RunsTo dialog (devices o (keeping before a)) (devices p (keeping after b)) takes status
-        → IsPlayed dialog (devices o (keeping before a)) (devices p (keeping after b)) status }
+        → RunsSession plan (devices o (keeping before a)) (devices p (keeping after b)) status
+        → IsPlayed (session plan) (devices o (keeping before a)) (devices p (keeping after b)) status }
     ensures exact { (plan : Plan) (old new : Devices) (status : ℕ) → IsSound old new → takes_memory plan ≡ false
-        → RunsTo (session plan) old new (takes_memory plan) status → IsPlayed (session plan) old new status }
+        → RunsSession plan old new status → IsPlayed (session plan) old new status }
 {}
 
 /// Wrong ends. Where no device failed and no message tells of memory: status 1 after a session that was played to 0; an
 /// end while the play waits, as behind an erase or before LEAVE; no session at all.
 pub fn a_sound_run_has_no_other_end()
-    ensures perfect { (dialog : Dialog Saying ℕ) (old new : Talk) (k l : ℕ) (before after : Record) (a b : ℕ × ℕ)
-        (takes : Bool)
+    ensures perfect { (plan : Plan) (old new : Talk) (k l : ℕ) (before after : Record) (a b : ℕ × ℕ)
         → IsSound (devices (talking old k) (keeping before a)) (devices (talking new l) (keeping after b))
         → (LacksMemory after.messages → ⊥)
-        → IsPlayed dialog (devices (talking old k) (keeping before a)) (devices (talking new l) (keeping after b)) 0
-        → RunsTo dialog (devices (talking old k) (keeping before a)) (devices (talking new l) (keeping after b)) takes
+        → IsPlayed (session plan) (devices (talking old k) (keeping before a))
+        (devices (talking new l) (keeping after b)) 0
+        → RunsSession plan (devices (talking old k) (keeping before a)) (devices (talking new l) (keeping after b))
         1 → ⊥ }
-    ensures waiting { (dialog : Dialog Saying ℕ) (talk during : Talk) (k l : ℕ) (before after : Record) (a b : ℕ × ℕ)
-        (takes : Bool) (status : ℕ)
+    ensures waiting { (plan : Plan) (talk during : Talk) (k l : ℕ) (before after : Record) (a b : ℕ × ℕ)
+        (status : ℕ)
         → IsSound (devices (talking talk k) (keeping before a))
         (devices (talking (talk ++ during) l) (keeping after b))
-        → (LacksMemory after.messages → ⊥) → (played dialog 1 (heard during)).outcome ≡ None
-        → RunsTo dialog (devices (talking talk k) (keeping before a))
-        (devices (talking (talk ++ during) l) (keeping after b)) takes status → ⊥ }
-    ensures nothing { (plan : Plan) (talk : Talk) (k l : ℕ) (r : Record) (a b : ℕ × ℕ) (takes : Bool) (status : ℕ)
+        → (LacksMemory after.messages → ⊥) → (played (session plan) 1 (heard during)).outcome ≡ None
+        → RunsSession plan (devices (talking talk k) (keeping before a))
+        (devices (talking (talk ++ during) l) (keeping after b)) status → ⊥ }
+    ensures nothing { (plan : Plan) (talk : Talk) (k l : ℕ) (r : Record) (a b : ℕ × ℕ) (status : ℕ)
         → IsSound (devices (talking talk k) (keeping r a)) (devices (talking talk l) (keeping r b))
         → (LacksMemory r.messages → ⊥)
-        → RunsTo (session plan) (devices (talking talk k) (keeping r a)) (devices (talking talk l) (keeping r b)) takes
-        status → ⊥ }
+        → RunsSession plan (devices (talking talk k) (keeping r a)) (devices (talking talk l) (keeping r b)) status
+        → ⊥ }
 {}
 
 /// Wrong stops, whatever failed: a second line behind the line of a fault; less than the cause's line where no fault

@@ -8,6 +8,7 @@ use Rattle.avr_session.specs.Actions.{takes_memory}
 use Rattle.avr_session.specs.Session.{session}
 use Rattle.avr_session.specs.Stopping.{IsSound, LacksMemory, keeping}
 use Rattle.avr_session.proofs.SoundRuns.{broke_lacks}
+use Rattle.stk_emu.specs.Wire.{turns_of}
 use Rattle.stk_emu.specs.Effect.{erase_keeps_eeprom}
 use Rattle.stk_emu.specs.Few.{AreFew}
 use Rattle.stk_emu.specs.Settled.{FitsPart}
@@ -21,7 +22,7 @@ use Rattle.avr_emulated.proofs.AgainAgrees.{agrees_anyway}
 use Rattle.avr_emulated.proofs.AgainHeals.{done_again}
 use Rattle.avr_tool.specs.Headline.{wire_and_desk}
 
-module _ (plan : Plan) (w v : WiredState) (d e : Record) (a b : ℕ × ℕ) (status : ℕ) (few : AreFew w.wire.fates) (sound : IsSound (wire_and_desk w (keeping d a)) (wire_and_desk v (keeping e b))) (has_memory : LacksMemory e.messages → ⊥) where
+module _ (plan : Plan) (w v : WiredState) (d e : Record) (a b : ℕ × ℕ) (status : ℕ) (few : AreFew (turns_of w.wire.fates)) (sound : IsSound (wire_and_desk w (keeping d a)) (wire_and_desk v (keeping e b))) (has_memory : LacksMemory e.messages → ⊥) where
   abbrev old : DeskView
   old = keeping d a
 
@@ -43,7 +44,7 @@ pub further_heals : (plan : Plan) (w v x y : WiredState) (d e f g : DeskView) (s
     → has_erase (items plan) ≡ true → AgreesAnyway plan
     → (erase_keeps_eeprom plan.part (memories w) ≡ true → AreKeeping plan.part (items plan))
     → OverAnyLine plan w v d e status
-    → memories x ≡ memories v → AreFew x.wire.fates → OverAnyLine plan x y f g further
+    → memories x ≡ memories v → AreFew (turns_of x.wire.fates) → OverAnyLine plan x y f g further
     → ((further ≡ 0) × IsDone plan (memories w) (memories y)) ⊎ Stopped plan x y f g
 further_heals plan w v x y d e f g status further sound fitted fits erases both kept first same few second =
     let touched : IsTouched plan (memories w) (memories x) = record { count = first.strokes.count; memories = same ∙ first.strokes.memories } in

@@ -6,6 +6,7 @@ use Rattle.avr_desk.specs.Record.{DeskView}
 use Rattle.avr_desk.specs.declared.record.Opening.{Opening}
 use Rattle.avr_desk.specs.Said.{Saying, SaidPart, after_all}
 use Rattle.avr_desk.proofs.Saying.{kept_append}
+use Rattle.avr_desk.proofs.Telling.{same_on}
 use Rattle.avr_plan.specs.Plan.{Plan}
 use Rattle.avr_plan.specs.Planning.{planned}
 use Rattle.avr_desk.specs.Playing.{Went}
@@ -57,6 +58,7 @@ ran_whole settings plan x y between status went whole =
       grows = ran.grows;
       kept = kept_append went.says (sayings ran.events) x.desk.kept between.kept y.desk.kept went.kept ran.kept ∙ ap (λ says. option_map (after_all says) x.desk.kept) (sym (said_sayings went.says ran.events));
       few = ran.few (omega arith);
+      sound = (ran.sound.0, same_on x.desk between y.desk went.sound ran.sound.1);
     }
 
 pub ran_openings : (settings : Settings) (plan : Plan) (x y : Devices) (between : DeskView) (status : ℕ) (went : Went (planned settings) x.desk between (Made plan))
@@ -77,6 +79,7 @@ refused_whole settings x y same went = record {
   grows = subst (λ (l : LinkView). Grows x.link.talk [] l.talk) (sym same) (grows_none x.link.talk);
   kept = went.kept ∙ ap (λ says. option_map (after_all says) x.desk.kept) (sym (said_sayings went.says [] ∙ append-nil went.says));
   few = omega arith;
+  sound = (ap (λ (l : LinkView). l.failures) same, went.sound);
 }
 
 pub is_run : (settings : Settings) (x y : Devices) (status : ℕ) → RunsSettings settings x y status → IsRun settings x y status ⊎ IsStopped settings x y status
@@ -86,7 +89,7 @@ is_run settings x y status (inl runs) = elim runs.runs [
 ]
 is_run settings x y status (inr none) = elim none.refused [
   | inl went ↦ inl (subst (IsRun settings x y) (sym none.status_is) (refused_whole settings x y none.same went))
-  | inr broke ↦ inr (inr (record { broke = broke; same = none.same; status_is = none.status_is }))
+  | inr broke ↦ inr (inr (record { broke = broke; bare = none.bare; same = none.same; status_is = none.status_is }))
 ]
 
 behind_front : (says : List Saying) {shown events : List (Event Saying)} → IsFront SaidPart shown events → IsFront SaidPart (map Said says ++ shown) (map Said says ++ events)

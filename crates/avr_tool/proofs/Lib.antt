@@ -3,3 +3,11 @@ pub mod OverWire
 pub mod Refusing
 pub mod OverTalk
 pub mod Further
+pub mod Slots
+pub mod InOrder
+pub mod Misses
+pub mod Parting
+pub mod Meeting
+pub mod TwoProcesses
+pub mod Prompt
+pub mod WorkedLine

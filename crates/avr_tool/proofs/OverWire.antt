@@ -1,16 +1,14 @@
 -- A run over a wire to the emulated programmer, by the page's words.
-use Rattle.std.proofs.Common.{◌≡◌, ◌⊎◌, ℕ, [], ◌++◌, refl, sym, ap, ◌∙◌, subst, inl, inr, Err}
+use Rattle.std.proofs.Common.{◌≡◌, ◌⊎◌, ℕ, [], ◌++◌, refl, sym, ap, ◌∙◌, subst, inl, inr, None, Err}
 use Rattle.avr_cli.specs.declared.settings.Settings.{Settings}
 use Rattle.avr_desk.specs.Fault.{Follows}
 use Rattle.avr_desk.specs.Record.{DeskView}
 use Rattle.avr_plan.specs.Plan.{Plan}
-use Rattle.avr_plan.specs.Planning.{planned}
+use Rattle.avr_plan.specs.Planning.{LacksPart, planned}
 use Rattle.avr_desk.specs.Playing as planning
 use Rattle.avr_desk.specs.Playing.{Went, Goes}
 use Rattle.avr_desk.specs.Stage.{Made, Refused}
-use Rattle.avr_session.specs.Actions.{takes_memory}
-use Rattle.avr_session.specs.Runs.{RunsTo}
-use Rattle.avr_session.specs.Session.{session}
+use Rattle.avr_session.specs.Run.{RunsSession}
 use Rattle.stk_frame.specs.Cut.{frames}
 use Rattle.stk_frame.specs.Reader.{Stands}
 use Rattle.stk_host.specs.Talk.{sent, heard}
@@ -43,12 +41,12 @@ is_fresh w new = record {
 module _ (settings : Settings) (old now : DeskView) (status : ℕ) where
   -- a plan that was made, and its session
   module _ (plan : Plan) (w v : WiredState) (between : DeskView) (made : Went (planned settings) old between (Made plan)) (follows : Follows between now) where
-    run_or_stop : RunsTo (session plan) (wire_and_desk w between) (wire_and_desk v now) (takes_memory plan) status
+    run_or_stop : RunsSession plan (wire_and_desk w between) (wire_and_desk v now) status
         → ((r : IsRun settings (wire_and_desk w old) (wire_and_desk v now) status) × (r.openings ≡ made.passed)) ⊎ (Stopped plan w v between now × (status ≡ 1))
     run_or_stop (inl whole) = inl (ran_whole settings plan (wire_and_desk w old) (wire_and_desk v now) between status made whole, ran_openings settings plan (wire_and_desk w old) (wire_and_desk v now) between status made whole)
     run_or_stop (inr broke) = inr broke
 
-    pub runs_over_wire : RunsTo (session plan) (wire_and_desk w between) (wire_and_desk v now) (takes_memory plan) status
+    pub runs_over_wire : RunsSession plan (wire_and_desk w between) (wire_and_desk v now) status
         → (w.wire.programmer.chip.part ≡ plan.part → OverAnyLine plan w v between now status) → RunsOverWire settings w v old now status
     runs_over_wire runs line = record {
       plan = plan;
@@ -60,10 +58,11 @@ module _ (settings : Settings) (old now : DeskView) (status : ℕ) where
     }
 
   -- no plan
-  pub runs_nowhere : (w : WiredState) → Goes {A = Plan} (planned settings) old now (Err status) → RunsNowhere settings w w old now status
-  runs_nowhere w none = record { runs = either none.1; untouched = refl; status_is = none.0 }
+  pub runs_nowhere : (w : WiredState) → Goes {A = Plan} (planned settings) old now (Err status) → (settings.parts ≡ None → settings.updates ≡ [] → LacksPart settings.part [] old now)
+      → RunsNowhere settings w w old now status
+  runs_nowhere w none bare = record { runs = either none.1; untouched = refl; status_is = none.0 }
     where
       either : Went (planned settings) old now Refused ⊎ planning.StageBrokeOff (planned settings) old now
           → IsRun settings (wire_and_desk w old) (wire_and_desk w now) status ⊎ StoppedPlanning settings (wire_and_desk w old) (wire_and_desk w now) status
       either (inl went) = inl (subst (IsRun settings (wire_and_desk w old) (wire_and_desk w now)) (sym none.0) (refused_whole settings (wire_and_desk w old) (wire_and_desk w now) refl went))
-      either (inr broke) = inr (record { broke = broke; same = refl; status_is = none.0 })
+      either (inr broke) = inr (record { broke = broke; bare = bare; same = refl; status_is = none.0 })

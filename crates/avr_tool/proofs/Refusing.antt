@@ -54,7 +54,7 @@ said_due openings = refl
 
 module _ (talk : Talk) (a b : ℕ) (d e : DeskView) (status : ℕ) (all : heard talk ≡ worked_answers) (x : IsRun worked_settings (devices (talking [] a) d) (devices (talking talk b) e) status) where
   passed : x.during ≡ talk
-  passed = sym (some_is talk x.during x.grows)
+  passed = sym x.grows
 
   played_over : run worked_settings (x.openings ++ []) (worked_answers ++ []) ≡ record { events = x.events; outcome = Some (status, x.next, on_tape x.left ++ []) }
   played_over = subst (λ tape. run worked_settings (x.openings ++ []) (tape ++ []) ≡ record { events = x.events; outcome = Some (status, x.next, on_tape x.left ++ []) }) (ap heard passed ∙ all) (x.is [] [])

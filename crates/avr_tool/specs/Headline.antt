@@ -1,14 +1,18 @@
 -- THE HEADLINE. What a run does, from settings to status, and what it leaves in a chip behind a line that loses, delays
--- and spoils. Read it from top to bottom: each word is defined here, or one step below in the file that its `use`
--- names. Two sections stand below, as the contracts of the calls there: 4 is avr_emulated's specs/AnyLine, and 6 its
--- specs/Emulated.
+-- and spoils, as long as it makes no frame. Read it from top to bottom: each word is defined here, or one step below in
+-- the file that its `use` names. Two sections stand below, as the contracts of the calls there: 4 is avr_emulated's
+-- specs/AnyLine, and 6 its specs/Emulated.
 --
--- What it does not say. Of a desk or a link that shows no record (`None`, as the real files and streams do) the clauses
--- on what passed claim nothing: there the same generic code stands in their place. A talk and a desk's record are two,
--- so no clause orders a line and a frame, but as events of the run. That a run succeeds is said only of a line on which
--- few frames go wrong. Whether memory was refused nothing counts; but its line is told whole, unless a write to the
--- messages failed, which is counted apart. Nothing is said of time, nor of a chip that loses its power in the middle of
--- a write.
+-- What it does not say. The real desk and the real streams keep their records for proofs alone: what passed there is
+-- what their calls answered, and what a reader gave and a writer took (stk_host's Links, avr_desk's Shown), and nothing
+-- says what a file or a socket made of it. Of a desk that shows no record (`None`) the clauses on what passed claim
+-- nothing. A talk and a desk's record are two, so no clause orders a line and a frame, but as events of the run. That a
+-- run succeeds is said only of a line on which few frames go wrong. Whether memory was refused nothing counts; but its
+-- line is told whole, unless a write to the messages failed, which is counted apart. Of a line that makes a frame,
+-- which the programmer obeys or the host takes for an answer, nothing is said: noise can make one, and a pause inside
+-- an answer, out of the bytes that it carries. That bytes are told as written says that their commands were obeyed:
+-- what a locked chip made of them the memories tell. Nothing is said of time, nor of a chip that loses its power in the
+-- middle of a write.
 use Rattle.std.specs.Prelude.{ℕ, ◌*◌, ◌≡◌, ◌≤◌, ◌⊎◌, false, List, [], ◌∷◌, ◌++◌, map, length, Some, None}
 use Rattle.avr_cli.specs.declared.settings.Settings.{Settings}
 use Rattle.avr_desk.specs.Fault.{Follows}
@@ -16,13 +20,13 @@ use Rattle.avr_desk.specs.Record.{DeskView, Passes}
 use Rattle.avr_desk.specs.declared.record.Opening.{Opening}
 use Rattle.avr_desk.specs.Said.{Saying, SaidPart, after_all}
 use Rattle.avr_plan.specs.Plan.{Plan}
-use Rattle.avr_plan.specs.Planning.{planned}
+use Rattle.avr_plan.specs.Planning.{LacksPart, planned}
 use Rattle.avr_desk.specs.Playing as planning
 use Rattle.avr_desk.specs.Playing.{Went}
 use Rattle.avr_desk.specs.Stage as stage
 use Rattle.avr_desk.specs.Stage.{Answer, Made, Refused, Unread}
-use Rattle.avr_session.specs.Actions.{takes_memory}
-use Rattle.avr_session.specs.Runs.{Devices, devices, start, untold, BrokeOff}
+use Rattle.avr_session.specs.Run.{StopsSession}
+use Rattle.avr_session.specs.Runs.{Devices, devices, NoneFailed}
 use Rattle.avr_session.specs.Session.{session}
 use Rattle.avr_emulated.specs.AnyLine.{Weight, weighed, bodies_in, Stopped, OverAnyLine}
 use Rattle.avr_emulated.specs.Bound.{run_steps}
@@ -35,7 +39,7 @@ use Rattle.stk_emu.specs.Lawful.{none_late}
 use Rattle.stk_emu.specs.Programmer.{Programmer, fresh_programmer}
 use Rattle.stk_emu.specs.Wire.{AreLawful}
 use Rattle.stk_emu.specs.Wired.{WiredState, wired_view}
-use Rattle.stk_emu.specs.declared.fate.Fate.{Fate}
+use Rattle.stk_emu.specs.Turn.{Turn}
 use Rattle.stk_frame.specs.Cut.{body_of, frames}
 use Rattle.stk_host.specs.Dialog.{Event, Said, Played, played, behind, bytes_sent, sayings}
 use Rattle.stk_host.specs.Play.{IsFront}
@@ -72,7 +76,7 @@ IsInTurn plays tape bytes (Got items ∷ talk) = Waits (plays tape) bytes × IsI
 
 -- For these openings and what was heard, whatever follows on either, the run is these events and this status. What was
 -- sent are its frames, what the desk was given to do are its sayings, in their order, and at most one piece heard is
--- left.
+-- left. And no call of a device failed: what fails stops a run.
 pub record IsRun (settings : Settings) (before now : Devices) (status : ℕ) : Type 0 where
   pub openings : List Opening
   pub during : Talk
@@ -86,22 +90,25 @@ pub record IsRun (settings : Settings) (before now : Devices) (status : ℕ) : T
   pub grows : Grows before.link.talk during now.link.talk
   pub kept : Passes (after_all (sayings events)) before.desk now.desk
   pub few : length left ≤ 281
+  pub sound : NoneFailed before now
 
--- ---- 3. Or it stopped: a device failed, or memory was refused. The status is 1. The line that tells why (behind the
--- line of a fault there is none) is cut short only where a write to the messages has failed: a failure at a file
--- excuses no silence.
+-- ---- 3. Or it stopped: a device failed, as the first since the run began, or memory was refused, in a session only
+-- where an action that takes memory was due. The status is 1. The line that tells why (behind the line of a fault there
+-- is none) is cut short only where a write to the messages has failed: a failure at a file excuses no silence.
 
 -- As its plan was played: a front of what the session sends and says went out, and then what was told of the cause.
 pub record StoppedPlaying (settings : Settings) (before now : Devices) (status : ℕ) : Type 0 where
   pub plan : Plan
   pub between : DeskView
   pub made : Went (planned settings) before.desk between (Made plan)
-  pub broke : BrokeOff (session plan) start (devices before.link between) now (untold (takes_memory plan))
+  pub broke : StopsSession plan (devices before.link between) now
   pub status_is : status ≡ 1
 
--- As it was planned: a front of what planning says was done, and nothing was sent or heard.
+-- As it was planned: a front of what planning says was done, and nothing was sent or heard. Without a part file and
+-- updates it is only that no part has the name, and that was told: there memory is not refused.
 pub record StoppedPlanning (settings : Settings) (before now : Devices) (status : ℕ) : Type 0 where
   pub broke : planning.StageBrokeOff (planned settings) before.desk now.desk
+  pub bare : settings.parts ≡ None → settings.updates ≡ [] → LacksPart settings.part [] before.desk now.desk
   pub same : now.link ≡ before.link
   pub status_is : status ≡ 1
 
@@ -175,17 +182,17 @@ RunsWired settings before after desk_before desk_now status =
 -- `RunsEmulator`: a plan is made, a chip is loaded from the file, the session is run as section 4 has it over a new
 -- wire on which no frame goes wrong, and the chip is saved if anything was sent.
 
--- ---- 7. Over any link that behaves so
+-- ---- 7. Over any link, as long as no frame is made
 
--- These events are a whole session of a plan over a link that was sent these bytes and gave this tape, as `Talks` has
--- it: each frame had its fate, and the programmer ended as this one.
-pub record OverAnyLink (plan : Plan) (p q : Programmer) (fates : List Fate) (bytes : List ℕ)
+-- These events are a whole session of a plan over a link that was sent these bytes, each frame of which had its turn,
+-- and the programmer ended as this one.
+pub record OverAnyLink (plan : Plan) (p q : Programmer) (turns : List Turn) (bytes : List ℕ)
     (events : List (Event Saying)) (status : ℕ) : Type 0 where
   pub agrees : status ≡ 0 → (course plan (memories_of p.chip)).status ≡ 0
   pub said : status ≡ 0 → sayings events ≡ (course plan (memories_of p.chip)).says
   pub done : status ≡ 0 → IsDone plan (memories_of p.chip) (memories_of q.chip)
   pub images : status ≡ 0 → plan.switches.no_verify ≡ false
       → IsWritten plan.part (asked_items plan) (memories_of p.chip) (memories_of q.chip)
-  pub strokes : MakesStrokes plan p fates (length (frames bytes)) (memories_of p.chip) (memories_of q.chip)
+  pub strokes : MakesStrokes plan p turns (length (frames bytes)) (memories_of p.chip) (memories_of q.chip)
   pub four : (weight : Weight) → weighed weight (map body_of (frames bytes))
       ≤ 4 * weighed weight (bodies_in (run_steps plan))

@@ -14,3 +14,4 @@ pub mod ServedOn
 pub mod Headline
 pub mod Worked
 pub mod Asked
+pub mod TwoProcesses

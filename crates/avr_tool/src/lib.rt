@@ -33,8 +33,8 @@ pub use avr_cli::{
 pub use avr_session::refuse;
 pub use laws::{
     a_further_run_heals, a_run_is_one_function, a_run_of_status_0_is_its_course,
-    a_session_over_any_link_that_behaves_so, a_sound_run_is_its_course, a_stop_is_a_front,
-    a_worked_run_has_one_outcome, a_wrong_outcome_is_refused,
+    a_session_over_any_line, a_session_over_any_link_that_behaves_so, a_sound_run_is_its_course,
+    a_stop_is_a_front, a_worked_run_has_one_outcome, a_wrong_outcome_is_refused,
 };
 // what a run reads and writes beside its line
 pub use avr_desk::{Desk, DeskFault, MemDesk, SystemDesk};
@@ -44,7 +44,7 @@ pub use avr_net::{accept, listen};
 pub use avr_plan::{Plan, plan};
 pub use avr_session::drive;
 pub use of_port::{run_emu, run_net, serve, serve_net, serve_on};
-pub use running::{run, run_wired};
+pub use running::{run, run_streams, run_wired};
 // lines
 pub use stk_emu::{Fate, Wired, noise_is_lawful};
 pub use stk_host::{Heard, Item, Link, LinkFault, StreamLink, TapeLink};

@@ -2,6 +2,7 @@
 ghost use Rattle.std.specs.Prelude.{◌⊎◌};
 ghost use Rattle.avr_session.specs.Runs.{devices};
 ghost use Rattle.avr_tool.specs.Headline.{IsNew, IsRun, IsStopped, RunsWired};
+ghost use Rattle.stk_host.specs.Links.{IsTrueSince, stream_view};
 ghost use Rattle.stk_host.specs.Talk.{Stays};
 
 use avr_cli::Settings;
@@ -10,8 +11,9 @@ use avr_emulated::drive_wired;
 use avr_plan::plan;
 use avr_session::run as run_over;
 use std::alloc::Global;
+use std::io::{Read, Write};
 use stk_emu::Wired;
-use stk_host::Link;
+use stk_host::{Link, StreamLink};
 
 /// Plans what the settings ask for, runs it over a link, reports it at the desk, and answers the status: 0 where no
 /// fault came, else 1. What is refused is told before any frame is sent or file created.
@@ -24,6 +26,23 @@ pub fn run<D: Desk, L: Link>(alloc: Global, settings: &Settings, desk: &mut D, l
     ensures comes { Stays L.comes_of link.old link.new }
 {
     run_over(alloc, settings, desk, link)
+}
+
+/// [`run`] over a reader and a writer. What the link keeps of the run, for proofs alone, is true: the bytes heard are
+/// those that the reader gave, and while it has never failed the bytes sent are those that the writer took.
+pub fn run_streams<D: Desk, R: Read + Drop, W: Write + Drop>(
+    alloc: Global,
+    settings: &Settings,
+    desk: &mut D,
+    link: &mut StreamLink<R, W>,
+) -> u8
+    ensures runs { IsRun settings.now (devices (stream_view link.old) (D.view desk.old))
+        (devices (stream_view link.new) (D.view desk.new)) result
+        ⊎ IsStopped settings.now (devices (stream_view link.old) (D.view desk.old))
+        (devices (stream_view link.new) (D.view desk.new)) result }
+    ensures tells { IsTrueSince R.remaining W.contents link.old link.new }
+{
+    run(alloc, settings, desk, link)
 }
 
 /// Runs what the settings ask for over a wire to the emulated programmer, whatever its line loses, delays and spoils.

@@ -2,8 +2,8 @@
 #![tactic(auto)]
 
 use avr_tool::{
-    Desk, NotAsked, Port, Settings, SettingsFault, StreamLink, SystemDesk, asked, refuse, run,
-    run_emu, run_net, serve_net,
+    Desk, NotAsked, Port, Settings, SettingsFault, StreamLink, SystemDesk, asked, refuse, run_emu,
+    run_net, run_streams, serve_net,
 };
 use clap::Error;
 use clap::error::ErrorKind;
@@ -56,7 +56,7 @@ fn run_settings<D: Desk>(rt: &HostRuntime, settings: &Settings, desk: &mut D) ->
     match &settings.port {
         Port::Stdio => {
             let mut link = StreamLink::new(rt.stdin(), rt.stdout());
-            run(rt.alloc(), settings, desk, &mut link)
+            run_streams(rt.alloc(), settings, desk, &mut link)
         }
         Port::Emulated(_) => run_emu(rt.alloc(), settings, desk),
         Port::Network(_) => run_net(rt, rt.alloc(), settings, desk),

@@ -1,5 +1,5 @@
 //! Whole runs over one connection, with the tool at one end of it and the emulator at the other, in one thread.
-ghost use Rattle.std.specs.Prelude.{None};
+ghost use Rattle.stk_host.specs.Links.{stream_view};
 
 use avr_cli::{Settings, read_settings, read_words};
 use avr_desk::{Bytes, MemDesk};
@@ -23,7 +23,7 @@ struct Loopback {
 }
 
 impl Link for Loopback {
-    ghost view = { λ link. record { talk = None; failures = link.near.failures } };
+    ghost view = { λ link. stream_view link.near };
 
     ghost Start = { Unit {0} };
 

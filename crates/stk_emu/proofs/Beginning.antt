@@ -5,7 +5,7 @@ use Rattle.avr_part.specs.Sound.{IsSoundChip}
 use Rattle.avr_part.specs.Part.{Part, IsPart}
 use Rattle.stk_frame.specs.declared.command.Command.{Command}
 use Rattle.stk_host.specs.Steps.{play}
-use Rattle.stk_emu.specs.declared.fate.Fate.{Fate}
+use Rattle.stk_emu.specs.Turn.{Turn}
 use Rattle.stk_emu.specs.Programmer.{Programmer, fresh_programmer}
 use Rattle.stk_emu.specs.Device.{device}
 use Rattle.stk_emu.specs.Along.{along}
@@ -44,8 +44,8 @@ are_some part (commands ∷ steps) are = first commands steps are.0 (are_some pa
     first commands steps (ReadsSignature place few e) some = one_some commands _ _ steps e some
     first commands steps (ReadsCalibration e) some = one_some commands _ _ steps e some
 
-pub steps_climb : (part : Part) (steps : List (List Command)) (m : Memories) (k : ℕ) (before : List ℕ) (p : Programmer) (fates : List Fate)
+pub steps_climb : (part : Part) (steps : List (List Command)) (m : Memories) (k : ℕ) (before : List ℕ) (p : Programmer) (turns : List Turn)
     → IsPart part → AreSteps part steps → Settled part m p
-    → Climbs device (λ j. Settled part (struck_by part j steps m)) k steps p fates (along device k (play steps before) p fates)
-steps_climb part steps m k before p fates sound are s =
-    play_climbs device (λ j. Settled part (struck_by part j steps m)) steps k before p fates (are_some part steps are) (all_fit part sound steps m are) s
+    → Climbs device (λ j. Settled part (struck_by part j steps m)) k steps p turns (along device k (play steps before) p turns)
+steps_climb part steps m k before p turns sound are s =
+    play_climbs device (λ j. Settled part (struck_by part j steps m)) steps k before p turns (are_some part steps are) (all_fit part sound steps m are) s

@@ -54,7 +54,7 @@ pub laid_holds : (image : Image) (bytes : List ℕ) → Holds image (with_image 
 laid_holds image bytes i b held l =
     get_laid image bytes i (omega (arith, l, length-laid image bytes)) ∙ ap (λ (o : Option ℕ). unwrap_or o (get_or bytes i 0)) held
 
-and_from_blank : (b : ℕ) → b < 256 → bit_and 255 b ≡ b
+pub and_from_blank : (b : ℕ) → b < 256 → bit_and 255 b ≡ b
 and_from_blank b l = and_comm 255 b ∙ (and_numeral b 254 refl ∙ mod-eq_of_lt l)
 
 -- and an erased flash holds it, FF elsewhere

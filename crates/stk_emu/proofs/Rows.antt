@@ -14,7 +14,7 @@ use Rattle.stk_emu.specs.declared.fate.Fate.TheVariants.{Good, LostAnswer, LateA
 use Rattle.stk_emu.specs.Device.{device}
 use Rattle.stk_emu.specs.Wire.{fresh_wire, tape_of}
 
-abbrev small : Part
+abbrev pub small : Part
 small = record {
   id = [];
   signature = 0x1E ∷ 0x95 ∷ 0x0F ∷ [];
@@ -25,7 +25,7 @@ small = record {
   eesave_bit = 3;
 }
 
-abbrev start : Programmer
+abbrev pub start : Programmer
 start = fresh_programmer (fresh_state small)
 
 abbrev behind : List ℕ → Programmer → Programmer
@@ -77,10 +77,10 @@ pub poll_above_four : (obey (0x10 ∷ 0xC8 ∷ 0x64 ∷ 0x19 ∷ 0x20 ∷ 0x00 �
 poll_above_four = refl
 
 -- five frames of a command that no programmer knows, and their answers
-abbrev asked : ℕ → List ℕ
+abbrev pub asked : ℕ → List ℕ
 asked n = frame n (0x05 ∷ [])
 
-abbrev told : ℕ → List ℕ
+abbrev pub told : ℕ → List ℕ
 told n = frame n (0x05 ∷ 0xC9 ∷ [])
 
 abbrev brings : List Fate → Tape

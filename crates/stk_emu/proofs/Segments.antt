@@ -14,9 +14,9 @@ use Rattle.stk_host.proofs.Tapes.{answer_found, answer_silent, on_tape_append}
 use Rattle.stk_emu.specs.declared.fate.Fate.{Fate}
 use Rattle.stk_emu.specs.declared.fate.Fate.TheVariants.{Good, LostCommand, LostAnswer, LateAnswer, HeldAnswer, Reset, CommandRefused, AnswerSpoiled}
 use Rattle.stk_emu.specs.Device.{Device, refusal, answer_body}
-use Rattle.stk_emu.specs.Wire.{IsLawfulFate, first_fate, after_fate, back, let_go, late_of, Wire, segment, wire_behind}
-use Rattle.stk_emu.specs.Along.{fate_reading}
+use Rattle.stk_emu.specs.Wire.{IsLawfulFate, first_fate, turn_of, back, let_go, late_of, Wire, segment, wire_behind}
 use Rattle.stk_emu.specs.Lawful.{IsLawful, IsBody, Late, none_late, behind_late, waiting, later, IsPast, IsClear}
+use Rattle.stk_emu.specs.Turn.{after_turn, turn_reading}
 
 further_zero : (o : Option (List ℕ × ℕ)) → o ≡ further 0 o
 further_zero None = refl
@@ -139,7 +139,7 @@ refusal_is_body : IsBody refusal
 refusal_is_body = record { some = omega arith; few = omega arith }
 
 reads_back : (n : ℕ) (fate : Fate) (late : Late) (bytes : List ℕ) (more : Tape) → IsClear n late → IsLawfulFate fate → IsBody bytes
-    → answer n ((on_tape (let_go fate late) ++ back fate (frame n bytes) (frame n refusal)) ++ more) ≡ Some (fate_reading fate bytes, more)
+    → answer n ((on_tape (let_go fate late) ++ back fate (frame n bytes) (frame n refusal)) ++ more) ≡ Some (turn_reading (turn_of fate) bytes, more)
 reads_back n Good late bytes more clear lawful b = reads_frame n (waiting late) bytes more (clear_skipped n late clear) (clear_length n late clear) b
 reads_back n LostCommand late bytes more clear lawful b = reads_silence n (waiting late) [] more (clear_skipped n late clear) (clear_length n late clear) no_noise
 reads_back n LostAnswer late bytes more clear lawful b = reads_silence n (waiting late) [] more (clear_skipped n late clear) (clear_length n late clear) no_noise
@@ -151,7 +151,7 @@ reads_back n (AnswerSpoiled noise) late bytes more clear lawful b = reads_silenc
 
 -- The segment: of a frame of sequence n it is read whole, and nothing else; the answer is the programmer's, the refusal, or a silence.
 pub segment_read : {P : Type 0} (m : Device P) (n : ℕ) (bytes : List ℕ) (w : Wire P) (more : Tape) → IsBody bytes → IsBody (m.answer bytes w.programmer) → IsClear n w.late → IsLawfulFate (first_fate w.fates)
-    → answer n (segment m (frame n bytes) w ++ more) ≡ Some (fate_reading (first_fate w.fates) (m.answer bytes w.programmer), more)
+    → answer n (segment m (frame n bytes) w ++ more) ≡ Some (turn_reading (turn_of (first_fate w.fates)) (m.answer bytes w.programmer), more)
 segment_read m n bytes w more b a clear lawful =
     let good : is_good (frame n bytes) ≡ true = frame_is_good n bytes b.some in
     let body_is : answer_body m (frame n bytes) w.programmer ≡ m.answer bytes w.programmer =
@@ -161,10 +161,10 @@ segment_read m n bytes w more b a clear lawful =
 
 -- and the programmer behind it
 pub segment_leaves : {P : Type 0} (m : Device P) (n : ℕ) (bytes : List ℕ) (w : Wire P) → IsBody bytes
-    → (wire_behind m (frame n bytes) w).programmer ≡ after_fate (first_fate w.fates) (m.after bytes w.programmer) w.programmer (m.reset w.programmer)
+    → (wire_behind m (frame n bytes) w).programmer ≡ after_turn (turn_of (first_fate w.fates)) (m.after bytes w.programmer) w.programmer m.reset
 segment_leaves m n bytes w b =
     let good : is_good (frame n bytes) ≡ true = frame_is_good n bytes b.some in
-    ap (λ q. after_fate (first_fate w.fates) q w.programmer (m.reset w.programmer)) (chosen (is_good (frame n bytes)) _ _ good ∙ ap (λ x. m.after x w.programmer) (body_of_frame n bytes))
+    ap (λ q. after_turn (turn_of (first_fate w.fates)) q w.programmer m.reset) (chosen (is_good (frame n bytes)) _ _ good ∙ ap (λ x. m.after x w.programmer) (body_of_frame n bytes))
 
 -- nothing waits
 pub none_clear : (n : ℕ) → IsClear n none_late

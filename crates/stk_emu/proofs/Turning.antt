@@ -15,15 +15,16 @@ use Rattle.stk_host.proofs.Leading.{bytes_append}
 use Rattle.stk_emu.specs.declared.fate.Fate.{Fate}
 use Rattle.stk_emu.specs.Programmer.{Programmer}
 use Rattle.stk_emu.specs.Device.{Device, device}
-use Rattle.stk_emu.specs.Wire.{AreLawful, first_fate, Wire, wire_behind, tape_of, fresh_wire}
+use Rattle.stk_emu.specs.Wire.{AreLawful, first_fate, turn_of, turns_of, Wire, wire_behind, tape_of, fresh_wire}
 use Rattle.stk_emu.specs.Wired.{WiredState, Keeps, NeverIdle, brought}
 use Rattle.stk_emu.specs.Lawful.{IsBody, IsClear}
-use Rattle.stk_emu.specs.Along.{along, fate_reading, AsksBodies, Fused}
+use Rattle.stk_emu.specs.Along.{along, AsksBodies, Fused}
 use Rattle.stk_emu.specs.Leads.{GoesAlong}
 use Rattle.stk_emu.proofs.Segments.{none_clear, segment_late}
 use Rattle.stk_emu.proofs.Bodies.{answers_bodies}
 use Rattle.stk_emu.proofs.Extending.{answer_extends}
 use Rattle.stk_emu.proofs.Fused.{AnswersBodies, first_played, others_lawful, head_is, tail_is, none_some, fused}
+use Rattle.stk_emu.specs.Turn.{turn_reading}
 
 -- whole frames
 pub record IsWhole (f : List ℕ) : Type 0 where
@@ -76,15 +77,15 @@ never_waits m answers (Ask bytes go_on) n w (f ∷ sent) asks clear lawful waits
     let is : frame n bytes ≡ f = head_is (frame n bytes) f _ sent e in
     let first = first_played m answers bytes go_on n w sent asks.0 clear lawful in
     let at : (g : List ℕ) → g ≡ f → played (Ask bytes go_on) n (tape_of m (f ∷ sent) w) ≡ played (Ask bytes go_on) n (tape_of m (g ∷ sent) w) = λ g same. ap (λ h. played (Ask bytes go_on) n (tape_of m (h ∷ sent) w)) (sym same) in
-    never_waits m answers (go_on (fate_reading (first_fate w.fates) (m.answer bytes w.programmer))) (next n) (wire_behind m (frame n bytes) w) sent
-    (asks.1 (fate_reading (first_fate w.fates) (m.answer bytes w.programmer)))
+    never_waits m answers (go_on (turn_reading (turn_of (first_fate w.fates)) (m.answer bytes w.programmer))) (next n) (wire_behind m (frame n bytes) w) sent
+    (asks.1 (turn_reading (turn_of (first_fate w.fates)) (m.answer bytes w.programmer)))
     (segment_late m n bytes w asks.0 (answers bytes w.programmer asks.0) clear)
     (others_lawful w.fates lawful)
     (sym (ap (λ p. p.outcome) (at (frame n bytes) is ∙ first)) ∙ waits)
     (tail_is (frame n bytes) f _ sent (sym (ap (λ p. frames_in p.events) (at (frame n bytes) is ∙ first)) ∙ e))
 
 -- where something is heard, it was due
-due_at : {E R : Type 0} (d : Dialog E R) (n : ℕ) (tape : Tape) (bytes : List ℕ) (before after : Talk) (items : Tape) → TurnsFrom d n tape bytes (before ++ Got items ∷ after) → IsDue d n (tape ++ heard before) (bytes ++ sent before)
+pub due_at : {E R : Type 0} (d : Dialog E R) (n : ℕ) (tape : Tape) (bytes : List ℕ) (before after : Talk) (items : Tape) → TurnsFrom d n tape bytes (before ++ Got items ∷ after) → IsDue d n (tape ++ heard before) (bytes ++ sent before)
 due_at d n tape bytes [] after items turns = subst (λ t. IsDue d n t (bytes ++ [])) (sym (append-nil tape)) (subst (IsDue d n tape) (sym (append-nil bytes)) turns.0)
 due_at d n tape bytes (Sent more ∷ before) after items turns =
     subst (IsDue d n (tape ++ heard before)) (append_assoc bytes more (sent before)) (due_at d n tape (bytes ++ more) before after items turns)
@@ -190,14 +191,14 @@ module _ {E R : Type 0} (d : Dialog E R) (n : ℕ) (p : Programmer) (fates : Lis
       (ap (λ t. frames_in (played d n t).events) brings ∙ (g.1 ∙ (ap (λ fs. fs ++ g.0) f.1 ∙ append_assoc (frames (sent w.talk)) f.0 g.0)))
 
   -- where the talk broke off the programmer stands along the line
-  pub broken_along : (SaidPart : E → E → Type 0) (shown : List (Event E)) → Breaks SaidPart d (position n []) w.talk shown → w.wire.programmer ≡ (along device (length (frames (sent w.talk))) d p fates).programmer
+  pub broken_along : (SaidPart : E → E → Type 0) (shown : List (Event E)) → Breaks SaidPart d (position n []) w.talk shown → w.wire.programmer ≡ (along device (length (frames (sent w.talk))) d p (turns_of fates)).programmer
   broken_along SaidPart shown breaks =
       let front = shown_front SaidPart shown (played d n (heard w.talk)).events breaks.front in
       ap (λ x. x.programmer) keeps.stands ∙ (goes_along (front.0, ap (λ bs. bs ++ front.0) (sym breaks.all_sent) ∙ front.1)).programmer
 
   -- where it was whole the dialog has come to the same result there, and nothing is left
   pub whole_along : (events : List (Event E)) (r : R) (after : Position) → Plays d (position n []) w.talk events r after
-      → GoesAlong d p fates w r after.unread
+      → GoesAlong d p (turns_of fates) w r after.unread
   whole_along events r after plays =
       let over : played d n (heard w.talk) ≡ record { events = events; outcome = Some (r, after.next, on_tape after.unread ++ []) } =
       ap (played d n) (sym (append-nil (heard w.talk))) ∙ plays.plays [] in

@@ -7,8 +7,7 @@ use Rattle.stk_host.specs.Dialog.{Dialog, Done}
 use Rattle.stk_host.specs.Steps.{Outcome}
 use Rattle.stk_host.specs.Talk.{sent}
 use Rattle.stk_frame.specs.Cut.{frames}
-use Rattle.stk_emu.specs.declared.fate.Fate.{Fate}
-use Rattle.stk_emu.specs.declared.fate.Fate.TheVariants.{Good}
+use Rattle.stk_emu.specs.Turn.{Turn, Right}
 use Rattle.stk_emu.specs.Programmer.{Programmer}
 use Rattle.stk_emu.specs.Device.{Device, device}
 use Rattle.stk_emu.specs.Wired.{WiredState}
@@ -19,11 +18,11 @@ use Rattle.stk_emu.specs.Strokes.{struck_by}
 use Rattle.stk_emu.specs.Given.{all_given}
 
 -- at each moment the one condition holds, and where the dialog has come to a result the other
-pub record Leads {E R P : Type 0} (m : Device P) (dialog : Dialog E R) (p : P) (fates : List Fate)
+pub record Leads {E R P : Type 0} (m : Device P) (dialog : Dialog E R) (p : P) (turns : List Turn)
     (During : P → Type 0) (After : R → P → Type 0) : Type 0 where
-  pub during : (k : ℕ) → During (along m k dialog p fates).programmer
-  pub after : (k : ℕ) (r : R) → (along m k dialog p fates).dialog ≡ Done r
-      → After r (along m k dialog p fates).programmer
+  pub during : (k : ℕ) → During (along m k dialog p turns).programmer
+  pub after : (k : ℕ) (r : R) → (along m k dialog p turns).dialog ≡ Done r
+      → After r (along m k dialog p turns).programmer
 
 -- after data the one, after a fault one or the other
 abbrev pub OnData : {P : Type 0} → (P → Type 0) → (P → Type 0) → Outcome → P → Type 0
@@ -58,16 +57,16 @@ abbrev pub AfterOpening : Part → Memories → Result (List ℕ) HostFault → 
 AfterOpening part m (Ok found) q = Settled part m q × (found ≡ part.signature)
 AfterOpening part m (Err fault) q = Idle part m q
 
--- all fates to come are good
-abbrev pub AreGood : List Fate → Type 0
+-- all turns to come are right
+abbrev pub AreGood : List Turn → Type 0
 AreGood [] = Unit {0}
-AreGood (fate ∷ fates) = (fate ≡ Good) × AreGood fates
+AreGood (turn ∷ turns) = (turn ≡ Right) × AreGood turns
 
 -- A talk over a wire was the whole play of a dialog: the programmer stands along the line, where the dialog has come to
 -- the same result, and nothing that came is left.
-pub record GoesAlong {E R : Type 0} (d : Dialog E R) (p : Programmer) (fates : List Fate) (w : WiredState) (r : R)
+pub record GoesAlong {E R : Type 0} (d : Dialog E R) (p : Programmer) (turns : List Turn) (w : WiredState) (r : R)
     (left : List ℕ) : Type 0 where
-  pub programmer : w.wire.programmer ≡ (along device (length (frames (sent w.talk))) d p fates).programmer
-  pub result : (along device (length (frames (sent w.talk))) d p fates).dialog ≡ Done r
+  pub programmer : w.wire.programmer ≡ (along device (length (frames (sent w.talk))) d p turns).programmer
+  pub result : (along device (length (frames (sent w.talk))) d p turns).dialog ≡ Done r
   pub none_left : left ≡ []
   pub none_waits : w.waits ≡ []

@@ -1,13 +1,13 @@
 -- How many strokes are made along a dialog of several calls.
 use Rattle.std.specs.Prelude.{ℕ, suc, ◌+◌, ◌-◌, ◌≤◌, ◌≡◌, ◌⊎◌, List}
 use Rattle.stk_host.specs.Dialog.{Dialog, Done, Say, Ask}
-use Rattle.stk_emu.specs.declared.fate.Fate.{Fate}
+use Rattle.stk_emu.specs.Turn.{Turn}
 use Rattle.stk_emu.specs.Device.{Device}
 use Rattle.stk_emu.specs.Along.{Standing, along}
 
--- how many have come to data after so many questions, from a programmer and the fates to come
+-- how many have come to data after so many questions, from a programmer and the turns to come
 abbrev pub Count : Type 0 → Type 0
-Count P = ℕ → P → List Fate → ℕ
+Count P = ℕ → P → List Turn → ℕ
 
 -- those of a dialog, and those of the next one where it is done
 abbrev pub with_next : {E A : Type 0} → Dialog E A → ℕ → (A → ℕ) → ℕ
@@ -16,23 +16,23 @@ with_next (Say e dialog) so_far more = so_far
 with_next (Ask bytes go_on) so_far more = so_far
 
 abbrev pub then_count : {E A P : Type 0} → Device P → Dialog E A → Count P → (A → Count P) → Count P
-then_count m d first more k p fates =
-    let s = along m k d p fates in
-    with_next s.dialog (first k p fates) (λ a. more a s.left s.programmer s.fates)
+then_count m d first more k p turns =
+    let s = along m k d p turns in
+    with_next s.dialog (first k p turns) (λ a. more a s.left s.programmer s.turns)
 
 -- At each moment of a dialog so many strokes are made: those that came to data and perhaps one more, which is counted
 -- by the questions before the last, whose answer may not have come.
 pub record Tallies {E R P : Type 0} (m : Device P) (d : Dialog E R) (done : Count P) (At : ℕ → P → Type 0)
-    (p : P) (fates : List Fate) : Type 0 where
+    (p : P) (turns : List Turn) : Type 0 where
   pub count : ℕ → ℕ
   pub none : count 0 ≡ 0
-  pub at_least : (k : ℕ) → done k p fates ≤ count k
-  pub at_most : (k : ℕ) → count k ≤ suc (done (k - 1) p fates)
-  pub stands : (k : ℕ) → At (count k) (along m k d p fates).programmer
+  pub at_least : (k : ℕ) → done k p turns ≤ count k
+  pub at_most : (k : ℕ) → count k ≤ suc (done (k - 1) p turns)
+  pub stands : (k : ℕ) → At (count k) (along m k d p turns).programmer
 
 -- How the next dialog goes on from where one stands: it makes its strokes behind those made; and either so many had
 -- come to data earlier, before the last question, or it makes none.
 pub record GoesOn {E A B P : Type 0} (m : Device P) (At : ℕ → P → Type 0) (s : Standing E A P) (made earlier : ℕ)
     (next : Dialog E B) (more : Count P) : Type 0 where
-  pub rest : Tallies m next more (λ j. At (made + j)) s.programmer s.fates
+  pub rest : Tallies m next more (λ j. At (made + j)) s.programmer s.turns
   pub sharp : ((l : ℕ) → s.left ≡ suc l → made ≤ earlier) ⊎ ((l : ℕ) → rest.count l ≡ 0)

@@ -1,5 +1,5 @@
 -- A line to a programmer that loses, delays and spoils.
-use Rattle.std.specs.Prelude.{ℕ, Bool, true, false, List, [], ◌∷◌, ◌++◌, ◌≡◌, if◌then◌else◌, All}
+use Rattle.std.specs.Prelude.{ℕ, zero, suc, Bool, true, false, List, [], ◌∷◌, ◌++◌, ◌≡◌, if◌then◌else◌, All}
 use Rattle.stk_frame.specs.Frame.{frame}
 use Rattle.stk_frame.specs.Cut.{frames, seq_of}
 use Rattle.stk_host.specs.declared.link.Item.TheVariants.{Silence}
@@ -7,6 +7,7 @@ use Rattle.stk_host.specs.Tape.{Tape, on_tape}
 use Rattle.stk_emu.specs.declared.fate.Fate.{Fate}
 use Rattle.stk_emu.specs.declared.fate.Fate.TheVariants.{Good, LostCommand, LostAnswer, LateAnswer, HeldAnswer, Reset, CommandRefused, AnswerSpoiled}
 use Rattle.stk_emu.specs.Lawful.{IsLawful, Late, none_late, behind_late, waiting}
+use Rattle.stk_emu.specs.Turn.{Turn, Became, became_in, Kept, Obeyed, Anew, Refusal, Nothing, Right, Wrong, after_turn}
 use Rattle.stk_emu.specs.Device.{Device, refusal, answer_frame, after_frame}
 
 abbrev pub IsLawfulFate : Fate → Type 0
@@ -31,16 +32,25 @@ abbrev pub other_fates : List Fate → List Fate
 other_fates [] = []
 other_fates (fate ∷ fates) = fates
 
--- the programmer after a frame of this fate: the one that obeyed it, the one that never saw it, or one begun anew
-abbrev pub after_fate : {P : Type 0} → Fate → P → P → P → P
-after_fate Good obeyed kept anew = obeyed
-after_fate LostCommand obeyed kept anew = kept
-after_fate LostAnswer obeyed kept anew = obeyed
-after_fate LateAnswer obeyed kept anew = obeyed
-after_fate HeldAnswer obeyed kept anew = obeyed
-after_fate Reset obeyed kept anew = anew
-after_fate CommandRefused obeyed kept anew = kept
-after_fate (AnswerSpoiled noise) obeyed kept anew = obeyed
+-- what becomes of a question whose frame has this fate
+abbrev pub turn_of : Fate → Turn
+turn_of Good = Right
+turn_of LostCommand = Wrong Kept Nothing
+turn_of LostAnswer = Wrong Obeyed Nothing
+turn_of LateAnswer = Wrong Obeyed Nothing
+turn_of HeldAnswer = Wrong Obeyed Nothing
+turn_of Reset = Wrong (Anew Kept) Nothing
+turn_of CommandRefused = Wrong Kept Refusal
+turn_of (AnswerSpoiled noise) = Wrong Obeyed Nothing
+
+abbrev pub turns_of : List Fate → List Turn
+turns_of [] = []
+turns_of (fate ∷ fates) = turn_of fate ∷ turns_of fates
+
+-- what becomes of the programmer at the next so many frames
+abbrev pub becames_of : ℕ → List Fate → List Became
+becames_of zero fates = []
+becames_of (suc k) fates = became_in (turn_of (first_fate fates)) ∷ becames_of k (other_fates fates)
 
 -- what comes back, by the frames of its answer and of the refusal
 abbrev pub back : Fate → List ℕ → List ℕ → Tape
@@ -94,7 +104,7 @@ segment m piece w =
 -- and what it leaves
 abbrev pub wire_behind : {P : Type 0} → Device P → List ℕ → Wire P → Wire P
 wire_behind m piece w = record {
-  programmer = after_fate (first_fate w.fates) (after_frame m piece w.programmer) w.programmer (m.reset w.programmer);
+  programmer = after_turn (turn_of (first_fate w.fates)) (after_frame m piece w.programmer) w.programmer m.reset;
   fates = other_fates w.fates;
   late = late_of (first_fate w.fates) (answer_frame m piece w.programmer) w.late;
 }

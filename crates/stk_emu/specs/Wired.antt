@@ -1,5 +1,5 @@
 -- A wire as a link, and that what passes over it is what the fates say.
-use Rattle.std.specs.Prelude.{ℕ, List, [], ◌∷◌, ◌++◌, ◌≡◌, ◌≢◌, length, take, drop, ◌<◌, ◌≤◌, filter, Some}
+use Rattle.std.specs.Prelude.{ℕ, List, [], ◌∷◌, ◌++◌, ◌≡◌, ◌≢◌, length, take, drop, ◌<◌, ◌≤◌, filter}
 use Rattle.stk_frame.specs.Cut.{frames, is_frame}
 use Rattle.stk_frame.specs.Reader.{Stands, Fed}
 use Rattle.stk_host.specs.declared.link.Item.TheVariants.{Silence}
@@ -20,7 +20,7 @@ pub record WiredState : Type 0 where
 
 -- it keeps all that passed
 abbrev pub wired_view : WiredState → LinkView
-wired_view wired = record { talk = Some wired.talk; failures = wired.failures }
+wired_view wired = record { talk = wired.talk; failures = wired.failures }
 
 -- what the frames of these bytes bring over a wire that nothing passed yet
 abbrev pub brought : Programmer → List Fate → List ℕ → Tape

@@ -8,7 +8,8 @@ ghost use Rattle.stk_emu.specs.Programmer.{fresh_programmer, restarted_programme
 ghost use Rattle.stk_emu.specs.Device.{device, refusal, answer_frame, after_frame};
 ghost use Rattle.stk_emu.specs.Lawful.{none_late};
 ghost use Rattle.stk_emu.specs.Waiting.{tape_in};
-ghost use Rattle.stk_emu.specs.Wire.{AreLawful, IsLawfulFate, fresh_wire, segment, wire_behind, tape_of, wire_after, is_held, let_go, late_of, after_fate, back};
+ghost use Rattle.stk_emu.specs.Wire.{AreLawful, IsLawfulFate, fresh_wire, segment, wire_behind, tape_of, wire_after, is_held, let_go, late_of, turn_of, back};
+ghost use Rattle.stk_emu.specs.Turn.{after_turn};
 
 use crate::emulator::{Frame, answer, refuse};
 use crate::fate::Fate;
@@ -87,8 +88,8 @@ fn pass_with(
     requires tells { is_good reader.now ≡ good }
     ensures items { tape_in out.new.items ≡ on_tape (let_go fate.now late.old)
         ++ back fate.now (answer_frame device reader.now programmer.old) (frame (seq_of reader.now) refusal) }
-    ensures programmer { programmer.new ≡ after_fate fate.now (after_frame device reader.now programmer.old)
-        programmer.old (restarted_programmer programmer.old) }
+    ensures programmer { programmer.new ≡ after_turn (turn_of fate.now) (after_frame device reader.now programmer.old)
+        programmer.old restarted_programmer }
     ensures late { late.new ≡ late_of fate.now (answer_frame device reader.now programmer.old) late.old }
 {
     let mut frame = Frame::new();

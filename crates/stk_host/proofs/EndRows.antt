@@ -1,5 +1,5 @@
 -- A call breaks off in one way: laws of every dialog, and LEAVE as a worked call.
-use Rattle.std.proofs.Common.{◌≡◌, ℕ, ◌<◌, List, [], ◌∷◌, ◌++◌, length, length-append, refl, sym, ap, ◌∙◌, subst, arith, Some, Err}
+use Rattle.std.proofs.Common.{◌≡◌, ℕ, ◌<◌, List, [], ◌∷◌, ◌++◌, length, length-append, refl, sym, ap, ◌∙◌, subst, arith, Err}
 use Rattle.stk_host.specs.declared.fault.Broken.TheVariants as broken
 use Rattle.stk_host.specs.declared.fault.HostFault.TheVariants.{SendFailed, RecvFailed}
 use Rattle.stk_host.specs.declared.link.Item.TheVariants.{Silence}
@@ -39,19 +39,16 @@ never_both f g =
     let all = ap length (sym g.all_sent ∙ ap bytes_sent g.shown_is) in
     omega (arith, less, all)
 
-grown : (x y : Talk) → Some x ≡ Some y → y ≡ x
-grown x y e = cc
-
--- a link that keeps what passed
+-- a link by what passed over it
 abbrev showing : Talk → LinkView
-showing talk = record { talk = Some talk; failures = 0 }
+showing talk = record { talk = talk; failures = 0 }
 
 -- nor does a call over it
 pub never_either : {R : Type 0} (dialog : Dialog ⊥ R) (before : Position) (talk : Talk) → FailsOver broken.Send dialog before (showing []) (showing talk) → FailsOver broken.Recv dialog before (showing []) (showing talk) → ⊥
 never_either dialog before talk f g =
     never_both
-    (subst (λ t. BreaksSending dialog before t f.shown) (grown talk f.during f.grows) f.breaks)
-    (subst (λ t. BreaksListening dialog before t g.shown) (grown talk g.during g.grows) g.breaks)
+    (subst (λ t. BreaksSending dialog before t f.shown) (sym f.grows) f.breaks)
+    (subst (λ t. BreaksListening dialog before t g.shown) (sym g.grows) g.breaks)
 
 abbrev sixth : Position
 sixth = position 6 []

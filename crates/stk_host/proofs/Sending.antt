@@ -1,5 +1,5 @@
 -- What was sent in parts, and what is left of a range.
-use Rattle.std.proofs.Common.{◌≡◌, ℕ, ◌+◌, ◌-◌, ◌<◌, ◌≤◌, List, [], ◌∷◌, ◌++◌, length, take, drop, sym, ap, ◌∙◌, subst, arith, Option, Err}
+use Rattle.std.proofs.Common.{◌≡◌, ℕ, ◌+◌, ◌-◌, ◌<◌, ◌≤◌, List, [], ◌∷◌, ◌++◌, length, take, drop, sym, ap, ◌∙◌, subst, arith, Err}
 use Rattle.std.proofs.lemmas.List.{append-nil, drop-take, drop-drop, take-append-drop, length-take, length-drop, take_all}
 use Rattle.std.proofs.Math.Seq.{take-add}
 use Rattle.std.specs.Prelude.{slice_range}
@@ -7,7 +7,7 @@ use Rattle.stk_host.specs.Talk.{Talk, LinkView, Sent, sent, Grows, HasRisen, Lin
 use Rattle.stk_host.specs.Reach.{Says, SaysPart}
 use Rattle.stk_host.proofs.Talks.{sent_append, grows_on, quiet_append}
 
-pub says_more : (x y : List ℕ) (o p q : Option Talk) → Says x o p → Grows p (Sent y ∷ []) q → Says (x ++ y) o q
+pub says_more : (x y : List ℕ) (o p q : Talk) → Says x o p → Grows p (Sent y ∷ []) q → Says (x ++ y) o q
 says_more x y o p q says g = record {
   during = says.during ++ Sent y ∷ [];
   grows = grows_on o p q says.during (Sent y ∷ []) says.grows g;
@@ -15,7 +15,7 @@ says_more x y o p q says g = record {
   bytes_sent = sent_append says.during (Sent y ∷ []) ∙ (ap (λ bs. sent says.during ++ bs) (append-nil y) ∙ ap (λ bs. bs ++ y) says.bytes_sent);
 }
 
-pub says_still : (x : List ℕ) (o p q : Option Talk) → Says x o p → Grows p [] q → Says x o q
+pub says_still : (x : List ℕ) (o p q : Talk) → Says x o p → Grows p [] q → Says x o q
 says_still x o p q says g = record {
   during = says.during ++ [];
   grows = grows_on o p q says.during [] says.grows g;
@@ -24,12 +24,12 @@ says_still x o p q says g = record {
 }
 
 -- one more part
-pub says_part : (bytes : List ℕ) (n m : ℕ) (part : List ℕ) (o p q : Option Talk) → Says (take n bytes) o p → part ≡ drop n bytes → Grows p (Sent (take m part) ∷ []) q → Says (take (n + m) bytes) o q
+pub says_part : (bytes : List ℕ) (n m : ℕ) (part : List ℕ) (o p q : Talk) → Says (take n bytes) o p → part ≡ drop n bytes → Grows p (Sent (take m part) ∷ []) q → Says (take (n + m) bytes) o q
 says_part bytes n m part o p q says is g =
     subst (λ bs. Says bs o q) (ap (λ bs. take n bytes ++ take m bs) is ∙ sym (take-add n m bytes)) (says_more (take n bytes) (take m part) o p q says g)
 
 -- so many bytes were sent, and not all
-pub part_of : (bytes : List ℕ) (n : ℕ) (o q : Option Talk) → n < length bytes → Says (take n bytes) o q → SaysPart bytes o q
+pub part_of : (bytes : List ℕ) (n : ℕ) (o q : Talk) → n < length bytes → Says (take n bytes) o q → SaysPart bytes o q
 part_of bytes n o q few says = record {
   part = take n bytes;
   unsent = drop n bytes;

@@ -1,5 +1,5 @@
 -- Laws of talks.
-use Rattle.std.proofs.Common.{◌≡◌, ℕ, [], ◌∷◌, ◌++◌, refl, sym, ap, ◌∙◌, subst, append_assoc, Option, Some, None}
+use Rattle.std.proofs.Common.{◌≡◌, ℕ, [], ◌∷◌, ◌++◌, refl, sym, ap, ◌∙◌, subst, append_assoc}
 use Rattle.std.proofs.lemmas.List.{append-nil}
 use Rattle.stk_host.specs.Tape.{Tape}
 use Rattle.stk_host.specs.Talk.{Talk, Sent, Got, sent, heard, Grows}
@@ -19,13 +19,11 @@ heard_append (Got tape ∷ x) y = ap (λ t. tape ++ t) (heard_append x y) ∙ sy
 pub heard_both : (u : Tape) (x y : Talk) (more : Tape) → u ++ (heard (x ++ y) ++ more) ≡ u ++ (heard x ++ (heard y ++ more))
 heard_both u x y more = ap (λ t. u ++ t) (ap (λ t. t ++ more) (heard_append x y) ∙ append_assoc (heard x) (heard y) more)
 
-pub grows_none : (old : Option Talk) → Grows old [] old
-grows_none None = refl
-grows_none (Some talk) = ap Some (sym (append-nil talk))
+pub grows_none : (old : Talk) → Grows old [] old
+grows_none old = sym (append-nil old)
 
-pub grows_on : (a b c : Option Talk) (x y : Talk) → Grows a x b → Grows b y c → Grows a (x ++ y) c
-grows_on None b c x y f g = subst (λ o. Grows o y c) f g
-grows_on (Some talk) b c x y f g = let h : Grows (Some (talk ++ x)) y c = subst (λ o. Grows o y c) f g in h ∙ ap Some (append_assoc talk x y)
+pub grows_on : (a b c : Talk) (x y : Talk) → Grows a x b → Grows b y c → Grows a (x ++ y) c
+grows_on a b c x y f g = g ∙ ap (λ (t : Talk). t ++ y) f ∙ append_assoc a x y
 
 -- in a quiet talk nothing is heard
 pub heard_quiet : (talk : Talk) → IsQuiet talk → heard talk ≡ []

@@ -9,7 +9,18 @@ use Rattle.std.specs.Prelude.{filter, nat_le as leb}
 use Rattle.stk_frame.specs.Cut.{cut, rest, is_good, is_frame, body_of}
 use Rattle.stk_frame.proofs.Cut.{cut_append, cut_joined, chosen, refused}
 use Rattle.stk_host.specs.declared.link.Item.TheVariants.{Byte, Silence, End}
-use Rattle.stk_host.specs.Tape.{Tape, on_tape, bytes_in, answer, read_to, silence_or_end, first_answer, is_answer, further, limit, Answered, Silent, Ended, Babbled}
+use Rattle.stk_host.specs.Tape.{Tape, on_tape, bytes_of, bytes_in, answer, read_to, silence_or_end, first_answer, is_answer, further, limit, Answered, Silent, Ended, Babbled}
+
+-- the bytes of a tape behind another's, and of one that has bytes alone
+pub bytes_of_append : (x y : Tape) → bytes_of (x ++ y) ≡ bytes_of x ++ bytes_of y
+bytes_of_append [] y = refl
+bytes_of_append (Byte byte ∷ x) y = ap (λ bytes. byte ∷ bytes) (bytes_of_append x y)
+bytes_of_append (Silence ∷ x) y = bytes_of_append x y
+bytes_of_append (End ∷ x) y = bytes_of_append x y
+
+pub bytes_of_on_tape : (bytes : List ℕ) → bytes_of (on_tape bytes) ≡ bytes
+bytes_of_on_tape [] = refl
+bytes_of_on_tape (byte ∷ bytes) = ap (λ bs. byte ∷ bs) (bytes_of_on_tape bytes)
 
 -- bytes on a tape
 pub on_tape_append : (x y : List ℕ) → on_tape (x ++ y) ≡ on_tape x ++ on_tape y

@@ -1,14 +1,14 @@
 -- What the links of this crate hold, and what one call takes of it.
-use Rattle.std.specs.Prelude.{ℕ, Bool, List, [], ◌∷◌, ◌≡◌, ◌≢◌, ◌==◌, ◌≤◌, ◌+◌, ◌-◌, ◌^◌, take, min, Option, Some, None, Result, Err, OnErr}
+use Rattle.std.specs.Prelude.{ℕ, Bool, List, [], ◌∷◌, ◌++◌, ◌≡◌, ◌≢◌, ◌==◌, ◌≤◌, ◌+◌, ◌-◌, ◌^◌, take, min, Option, Some, None, Result, Err, OnErr}
 use Rattle.std.specs.Io.KnownBytes.{Keeps, Appends, Consumes, IsAtEnd}
 use Rattle.stk_host.specs.declared.link.Heard.{Heard}
-use Rattle.stk_host.specs.declared.link.Heard.TheVariants as heard
+use Rattle.stk_host.specs.declared.link.Heard.TheVariants as hears
 use Rattle.stk_host.specs.declared.link.Item.{Item}
 use Rattle.stk_host.specs.declared.link.Item.TheVariants.{Byte, Silence, End}
 use Rattle.stk_host.specs.declared.link.LinkFault.{LinkFault}
 use Rattle.stk_host.specs.declared.link.LinkFault.TheVariants.{Failed}
-use Rattle.stk_host.specs.Tape.{Tape, on_tape, bytes_in}
-use Rattle.stk_host.specs.Talk.{Talk, LinkView, HasRisen, HasFailed}
+use Rattle.stk_host.specs.Tape.{Tape, on_tape, bytes_in, bytes_of}
+use Rattle.stk_host.specs.Talk.{Talk, LinkView, HasRisen, HasFailed, heard, sent}
 use Rattle.stk_host.specs.Play.{IsPrefixOf}
 
 -- a log: what passed, and the room that is left in it, for so many pieces and for so many bytes that are sent
@@ -26,7 +26,7 @@ pub record TapeState : Type 0 where
 
 -- it keeps all that passed
 abbrev pub tape_view : TapeState → LinkView
-tape_view link = record { talk = Some link.talk; failures = link.failures }
+tape_view link = record { talk = link.talk; failures = link.failures }
 
 -- the next piece of a tape, of at most so many bytes; behind the last item comes an end
 abbrev pub next_piece : ℕ → Tape → Tape
@@ -42,21 +42,31 @@ byte_of (Some Silence) = None
 byte_of (Some End) = None
 byte_of None = None
 
--- a link over a reader and a writer, and how often it has failed
+-- a link over a reader and a writer, how often it has failed, and what passed, which is kept for proofs alone
 pub record StreamState (R W : Type 0) : Type 0 where
   pub reader : R
   pub writer : W
   pub failures : ℕ
+  pub talk : Talk
 
--- it keeps nothing
 abbrev pub stream_view : {R W : Type 0} → StreamState R W → LinkView
-stream_view link = record { talk = None; failures = link.failures }
+stream_view link = record { talk = link.talk; failures = link.failures }
+
+-- What a link over streams keeps of what passed since it was `old` is true: the bytes heard are those that its reader
+-- gave, in their order and none lost; and while it has never failed the bytes sent are those that its writer took.
+pub record IsTrueSince {R W : Type 0} (remaining : R → Option (List ℕ)) (contents : W → Option (List ℕ))
+    (old new : StreamState R W) : Type 0 where
+  pub during : Talk
+  pub grows : new.talk ≡ old.talk ++ during
+  pub gave : Consumes (remaining old.reader) (remaining new.reader) (bytes_of (heard during))
+  pub took : new.failures ≡ 0 → Appends (contents old.writer) (contents new.writer) (sent during)
+  pub counted : old.failures ≤ new.failures
 
 -- what was heard of a reader whose bytes are known: they are its next ones, and an end comes only behind the last
 abbrev pub HearsKnown : Heard → List ℕ → Option (List ℕ) → Option (List ℕ) → Type 0
-HearsKnown (heard.Bytes count) buffer old new = Consumes old new (take count buffer)
-HearsKnown heard.Silence buffer old new = Keeps old new
-HearsKnown heard.End buffer old new = Keeps old new × IsAtEnd new
+HearsKnown (hears.Bytes count) buffer old new = Consumes old new (take count buffer)
+HearsKnown hears.Silence buffer old new = Keeps old new
+HearsKnown hears.End buffer old new = Keeps old new × IsAtEnd new
 
 -- a writer whose bytes are known took a front of these
 abbrev pub AppendsFront : Option (List ℕ) → Option (List ℕ) → List ℕ → Type 0

@@ -1,6 +1,6 @@
 -- How far a call has come in a dialog. (For contracts below a host's calls, and of who sends and listens without a
 -- host.)
-use Rattle.std.specs.Prelude.{ℕ, List, [], ◌∷◌, ◌++◌, ◌+◌, ◌≡◌, ◌<◌, ◌≤◌, length, Option, Some, None, Result, OnOk, OnErr}
+use Rattle.std.specs.Prelude.{ℕ, List, [], ◌∷◌, ◌++◌, ◌+◌, ◌≡◌, ◌<◌, ◌≤◌, length, Some, None, Result, OnOk, OnErr}
 use Rattle.stk_host.specs.Tape.{Tape, Reading, on_tape, answer, limit}
 use Rattle.stk_host.specs.Talk.{Talk, LinkView, Sent, Got, sent, heard, Grows, LinkCounts}
 use Rattle.stk_host.specs.Dialog.{Dialog, Event, played, behind, bytes_sent}
@@ -30,14 +30,14 @@ IsQuiet (Sent bytes ∷ talk) = IsQuiet talk
 IsQuiet (Got tape ∷ talk) = ⊥
 
 -- these bytes were sent, and nothing was heard
-pub record Says (bytes : List ℕ) (old new : Option Talk) : Type 0 where
+pub record Says (bytes : List ℕ) (old new : Talk) : Type 0 where
   pub during : Talk
   pub grows : Grows old during new
   pub quiet : IsQuiet during
   pub bytes_sent : sent during ≡ bytes
 
 -- a part of these bytes was sent, and not the whole, and nothing was heard
-pub record SaysPart (bytes : List ℕ) (old new : Option Talk) : Type 0 where
+pub record SaysPart (bytes : List ℕ) (old new : Talk) : Type 0 where
   pub part : List ℕ
   pub unsent : List ℕ
   pub bytes_are : bytes ≡ part ++ unsent

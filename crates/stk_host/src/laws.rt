@@ -8,6 +8,11 @@ ghost use Rattle.stk_host.specs.WriteSteps.{write_steps};
 ghost use Rattle.stk_host.specs.ReadSteps.{read_steps};
 ghost use Rattle.stk_host.specs.Operations.{opening, erasing, writing, reading, verifying, closing};
 ghost use Rattle.stk_host.specs.Bound.{IsBoundedBy, opening_steps, erasing_steps, closing_steps};
+ghost use Rattle.stk_host.specs.Links.{IsTrueSince};
+ghost use Rattle.stk_host.specs.Talk.{Stays};
+
+use crate::stream_link::StreamLink;
+use std::io::{Read, Write};
 
 /// Whatever a programmer answers, and however its answers come, a play of steps, and so a call of a [`crate::Host`],
 /// asks at most four times as often as its steps have commands, and so many frames at most go out: also where the link
@@ -22,4 +27,16 @@ pub fn a_call_sends_at_most_four_times_its_commands()
     ensures verifies { (part : Part) (mem : Mem) (image : List (Option ℕ))
         → IsBoundedBy (read_steps part mem) (verifying part mem image) }
     ensures closes { IsBoundedBy closing_steps closing }
+{}
+
+/// Whatever was done with a link over streams, its record is true: of what passed since, the bytes heard are those that
+/// the reader gave, and while nothing has failed the bytes sent are those that the writer took.
+///
+/// What it asks for is what each call over a [`crate::Link`] promises, and so all that is made of such calls.
+pub fn a_record_of_streams_is_true<R: Read, W: Write>(
+    before: &StreamLink<R, W>,
+    after: &StreamLink<R, W>,
+)
+    requires { Stays (IsTrueSince R.remaining W.contents) before.now after.now }
+    ensures { IsTrueSince R.remaining W.contents before.now after.now }
 {}

@@ -13,6 +13,7 @@
 
 // the line, and lines over a tape, over streams and for tests
 mod failing_link;
+mod history;
 mod link;
 mod log;
 mod stream_link;
@@ -34,8 +35,9 @@ mod laws;
 
 pub use failing_link::FailingLink;
 pub use fault::{Broken, HostFault, StepFault};
+pub use history::History;
 pub use host::Host;
-pub use laws::a_call_sends_at_most_four_times_its_commands;
+pub use laws::{a_call_sends_at_most_four_times_its_commands, a_record_of_streams_is_true};
 pub use link::{Heard, Item, Link, LinkFault, send_all};
 pub use log::Log;
 pub use stream_link::StreamLink;

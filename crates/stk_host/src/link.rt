@@ -52,7 +52,7 @@ pub enum Item {
 /// failed, at most 2^64 - 1. A fault is answered only where that count rose or stands at this end, and no call that
 /// answers none raises it, but for a `send` that took none of some bytes.
 pub trait Link {
-    /// What was sent and heard, or `None` where the link doesn't keep it. And how often the link has failed.
+    /// What was sent and heard, which a link may keep for proofs alone, and how often the link has failed.
     ghost view: { Self → LinkView };
 
     /// What a link may begin with, where that tells what it does later on: for a wire its programmer and its fates.

@@ -3,9 +3,10 @@ ghost use Rattle.std.specs.Prelude.{◌≡◌, ◌≢◌, ◌<◌, ◌≤◌, �
 ghost use Rattle.std.specs.IoError.{error_kind};
 ghost use Rattle.std.specs.Io.{ReadsAtMost, WritesAtMost};
 ghost use Rattle.std.specs.Io.KnownBytes.{Keeps, Appends, Consumes, IsAtEnd};
-ghost use Rattle.stk_host.specs.Talk.{Sends, Receives, FitsBuffer};
-ghost use Rattle.stk_host.specs.Links.{stream_view, HearsKnown, AppendsFront};
+ghost use Rattle.stk_host.specs.Talk.{Sends, Receives, Stays, FitsBuffer};
+ghost use Rattle.stk_host.specs.Links.{StreamState, IsTrueSince, stream_view, HearsKnown, AppendsFront};
 
+use crate::history::History;
 use crate::link::{Heard, Link, LinkFault};
 use std::io;
 use std::io::{ErrorKind, Read, Write};
@@ -13,14 +14,15 @@ use std::marker::Model;
 
 /// A link over a reader and a writer, as standard input and output or the two sides of a socket.
 ///
-/// It keeps nothing of what passed. A read that timed out or would block is a silence, and a read of no bytes is the
-/// end; a call that was interrupted is made again. Every other fault of a read, a write or a flush, and a write of no
-/// bytes, is a failure. Each piece sent is flushed.
+/// What passed is kept for proofs alone, and takes no memory. A read that timed out or would block is a silence, and a
+/// read of no bytes is the end; a call that was interrupted is made again. Every other fault of a read, a write or a
+/// flush, and a write of no bytes, is a failure. Each piece sent is flushed.
 #[derive(Drop)]
 pub struct StreamLink<R, W> {
     reader: R,
     writer: W,
     failures: u64,
+    history: History,
 }
 
 impl<R, W> Model for StreamLink<R, W> {
@@ -28,7 +30,12 @@ impl<R, W> Model for StreamLink<R, W> {
 
     ghost Value = { StreamState R W };
 
-    ghost view = { λ link. record { reader = link.reader; writer = link.writer; failures = link.failures } };
+    ghost view = { λ link. record {
+      reader = link.reader;
+      writer = link.writer;
+      failures = link.failures;
+      talk = link.history.items;
+    } };
 }
 
 /// Reads, and again where that was interrupted.
@@ -105,12 +112,13 @@ fn hear_bytes<R: Read>(reader: &mut R, buffer: &mut [u8]) -> Result<Heard, LinkF
 impl<R, W> StreamLink<R, W> {
     /// A link that hears what the reader gives and sends what the writer takes.
     pub fn new(reader: R, writer: W) -> Self
-        ensures { result ≡ record { reader = reader; writer = writer; failures = 0 } }
+        ensures { result ≡ record { reader = reader; writer = writer; failures = 0; talk = [] } }
     {
         StreamLink {
             reader,
             writer,
             failures: 0,
+            history: History::new(),
         }
     }
 }
@@ -118,12 +126,13 @@ impl<R, W> StreamLink<R, W> {
 impl<R: Read + Drop, W: Write + Drop> Link for StreamLink<R, W> {
     ghost view = { stream_view };
 
-    ghost Start = { Unit {0} };
+    ghost Start = { StreamState R W };
 
-    ghost comes_of = { λ start link. Unit {0} };
+    ghost comes_of = { IsTrueSince R.remaining W.contents };
 
     fn send(&mut self, bytes: &[u8]) -> Result<usize, LinkFault>
         ensures sends { Sends bytes.now (stream_view self.old) (stream_view self.new) result }
+        ensures comes { Stays (IsTrueSince R.remaining W.contents) self.old self.new }
         // The writer took the bytes that are said to be sent, or at a failure a front of them.
         ensures written { IfOk result (λ n. Appends (W.contents self.old.writer) (W.contents self.new.writer)
             (take n bytes.now)) }
@@ -133,8 +142,9 @@ impl<R: Read + Drop, W: Write + Drop> Link for StreamLink<R, W> {
         ensures sound { OnOk result (self.new.failures ≡ self.old.failures) }
     {
         let outcome = put_bytes(&mut self.writer, bytes);
-        if outcome.is_err() {
-            self.failures = self.failures.saturating_add(1);
+        match outcome {
+            Ok(count) => self.history = self.history.sent(bytes, count),
+            Err(_) => self.failures = self.failures.saturating_add(1),
         }
         outcome
     }
@@ -142,6 +152,7 @@ impl<R: Read + Drop, W: Write + Drop> Link for StreamLink<R, W> {
     fn recv(&mut self, buffer: &mut [u8]) -> Result<Heard, LinkFault>
         requires { 0 < length buffer.old }
         ensures receives { Receives buffer.new (stream_view self.old) (stream_view self.new) result }
+        ensures comes { Stays (IsTrueSince R.remaining W.contents) self.old self.new }
         // The bytes heard are the reader's next ones, none is lost, and an end comes only behind the last.
         ensures read { IfOk result (λ heard. HearsKnown heard buffer.new (R.remaining self.old.reader)
             (R.remaining self.new.reader)) }
@@ -149,8 +160,9 @@ impl<R: Read + Drop, W: Write + Drop> Link for StreamLink<R, W> {
         ensures writer { self.new.writer ≡ self.old.writer }
     {
         let outcome = hear_bytes(&mut self.reader, buffer);
-        if outcome.is_err() {
-            self.failures = self.failures.saturating_add(1);
+        match outcome {
+            Ok(heard) => self.history = self.history.heard(&heard, buffer),
+            Err(_) => self.failures = self.failures.saturating_add(1),
         }
         outcome
     }

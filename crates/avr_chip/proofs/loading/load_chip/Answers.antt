@@ -11,11 +11,11 @@ pub returns-then-not-contents-clause-goes : goal.returns-then-not-contents-claus
 returns-then-not-contents-clause-goes g c =
     let contents = c.in-Ok.contents in
     goes_past c.args.part.now c.args.file.now contents.bytes contents.ended _ _ _ _ c.in-Ok.ensures.kept c.in-Ok.ensures.whole
-    c.if-not-contents.true c.in-Ok.ensures.counts.0 c.refuse.ensures.status (rw c.too_long_message.ensures at c.refuse.ensures.told)
+    c.if-not-contents.true c.in-Ok.ensures.counts.1 c.refuse.ensures.status (rw c.too_long_message.ensures at c.refuse.ensures.told)
 
 pub returns-clause-goes : goal.returns-clause-goes
 returns-clause-goes g c =
     let contents = c.in-Ok.contents in
     let goes = c.chip_of.ensures.goes in
     goes_ended c.args.part.now c.args.file.now contents.bytes contents.ended _ _ _ _ c.in-Ok.ensures.kept c.in-Ok.ensures.whole
-    c.if-not-contents.false c.in-Ok.ensures.counts.0 (rw c.as_slice.ensures at goes)
+    c.if-not-contents.false c.in-Ok.ensures.counts.1 (rw c.as_slice.ensures at goes)

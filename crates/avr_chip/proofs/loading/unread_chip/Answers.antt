@@ -7,7 +7,7 @@ use Rattle.avr_chip.proofs.loading.unread_chip.Goals as goal
 pub returns-in-Absent-clause-goes : goal.returns-in-Absent-clause-goes
 returns-in-Absent-clause-goes g c = λ old breaks rose counted.
     goes_opened c.args.file.now (chip_given c.args.part.now c.args.file.now) (Absent c.args.file.now) old _ _ _ refl
-    (rw c.in-Absent.is at breaks) rose c.fresh_chip.ensures.goes
+    (rw c.in-Absent.is at breaks) (rw c.in-Absent.is at counted) c.fresh_chip.ensures.goes
 
 pub returns-in_default-clause-goes : goal.returns-in_default-clause-goes
 returns-in_default-clause-goes g c = λ old breaks rose counted.

@@ -1,12 +1,12 @@
 use Rattle.std.proofs.Common.{◌≡◌, ◌≤◌, ◌-◌, length, option_map, false}
-use Rattle.avr_desk.specs.Fault.{Follows}
+use Rattle.avr_desk.specs.Fault.{HasSameCounts}
 use Rattle.avr_desk.specs.Files.{after_reading}
 use Rattle.avr_plan.proofs.image_file.read_front.Given as goal
 
 abbrev pub invariant-front : goal.invariant-front
 invariant-front g l = record {
   read : (g.D.Desk.view l.desk).kept ≡ option_map (after_reading l.bytes.items false) (g.D.Desk.view l.initial.desk).kept;
-  rises : Follows (g.D.Desk.view l.initial.desk) (g.D.Desk.view l.desk);
+  same : HasSameCounts (g.D.Desk.view l.initial.desk) (g.D.Desk.view l.desk);
   bound : length l.bytes.items ≤ 1024;
 }
 

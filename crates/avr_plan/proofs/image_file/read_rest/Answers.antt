@@ -1,10 +1,11 @@
 use Rattle.std.proofs.Common.{arith}
 use Rattle.std.proofs.lemmas.List.{length-take-le}
+use Rattle.avr_desk.proofs.Telling.{same_here, same_on}
 use Rattle.avr_plan.proofs.ImageReadings.{going_begins, going_on, rest_ends, rest_long}
 use Rattle.avr_plan.proofs.image_file.read_rest.Goals as goal
 
 pub pieces-init : goal.pieces-init
-pieces-init g c = record { going = going_begins _ _ _; rises = (omega arith, omega arith); room = omega arith }
+pieces-init g c = record { going = going_begins _ _ _; same = same_here (g.D.Desk.view c.args.desk.now); room = omega arith }
 
 pub pieces-preserved : goal.pieces-preserved
 pieces-preserved g c =
@@ -12,7 +13,7 @@ pieces-preserved g c =
     record {
       going = going_on _ _ _ _ _ _ _ _ c.in-Ok.count _ c.read.new.buf c.pieces.invariant.going c.in-Ok.ensures.kept c.if-count-eq0.false
           (omega (arith, len)) c.fed-intake.ensures.takes;
-      rises = (omega (arith, c.in-Ok.ensures.counts.0.0), omega (arith, c.in-Ok.ensures.counts.0.1));
+      same = same_on (g.D.Desk.view c.args.desk.now) (g.D.Desk.view c.pieces.desk) (g.D.Desk.view c.read.new.self) c.pieces.invariant.same c.in-Ok.ensures.counts.1;
       room = omega (arith, len, c.fed-intake.ensures.count);
     }
 

@@ -18,14 +18,14 @@ pub returns-then-not-contents : goal.returns-then-not-contents
 returns-then-not-contents g c =
     goes_long_parts c.args.file.now c.in-Ok.contents.bytes c.in-Ok.contents.ended _ _ _ _ c.in-Ok.ensures.kept c.in-Ok.ensures.whole
     c.if-not-contents.true
-    c.in-Ok.ensures.counts.0 c.refuse-then-not-contents.ensures.status
+    c.in-Ok.ensures.counts.1 c.refuse-then-not-contents.ensures.status
     (rw c.too_long_message.ensures at c.refuse-then-not-contents.ensures.told)
 
 pub returns-in-Ok-parse_parts : goal.returns-in-Ok-parse_parts
 returns-in-Ok-parse_parts g c =
     let gives = subst (λ (b : Bytes). GivesOrMemory (parts_of b) c.parse_parts.result) c.as_slice.ensures c.parse_parts.ensures in
     went_parts c.args.file.now c.in-Ok.contents.bytes c.in-Ok.contents.ended _ _ c.in-Ok-parse_parts.parts c.in-Ok.ensures.kept
-    c.in-Ok.ensures.whole c.if-not-contents.false c.in-Ok.ensures.counts.0
+    c.in-Ok.ensures.whole c.if-not-contents.false c.in-Ok.ensures.counts.1
     (rw c.in-Ok-parse_parts.is at gives)
 
 pub returns : goal.returns
@@ -33,5 +33,5 @@ returns g c =
     let gives = subst (λ (b : Bytes). GivesOrMemory (parts_of b) c.parse_parts.result) c.as_slice.ensures c.parse_parts.ensures in
     goes_bad_parts c.args.file.now c.in-Ok.contents.bytes c.in-Ok.contents.ended _ _ _ _ c.in-Err-parse_parts.fault c.in-Ok.ensures.kept
     c.in-Ok.ensures.whole
-    c.if-not-contents.false c.in-Ok.ensures.counts.0 (rw c.in-Err-parse_parts.is at gives)
+    c.if-not-contents.false c.in-Ok.ensures.counts.1 (rw c.in-Err-parse_parts.is at gives)
     c.refuse-in-Err-parse_parts.ensures.status (rw c.part_file_message.ensures at c.refuse-in-Err-parse_parts.ensures.told)

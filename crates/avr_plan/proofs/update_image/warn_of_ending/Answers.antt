@@ -6,7 +6,7 @@ pub returns-then-not-warns : goal.returns-then-not-warns
 returns-then-not-warns g c = rw (← c.if-not-warns.ensures) (went_silent _)
 
 pub returns-in-Ok : goal.returns-in-Ok
-returns-in-Ok g c = rw (← c.if-not-warns.ensures) (went_saying _ _ (no_end_line c.args.file.now) c.in-Ok.ensures.printed c.in-Ok.ensures.counts.0)
+returns-in-Ok g c = rw (← c.if-not-warns.ensures) (went_saying _ _ (no_end_line c.args.file.now) c.in-Ok.ensures.printed c.in-Ok.ensures.counts.1)
 
 pub returns-in-Err : goal.returns-in-Err
 returns-in-Err g c = rw (← c.if-not-warns.ensures) (goes_saying_part _ _ (no_end_line c.args.file.now) c.in-Err.field-0 c.in-Err.ensures.printed

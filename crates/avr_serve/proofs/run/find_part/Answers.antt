@@ -2,8 +2,8 @@ use Rattle.avr_serve.proofs.Running.{goes_without_parts, goes_with_parts}
 use Rattle.avr_serve.proofs.run.find_part.Goals as goal
 
 pub returns-in-Err : goal.returns-in-Err
-returns-in-Err g c = goes_without_parts c.args.settings.now _ _ c.in-Err.status c.in-Err.ensures
+returns-in-Err g c = goes_without_parts c.args.settings.now _ _ c.in-Err.status c.in-Err.ensures.goes
 
 pub returns : goal.returns
 returns g c =
-    goes_with_parts c.args.settings.now _ _ _ _ c.in-Ok.parts c.chosen_part.result c.as_str.ensures c.in-Ok.ensures c.chosen_part.ensures
+    goes_with_parts c.args.settings.now _ _ _ _ c.in-Ok.parts c.chosen_part.result c.as_str.ensures c.in-Ok.ensures.goes c.chosen_part.ensures.goes

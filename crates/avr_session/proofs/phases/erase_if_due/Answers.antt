@@ -1,7 +1,7 @@
-use Rattle.std.proofs.Common.{false}
-use Rattle.avr_session.specs.Actions.{LeaveErase}
+use Rattle.std.proofs.Common.{◌≡◌, [], ◌∷◌, refl, false}
+use Rattle.avr_session.specs.Actions.{LeaveErase, erase_actions}
 use Rattle.avr_session.specs.Session.{left_out_erase}
-use Rattle.avr_session.proofs.Performing.{does_nothing, does_one, left_out_performs}
+use Rattle.avr_session.proofs.Performing.{does_nothing, does_one, does_same, left_out_performs}
 use Rattle.avr_session.proofs.phases.erase_if_due.Goals as goal
 
 pub returns-then-switches-2-clause-performs : goal.returns-then-switches-2-clause-performs
@@ -9,16 +9,19 @@ returns-then-switches-2-clause-performs g c =
     let is_dry = rw c.switches-switches.ensures at c.if-switches.true in
     let is_asked = rw c.switches-switches.ensures at c.if-switches-2.true in
     let leaves = rw c.switches-switches.ensures at c.leave_out_erase.ensures in
-    rw (is_dry, is_asked) (does_one c.args.plan.now LeaveErase (left_out_performs false (left_out_erase c.args.plan.now.switches.quiet) c.leave_out_erase.result c.requires.sound leaves))
+    let due : LeaveErase ∷ [] ≡ erase_actions c.args.plan.now.switches c.args.plan.now.tasks = rw (is_dry, is_asked) refl in
+    does_same c.args.plan.now _ _ due (does_one c.args.plan.now LeaveErase (left_out_performs false (left_out_erase c.args.plan.now.switches.quiet) c.leave_out_erase.result c.requires.sound leaves))
 
 pub returns-then-switches-clause-performs : goal.returns-then-switches-clause-performs
 returns-then-switches-clause-performs g c =
     let is_dry = rw c.switches-switches.ensures at c.if-switches.true in
     let is_not_asked = rw c.switches-switches.ensures at c.if-switches-2.false in
-    rw (is_dry, is_not_asked) (does_nothing c.args.plan.now _ _ c.requires.sound)
+    let none : [] ≡ erase_actions c.args.plan.now.switches c.args.plan.now.tasks = rw (is_dry, is_not_asked) refl in
+    does_same c.args.plan.now _ _ none (does_nothing c.args.plan.now _ _ c.requires.sound)
 
 pub returns-clause-performs : goal.returns-clause-performs
 returns-clause-performs g c =
     let is_not_dry = rw c.switches-switches.ensures at c.if-switches.false in
     let is_not_due = rw (c.is_erase_due.ensures, c.switches-switches.ensures, c.tasks.ensures.value) at c.if-is_erase_due.false in
-    rw (is_not_dry, is_not_due) (does_nothing c.args.plan.now _ _ c.requires.sound)
+    let none : [] ≡ erase_actions c.args.plan.now.switches c.args.plan.now.tasks = rw (is_not_dry, is_not_due) refl in
+    does_same c.args.plan.now _ _ none (does_nothing c.args.plan.now _ _ c.requires.sound)

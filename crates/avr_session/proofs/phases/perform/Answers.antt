@@ -5,3 +5,6 @@ returns-in-Write-clause-performs g c = rw c.in-Write.is c.write_and_verify.ensur
 
 pub returns-in-Read-clause-performs : goal.returns-in-Read-clause-performs
 returns-in-Read-clause-performs g c = rw (c.in-Read.is, ← c.as_str.ensures) c.read.ensures.performs
+
+pub returns-in-Verify-clause-performs : goal.returns-in-Verify-clause-performs
+returns-in-Verify-clause-performs g c = rw c.in-Verify.is c.verify.ensures.performs

@@ -1,15 +1,16 @@
-use Rattle.std.proofs.Common.{false, [], ◌∷◌, Ok, Err}
+use Rattle.std.proofs.Common.{◌≡◌, ◌++◌, refl, false, [], ◌∷◌, Ok, Err}
 use Rattle.std.proofs.lemmas.Result.{err_from_is_err_and}
-use Rattle.avr_session.specs.Actions.{WriteImage, LeaveWrite, read_back_actions}
+use Rattle.avr_session.specs.Actions.{WriteImage, LeaveWrite, read_back_actions, write_actions}
 use Rattle.avr_session.specs.Session.{left_out_write}
-use Rattle.avr_session.proofs.Performing.{left_out_performs, does_one, does_then, does_last}
+use Rattle.avr_session.proofs.Performing.{left_out_performs, does_one, does_same, does_then, does_last}
 use Rattle.avr_session.proofs.phases.write_and_verify.Goals as goal
 
 pub returns-then-switches-clause-performs : goal.returns-then-switches-clause-performs
 returns-then-switches-clause-performs g c =
     let s = c.args.plan.now.switches in
     let is_dry = rw c.switches.ensures at c.if-switches.true in
-    rw is_dry (does_one c.args.plan.now (LeaveWrite c.args.mem c.args.image.now)
+    let due : LeaveWrite c.args.mem c.args.image.now ∷ [] ≡ write_actions s c.args.mem c.args.image.now = rw is_dry refl in
+    does_same c.args.plan.now _ _ due (does_one c.args.plan.now (LeaveWrite c.args.mem c.args.image.now)
     (left_out_performs false (left_out_write s.quiet c.args.mem c.args.image.now) c.leave_out_write.result c.requires.sound c.leave_out_write.ensures))
 
 pub returns-in_err-fault-clause-performs : goal.returns-in_err-fault-clause-performs
@@ -18,18 +19,21 @@ returns-in_err-fault-clause-performs g c =
     let is_not_dry = rw c.switches.ensures at c.if-switches.false in
     let write = WriteImage c.args.mem c.args.image.now ∷ [] in
     let more = read_back_actions c.args.plan.now.switches c.args.mem c.args.image.now in
-    rw (p.1, is_not_dry) (does_last c.args.plan.now write more (Err p.0) (λ e. cc) c.in_err-fault.ensures.performs)
+    let due : write ++ more ≡ write_actions c.args.plan.now.switches c.args.mem c.args.image.now = rw is_not_dry refl in
+    rw p.1 (does_same c.args.plan.now _ _ due (does_last c.args.plan.now write more (Err p.0) (λ e. cc) c.in_err-fault.ensures.performs))
 
 pub returns-in-Fine-clause-performs : goal.returns-in-Fine-clause-performs
 returns-in-Fine-clause-performs g c =
     let is_not_dry = rw c.switches.ensures at c.if-switches.false in
     let write = WriteImage c.args.mem c.args.image.now ∷ [] in
     let more = read_back_actions c.args.plan.now.switches c.args.mem c.args.image.now in
-    rw is_not_dry (does_then c.args.plan.now write more c.read_back.result (rw c.in-Fine.is at c.in_ok-fault.ensures.performs) c.read_back.ensures.performs)
+    let due : write ++ more ≡ write_actions c.args.plan.now.switches c.args.mem c.args.image.now = rw is_not_dry refl in
+    does_same c.args.plan.now _ _ due (does_then c.args.plan.now write more c.read_back.result (rw c.in-Fine.is at c.in_ok-fault.ensures.performs) c.read_back.ensures.performs)
 
 pub returns-in_default-clause-performs : goal.returns-in_default-clause-performs
 returns-in_default-clause-performs g c =
     let is_not_dry = rw c.switches.ensures at c.if-switches.false in
     let write = WriteImage c.args.mem c.args.image.now ∷ [] in
     let more = read_back_actions c.args.plan.now.switches c.args.mem c.args.image.now in
-    rw is_not_dry (does_last c.args.plan.now write more (Ok c.in_ok-fault.fault) (λ e. c.in_default.not-Fine cc) c.in_ok-fault.ensures.performs)
+    let due : write ++ more ≡ write_actions c.args.plan.now.switches c.args.mem c.args.image.now = rw is_not_dry refl in
+    does_same c.args.plan.now _ _ due (does_last c.args.plan.now write more (Ok c.in_ok-fault.fault) (λ e. c.in_default.not-Fine cc) c.in_ok-fault.ensures.performs)

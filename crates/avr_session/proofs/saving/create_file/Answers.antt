@@ -11,7 +11,7 @@ use Rattle.avr_session.proofs.saving.create_file.Goals as goal
 
 pub returns-in-Ok : goal.returns-in-Ok
 returns-in-Ok g c =
-    created_then _ (g.D.Desk.view c.create.new.self) _ c.args.target.file.now (file_text c.args.target.format c.args.bytes.now) c.create.result c.write_file.result c.in-Ok.is c.create.ensures.kept c.create.ensures.counts.0
+    created_then _ (g.D.Desk.view c.create.new.self) _ c.args.target.file.now (file_text c.args.target.format c.args.bytes.now) c.create.result c.write_file.result c.in-Ok.is c.create.ensures.kept c.create.ensures.counts
     c.write_file.ensures.follows c.write_file.ensures.writes
 
 pub returns-in-Err : goal.returns-in-Err

@@ -1,0 +1,14 @@
+-- What one call of a desk makes of its record.
+use Rattle.std.specs.Prelude.{false, [], take, Ok}
+use Rattle.avr_desk.specs.declared.journal.Call.{Call}
+use Rattle.avr_desk.specs.declared.journal.Call.TheVariants as call
+use Rattle.avr_desk.specs.declared.record.Open.TheVariants.{ToRead, ToWrite}
+use Rattle.avr_desk.specs.Record.{Record, with_open, with_absent, after_read}
+use Rattle.avr_desk.specs.Stream.{after_sent}
+
+abbrev pub after_call : Call → Record → Record
+after_call (call.Opened name) r = with_open (ToRead (record { name = name.now; bytes = []; ended = false })) r
+after_call (call.Absent name) r = with_absent name.now r
+after_call (call.Created name) r = with_open (ToWrite (record { name = name.now; bytes = [] })) r
+after_call (call.Read buf n) r = after_read buf.now (Ok n) r
+after_call (call.Sent stream bytes n) r = after_sent stream (take n bytes.now) r

@@ -1,0 +1,30 @@
+-- Where want of memory may stop a session: at an action that takes memory, before anything of it has happened.
+use Rattle.std.specs.Prelude.{ℕ, Bool, true, List, [], ◌∷◌, ◌++◌, ◌≡◌, Some}
+use Rattle.avr_cli.specs.declared.settings.Switches.{Switches}
+use Rattle.avr_desk.specs.Said.{Saying}
+use Rattle.avr_part.specs.Part.{Part}
+use Rattle.stk_host.specs.Dialog.{Event}
+use Rattle.stk_host.specs.Play.{Position, played_over}
+use Rattle.stk_host.specs.Talk.{Talk}
+use Rattle.stk_host.specs.Tape.{Tape}
+use Rattle.avr_session.specs.declared.standing.Standing.TheVariants.{Fine}
+use Rattle.avr_session.specs.Actions.{Action, action_takes_memory}
+use Rattle.avr_session.specs.Session.{phases}
+
+-- at once, where memory is taken
+abbrev pub AtOnce : Bool → Position → Talk → List (Event Saying) → Type 0
+AtOnce takes before during shown = (takes ≡ true) × (shown ≡ [])
+
+-- An action that takes memory was due, and what happened is all that those before it are, which were played to their
+-- end over what was heard.
+pub record AtTaking (part : Part) (switches : Switches) (actions : List Action) (before : Position) (during : Talk)
+    (shown : List (Event Saying)) : Type 0 where
+  pub done : List Action
+  pub due : Action
+  pub more : List Action
+  pub actions_are : actions ≡ done ++ due ∷ more
+  pub takes : action_takes_memory due ≡ true
+  pub next : ℕ
+  pub left : Tape
+  pub is_played : played_over (phases part switches done) before during
+      ≡ record { events = shown; outcome = Some (Fine, next, left) }

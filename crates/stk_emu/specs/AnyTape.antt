@@ -1,0 +1,67 @@
+-- A dialog played over any tape, by what became of the programmer at each of its questions.
+use Rattle.std.specs.Prelude.{ℕ, Bool, true, false, List, [], ◌∷◌, ◌≡◌, Option, Some, None, length, filter}
+use Rattle.stk_frame.specs.Cut.{frames, is_good}
+use Rattle.stk_host.specs.Tape.{Tape, Reading, answer}
+use Rattle.stk_host.specs.Dialog.{Dialog, Done, Say, Ask, played, next, frames_in, sayings}
+use Rattle.stk_emu.specs.Device.{Device, after_frame}
+use Rattle.stk_emu.specs.Turn.{Became, Kept, Obeyed, after_became, Turn, IsHonest}
+use Rattle.stk_emu.specs.Along.{along, said_along}
+
+-- behind the list no command arrives
+abbrev pub first_became : List Became → Became
+first_became [] = Kept
+first_became (became ∷ becames) = became
+
+abbrev pub other_becames : List Became → List Became
+other_becames [] = []
+other_becames (became ∷ becames) = becames
+
+-- of an answer that is awaited nothing is asked; of one that is read this, and this of the rest
+abbrev pub on_answer : (Reading → Tape → Type 0) → Option (Reading × Tape) → Type 0
+on_answer Claim None = Unit {0}
+on_answer Claim (Some (reading, tape)) = Claim reading tape
+
+-- WHATEVER THE LINE DOES, as long as it makes no answer: at each question that this dialog, numbered from n on, asks in
+-- the play over this tape, what is read is honest, by what became of the programmer at that question.
+abbrev pub AreHonest : {E R P : Type 0} → Device P → Dialog E R → ℕ → Tape → P → List Became → Type 0
+AreHonest m (Done r) n tape p becames = Unit {0}
+AreHonest m (Say e dialog) n tape p becames = AreHonest m dialog n tape p becames
+AreHonest m (Ask bytes go_on) n tape p becames =
+    on_answer (λ reading left.
+    IsHonest m bytes p (first_became becames) reading
+    × AreHonest m (go_on reading) (next n) left
+    (after_became (first_became becames) (m.after bytes p) p m.reset) (other_becames becames))
+    (answer n tape)
+
+-- what is there after these frames were sent, and these things became of the programmer
+abbrev pub after_sent : {P : Type 0} → Device P → List (List ℕ) → List Became → P → P
+after_sent m [] becames p = p
+after_sent m (piece ∷ sent) becames p =
+    after_sent m sent (other_becames becames) (after_became (first_became becames) (after_frame m piece p) p m.reset)
+
+-- The play of a dialog over a tape goes along turns, one for each frame that it sends: the programmer stands there as
+-- what became of it says, and where the play is done, so is the dialog, with the same result, and it has said the same.
+pub record GoesAs {E R P : Type 0} (m : Device P) (d : Dialog E R) (n : ℕ) (tape : Tape) (p : P)
+    (becames : List Became) : Type 0 where
+  pub turns : List Turn
+  pub programmer : (along m (length (frames_in (played d n tape).events)) d p turns).programmer
+      ≡ after_sent m (frames_in (played d n tape).events) becames p
+  pub outcome : (r : R) (seq : ℕ) (left : Tape) → (played d n tape).outcome ≡ Some (r, seq, left)
+      → ((along m (length (frames_in (played d n tape).events)) d p turns).dialog ≡ Done r)
+      × (sayings (played d n tape).events ≡ said_along m (length (frames_in (played d n tape).events)) d p turns)
+
+-- some of these frames, in their order, each at most once: those that came through
+abbrev pub let_through : List Bool → List (List ℕ) → List (List ℕ)
+let_through [] sent = []
+let_through (through ∷ more) [] = []
+let_through (true ∷ more) (piece ∷ sent) = piece ∷ let_through more sent
+let_through (false ∷ more) (piece ∷ sent) = let_through more sent
+
+-- A programmer that got any bytes: the good frames that it cuts from them are some of those sent.
+pub record CameThrough (got : List ℕ) (sent : List (List ℕ)) (through : List Bool) : Type 0 where
+  pub good : filter is_good (frames got) ≡ let_through through sent
+
+abbrev pub became_by : List Bool → List Became
+became_by [] = []
+became_by (true ∷ more) = Obeyed ∷ became_by more
+became_by (false ∷ more) = Kept ∷ became_by more

@@ -1,0 +1,128 @@
+#!/usr/bin/env python3
+"""Runs the scripts, and all proofs, one after the other, and says at the end what came of each.
+
+    tests/all.py WORD ..        in turn, as the words say
+
+    unproved    builds the sources without proofs (./avrstk --unproved), and runs the scripts over that program:
+                what breaks is found in minutes
+    ci          proves all from nothing: rt ci
+    proved      runs the scripts over the programs that rt ci leaves
+
+The scripts run one after the other, as some measure times. What fails hides nothing: all that follows is run, and
+the status is 1 at the end. The summary has the status of each, its minutes and its last line, and what was left out
+since a tool isn't installed; with NEED_ALL=1 in the environment that is a failure too.
+"""
+
+import os
+import re
+import subprocess
+import sys
+import time
+from dataclasses import dataclass
+from pathlib import Path
+
+TOP = Path(__file__).resolve().parent.parent
+UNPROVED = TOP / "out/unproved/avrstk"
+PROVED = TOP / "crates/avrstk/out/avrstk"
+
+# the scripts beside this one, and one that counts calls of the system
+SCRIPTS = (
+    *("avrdude", "build", "claims", "faults", "hostile", "lines", "made_frames", "manual", "others", "parts"),
+    *("programmer", "runs", "serial", "why", "calls"),
+)
+COMMANDS = {"calls": [TOP / "bench/run.py", "--calls"]}
+
+# those that need what rt ci alone leaves
+PROVED_ONLY = ("faults", "others")
+
+# what a script says of what it leaves out
+LEFT_OUT = re.compile(r"\s*(?:left out|skipped): (.*)")
+
+
+@dataclass
+class Done:
+    """What came of one command: what it is, its status, how long it took, its last line, and what it left out."""
+
+    what: str
+    status: int
+    seconds: float
+    last: str
+    left: list
+
+
+def run(what, command, **more):
+    """Runs a command, whose output goes through as it comes."""
+    print(f"== {what}", flush=True)
+    begun = time.monotonic()
+    text = b""
+    try:
+        how = {"cwd": TOP, "stdin": subprocess.DEVNULL, "stdout": subprocess.PIPE, "stderr": subprocess.STDOUT}
+        with subprocess.Popen(command, **how, **more) as started:
+            while piece := os.read(started.stdout.fileno(), 65_536):
+                sys.stdout.buffer.write(piece)
+                sys.stdout.buffer.flush()
+                text += piece
+        status = started.returncode
+    except OSError as fault:
+        status, text = 127, f"cannot be run: {fault}".encode()
+        print(text.decode(), flush=True)
+    lines = [it for it in text.decode(errors="replace").splitlines() if it.strip()]
+    left = [found[1] for found in map(LEFT_OUT.fullmatch, lines) if found]
+    return Done(what, status, time.monotonic() - begun, lines[-1].strip() if lines else "", left)
+
+
+def scripts_over(name, program, scripts):
+    """Runs these scripts over a program."""
+    environment = os.environ | {"AVRSTK": str(program), "PYTHONUNBUFFERED": "1"}
+    for it in scripts:
+        command = COMMANDS.get(it, [TOP / f"tests/{it}.py"])
+        yield run(f"{name}: {Path(command[0]).relative_to(TOP)}", command, env=environment)
+
+
+def unproved():
+    built = run("unproved: ./avrstk --unproved", [TOP / "avrstk", "--unproved", "--help"])
+    built.last = built.last if built.status else "built"
+    yield built
+    if built.status == 0:
+        yield from scripts_over("unproved", UNPROVED, [it for it in SCRIPTS if it not in PROVED_ONLY])
+
+
+def ci():
+    yield run("rt ci", ["rt", "ci"])
+
+
+def proved():
+    yield from scripts_over("proved", PROVED, SCRIPTS)
+
+
+def summary(done):
+    """Prints what came of all, and gives the status."""
+    print("== summary")
+    for it in done:
+        how = "ok    " if it.status == 0 else f"FAILED ({it.status})"
+        print(f"{how} {it.seconds / 60:5.1f} min  {it.what}: {it.last[:200]}")
+    left = [f"{it.what}: {what}" for it in done for what in it.left]
+    print(f"left out, since a tool is not installed: {len(left) or 'nothing'}")
+    for what in left:
+        print(f"    {what}")
+    failed = sum(it.status != 0 for it in done)
+    minutes = sum(it.seconds for it in done) / 60
+    print(f"{len(done) - failed} ok, {failed} failed, {len(left)} left out, in {minutes:.0f} minutes")
+    if left and os.environ.get("NEED_ALL") == "1":
+        print("FAILED: with NEED_ALL=1 nothing may be left out")
+        return 1
+    return int(failed > 0)
+
+
+WORDS = {"unproved": unproved, "ci": ci, "proved": proved}
+
+
+def main():
+    words = sys.argv[1:]
+    if not words or set(words) - set(WORDS):
+        sys.exit(__doc__.strip())
+    return summary([it for word in words for it in WORDS[word]()])
+
+
+if __name__ == "__main__":
+    sys.exit(main())

@@ -1,0 +1,228 @@
+#!/usr/bin/env python3
+"""AVRDUDE 7.1 as the client of the programmer that this program serves: what it writes, reads and erases is what this
+program does over `emu:`.
+
+    tests/avrdude.py [CASE ..]    needs crates/avrstk/out/avrstk, as rt ci leaves it; AVRDUDE 7.1, or all is left out
+
+For an ATmega328P, an ATtiny85 and an ATmega2560, each request is made twice: by AVRDUDE over `net:` to `--serve`, and
+by this program over `emu:` to a chip file of its own, both with the same words. Flash and EEPROM are filled with drawn
+bytes, fuses and the lock are written, all memories are read into files, compared, erased with the EEPROM kept and
+without, and AVRDUDE is asked for what has to fail. Both end alike; the server ends with status 0 and without a word;
+the chip files are the same byte for byte, and so are the files read. Then AVRDUDE is killed in the middle of a session
+that writes flash, and of one that writes EEPROM: each byte is still the erased one or the one to be written, and its
+next run leaves what `emu:` leaves.
+
+This is seen of this version, these parts and these requests. Of an extended fuse AVRDUDE sends only the bits that its
+configuration has, and 0 for the others: the values here have no others.
+"""
+
+import os
+import random
+import subprocess
+import sys
+import threading
+from dataclasses import dataclass
+
+from cases import leave_out, run_cases, same, see
+from line import BadLine
+from program import Room, Server
+
+
+@dataclass
+class Part:
+    """The sizes of a part's flash and EEPROM, and values of its fuses."""
+
+    flash: int
+    eeprom: int
+    fuses: dict
+
+    @property
+    def chip(self):
+        return self.flash + self.eeprom + 4
+
+
+PARTS = {
+    "m328p": Part(32_768, 1_024, {"lfuse": 0xE2, "hfuse": 0xD9, "efuse": 0x05}),
+    "t85": Part(8_192, 512, {"lfuse": 0x62, "hfuse": 0xDF, "efuse": 0x00}),
+    "m2560": Part(262_144, 4_096, {"lfuse": 0x5E, "hfuse": 0x99, "efuse": 0x04}),
+}
+# the bit of the high fuse that keeps the EEPROM, where it is 0
+KEEPS_EEPROM = 0x08
+MEMORIES = ["flash", "eeprom", "lfuse", "hfuse", "efuse", "lock", "signature", "calibration"]
+
+
+def is_known():
+    """Whether AVRDUDE is here, in the version that this is about."""
+    try:
+        ran = subprocess.run(["avrdude", "-?"], capture_output=True, text=True)
+    except FileNotFoundError:
+        return False
+    return "version 7.1," in ran.stderr
+
+
+def drawn(name, size):
+    """So many bytes, none of them FF, the same each time."""
+    source = random.Random(name)
+    return bytes(source.randrange(255) for _ in range(size))
+
+
+def updates(*texts):
+    return [word for text in texts for word in ["-U", text]]
+
+
+class Beside:
+    """A part at AVRDUDE's hands, served, and one at this program's, over `emu:`; both are new at first."""
+
+    def __init__(self, name):
+        self.name, self.part = name, PARTS[name]
+        self.room = Room()
+        self.flash, self.eeprom = drawn(f"{name} flash", self.part.flash), drawn(f"{name} EEPROM", self.part.eeprom)
+        self.room.put("flash.bin", self.flash)
+        self.room.put("eeprom.bin", self.eeprom)
+
+    def asked(self, port, words):
+        """AVRDUDE, started with these words; its messages are not this project's, so its status is looked at alone."""
+        command = ["avrdude", "-q", "-c", "stk500v2", "-p", self.name, "-P", f"net:127.0.0.1:{port}", *words]
+        # a home without a configuration of one's own
+        home = {"HOME": str(self.room.folder), "XDG_CONFIG_HOME": str(self.room.folder)}
+        how = {"stdin": subprocess.DEVNULL, "stdout": subprocess.DEVNULL, "stderr": subprocess.PIPE}
+        return subprocess.Popen(command, cwd=self.room.folder, env=os.environ | home, **how)
+
+    def by_avrdude(self, words, part=None):
+        """AVRDUDE's status and messages, and how the server ended."""
+        with Server(self.room, "served.bin", part or self.name) as server:
+            with self.asked(server.port, words) as client:
+                _, messages = client.communicate(timeout=120)
+            return client.returncode, messages, server.end()
+
+    def by_this(self, words):
+        """The same over `emu:`."""
+        status, _, messages = self.room.run(["-c", "stk500v2", "-p", self.name, "-P", "emu:own.bin", "-qq", *words])
+        return status, messages
+
+    def chips_are_alike(self, what):
+        theirs, own = self.room.read("served.bin"), self.room.read("own.bin")
+        sizes = [len(it or b"") for it in (theirs, own)]
+        differ = [at for at, (a, b) in enumerate(zip(theirs or b"", own or b"")) if a != b]
+        good = sizes == [self.part.chip] * 2 and not differ
+        see(f"{self.name}: {what}: the chip file", good, f"{sizes} bytes, {len(differ)} differ, at {differ[:8]}")
+
+    def request(self, what, words, status=0):
+        """One request, made by both."""
+        found, messages, ended = self.by_avrdude(words)
+        own, own_messages = self.by_this(words)
+        good = (found != 0) == (own != 0) == (status != 0)
+        detail = f"{found}, {own}\n{messages.decode()}\n{own_messages.decode()}"
+        see(f"{self.name}: {what}: both end alike", good, detail)
+        same(f"{self.name}: {what}: the server", ended, (0, b"", b""))
+        self.chips_are_alike(what)
+
+    def written(self):
+        """Flash, EEPROM, fuses and the lock, in a request each; the fuses and the lock not before the memories."""
+        self.request("flash", updates("flash:w:flash.bin:r"))
+        self.holds("flash", 0, self.flash)
+        self.request("EEPROM", updates("eeprom:w:eeprom.bin:r"))
+        self.holds("EEPROM", self.part.flash, self.eeprom)
+        for at, (fuse, value) in enumerate(self.part.fuses.items()):
+            self.request(fuse, updates(f"{fuse}:w:{value:#04x}:m"))
+            self.holds(fuse, self.part.flash + self.part.eeprom + at, bytes([value]))
+
+    def holds(self, what, at, content):
+        chip = self.room.read("served.bin") or b""
+        see(f"{self.name}: {what}: is in the chip", chip[at : at + len(content)] == content)
+
+    def read(self):
+        """Each memory into a file, by both; and records that one wrote, compared by the other."""
+        found, messages, _ = self.by_avrdude(updates(*(f"{it}:r:{it}.theirs:r" for it in MEMORIES)))
+        own, _ = self.by_this(updates(*(f"{it}:r:{it}.own:r" for it in MEMORIES)))
+        see(f"{self.name}: all memories are read", found == own == 0, f"{found}, {own}\n{messages.decode()}")
+        for it in MEMORIES:
+            theirs, ours = self.room.read(f"{it}.theirs"), self.room.read(f"{it}.own")
+            see(f"{self.name}: {it} is read alike", theirs is not None and theirs == ours, f"{theirs}\n{ours}"[:300])
+        records = ["flash:{}:read.hex:i", "eeprom:{}:read.srec:s"]
+        by_both = [self.by_avrdude, self.by_this]
+        for reads, compares in [by_both, by_both[::-1]]:
+            found = reads(updates(*(it.format("r") for it in records)))[0]
+            again = compares(updates(*(it.format("v") for it in records)))[0]
+            same(f"{self.name}: records of one are read by the other, {reads.__name__}", (found, again), (0, 0))
+        self.chips_are_alike("after all was read")
+
+    def refused(self):
+        """What has to fail leaves the chip as it was: another image compared, and a part of another signature."""
+        self.request("another image", updates("eeprom:v:flash.bin:r", "lfuse:w:0x00:m"), status=1)
+        other = next(it for it in PARTS if it != self.name)
+        (self.room.folder / "served.bin").rename(self.room.folder / "kept.bin")
+        found, _, ended = self.by_avrdude(updates("lfuse:w:0x00:m"), part=other)
+        same(f"{self.name}: another part", (found != 0, ended), (True, (0, b"", b"")))
+        blank = b"\xff" * PARTS[other].chip
+        see(f"{self.name}: another part's chip file", self.room.read("served.bin") == blank)
+        (self.room.folder / "kept.bin").rename(self.room.folder / "served.bin")
+
+    def erased(self):
+        """An erase under a lock, with the EEPROM kept, and then without."""
+        high = self.part.fuses["hfuse"]
+        self.request("the fuse that keeps the EEPROM", updates(f"hfuse:w:{high & ~KEEPS_EEPROM:#04x}:m"))
+        self.request("the lock", updates("lock:w:0xFC:m"))
+        self.request("an erase that keeps the EEPROM", ["-e"])
+        self.holds("an erase that keeps the EEPROM", self.part.flash, self.eeprom)
+        self.request("the fuse that lets it go", updates(f"hfuse:w:{high:#04x}:m"))
+        self.request("an erase", ["-e"])
+        self.holds("an erase", 0, b"\xff" * (self.part.flash + self.part.eeprom))
+
+    def killed(self, memory, frame):
+        """AVRDUDE writes a memory of an erased chip, and is killed when this frame comes; then it is asked once more."""
+        words = updates(f"{memory}:w:{memory}.bin:r")
+        self.request(f"an erase before {memory}", ["-e"])
+        fates = Killing(frame)
+        peer = BadLine(self.room, fates, self.name)
+        with self.asked(peer.port, words) as client:
+            fates.give(client)
+            client.communicate(timeout=120)
+        same(f"{self.name}: {memory}: killed at frame {frame}", (client.returncode, len(peer.end())), (-9, frame))
+        chip, image = self.room.read("served.bin") or b"", self.flash + self.eeprom
+        written = [at for at, byte in enumerate(chip[: len(image)]) if byte != 0xFF]
+        good = len(chip) == self.part.chip and all(chip[at] == image[at] for at in written)
+        few = 0 < len(written) < len(self.flash if memory == "flash" else self.eeprom)
+        what = f"{self.name}: {memory}: the chip has some of it, and nothing else"
+        see(what, good and few, f"{len(written)} bytes")
+        self.request(f"{memory}, after AVRDUDE was killed", words)
+
+
+class Killing:
+    """The fates of a line whose client is killed at a frame: the frame is obeyed, and its answer goes nowhere."""
+
+    def __init__(self, frame):
+        self.frame = frame
+        self.client = None
+        self.given = threading.Event()
+
+    def give(self, client):
+        self.client = client
+        self.given.set()
+
+    def get(self, number, good):
+        if number < self.frame:
+            return good
+        self.given.wait(30)
+        self.client.kill()
+        self.client.wait()
+        return "lost answer"
+
+
+def all_of(name):
+    """All requests to a part in turn, each to the chip that the one before left."""
+    if not is_known():
+        return leave_out(f"AVRDUDE as the client of --serve, {name}", "AVRDUDE 7.1 is not installed")
+    beside = Beside(name)
+    beside.written()
+    beside.read()
+    beside.refused()
+    beside.erased()
+    beside.killed("flash", 40)
+    beside.killed("eeprom", 30)
+
+
+CASES = {name: lambda name=name: all_of(name) for name in PARTS}
+
+if __name__ == "__main__":
+    sys.exit(run_cases(CASES, __doc__))

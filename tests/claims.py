@@ -1,0 +1,470 @@
+#!/usr/bin/env python3
+"""Tries sentences of README and docs/USAGE, docs/PROTOCOL and docs/FORMATS as they stand: what `written` and status 0
+mean, what is sent behind a fault, what a silence is, what a file is taken for, and what AVRDUDE does where USAGE says.
+
+    tests/claims.py        needs crates/avrstk/out/avrstk, as rt ci leaves it; AVRDUDE 7.1, or its rows are left out
+"""
+
+import fcntl
+import os
+import re
+import shlex
+import signal
+import socket
+import struct
+import subprocess
+import sys
+import time
+
+from cases import leave_out, named, run_cases, see
+from line import BadLine, Peer, frames_of
+from program import CHIP_FILE, PROGRAM, TOP, Room, Server, frame, lines
+from why import is_known
+
+room = Room()
+
+EMULATED = ["-p", "m328p", "-P", "emu:chip.bin"]
+SIGNATURE = "device signature = 1E 95 0F"
+ERASED = [SIGNATURE, "chip erased"]
+FLASH, EEPROM = 32_768, 1_024
+# where the fuses and the lock stand in a chip file
+LFUSE, LOCK = FLASH + EEPROM, CHIP_FILE - 1
+NEW = b"\xff" * CHIP_FILE
+LOCKED = NEW[:-1] + b"\xfe"
+FULL = bytes(FLASH) + NEW[FLASH:]
+ENTER = bytes.fromhex("10 C8 64 19 20 00 53 03 AC 53 00 00")
+LEAVE = 0x11
+
+
+def run(name, words, told, status=0, chip=None, **files):
+    """A run over `emu:` with this chip, or a new one, that says these lines; the chip file behind it."""
+    room.clear()
+    for file, content in ({"chip.bin": chip} if chip else {}).items():
+        room.put(file, content)
+    for file, content in files.items():
+        room.put(file.replace("_", "."), content if isinstance(content, bytes) else content.encode())
+    found = room.run([*EMULATED, *words])
+    see(name, found == (status, b"", lines(*told)), found)
+    return room.read("chip.bin")
+
+
+def text(name):
+    return (TOP / name).read_text()
+
+
+# ---- what `written` and status 0 mean
+
+
+def written_is_no_more_than_answered():
+    told = [SIGNATURE, "lfuse: 1 bytes written", "eeprom: 3 bytes written", "done"]
+    chip = run("a locked chip under -V", ["-V", "-U", "lfuse:w:0xE2:m", "-U", "eeprom:w:1,2,3:m"], told, chip=LOCKED)
+    see("a locked chip keeps what it has", chip == LOCKED)
+    told = [SIGNATURE, "flash: 2 bytes written", "done"]
+    chip = run("old bytes under -D -V", ["-D", "-V", "-U", "flash:w:0x12,0x34:m"], told, chip=FULL)
+    see("flash keeps its zeros", chip == FULL)
+    told = [SIGNATURE, "lfuse: 1 bytes written", "error: lfuse: address 00000000: E2 expected, FF found"]
+    run("the comparison sees the lock", ["-U", "lfuse:w:0xE2:m"], told, 1, LOCKED)
+    told = [SIGNATURE, "flash: 2 bytes written", "error: flash: address 00000000: 12 expected, 00 found"]
+    run("and old bytes", ["-D", "-U", "flash:w:0x12,0x34:m"], told, 1, FULL)
+
+
+def what_is_written_is_there():
+    words = ["-V", "-U", "flash:w:0x12,0x34:m", "-U", "lfuse:w:0xE2:m"]
+    told = [*ERASED, "flash: 2 bytes written", "lfuse: 1 bytes written", "done"]
+    for name, chip in [("a locked chip that is erased before", LOCKED), ("a full one", FULL)]:
+        found = run(f"written: {name}", words, told, chip=chip)
+        is_flash = found[:FLASH] == b"\x12\x34" + b"\xff" * (FLASH - 2)
+        see(f"it is there: {name}", is_flash and found[LFUSE] == 0xE2)
+
+
+def a_locked_chip_without_an_erase():
+    told = [SIGNATURE, "eeprom: 1 bytes written", "eeprom: 1 bytes verified", "done"]
+    run("bytes that are there", ["-U", "eeprom:w:255:m"], told, chip=LOCKED)
+    told = [SIGNATURE, "eeprom: 1024 bytes read", "done"]
+    run("a read", ["-U", "eeprom:r:out.bin:r"], told, chip=LOCKED)
+    told = [SIGNATURE, "eeprom: 1 bytes written", "error: eeprom: address 00000000: 01 expected, FF found"]
+    for attempt in ["", ", and once more"]:
+        run(f"other bytes{attempt}", ["-U", "eeprom:w:1:m"], told, 1, LOCKED)
+
+
+def plans_that_no_second_run_heals():
+    told = [*ERASED, "lock: 1 bytes written", "lock: 1 bytes verified", "lock: 1 bytes written"]
+    words = ["-e", "-U", "lock:w:0xFD:m", "-U", "lock:w:0xFF:m"]
+    told.append("error: lock: address 00000000: FF expected, FD found")
+    run("the lock written twice with other bits", words, told, 1)
+    words = ["-U", "flash:w:0x0F:m", "-U", "flash:w:0x3F:m"]
+    told = [*ERASED, "flash: 1 bytes written", "flash: 1 bytes verified", "flash: 1 bytes written"]
+    told.append("error: flash: address 00000000: 3F expected, 0F found")
+    run("an address of flash written twice", words, told, 1)
+
+
+def what_another_tool_left_stays_elsewhere():
+    told = [*ERASED, "flash: 1 bytes written", "flash: 1 bytes verified", "done"]
+    chip = run("a chip of 00 everywhere", ["-U", "flash:w:1:m"], told, chip=bytes(CHIP_FILE))
+    see("its fuses stay", chip[LFUSE:LOCK] == bytes(3), chip[LFUSE:])
+    see("its EEPROM too, as its fuse keeps it", chip[FLASH:LFUSE] == bytes(EEPROM))
+
+
+# ---- files
+
+
+def files_are_written_over():
+    room.clear()
+    found = room.run(["-p", "m328p", "-P", "emu:x.bin", "-U", "eeprom:r:x.bin:r"])
+    see("a read into the chip file", found == (0, b"", lines(SIGNATURE, "eeprom: 1024 bytes read", "done")), found)
+    see("the chip stands there", room.read("x.bin") == NEW)
+    told = [SIGNATURE, "eeprom: 1024 bytes read", "lfuse: 1 bytes read", "done"]
+    run("two reads into one file", ["-U", "eeprom:r:out:r", "-U", "lfuse:r:out:h"], told)
+    see("the second stays", room.read("out") == b"0xff\n", room.read("out"))
+
+
+def text_is_flashed():
+    commented = b"# a note\n" + (TOP / "examples/blink.hex").read_bytes()
+    source = (TOP / "examples/blink.c").read_bytes()
+    refusal = ["error: image.hex: line 1: no record mark"]
+    for name, content in [("a comment above Intel HEX", commented), ("C source", source)]:
+        count = len(content)
+        told = [*ERASED, f"flash: {count} bytes written", f"flash: {count} bytes verified", "done"]
+        chip = run(f"{name} is flashed", ["-U", "flash:w:image.hex"], told, image_hex=content)
+        see(f"{name}: as it stands", chip[:count] == content)
+        run(f"{name} is refused by :i", ["-U", "flash:w:image.hex:i"], refusal, 1, image_hex=content)
+    run("and by :s", ["-U", "flash:w:image.hex:s"], refusal, 1, image_hex=commented)
+
+
+def an_empty_file_erases():
+    told = [*ERASED, "flash: 0 bytes written", "flash: 0 bytes verified", "done"]
+    chip = run("an empty file", ["-U", "flash:w:image.hex"], told, chip=FULL, image_hex=b"")
+    see("the chip is erased", chip == NEW)
+    told = ["warning: image.hex: no end record", *told]
+    run("an empty file under :i", ["-U", "flash:w:image.hex:i"], told, chip=FULL, image_hex=b"")
+
+
+def with_bad_sum():
+    """A firmware whose first record has another checksum."""
+    return re.sub(r"(?m)^(:.*)(..)\r?$", r"\g<1>00", text("examples/blink.hex"), count=1)
+
+
+def a_bad_file_leaves_the_chip():
+    told = ["error: image.hex: line 1: bad checksum"]
+    chip = run("a bad checksum", ["-U", "flash:w:image.hex:i"], told, 1, FULL, image_hex=with_bad_sum())
+    see("the chip is as it was", chip == FULL)
+    chip = run("a name misspelt", ["-U", "flash:w:nofile.hex:i"], ["error: nofile.hex: cannot be opened"], 1, FULL)
+    see("and there", chip == FULL)
+
+
+def headers_and_starts_are_dropped():
+    """docs/FORMATS: start addresses and S0 are read, and not written."""
+    hexes = ":0400000300003000C9\n:040000050000010CEA\n:0100000055AA\n:00000001FF\n"
+    srecs = "S00600004844521B\nS104000055A6\nS9030100FB\n"
+    for name, content, letter in [("Intel HEX", hexes, "i"), ("S-records", srecs, "s")]:
+        words = ["-U", f"flash:w:image.hex:{letter}", "-U", f"flash:r:out:{letter}"]
+        told = [*ERASED, "flash: 1 bytes written", "flash: 1 bytes verified", "flash: 2 bytes read", "done"]
+        run(f"a header or start address of {name}", words, told, image_hex=content)
+        kinds = [it[7:9] if letter == "i" else it[:2] for it in (room.read("out") or b"").decode().split()]
+        see(f"{name} without them", kinds == (["00", "01"] if letter == "i" else ["S1", "S9"]), kinds)
+
+
+def what_files_hold():
+    """docs/FORMATS, by single runs: each file, how it is named, and what is told of it."""
+    data, end = ":0100000055AA\n", ":00000001FF\n"
+    digit = ["error: image.hex: line 1: bad digit"]
+    read = [*ERASED, "flash: 1 bytes written", "flash: 1 bytes verified", "done"]
+    for name, content, letter, told in [
+        ("nothing behind the end record is judged", data + end + "x" * 700, "a", read),
+        ("blanks of 600 bytes say nothing", " " * 600 + "\n" + data + end, "i", read),
+        ("of 601 they are too long", " " * 601 + "\n" + data + end, "i", ["error: image.hex: line 1: line too long"]),
+        ("blank lines are passed over by detection", "\n \t\r\n" + data + end, "a", read),
+        ("lower-case digits, no last line end", ":0100000055aa\n:00000001ff", "a", read),
+        ("lines that end with CR alone", (data + end).replace("\n", "\r"), "i", digit),
+        ("a later byte wins", ":0100000011EE\n" + data + end, "i", read),
+    ]:
+        chip = run(name, ["-U", f"flash:w:image.hex:{letter}"], told, int(told != read), image_hex=content)
+        see(f"{name}: the byte", told != read or chip[0] == 0x55)
+    for value, told in [
+        ("08", "value 1: not a number"),
+        ("0o7", "value 1: not a number"),
+        ("+1", "value 1: not a number"),
+        (" ", "value 1: not a number"),
+        ("256", "value 1: above 255"),
+        ("1,2", "address 00000001 out of range"),
+    ]:
+        run(f"value {value}", ["-U", f"lfuse:w:{value}:m"], [f"error: lfuse: {told}"], 1)
+    told = [SIGNATURE, "eeprom: 3 bytes written", "eeprom: 3 bytes verified", "eeprom: 1024 bytes read", "done"]
+    run("separators count for nothing", ["-U", "eeprom:w:,1,,0x2 0b11,:m", "-U", "eeprom:r:out:o"], told)
+    see("a list in octal", room.read("out") == b"1,2,3" + b",0377" * 1021 + b"\n", room.read("out"))
+
+
+# ---- frames
+
+
+def over(fates, words, part="m328p", parts=()):
+    """A run over a bad line to an emulated programmer: its status, messages and frames, and the chip."""
+    room.clear()
+    line = BadLine(room, fates, part=part)
+    status, _, messages = room.run([*parts, "-p", part, "-P", f"net:127.0.0.1:{line.port}", *words])
+    return status, messages, line.end(), room.read("served.bin")
+
+
+def behind_a_file_nothing_is_sent():
+    """Not even LEAVE; and the file is created only once its memory was read whole."""
+    for name, update, frames in [("a fuse", "lfuse:r:nofolder/x:h", 6), ("flash", "flash:r:nofolder/x:r", 5 + 2 * 128)]:
+        status, messages, sent, _ = over({}, ["-U", update])
+        told = lines(SIGNATURE, "error: nofolder/x: cannot be created")
+        see(f"{name} into no folder", (status, messages) == (1, told), messages)
+        see(f"{name} was read whole, and LEAVE isn't sent", len(sent) == frames and sent[-1][5] != LEAVE, len(sent))
+    status, _, sent, _ = over({}, ["-U", "lfuse:v:0:m"])
+    see("behind a difference LEAVE is sent", (status, sent[-1][5]) == (1, LEAVE), sent[-1])
+
+
+def silent_behind_verified():
+    """`no answer` behind `verified`, but before the line of the last update."""
+    lost = {number: "lost command" for number in range(8, 40)}
+    status, messages, _, chip = over(lost, ["-U", "lfuse:w:0xE2:m", "-U", "lock:w:0xFC:m"])
+    told = [SIGNATURE, "lfuse: 1 bytes written", "lfuse: 1 bytes verified", "error: no answer"]
+    see("silent at the second update", (status, messages) == (1, lines(*told)), messages)
+    see("which wasn't made", (chip[LFUSE], chip[LOCK]) == (0xE2, 0xFF), chip[LFUSE:])
+    lost = {number: "lost command" for number in range(8, 40)}
+    status, messages, _, chip = over(lost, ["-U", "lfuse:w:0xE2:m"])
+    see("silent at the leaving", (status, messages, chip[LFUSE]) == (1, lines(*told), 0xE2), messages)
+
+
+class Trickle(Peer):
+    """Sends a byte each quarter second, and nothing else, for more than three seconds."""
+
+    def serve(self, caller):
+        caller.settimeout(0.25)
+        for _ in range(13):
+            caller.sendall(b".")
+            begun = time.monotonic()
+            while time.monotonic() - begun < 0.25:
+                try:
+                    self.heard.append(caller.recv(4096))
+                except TimeoutError:
+                    pass
+
+
+def a_silence_is_a_second_without_a_byte():
+    """A byte each quarter second: in more than three seconds the first frame isn't sent again."""
+    peer = Trickle()
+    started = room.start(["-p", "m328p", "-P", f"net:127.0.0.1:{peer.port}"])
+    started.communicate(timeout=60)
+    heard = [it for it in peer.end() if it]
+    see("one frame in three seconds", heard[:1] == [frame(1, 1)] and len(heard) == 1, heard)
+
+
+def standard_streams_that_do_not_block():
+    here, other = os.pipe()
+    fcntl.fcntl(here, fcntl.F_SETFL, fcntl.fcntl(here, fcntl.F_GETFL) | os.O_NONBLOCK)
+    begun = time.monotonic()
+    words = [PROGRAM, "-p", "m328p", "-P", "stdio:"]
+    ran = subprocess.run(words, stdin=here, capture_output=True, timeout=60)
+    taken = time.monotonic() - begun
+    os.close(here)
+    os.close(other)
+    wanted = b"".join(frame(number, 1) for number in range(1, 5))
+    wanted += b"".join(frame(number, LEAVE, 1, 1) for number in range(5, 9))
+    found = ran.returncode, ran.stderr
+    see("input that doesn't block: `no answer`", found == (1, lines("error: no answer")), found)
+    # a second of silence for each would be eight
+    see("eight frames, at once", (ran.stdout, taken < 4) == (wanted, True), (len(ran.stdout), taken))
+
+
+def standard_streams_that_block():
+    """Nothing is sent again while nobody answers; but what was refused as spoiled, or had no answer in 4,096 bytes."""
+    started = room.start(["-p", "m328p", "-P", "stdio:"], subprocess.PIPE)
+    first = started.stdout.read(7)
+    try:
+        started.wait(1.5)
+        waits = False
+    except subprocess.TimeoutExpired:
+        waits = True
+    see("input that blocks: it waits", first == frame(1, 1) and waits, first)
+    started.stdin.write(frame(1, 0xB0, 0xC1))
+    started.stdin.flush()
+    see("`B0 C1`: sent again, by the next number", started.stdout.read(7) == frame(2, 1))
+    started.stdin.write(bytes(4_096))
+    started.stdin.flush()
+    see("4,096 other bytes: sent again", started.stdout.read(7) == frame(3, 1))
+    started.send_signal(signal.SIGINT)
+    found = (*started.communicate(timeout=60), started.returncode)
+    see("Ctrl-C: no line, nothing more is sent", found == (b"", b"", -signal.SIGINT), found)
+
+
+def served(chip=None):
+    """A program that serves a chip, and a connection to it."""
+    room.clear()
+    if chip:
+        room.put("chip.bin", chip)
+    server = Server(room, "chip.bin")
+    return server, server.call()
+
+
+def ended_from_outside():
+    """A chip is saved only where a run comes to its end."""
+    server, caller = served()
+    with caller:
+        answers = frames_of(caller)
+        for number, body in enumerate([ENTER, bytes.fromhex("17 AC A0 00 E2")], 1):
+            caller.sendall(frame(number, body))
+            next(answers)
+        server.started.send_signal(signal.SIGTERM)
+        server.end()
+    see("--serve that is ended saves nothing", room.read("chip.bin") is None)
+    server, caller = served()
+    with caller:
+        pass
+    found = server.end()
+    see("--serve: status 0 once the caller has gone", found == (0, b"", b""), found)
+    see("and the chip is saved", room.read("chip.bin") == NEW)
+    server, caller = served()
+    caller.sendall(frame(1, 1))
+    next(frames_of(caller))
+    caller.setsockopt(socket.SOL_SOCKET, socket.SO_LINGER, struct.pack("ii", 1, 0))
+    caller.close()
+    found = server.end()
+    see("--serve: status 1 where a caller resets", found == (1, b"", lines("error: link cannot be read")), found)
+    see("the chip is saved all the same", room.read("chip.bin") == NEW)
+    room.clear()
+    os.mkfifo(room.folder / "pipe")
+    started = room.start([*EMULATED, "-U", "lfuse:w:0xE2:m", "-U", "lfuse:r:pipe:h"])
+    # the line stands once the second update is due, and nobody reads the pipe
+    while b"verified" not in started.stderr.readline():
+        pass
+    started.send_signal(signal.SIGINT)
+    started.communicate(timeout=30)
+    see("emu: that is ended saves nothing", (started.returncode, room.read("chip.bin")) == (-signal.SIGINT, None))
+
+
+def enter_and_the_mode():
+    """docs/PROTOCOL: a failing ENTER turns the mode off, but not one of another length."""
+    fuse = bytes.fromhex("18 04 50 00 00 00")
+    polled = ENTER[:6] + b"\x54" + ENTER[7:]
+    server, caller = served()
+    with caller:
+        answers = frames_of(caller)
+        for number, (name, body, wanted) in enumerate([
+            ("ENTER", ENTER, "10 00"),
+            ("ENTER of another length fails", ENTER[:-1], "10 C0"),
+            ("the mode is still on", fuse, "18 00 FF 00"),
+            ("ENTER with another value to poll fails", polled, "10 C0"),
+            ("the mode is off", fuse, "18 C0"),
+        ], 1):
+            caller.sendall(frame(number, body))
+            found = next(answers)
+            see(name, found == frame(number, bytes.fromhex(wanted)), found.hex(" "))
+    server.end()
+
+
+class ByteOnly(BadLine):
+    """A line to a part that doesn't know how to write a page of EEPROM: the instructions of such a write are others."""
+
+    def serve(self, caller):
+        with self.server.call() as programmer:
+            answers = frames_of(programmer)
+            for it in frames_of(caller):
+                body = it[5:-1]
+                if body[0] == 0x15:
+                    body = body[:5] + b"\x00\x00" + body[7:]
+                self.heard.append(it)
+                programmer.sendall(frame(it[1], body))
+                caller.sendall(next(answers))
+
+
+def parts_that_want_others():
+    """An ATmega8 writes EEPROM by the byte, and has no extended fuse."""
+    atmega8 = '[parts.m8]\nsignature = "1E9307"\nflash_size = 8192\nflash_page = 64\n'
+    atmega8 += "eeprom_size = 512\neeprom_page = 4\neesave_bit = 3\n"
+    signature = "device signature = 1E 93 07"
+    words = ["--parts", "m8.toml", "-p", "m8", "-U", "efuse:w:0xFD:m"]
+    told = [signature, "efuse: 1 bytes written", "efuse: 1 bytes verified", "done"]
+    run("the emulated one takes an extended fuse", words, told, m8_toml=atmega8)
+    for name, switches, status, more in [
+        ("an EEPROM write compares unequal", [], 1, "error: eeprom: address 00000000: 01 expected, FF found"),
+        ("but under -V", ["-V"], 0, "done"),
+    ]:
+        room.clear()
+        line = ByteOnly(room, {})
+        found = room.run(["-p", "m328p", "-P", f"net:127.0.0.1:{line.port}", *switches, "-U", "eeprom:w:1:m"])
+        line.end()
+        see(name, found == (status, b"", lines(SIGNATURE, "eeprom: 1 bytes written", more)), found)
+        see(f"{name}: nothing is there", room.read("served.bin")[FLASH] == 0xFF)
+
+
+# ---- other tools
+
+
+def the_recipe_of_an_ide():
+    """The recipe of USAGE for avrstk-serial, which avrstk refuses, and the same with other words, both over the
+    emulator; the last `-P` counts."""
+    usage = text("docs/USAGE.md")
+    refused = shlex.split(re.search(r"^ +avrstk-serial (-C.*)$", usage, re.M)[1])
+    taken = [{"-cwiring": "-cstk500v2", "-patmega2560": "-pm2560"}.get(it, it) for it in refused[1:]]
+    room.clear()
+    room.put("firmware.hex", (TOP / "examples/blink.hex").read_bytes())
+    port = ["-P", "emu:chip.bin"]
+    status, _, messages = room.run([*refused, *port])
+    see("-C", status == 1 and b"'-C'" in messages, messages)
+    long_name = ["-cstk500v2", "-patmega2560"]
+    for words, told in [(refused[1:], "programmer wiring is not known"), (long_name, "no part atmega2560")]:
+        found = room.run([*words, *port])
+        see(f"{words}", found == (1, b"", lines(f"error: {told}")), found)
+    found = room.run([*taken, *port])
+    told = ["device signature = 1E 98 01", "flash: 228 bytes written", "flash: 228 bytes verified", "done"]
+    see("the recipe with other words", found == (0, b"", lines(*told)), found)
+
+
+def avrdude():
+    """What AVRDUDE 7.1 makes of files, over the served programmer, where it is installed."""
+    if not is_known():
+        return leave_out("AVRDUDE's part", "AVRDUDE 7.1 is not installed")
+    hexes = text("examples/blink.hex")
+    for name, content, update, status, is_kept in [
+        ("a bad checksum: it has erased the chip", with_bad_sum(), "image.hex:i", 1, False),
+        ("no such file: it refuses before", None, "nofile.hex:i", 1, True),
+        ("a comment above Intel HEX: it reads the records", f"# a note\n{hexes}", "image.hex", 0, False),
+        ("an empty file: it refuses", "", "image.hex", 1, True),
+        ("C source: it refuses", text("examples/blink.c"), "image.hex", 1, True),
+    ]:
+        room.clear()
+        room.put("chip.bin", FULL)
+        if content is not None:
+            room.put("image.hex", content.encode())
+        with Server(room, "chip.bin") as server:
+            words = ["avrdude", "-qq", "-c", "stk500v2", "-p", "m328p", "-P", f"net:127.0.0.1:{server.port}"]
+            words += ["-U", f"flash:w:{update}"]
+            ran = subprocess.run(words, cwd=room.folder, capture_output=True, text=True, timeout=60)
+            server.end()
+        chip = room.read("chip.bin")
+        found = ran.returncode, chip == FULL
+        see(f"AVRDUDE, {name}", found == (status, is_kept), (found, ran.stderr[-300:]))
+        if status == 0:
+            see("and the chip has them", chip[:2] == b"\x0c\x94", chip[:2])
+
+
+CASES = named(
+    written_is_no_more_than_answered,
+    what_is_written_is_there,
+    a_locked_chip_without_an_erase,
+    plans_that_no_second_run_heals,
+    what_another_tool_left_stays_elsewhere,
+    files_are_written_over,
+    text_is_flashed,
+    an_empty_file_erases,
+    a_bad_file_leaves_the_chip,
+    headers_and_starts_are_dropped,
+    what_files_hold,
+    behind_a_file_nothing_is_sent,
+    silent_behind_verified,
+    a_silence_is_a_second_without_a_byte,
+    standard_streams_that_do_not_block,
+    standard_streams_that_block,
+    ended_from_outside,
+    enter_and_the_mode,
+    parts_that_want_others,
+    the_recipe_of_an_ide,
+    avrdude,
+)
+
+
+if __name__ == "__main__":
+    sys.exit(run_cases(CASES, __doc__))

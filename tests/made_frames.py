@@ -1,0 +1,201 @@
+#!/usr/bin/env python3
+"""Shows what the theorem leaves out: a line that makes a frame. It loses, changes and repeats nothing and pauses once,
+inside one answer, which carries bytes of the chip that read as the answers to what is sent again: a verified run of
+status 0 leaves another byte than the image's. And a line that spoils one byte, the size of a frame, makes none: the
+programmer takes what follows for the rest of that frame, and the run ends with an error.
+
+    tests/made_frames.py       needs crates/avrstk/out/avrstk, as rt ci leaves it
+"""
+
+import socket
+import sys
+import threading
+import time
+
+from cases import named, run_cases, see
+from line import frames_of
+from program import Room, Server, frame, lines
+
+room = Room()
+
+SIGNATURE = "device signature = 1E 93 0B"
+# of an ATtiny85, how many bytes of flash, EEPROM and fuses with the lock
+FLASH, REST = 8_192, 512 + 4
+# what a line that pauses waits at most for a caller that sends again, as it does after a second of silence
+PAUSE = 30
+# the byte that the image has at address 0
+WANTED = 0x55
+
+
+class Line:
+    """An ordered line from a caller to the programmer that the program serves; it may spoil a frame, or pause once."""
+
+    def __init__(self, chip, spoil=None, pause_in=b"", pause_at=0):
+        """`spoil` changes a frame by its number; behind `pause_in`, the front of an answer, the line gives so many
+        bytes more, and the others when the caller has sent again."""
+        self.spoil, self.pause_in, self.pause_at = spoil, pause_in, pause_at
+        self.sent, self.heard, self.paused = [], b"", False
+        room.clear()
+        room.put("chip.bin", chip)
+        self.server = Server(room, "chip.bin", "t85")
+        self.listener = socket.create_server(("127.0.0.1", 0))
+        self.listener.settimeout(60)
+        self.port = self.listener.getsockname()[1]
+        self.thread = threading.Thread(target=self.carry, daemon=True)
+        self.thread.start()
+
+    def carry(self):
+        caller, _ = self.listener.accept()
+        with caller, self.server.call() as programmer:
+            for it in (caller, programmer):
+                it.setsockopt(socket.IPPROTO_TCP, socket.TCP_NODELAY, 1)
+            upwards = threading.Thread(target=self.carry_up, args=(caller, programmer), daemon=True)
+            upwards.start()
+            self.carry_down(programmer, caller)
+            upwards.join()
+
+    def carry_up(self, caller, programmer):
+        for it in frames_of(caller):
+            self.sent.append(it)
+            programmer.sendall(self.spoil(it[1], it) if self.spoil else it)
+        programmer.shutdown(socket.SHUT_WR)
+
+    def carry_down(self, programmer, caller):
+        given = 0
+        while piece := programmer.recv(4096):
+            self.heard += piece
+            place = self.heard.find(self.pause_in) if self.pause_in and not self.paused else -1
+            cut = place + len(self.pause_in) + self.pause_at
+            if place >= 0 and len(self.heard) >= cut:
+                sent = len(self.sent)
+                caller.sendall(self.heard[given:cut])
+                given, self.paused = cut, True
+                self.await_more_than(sent)
+            caller.sendall(self.heard[given:])
+            given = len(self.heard)
+
+    def await_more_than(self, sent):
+        """Returns when the caller has sent more than so many frames."""
+        end = time.monotonic() + PAUSE
+        while len(self.sent) == sent and time.monotonic() < end:
+            time.sleep(0.02)
+
+    def run(self, *words):
+        """The status and messages of a run over this line, and the chip's flash behind it."""
+        status, output, messages = room.run(["-p", "t85", "-P", f"net:127.0.0.1:{self.port}", *words])
+        self.thread.join(60)
+        self.listener.close()
+        self.server.end()
+        return status, messages, (room.read("chip.bin") or b"")[:FLASH]
+
+
+def chip_of(block):
+    return bytes(block) + b"\xff" * (FLASH - len(block) + REST)
+
+
+def made_contents(first, read):
+    """The first 256 bytes of flash, `first` at address 0, so that an answer under number `read` to a read of them has
+    behind its 12th byte what reads as two answers: to the address of the next attempt, and to its read; and the latter
+    has WANTED at address 0. Its rest is the rest of this answer and what is answered later, and so is its XOR, for which
+    one byte of the block is free."""
+    again, place = read + 1, 20
+    block = bytearray(b"\xff" * 256)
+    block[0], block[place - 10] = first, 0
+    block[place - 9 : place - 1] = frame(again, b"\x06\x00")
+    block[place : place + 8] = bytes([0x1B, read + 2, 1, 3, 0x0E, 0x14, 0x00, WANTED])
+    # what the host cuts a frame of 265 bytes from
+    for free in set(range(256)) - {0x1B}:
+        block[place - 1] = free
+        answered = frame(read, b"\x14\x00", bytes(block), b"\x00")
+        heard = bytes(block[place:]) + answered[-2:] + frame(again, b"\x06\x00")
+        heard += frame(read + 2, b"\x14\x00", bytes(block), b"\x00")
+        check = 0
+        for byte in heard[:265]:
+            check ^= byte
+        if check == 0 and heard[263] == 0:
+            return block
+    raise SystemExit("no contents have this XOR")
+
+
+def image():
+    """A record file with WANTED at address 0."""
+    record = bytes([1, 0, 0, 0, WANTED])
+    room.put("image.hex", f":{record.hex()}{-sum(record) & 255:02X}\n:00000001FF\n".upper().encode())
+    return "image.hex:i"
+
+
+def paused(first, read):
+    """A line to a chip with made contents that pauses in the answer of this number, in front of what reads as an
+    answer."""
+    front = bytes([0x1B, read, 1, 3, 0x0E, 0x14, 0x00])
+    return Line(chip_of(made_contents(first, read)), pause_in=front, pause_at=11)
+
+
+def a_comparison_is_wrong():
+    """The chip has another byte than the image, and the comparison says that it is equal."""
+    line = paused(0xAA, 7)
+    status, messages, flash = line.run("-U", f"flash:v:{image()}")
+    told = lines(SIGNATURE, "flash: 1 bytes verified", "done")
+    see("compared over a pause: status 0 and `verified`", (status, messages) == (0, told), (status, messages))
+    see("the line has paused", line.paused)
+    see("and the chip has another byte", flash[0] == 0xAA, flash[:1])
+
+
+def a_verified_write_is_wrong():
+    """Flash that can't take the byte, as it isn't erased: the comparison doesn't see it."""
+    line = paused(0x50, 9)
+    status, messages, flash = line.run("-D", "-U", f"flash:w:{image()}")
+    told = lines(SIGNATURE, "flash: 1 bytes written", "flash: 1 bytes verified", "done")
+    see("written over a pause: status 0 and `verified`", (status, messages) == (0, told), (status, messages))
+    see("and the chip has another byte", flash[0] == 0x50, flash[:1])
+
+
+def a_read_is_wrong():
+    """A file that was read has other bytes than the chip."""
+    line = paused(0xAA, 7)
+    status, messages, flash = line.run("-A", "-U", "flash:r:out.bin:r")
+    told = lines(SIGNATURE, f"flash: {FLASH} bytes read", "done")
+    see("read over a pause: status 0", (status, messages) == (0, told), (status, messages))
+    read = room.read("out.bin") or b""
+    others = sum(one != other for one, other in zip(read, flash))
+    see("and the file isn't the chip", len(read) == FLASH and 0 < others < 256, (len(read), others))
+
+
+def without_a_pause_all_is_seen():
+    """The same chip over a line that doesn't pause; and a pause with contents that aren't made for it."""
+    line = Line(chip_of(made_contents(0xAA, 7)))
+    status, messages, _ = line.run("-U", f"flash:v:{image()}")
+    told = lines(SIGNATURE, "error: flash: address 00000000: 55 expected, AA found")
+    see("without the pause the difference is told", (status, messages) == (1, told), (status, messages))
+    other = bytes((place * 37 + 11) % 256 for place in range(256))
+    front = bytes([0x1B, 7, 1, 3, 0x0E, 0x14, 0x00])
+    line = Line(chip_of(other), pause_in=front, pause_at=11)
+    status, messages, flash = line.run("-A", "-U", "flash:r:out.bin:r")
+    told = lines(SIGNATURE, f"flash: {FLASH} bytes read", "done")
+    see("other contents heal over the pause", (status, messages) == (0, told) and line.paused, (status, messages))
+    see("and the file is the chip", room.read("out.bin") == flash)
+
+
+def a_spoiled_size_swallows_frames():
+    """One byte is spoiled: the size of one LOAD_ADDRESS. The programmer takes three frames more for its rest."""
+    content = bytes((place * 91 + 3) % 256 for place in range(FLASH))
+    line = Line(content + b"\xff" * REST, spoil=lambda number, it: it[:3] + b"\x20" + it[4:] if number == 8 else it)
+    room.put("image.bin", content)
+    status, messages, flash = line.run("-U", "flash:v:image.bin:r")
+    told = lines(SIGNATURE, "error: no answer")
+    see("a spoiled size: `no answer`, status 1", (status, messages) == (1, told), (status, messages))
+    see("the refusal of it came late", frame(8, b"\xb0\xc1") in line.heard)
+    see("and the chip is as it was", flash == content)
+
+
+CASES = named(
+    a_comparison_is_wrong,
+    a_verified_write_is_wrong,
+    a_read_is_wrong,
+    without_a_pause_all_is_seen,
+    a_spoiled_size_swallows_frames,
+)
+
+
+if __name__ == "__main__":
+    sys.exit(run_cases(CASES, __doc__))

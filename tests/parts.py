@@ -1,0 +1,320 @@
+#!/usr/bin/env python3
+"""Holds parts/classic.toml to two sources, the configuration of an installed AVRDUDE and the headers of avr-libc: every
+part that both describe alike, and that the program describes fully, stands in it with both of its names, and nothing
+else does. Each name is loaded by the program. AVRDUDE writes flash, EEPROM and fuses of a dozen parts at `--serve`, and
+the chip is that which the program itself leaves over `emu:`.
+
+    tests/parts.py [CASE ..]  needs crates/avrstk/out/avrstk, as rt ci leaves it; without avrdude or avr-gcc with
+                              avr-libc what needs them is left out
+    tests/parts.py --all      a session for each part
+    tests/parts.py --write    makes parts/classic.toml of the two sources
+"""
+
+import random
+import re
+import shutil
+import subprocess
+import sys
+import tomllib
+from pathlib import Path
+
+from cases import leave_out, named, run_cases, see
+from program import TOP, Room, Server
+
+CLASSIC = TOP / "parts/classic.toml"
+PAGE = TOP / "docs/PARTS.md"
+HEADERS = Path("/usr/lib/avr/include/avr")
+FIELDS = ["signature", "flash_size", "flash_page", "eeprom_size", "eeprom_page", "eesave_bit"]
+DOZEN = "t25 t45 t85 t841 t1634 m88 m168 m328p m32u4 m1280 m2560 usb1286".split()
+
+HEAD = """\
+# Classic AVRs that avrstk describes fully, each with its short and its long name. Made by tests/parts.py --write of
+# what the configuration of AVRDUDE 7.1 and the headers of avr-libc 2.0 both say. docs/PARTS tells which parts are in,
+# and which are not and why.
+
+[parts]
+"""
+
+# the instructions that the program sends, by AVRDUDE's names of a memory and its operations: the first bytes of each
+SENT = {
+    ("part", "pgm_enable"): [0xAC, 0x53, 0, 0],
+    ("part", "chip_erase"): [0xAC, 0x80, 0, 0],
+    ("flash", "loadpage_lo"): [0x40],
+    ("flash", "loadpage_hi"): [0x48],
+    ("flash", "writepage"): [0x4C],
+    ("flash", "read_lo"): [0x20],
+    ("flash", "read_hi"): [0x28],
+    ("eeprom", "loadpage_lo"): [0xC1],
+    ("eeprom", "writepage"): [0xC2],
+    ("eeprom", "read"): [0xA0],
+    ("lfuse", "read"): [0x50, 0x00],
+    ("lfuse", "write"): [0xAC, 0xA0],
+    ("hfuse", "read"): [0x58, 0x08],
+    ("hfuse", "write"): [0xAC, 0xA8],
+    ("efuse", "read"): [0x50, 0x08],
+    ("efuse", "write"): [0xAC, 0xA4],
+    ("lock", "read"): [0x58, 0x00],
+    ("lock", "write"): [0xAC, 0xE0],
+    ("signature", "read"): [0x30],
+    ("calibration", "read"): [0x38],
+}
+
+def configured():
+    """The parts of AVRDUDE's configuration that are programmed over ISP: name, properties, memories, operations."""
+    ran = subprocess.run(["avrdude", "-p", "*/At"], capture_output=True, text=True, errors="replace")
+    parts = {}
+    for row in ran.stdout.splitlines():
+        kind, *cells = row.split("\t")
+        if kind == ".pt" and len(cells) >= 3:
+            parts.setdefault(cells[0], {"": {}})[""][cells[1]] = cells[2].strip().strip('"')
+        elif kind in (".ptop", ".ptmm", ".ptmmop") and len(cells) >= 4:
+            parts[cells[0]].setdefault(cells[1], {})[cells[2]] = cells[3]
+    return {name: it for name, it in parts.items() if "PM_ISP" in it[""].get("prog_modes", "")}
+
+
+def bits(text):
+    """The 32 letters of an operation."""
+    return re.sub(r"[^01xaio]", "", text or "")
+
+
+def fits(text, sent):
+    """Whether these first bytes are the operation, what it leaves open apart."""
+    wanted = "".join(f"{byte:08b}" for byte in sent)
+    letters = bits(text)
+    return len(letters) == 32 and all(it in (bit, "x", "a", "i", "o") for it, bit in zip(letters, wanted))
+
+
+def number(memory, name):
+    return int(memory.get(name) or "0", 0)
+
+
+def lacking(part):
+    """What the program doesn't describe of a part, by AVRDUDE's configuration; a group's name, or None."""
+    flash, eeprom = part.get("flash", {}), part.get("eeprom", {})
+    if flash.get("paged") != "yes":
+        return "no flash pages"
+    if number(eeprom, "size") > 4096:
+        return "8,192 bytes of EEPROM"
+    if not eeprom.get("writepage", "NULL").strip("NUL") or number(eeprom, "mode") != 0x41:
+        return "EEPROM by the byte"
+    if "efuse" not in part or "fuse" in part:
+        return "no extended fuse"
+    if number(part.get("calibration", {}), "size") != 1:
+        return "another number of calibration bytes"
+    if not fits(part["lock"].get("write"), SENT["lock", "write"]):
+        return "another instruction for the lock"
+    if not all(fits(part[memory].get(name), sent) for (memory, name), sent in SENT.items()):
+        return "other instructions"
+    if number(flash, "size") > 131_072 and not fits(flash.get("load_ext_addr"), [0x4D, 0]):
+        return "other instructions"
+    if number(flash, "mode") != 0x41:
+        return "flash without polling"
+    if int(part[""]["chip_erase_delay"]) > 9000:
+        return "an erase above 9 ms"
+    return None
+
+
+def by_avrdude(part):
+    """What the configuration says of a part, without the EESAVE bit, which isn't in it."""
+    signature = "".join(f"{int(it, 0):02X}" for it in part[""]["signature"].split())
+    sizes = [number(part[memory], name) for memory in ("flash", "eeprom") for name in ("size", "page_size")]
+    return dict(zip(FIELDS, [signature, *sizes]))
+
+
+def header_rows(name, seen):
+    """The lines of a header of avr-libc with those that it includes, in their order."""
+    file = next(iter(HEADERS.glob(name)), None)
+    if not file or name in seen:
+        return
+    seen.add(name)
+    for row in file.read_text(errors="replace").splitlines():
+        inner = re.match(r'\s*#\s*include\s+[<"](?:avr/)?(io\w+\.h)[>"]', row)
+        if inner:
+            yield from header_rows(inner[1], seen)
+        else:
+            yield row
+
+
+def eesave_fuse(name):
+    """The fuse under whose heading a header has EESAVE: lfuse, hfuse or efuse, or None."""
+    fuse = None
+    for row in header_rows(name, set()):
+        low = row.lower()
+        if "/*" in low and "fuse" in low and not low.lstrip().startswith("#"):
+            marks = [("efuse", ("extended", "efuse")), ("hfuse", ("high", "hfuse")), ("lfuse", ("low", "lfuse"))]
+            fuse = next((it for it, words in marks if any(word in low for word in words)), fuse)
+        if re.match(r"#\s*define\s+FUSE_EESAVE\b", row):
+            return fuse
+    return None
+
+
+def by_headers(name):
+    """What avr-libc says of a part, or None where it doesn't know it."""
+    text = "#include <avr/io.h>\n"
+    words = ["avr-gcc", f"-mmcu={name.lower()}", "-E", "-dD", "-x", "c", "-"]
+    ran = subprocess.run(words, input=text, capture_output=True, text=True)
+    if ran.returncode:
+        return None
+    defined = dict(re.findall(r"^#define (\w+) +(.*)$", ran.stdout, re.M))
+    value = lambda it: int(re.sub(r"[()UuLl]", "", defined[it].split("/*")[0]).strip(), 0)
+    included = re.findall(r'^# \d+ "[^"]*/avr/(io[^"/]+\.h)"', ran.stdout, re.M)
+    device = next((it for it in included if it != "io.h"), None)
+    try:
+        signature = "".join(f"{value(f'SIGNATURE_{at}'):02X}" for at in range(3))
+        sizes = [value("FLASHEND") + 1, value("SPM_PAGESIZE"), value("E2END") + 1, value("E2PAGESIZE")]
+        bit = re.search(r"~\s*_BV\((\d)\)", defined["FUSE_EESAVE"])
+        found = dict(zip(FIELDS, [signature, *sizes, int(bit[1])]))
+    except (KeyError, TypeError, ValueError):
+        return None
+    return found if device and eesave_fuse(device) == "hfuse" and value("FUSE_MEMORY_SIZE") == 3 else None
+
+
+def sources():
+    """The parts that belong into the file, by their short names, and why each of the others doesn't."""
+    parts, without = {}, {}
+    for name, part in configured().items():
+        short = part[""]["id"]
+        why = lacking(part)
+        if not why:
+            here, there = by_avrdude(part), by_headers(name.split()[0])
+            if there is None:
+                why = "EESAVE not known of two sources"
+            elif here != {it: there[it] for it in here}:
+                why = "two sources differ"
+            else:
+                parts[short] = (name.split()[0].lower(), there, part)
+        if why:
+            without.setdefault(why, []).append(name)
+    return parts, without
+
+
+def row(name, fields):
+    """A part's line in the file."""
+    told = ", ".join(f'{it} = "{fields[it]}"' if it == "signature" else f"{it} = {fields[it]}" for it in FIELDS)
+    return f"{name} = {{ {told} }}\n"
+
+
+def made(parts):
+    """The file's text."""
+    names = sorted((name, fields) for short, (long, fields, _) in parts.items() for name in (short, long))
+    return HEAD + "".join(row(*it) for it in names)
+
+
+def against_the_sources(parts, without):
+    """Every line against both sources, and that nothing is missing."""
+    file = tomllib.loads(CLASSIC.read_text())["parts"]
+    wanted = {name: (short, it) for short, it in parts.items() for name in (short, it[0])}
+    see("the names", set(file) == set(wanted), sorted(set(file) ^ set(wanted)))
+    for name, (_, (_, fields, part)) in wanted.items():
+        found = file.get(name, {})
+        for field, value in by_avrdude(part).items():
+            see(f"{name}: {field}, by AVRDUDE", found.get(field) == value, (found.get(field), value))
+        for field, value in fields.items():
+            see(f"{name}: {field}, by avr-libc", found.get(field) == value, (found.get(field), value))
+    see("the text is as it is made", CLASSIC.read_text() == made(parts))
+    page = PAGE.read_text()
+    listed, others = page.split("## The others")
+    names = [it[2][""]["desc"].split()[0] for it in parts.values()]
+    see("docs/PARTS has the parts", set(names) == set(re.findall(r"\bAT\w+\d\w*", listed)), listed)
+    for name in [it.split()[0] for names in without.values() for it in names]:
+        see(f"docs/PARTS tells why {name} is not in", re.search(rf"\b{name}\b", others))
+
+
+def loaded():
+    """Each name is a part of the program: its signature is read of a chip of its sizes. The whole file, all of which is
+    judged at each run, is given for two of them, and for the others their own line."""
+    room = Room()
+    file = tomllib.loads(CLASSIC.read_text())["parts"]
+    for name, it in file.items():
+        room.clear()
+        room.put("one.toml", ("[parts]\n" + row(name, it)).encode())
+        given = str(CLASSIC) if name in ("atmega328p", "t88") else "one.toml"
+        words = ["--parts", given, "-p", name, "-P", "emu:chip.bin", "-q", "-U", "signature:r:-:h"]
+        status, output, told = room.run(words)
+        read = bytes(int(text, 0) for text in re.split(rb"[\s,]+", output.strip())).hex().upper() if output else ""
+        see(f"{name} is loaded", (status, read) == (0, it["signature"]), (status, output, told))
+        length = len(room.read("chip.bin") or b"")
+        see(f"{name}: the chip", length == it["flash_size"] + it["eeprom_size"] + 4, length)
+
+
+def values_of(part, drawn, eesave_bit):
+    """A value for each fuse: a bit that a part doesn't have is as AVRDUDE writes it, and EESAVE is not
+    programmed."""
+    found = {}
+    for name in ("lfuse", "hfuse", "efuse"):
+        letters = bits(part[name]["write"])[24:]
+        mask, fixed = (sum(1 << (7 - at) for at, it in enumerate(letters) if it == mark) for mark in "i1")
+        found[name] = drawn.randrange(256) & mask | fixed | (1 << eesave_bit if name == "hfuse" else 0)
+    return found
+
+
+def session(room, short, fields, part):
+    """AVRDUDE at `--serve`, and the program over `emu:`, write the same."""
+    room.clear()
+    drawn = random.Random(short)
+    room.put("f.bin", drawn.randbytes(fields["flash_size"] - 1) + b"\x5a")
+    room.put("e.bin", drawn.randbytes(fields["eeprom_size"]))
+    fuses = values_of(part, drawn, fields["eesave_bit"])
+    updates = ["flash:w:f.bin:r", "eeprom:w:e.bin:r", *(f"{it}:w:0x{value:02x}:m" for it, value in fuses.items())]
+    updates = [word for it in updates for word in ("-U", it)]
+    words = ["--parts", str(CLASSIC), "-p", short]
+    status, _, told = room.run([*words, "-P", "emu:emu.bin", *updates])
+    see(f"{short} over emu:", status == 0, told)
+    with Server(room, "served.bin", short, words[:2]) as server:
+        asked = ["avrdude", "-qq", "-c", "stk500v2", "-p", short, "-P", f"net:127.0.0.1:{server.port}", *updates]
+        ran = subprocess.run(asked, cwd=room.folder, stdin=subprocess.DEVNULL, capture_output=True, timeout=600)
+        status, _, told = server.end()
+    see(f"{short} by AVRDUDE", (ran.returncode, status) == (0, 0), (ran.stderr, told))
+    served, wanted = room.read("served.bin"), room.read("emu.bin")
+    see(f"{short}: the chip is that of emu:", served == wanted is not None, (served[-4:].hex(), wanted[-4:].hex()))
+    room.clear()
+
+
+def has_sources():
+    """Whether both sources are installed, which is told where they are not."""
+    if shutil.which("avrdude") and shutil.which("avr-gcc") and HEADERS.is_dir():
+        return True
+    return leave_out("what needs two sources", "avrdude, or avr-gcc with avr-libc, is not installed")
+
+
+def lines_of_the_file():
+    if has_sources():
+        against_the_sources(*sources())
+
+
+def sessions(names=DOZEN):
+    """Sessions by AVRDUDE of a dozen parts."""
+    if not has_sources():
+        return
+    parts, _ = sources()
+    room = Room()
+    for short in names or parts:
+        if see(f"{short} is in the file", short in parts):
+            session(room, short, *parts[short][1:])
+
+
+def all_sessions():
+    sessions([])
+
+
+def write():
+    """Makes the file, and tells what is not in it and why."""
+    if not has_sources():
+        return 1
+    parts, without = sources()
+    CLASSIC.write_text(made(parts))
+    print(f"{len(parts)} parts, {len(CLASSIC.read_text())} bytes")
+    for why, names in without.items():
+        print(f"{why} ({len(names)}): {', '.join(names)}")
+    return 0
+
+
+CASES = named(loaded, lines_of_the_file, sessions)
+
+if __name__ == "__main__":
+    if sys.argv[1:] == ["--write"]:
+        sys.exit(write())
+    if sys.argv[1:] == ["--all"]:
+        sys.argv.pop()
+        CASES = named(loaded, lines_of_the_file, all_sessions)
+    sys.exit(run_cases(CASES, __doc__))
