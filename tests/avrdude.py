@@ -25,7 +25,7 @@ from dataclasses import dataclass
 
 from cases import leave_out, run_cases, same, see
 from line import BadLine
-from program import Room, Server
+from program import Room, Server, has_avrdude
 
 
 @dataclass
@@ -49,15 +49,6 @@ PARTS = {
 # the bit of the high fuse that keeps the EEPROM, where it is 0
 KEEPS_EEPROM = 0x08
 MEMORIES = ["flash", "eeprom", "lfuse", "hfuse", "efuse", "lock", "signature", "calibration"]
-
-
-def is_known():
-    """Whether AVRDUDE is here, in the version that this is about."""
-    try:
-        ran = subprocess.run(["avrdude", "-?"], capture_output=True, text=True)
-    except FileNotFoundError:
-        return False
-    return "version 7.1," in ran.stderr
 
 
 def drawn(name, size):
@@ -211,7 +202,7 @@ class Killing:
 
 def all_of(name):
     """All requests to a part in turn, each to the chip that the one before left."""
-    if not is_known():
+    if not has_avrdude():
         return leave_out(f"AVRDUDE as the client of --serve, {name}", "AVRDUDE 7.1 is not installed")
     beside = Beside(name)
     beside.written()

@@ -18,8 +18,7 @@ import time
 
 from cases import leave_out, named, run_cases, see
 from line import BadLine, Peer, frames_of
-from program import CHIP_FILE, PROGRAM, TOP, Room, Server, frame, lines
-from why import is_known
+from program import CHIP_FILE, PROGRAM, TOP, Room, Server, frame, has_avrdude, lines
 
 room = Room()
 
@@ -335,6 +334,34 @@ def ended_from_outside():
     see("emu: that is ended saves nothing", (started.returncode, room.read("chip.bin")) == (-signal.SIGINT, None))
 
 
+def loaded_for_its_caller():
+    """What `emu:` saves while nobody has called is in the chip that is served, and a chip that is refused by then is
+    told and left as it is."""
+    room.clear()
+    server = Server(room, "chip.bin")
+    told = [SIGNATURE, "lfuse: 1 bytes written", "lfuse: 1 bytes verified", "done"]
+    found = room.run([*EMULATED, "-U", "lfuse:w:0xE2:m"])
+    see("a run while nobody has called", found == (0, b"", lines(*told)), found)
+    with server.call() as caller:
+        answers = frames_of(caller)
+        for number, (body, wanted) in enumerate([(ENTER, "10 00"), (bytes.fromhex("18 04 50 00 00 00"), "18 00 E2 00")], 1):
+            caller.sendall(frame(number, body))
+            found = next(answers)
+            see(f"frame {number} is answered", found == frame(number, bytes.fromhex(wanted)), found.hex(" "))
+    found = server.end()
+    see("the caller has gone", found == (0, b"", b""), found)
+    see("and the fuse is kept", room.read("chip.bin") == NEW[:LFUSE] + b"\xe2" + NEW[LFUSE + 1 :])
+    room.clear()
+    server = Server(room, "chip.bin")
+    room.put("chip.bin", b"abc")
+    with server.call() as caller:
+        see("a bad chip by then: the caller hears the end", caller.recv(1) == b"")
+    found = server.end()
+    wanted = f"error: chip.bin: 3 bytes, {CHIP_FILE} expected"
+    see("and it is told", found == (1, b"", lines(wanted)), found)
+    see("the file is left as it is", room.read("chip.bin") == b"abc")
+
+
 def enter_and_the_mode():
     """docs/PROTOCOL: a failing ENTER turns the mode off, but not one of another length."""
     fuse = bytes.fromhex("18 04 50 00 00 00")
@@ -415,7 +442,7 @@ def the_recipe_of_an_ide():
 
 def avrdude():
     """What AVRDUDE 7.1 makes of files, over the served programmer, where it is installed."""
-    if not is_known():
+    if not has_avrdude():
         return leave_out("AVRDUDE's part", "AVRDUDE 7.1 is not installed")
     hexes = text("examples/blink.hex")
     for name, content, update, status, is_kept in [
@@ -459,6 +486,7 @@ CASES = named(
     standard_streams_that_do_not_block,
     standard_streams_that_block,
     ended_from_outside,
+    loaded_for_its_caller,
     enter_and_the_mode,
     parts_that_want_others,
     the_recipe_of_an_ide,

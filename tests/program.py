@@ -33,6 +33,15 @@ FRAMES = [
 CHIP_FILE = 33_796
 
 
+def has_avrdude():
+    """Whether AVRDUDE is here, in the version that README and docs speak of."""
+    try:
+        ran = subprocess.run(["avrdude", "-?"], capture_output=True, text=True)
+    except FileNotFoundError:
+        return False
+    return "version 7.1," in ran.stderr
+
+
 class Room:
     """A folder that is empty but for a few files."""
 

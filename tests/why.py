@@ -9,21 +9,12 @@ import subprocess
 import sys
 
 from cases import leave_out, named, run_cases, same, see
-from program import PROGRAM, TOP
+from program import PROGRAM, TOP, has_avrdude
 
 
 def rows(text):
     """The rows of a table."""
     return [it for it in text.splitlines() if it.startswith("| ") and not it.startswith(("| ---", "| The line"))]
-
-
-def is_known():
-    """Whether AVRDUDE is here, in the version that the table is of."""
-    try:
-        ran = subprocess.run(["avrdude", "-?"], capture_output=True, text=True)
-    except FileNotFoundError:
-        return False
-    return "version 7.1," in ran.stderr
 
 
 def table_is_printed():
@@ -32,7 +23,7 @@ def table_is_printed():
     how = {"capture_output": True, "text": True, "env": os.environ | {"AVRSTK": str(PROGRAM)}, "timeout": 300}
     ran = subprocess.run([TOP / "examples/lossy/compare.py"], **how)
     found = rows(ran.stdout)
-    if not is_known():
+    if not has_avrdude():
         for row in (it for it in wanted if "`avrdude" in it):
             leave_out(f"docs/WHY: {row[:60]}", "AVRDUDE 7.1 is not installed")
         wanted, found = ([it for it in table if "`avrdude" not in it] for table in (wanted, found))

@@ -6,20 +6,21 @@ use crate::messages::unopened_message;
 use crate::ports::{accept, listen};
 use avr_cli::{Settings, port_number};
 use avr_desk::{Desk, refuse};
-use avr_part::Chip;
-use avr_serve::{READS, find_chip, serve_chip};
+use avr_part::Part;
+use avr_serve::{READS, judge_part, serve_part};
 use std::alloc::Global;
 use std::io::{Read, Write};
 use std::net::{Net, OpenListener, OpenStream};
 
-/// Accepts one connection and serves a chip over it, in at most [`READS`] reads.
+/// Accepts one connection and serves a chip of this part over it, in at most [`READS`] reads.
 ///
-/// How that ends is what [`serve_chip`] says: the chip is saved to the file of this name, and the status is 0 where the
-/// caller ended it and the chip was saved, else 1. Where no connection can be accepted that is told of `port`, the text
-/// of `--serve`, the status is 1, and no file is written.
+/// The chip is loaded once the connection is there, so that what other runs saved before is in it. How that ends is
+/// what [`serve_part`] says: the chip is saved to the file of this name, and the status is 0 where the caller ended it
+/// and the chip was saved, else 1. Where the file is refused by then, or no connection can be accepted, which is told
+/// of `port`, the text of `--serve`, the status is 1, and no file is written.
 pub fn serve_on<L: OpenListener, D: Desk>(
     alloc: Global,
-    chip: Chip,
+    part: &Part,
     port: &str,
     file: &str,
     listener: &L,
@@ -27,31 +28,32 @@ pub fn serve_on<L: OpenListener, D: Desk>(
 ) -> u8
 where
     L::Stream: Read + Write + OpenStream,
-    ensures serves { ServesOn chip port.now file.now (D.view desk.old) (D.view desk.new) result }
+    ensures serves { ServesOn part.now port.now file.now (D.view desk.old) (D.view desk.new) result }
 {
     let mut link = match accept(listener) {
         Ok(link) => link,
         Err(_) => return refuse(desk, &unopened_message("", port)),
     };
-    serve_chip(alloc, chip, file, desk, &mut link, READS)
+    serve_part(alloc, part, file, desk, &mut link, READS)
 }
 
-/// Opens the port and serves a chip there, to the first caller.
+/// Opens the port and serves a chip of this part there, to the first caller.
 fn serve_at<R: Net, D: Desk>(
     rt: &R,
     alloc: Global,
-    chip: Chip,
+    part: &Part,
     port: &str,
     file: &str,
     desk: &mut D,
 ) -> u8
-    ensures serves { ServesAt (number_of port.now) chip port.now file.now (D.view desk.old) (D.view desk.new) result }
+    ensures serves { ServesAt (number_of port.now) part.now port.now file.now
+        (D.view desk.old) (D.view desk.new) result }
 {
     let Some(number) = port_number(port) else {
         return refuse(desk, &unopened_message("", port));
     };
     match listen(rt, number) {
-        Ok(listener) => serve_on(alloc, chip, port, file, &listener, desk),
+        Ok(listener) => serve_on(alloc, part, port, file, &listener, desk),
         Err(_) => refuse(desk, &unopened_message("", port)),
     }
 }
@@ -59,9 +61,9 @@ fn serve_at<R: Net, D: Desk>(
 /// Serves the emulated programmer of the settings' part at a port of 127.0.0.1, to the first caller.
 ///
 /// The part and the chip file are judged before the port is opened: where they are refused, that is told at once and
-/// nobody is waited for. The chip is loaded from the file of this name, fresh where there is no such file, and saved to
-/// it when the caller is gone. `port` is the text of `--serve`; a port that cannot be opened is told, and no file is
-/// written.
+/// nobody is waited for. When the caller is there the chip is loaded from the file of this name, fresh where there is
+/// no such file, and saved to it when the caller is gone. `port` is the text of `--serve`; a port that cannot be opened
+/// is told, and no file is written.
 ///
 /// The status is 0 where the caller ended it and the chip was saved, else 1.
 pub fn serve_net<R: Net, D: Desk>(
@@ -74,9 +76,9 @@ pub fn serve_net<R: Net, D: Desk>(
 ) -> u8
     ensures serves { ServesNet settings.now port.now file.now (D.view desk.old) (D.view desk.new) result }
 {
-    let chip = match find_chip(alloc, settings, file, desk) {
-        Ok(chip) => chip,
+    let part = match judge_part(alloc, settings, file, desk) {
+        Ok(part) => part,
         Err(status) => return status,
     };
-    serve_at(rt, alloc, chip, port, file, desk)
+    serve_at(rt, alloc, &part, port, file, desk)
 }

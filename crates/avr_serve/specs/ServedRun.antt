@@ -12,7 +12,7 @@ use Rattle.avr_part.specs.Part.{Part}
 use Rattle.avr_part.specs.State as chips
 use Rattle.avr_plan.specs.Planning.{parts_stage, part_stage}
 use Rattle.avr_desk.specs.Playing.{Goes, Went}
-use Rattle.avr_desk.specs.Stage.{Stage, Made, ◌>>=◌}
+use Rattle.avr_desk.specs.Stage.{Stage, Made, ◌>>=◌, verdict_stage}
 use Rattle.stk_host.specs.Talk.{LinkView}
 use Rattle.stk_emu.specs.Programmer.{fresh_programmer}
 use Rattle.stk_emu.specs.Emulator.{Machine}
@@ -27,6 +27,13 @@ settings_part s = parts_stage s.parts >>= λ parts. part_stage s.part parts
 -- the chip of that part which this file holds; where there is no such file it is fresh
 abbrev pub settings_chip : Settings → Bytes → Stage chips.ChipState
 settings_chip s file = settings_part s >>= λ part. chip_stage part file
+
+-- the part, once this file was judged as that of a chip of it
+abbrev pub judging_stage : Bytes → Part → Stage Part
+judging_stage file part = chip_stage part file >>= λ chip. verdict_stage (Ok part)
+
+abbrev pub judged_part : Settings → Bytes → Stage Part
+judged_part s file = settings_part s >>= judging_stage file
 
 -- an emulator with this chip that was fed nothing
 abbrev pub fresh_machine : chips.ChipState → Machine
@@ -84,19 +91,24 @@ pub record ServesChip (chip : chips.ChipState) (file : Bytes) (turns : ℕ) (old
   pub saved : SavesAfterServing served told_desk new.desk file (chip_file left.programmer.chip) status
   pub follows : Follows told_desk new.desk
 
--- The chip of the settings was loaded, and it was served.
-pub record ServesLoaded (settings : Settings) (file : Bytes) (turns : ℕ) (old new : Sides) (status : ℕ) : Type 0 where
+-- A chip was loaded so, and it was served.
+pub record ServesLoaded (loading : Stage chips.ChipState) (file : Bytes) (turns : ℕ) (old new : Sides) (status : ℕ)
+    : Type 0 where
   pub chip : chips.ChipState
   pub loaded_desk : DeskView
-  pub loaded : Went (settings_chip settings file) old.desk loaded_desk (Made chip)
+  pub loaded : Went loading old.desk loaded_desk (Made chip)
   pub serves : ServesChip chip file turns (sides old.link loaded_desk) new status
 
 -- There is no chip, which was told: nothing was heard or sent.
-pub record ServesNoChip (settings : Settings) (file : Bytes) (old new : Sides) (status : ℕ) : Type 0 where
-  pub refused : Goes (settings_chip settings file) old.desk new.desk (Err status)
+pub record ServesNoChip (loading : Stage chips.ChipState) (old new : Sides) (status : ℕ) : Type 0 where
+  pub refused : Goes loading old.desk new.desk (Err status)
   pub silent : new.link ≡ old.link
 
 -- the one or the other
+abbrev pub ServesFrom : Stage chips.ChipState → Bytes → ℕ → Sides → Sides → ℕ → Type 0
+ServesFrom loading file turns old new status =
+    ServesLoaded loading file turns old new status ⊎ ServesNoChip loading old new status
+
+-- so with the chip of the settings
 abbrev pub RunsServed : Settings → Bytes → ℕ → Sides → Sides → ℕ → Type 0
-RunsServed settings file turns old new status =
-    ServesLoaded settings file turns old new status ⊎ ServesNoChip settings file old new status
+RunsServed settings file = ServesFrom (settings_chip settings file) file

@@ -1,8 +1,11 @@
 //! Serving an emulated programmer, from settings to status.
 ghost use Rattle.std.specs.Prelude.{◌≤◌};
+ghost use Rattle.avr_chip.specs.Loading.{chip_stage};
 ghost use Rattle.avr_desk.specs.Fault.{Follows};
 ghost use Rattle.avr_desk.specs.Playing.{Goes};
-ghost use Rattle.avr_serve.specs.ServedRun.{sides, RunsServed, ServesChip, settings_part, settings_chip};
+ghost use Rattle.avr_serve.specs.ServedRun.{judged_part, judging_stage, settings_chip, settings_part};
+ghost use Rattle.avr_serve.specs.ServedRun.{RunsServed, ServesChip, ServesFrom, sides};
+ghost use Rattle.stk_host.specs.Talk.{Stays};
 
 use crate::ending::{save_served, tell_end};
 use crate::serving::answer_all;
@@ -49,6 +52,35 @@ pub fn find_chip<D: Desk>(
     load_chip(alloc, &part, file, desk)
 }
 
+/// The part, once the file of this name was judged as that of a chip of it.
+fn judge_chip<D: Desk>(alloc: Global, part: Part, file: &str, desk: &mut D) -> Result<Part, u8>
+    ensures { Goes (judging_stage file.now part) (D.view desk.old) (D.view desk.new) result }
+{
+    let _judged = match load_chip(alloc, &part, file, desk) {
+        Ok(judged) => judged,
+        Err(status) => return Err(status),
+    };
+    Ok(part)
+}
+
+/// The part of the settings, once the file of this name was judged as that of a chip of it, for a chip that is loaded
+/// later: all that refuses a chip before a caller comes.
+///
+/// `Err(1)` is as with [`find_chip`].
+pub fn judge_part<D: Desk>(
+    alloc: Global,
+    settings: &Settings,
+    file: &str,
+    desk: &mut D,
+) -> Result<Part, u8>
+    ensures { Goes (judged_part settings.now file.now) (D.view desk.old) (D.view desk.new) result }
+{
+    match find_part(alloc, desk, settings) {
+        Ok(part) => judge_chip(alloc, part, file, desk),
+        Err(status) => Err(status),
+    }
+}
+
 /// Serves a chip over a link, in at most `turns` reads, tells how that ended, and saves the chip to the file of this
 /// name.
 ///
@@ -69,11 +101,37 @@ pub fn serve_chip<D: Desk, L: Link>(
         (sides (L.view link.new) (D.view desk.new)) result }
     ensures follows { Follows (D.view desk.old) (D.view desk.new) }
     ensures counted { (L.view link.old).failures ≤ (L.view link.new).failures }
+    ensures comes { Stays L.comes_of link.old link.new }
 {
     let mut emulator = Emulator::new(chip);
     let served = answer_all(&mut emulator, link, turns);
     tell_end(desk, served);
     save_served(alloc, emulator.chip(), file, desk, served)
+}
+
+/// Loads the chip of this part from the file of this name, fresh where there is no such file, and serves it over a link
+/// as [`serve_chip`] does.
+///
+/// The status is 0 where an end was heard and the chip was saved, else 1. Where the chip file is refused nothing is
+/// heard or sent, and no file is written.
+pub fn serve_part<D: Desk, L: Link>(
+    alloc: Global,
+    part: &Part,
+    file: &str,
+    desk: &mut D,
+    link: &mut L,
+    turns: u32,
+) -> u8
+    ensures runs { ServesFrom (chip_stage part.now file.now) file.now turns
+        (sides (L.view link.old) (D.view desk.old)) (sides (L.view link.new) (D.view desk.new)) result }
+    ensures follows { Follows (D.view desk.old) (D.view desk.new) }
+    ensures counted { (L.view link.old).failures ≤ (L.view link.new).failures }
+    ensures comes { Stays L.comes_of link.old link.new }
+{
+    match load_chip(alloc, part, file, desk) {
+        Ok(chip) => serve_chip(alloc, chip, file, desk, link, turns),
+        Err(status) => status,
+    }
 }
 
 /// Serves the emulated programmer of the settings' part over a link, in at most `turns` reads.
@@ -96,6 +154,7 @@ pub fn serve_for<D: Desk, L: Link>(
         (sides (L.view link.new) (D.view desk.new)) result }
     ensures follows { Follows (D.view desk.old) (D.view desk.new) }
     ensures counted { (L.view link.old).failures ≤ (L.view link.new).failures }
+    ensures comes { Stays L.comes_of link.old link.new }
 {
     let chip = match find_chip(alloc, settings, file, desk) {
         Ok(chip) => chip,
@@ -116,6 +175,7 @@ pub fn serve<D: Desk, L: Link>(
         (sides (L.view link.new) (D.view desk.new)) result }
     ensures follows { Follows (D.view desk.old) (D.view desk.new) }
     ensures counted { (L.view link.old).failures ≤ (L.view link.new).failures }
+    ensures comes { Stays L.comes_of link.old link.new }
 {
     serve_for(alloc, settings, file, desk, link, READS)
 }

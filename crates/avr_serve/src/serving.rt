@@ -1,6 +1,6 @@
 //! Serving a link.
 ghost use Rattle.std.specs.Prelude.{◌≡◌, ◌<◌, ◌≤◌, ℕ, length, OnOk, OnErr};
-ghost use Rattle.stk_host.specs.Talk.{HasFailed};
+ghost use Rattle.stk_host.specs.Talk.{HasFailed, Stays};
 ghost use Rattle.avr_serve.specs.Serving.{Serves, FailsBy};
 ghost use Rattle.avr_serve.specs.Replying.{Replies, RepliesPart};
 
@@ -32,6 +32,7 @@ fn answer_piece<L: Link>(
     ensures counted { (L.view link.old).failures ≤ (L.view link.new).failures }
     ensures sound { OnOk result ((L.view link.new).failures ≡ (L.view link.old).failures) }
     ensures failed { OnErr result (HasFailed (L.view link.old) (L.view link.new)) }
+    ensures comes { Stays L.comes_of link.old link.new }
 {
     let mut answer = ArrayVec::new();
     let mut used = 0;
@@ -48,6 +49,7 @@ fn answer_next<L: Link>(emulator: &mut Emulator, link: &mut L) -> Served
     ensures serves { Serves emulator.old 1 result (L.view link.old) (L.view link.new) emulator.new }
     ensures counted { (L.view link.old).failures ≤ (L.view link.new).failures }
     ensures failed { FailsBy result (L.view link.old) (L.view link.new) }
+    ensures comes { Stays L.comes_of link.old link.new }
 {
     // room for the longest frame
     let mut buffer = [0; 281];
@@ -72,6 +74,7 @@ pub fn answer_all<L: Link>(emulator: &mut Emulator, link: &mut L, turns: u32) ->
     ensures serves { Serves emulator.old turns result (L.view link.old) (L.view link.new) emulator.new }
     ensures counted { (L.view link.old).failures ≤ (L.view link.new).failures }
     ensures failed { FailsBy result (L.view link.old) (L.view link.new) }
+    ensures comes { Stays L.comes_of link.old link.new }
 {
     for turn in 0..turns {
         match answer_next(emulator, link) {

@@ -1,6 +1,7 @@
 pub mod Joining
 pub mod OverWire
 pub mod Refusing
+pub mod Untaken
 pub mod OverTalk
 pub mod Further
 pub mod Slots

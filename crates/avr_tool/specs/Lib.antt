@@ -1,5 +1,6 @@
 -- what callers of the front door cite
 pub use Rattle.avr_desk.specs.Record
+pub use Rattle.avr_desk.specs.Shown
 pub use Rattle.avr_emulated.specs.AnyLine
 pub use Rattle.avr_emulated.specs.Emulated
 pub use Rattle.avr_net.specs.OverNet
@@ -7,6 +8,7 @@ pub use Rattle.avr_net.specs.ServedNet
 pub use Rattle.avr_serve.specs.ServedRun
 pub use Rattle.avr_session.specs.Run
 pub use Rattle.avr_session.specs.Runs
+pub use Rattle.stk_host.specs.Links
 pub use Rattle.stk_host.specs.Talk
 -- its own
 pub mod Ports
@@ -14,4 +16,5 @@ pub mod ServedOn
 pub mod Headline
 pub mod Worked
 pub mod Asked
+pub mod Program
 pub mod TwoProcesses

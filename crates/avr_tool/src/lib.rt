@@ -4,6 +4,8 @@
 //! status: 0 where no fault came, else 1. All of it is made by the crates below; here their calls have one roof, and
 //! those that need a port take it from the settings, so that no caller can pass another.
 //!
+//! A program's `main` calls [`run_program`], which does all of it on two writers, a reader and the words. Step by step:
+//!
 //! ```text
 //! let settings = read_settings(alloc, &read_words(alloc, &words)?)?;
 //! let status = match &settings.port {
@@ -19,6 +21,8 @@
 mod of_port;
 // from words to settings
 mod asking;
+// from words to status
+mod program;
 // runs by the words of the headline
 mod running;
 // laws, and no code
@@ -32,9 +36,13 @@ pub use avr_cli::{
 };
 pub use avr_session::refuse;
 pub use laws::{
-    a_further_run_heals, a_run_is_one_function, a_run_of_status_0_is_its_course,
-    a_session_over_any_line, a_session_over_any_link_that_behaves_so, a_sound_run_is_its_course,
-    a_stop_is_a_front, a_worked_run_has_one_outcome, a_wrong_outcome_is_refused,
+    a_further_run_heals, a_prompt_line_brings_the_course, a_run_is_one_function,
+    a_run_of_status_0_is_its_course, a_server_sends_the_answers_to_what_it_heard,
+    a_session_and_a_server_are_one_run, a_session_over_any_line,
+    a_session_over_any_link_that_behaves_so, a_sound_run_is_its_course, a_stop_is_a_front,
+    a_worked_run_has_one_outcome, a_wrong_outcome_is_refused, an_ordered_line_cuts_and_stalls,
+    two_processes_never_both_wait, what_a_host_hears_of_a_server_is_honest,
+    whatever_becomes_of_both_some_strokes_were_made,
 };
 // what a run reads and writes beside its line
 pub use avr_desk::{Desk, DeskFault, MemDesk, SystemDesk};
@@ -44,6 +52,7 @@ pub use avr_net::{accept, listen};
 pub use avr_plan::{Plan, plan};
 pub use avr_session::drive;
 pub use of_port::{run_emu, run_net, serve, serve_net, serve_on};
+pub use program::{run_program, run_words};
 pub use running::{run, run_streams, run_wired};
 // lines
 pub use stk_emu::{Fate, Wired, noise_is_lawful};

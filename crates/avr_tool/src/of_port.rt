@@ -3,6 +3,7 @@ ghost use Rattle.avr_net.specs.OverNet.{RunsOverNet};
 ghost use Rattle.avr_net.specs.ServedNet.{ServesNet};
 ghost use Rattle.avr_serve.specs.ServedRun.{RunsServed, sides};
 ghost use Rattle.avr_emulated.specs.Emulated.{RunsEmulator};
+ghost use Rattle.stk_host.specs.Talk.{Stays};
 ghost use Rattle.avr_tool.specs.Ports.{IsEmulated, IsNetwork, IsServed, port_place, chip_file_of};
 ghost use Rattle.avr_tool.specs.ServedOn.{ServesListener};
 
@@ -10,7 +11,7 @@ use avr_cli::{Port, Settings};
 use avr_desk::Desk;
 use avr_emulated::run_emulated;
 use avr_net::{run_net as run_at, serve_net as serve_at, serve_on as serve_caller};
-use avr_serve::{find_chip, serve as serve_over};
+use avr_serve::{judge_part, serve as serve_over};
 use std::alloc::Global;
 use std::io::{Read, Write};
 use std::net::{Net, OpenListener, OpenStream};
@@ -46,6 +47,7 @@ pub fn serve<D: Desk, L: Link>(alloc: Global, settings: &Settings, desk: &mut D,
     requires port { IsServed settings.now.port }
     ensures runs { RunsServed settings.now (chip_file_of settings.now.port) 16777216
         (sides (L.view link.old) (D.view desk.old)) (sides (L.view link.new) (D.view desk.new)) result }
+    ensures comes { Stays L.comes_of link.old link.new }
 {
     let Port::Served { chip, .. } = &settings.port else {
         unreachable!()
@@ -53,7 +55,7 @@ pub fn serve<D: Desk, L: Link>(alloc: Global, settings: &Settings, desk: &mut D,
     serve_over(alloc, settings, chip.as_str(), desk, link)
 }
 
-/// Loads the chip of this file, accepts one connection and serves the chip over it.
+/// Judges the part and the chip file, accepts one connection and serves the chip over it.
 fn serve_first<L: OpenListener, D: Desk>(
     alloc: Global,
     settings: &Settings,
@@ -66,17 +68,18 @@ where
     L::Stream: Read + Write + OpenStream,
     ensures serves { ServesListener settings.now port.now file.now (D.view desk.old) (D.view desk.new) result }
 {
-    let chip = match find_chip(alloc, settings, file, desk) {
-        Ok(chip) => chip,
+    let part = match judge_part(alloc, settings, file, desk) {
+        Ok(part) => part,
         Err(status) => return status,
     };
-    serve_caller(alloc, chip, port, file, listener, desk)
+    serve_caller(alloc, &part, port, file, listener, desk)
 }
 
 /// Serves the emulator to the first caller of a listener, in at most 16,777,216 reads.
 ///
 /// The part and the chip file of the settings are judged before a connection is accepted: where they are refused nobody
-/// is waited for. A connection that can't be accepted is told of the settings' port, and then no file is written.
+/// is waited for. The chip is loaded when it is accepted. A connection that can't be accepted is told of the settings'
+/// port, and then no file is written.
 ///
 /// The status is 0 where the caller ended it and the chip was saved, else 1.
 pub fn serve_on<L: OpenListener, D: Desk>(

@@ -1,21 +1,35 @@
 //! Programs AVR parts through an STK500v2 programmer, as AVRDUDE does with `-c stk500v2`.
 #![tactic(auto)]
 
-use avr_tool::{
-    Desk, NotAsked, Port, Settings, SettingsFault, StreamLink, SystemDesk, asked, refuse, run_emu,
-    run_net, run_streams, serve_net,
-};
-use clap::Error;
-use clap::error::ErrorKind;
+ghost use Rattle.std.specs.Prelude.{◌≡◌};
+ghost use Rattle.avr_tool.specs.Links.{stream_view};
+ghost use Rattle.avr_tool.specs.Program.{RunsArguments};
+ghost use Rattle.avr_tool.specs.Shown.{shown_view};
+
+use avr_tool::{StreamLink, SystemDesk, run_program};
+use std::io::{Stderr, Stdin, Stdout};
 use std::process::ExitCode;
 use std::{env, io};
 
 fn main(rt: HostRuntime) -> ExitCode {
-    let status = match read_arguments(&rt) {
-        Ok(words) => run_words(&rt, words.as_slice()),
-        Err(error) => tell_unread(&rt, &error),
-    };
-    ExitCode::from(status)
+    let mut desk = SystemDesk::new(&rt, rt.stdout(), rt.stderr());
+    let mut link = StreamLink::new(rt.stdin(), rt.stdout());
+    ExitCode::from(run(&rt, &mut desk, &mut link))
+}
+
+/// Runs what the words of the command line ask for.
+fn run(
+    rt: &HostRuntime,
+    desk: &mut SystemDesk<'_, HostRuntime, Stdout, Stderr>,
+    link: &mut StreamLink<Stdin, Stdout>,
+) -> u8
+    ensures { RunsArguments (stream_view link.old) (stream_view link.new) (shown_view desk.old) (shown_view desk.new)
+        result }
+{
+    match read_arguments(rt) {
+        Ok(words) => run_program(rt, rt.alloc(), words.as_slice(), desk, link),
+        Err(error) => tell_unread(rt, &error),
+    }
 }
 
 /// The words of the command line, the program's name first.
@@ -24,42 +38,9 @@ fn read_arguments(rt: &HostRuntime) -> io::Result<Vec<String>> {
 }
 
 /// Tells why the words can't be read. What can't even be printed is 1 too.
-fn tell_unread(rt: &HostRuntime, error: &io::Error) -> u8 {
+fn tell_unread(rt: &HostRuntime, error: &io::Error) -> u8
+    ensures { result ≡ 1 }
+{
     let _ = eprintln!(rt; "avrstk: error: {error}");
     1
-}
-
-/// From words to settings, and from these to a status.
-fn run_words(rt: &HostRuntime, words: &[String]) -> u8 {
-    let mut desk = SystemDesk::new(rt, rt.stdout(), rt.stderr());
-    match asked(rt.alloc(), words, &mut desk) {
-        Ok(settings) => run_settings(rt, &settings, &mut desk),
-        Err(NotAsked::Refused(status)) => status,
-        Err(NotAsked::Words(error)) if error.kind() == ErrorKind::OutOfMemory => {
-            refuse(&SettingsFault::Memory, &mut desk)
-        }
-        Err(NotAsked::Words(error)) => tell_usage(rt, &error),
-    }
-}
-
-/// Prints what `clap` says: help is no mistake.
-fn tell_usage(rt: &HostRuntime, error: &Error) -> u8 {
-    match error.print(rt) {
-        Ok(()) if !error.use_stderr() => 0,
-        _ => 1,
-    }
-}
-
-/// Runs over the port of the settings: `stdio:` has its frames on standard input and output, `emu:` is the emulator,
-/// `net:` a connection; or serves the emulator.
-fn run_settings<D: Desk>(rt: &HostRuntime, settings: &Settings, desk: &mut D) -> u8 {
-    match &settings.port {
-        Port::Stdio => {
-            let mut link = StreamLink::new(rt.stdin(), rt.stdout());
-            run_streams(rt.alloc(), settings, desk, &mut link)
-        }
-        Port::Emulated(_) => run_emu(rt.alloc(), settings, desk),
-        Port::Network(_) => run_net(rt, rt.alloc(), settings, desk),
-        Port::Served { .. } => serve_net(rt, rt.alloc(), settings, desk),
-    }
 }

@@ -2,7 +2,7 @@
 use avr_cli::{Settings, read_settings, read_words};
 use avr_desk::{Bytes, MemDesk};
 use avr_net::{accept, listen, run_net, serve_net, serve_on};
-use avr_part::{Chip, Parts};
+use avr_part::Parts;
 use std::alloc::Global;
 use std::io;
 use std::io::{ErrorKind, Read, Write};
@@ -171,9 +171,9 @@ fn a_caller_is_answered_and_the_chip_is_saved(rt: HostRuntime) -> Result<(), Fai
     let mut caller = TcpStream::connect(&rt, listener.local_addr()?)?;
     caller.write_all(FRAME.as_slice())?;
     caller.shutdown(Shutdown::Write)?;
-    let chip = Chip::fresh(alloc, Parts::none().find("m328p")?)?;
+    let part = Parts::none().find("m328p")?;
     let mut desk = MemDesk::new(alloc, Bytes::new(alloc));
-    let status = serve_on(alloc, chip, "5000", "chip.bin", &listener, &mut desk);
+    let status = serve_on(alloc, &part, "5000", "chip.bin", &listener, &mut desk);
     assert_eq!(rt; status, 0);
     assert!(rt; desk.messages().is_empty());
     assert_eq!(rt; desk.file("chip.bin").map(|file| file.len()), Some(33_796));

@@ -7,6 +7,7 @@ pub loop-turn-init : goal.loop-turn-init
 loop-turn-init g c = record {
   serves = serves_none c.args.emulator.now (g.L.Link.view c.args.link.now);
   counted = refl;
+  comes = λ start of. of;
 }
 
 pub returns-in_default : goal.returns-in_default
@@ -16,10 +17,12 @@ returns-in_default g c = record {
       (serves_more c.answer_next.result c.loop-turn.turn _ _ _ _ _ _ c.loop-turn.invariant.serves c.answer_next.ensures.serves);
   counted = omega (arith, c.answer_next.ensures.counted, c.loop-turn.invariant.counted);
   failed = fails_more c.answer_next.result _ _ _ c.loop-turn.invariant.counted c.answer_next.ensures.failed;
+  comes = λ start of. c.answer_next.ensures.comes start (c.loop-turn.invariant.comes start of);
 }
 
 pub loop-turn-preserved : goal.loop-turn-preserved
 loop-turn-preserved g c = record {
   serves = serves_more TooManyReads c.loop-turn.turn _ _ _ _ _ _ c.loop-turn.invariant.serves c.in-TooManyReads.ensures.serves;
   counted = c.in-TooManyReads.ensures.failed ∙ c.loop-turn.invariant.counted;
+  comes = λ start of. c.in-TooManyReads.ensures.comes start (c.loop-turn.invariant.comes start of);
 }

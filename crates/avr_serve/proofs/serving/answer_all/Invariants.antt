@@ -1,4 +1,5 @@
 use Rattle.std.proofs.Common.{◌≡◌}
+use Rattle.stk_host.specs.Talk.{Stays}
 use Rattle.avr_serve.specs.declared.serving.Served.TheVariants.{TooManyReads}
 use Rattle.avr_serve.specs.Serving.{Serves}
 use Rattle.avr_serve.proofs.serving.answer_all.Given as goal
@@ -7,4 +8,5 @@ abbrev pub invariant-loop-turn : goal.invariant-loop-turn
 invariant-loop-turn g l = record {
   serves : Serves l.fn.emulator l.turn TooManyReads (g.L.Link.view l.fn.link) (g.L.Link.view l.link) l.emulator;
   counted : (g.L.Link.view l.link).failures ≡ (g.L.Link.view l.fn.link).failures;
+  comes : Stays g.L.Link.comes_of l.fn.link l.link;
 }

@@ -9,6 +9,7 @@ loop-used-init g c = record {
   in_range = omega arith;
   replies = replies_none c.args.emulator.now (g.L.Link.view c.args.link.now);
   counted = refl;
+  comes = λ start of. of;
 }
 
 pub returns-in_err-send_all-clause-err : goal.returns-in_err-send_all-clause-err
@@ -25,4 +26,5 @@ loop-used-preserved g c = record {
       replies_more c.args.piece.now _ _ c.loop-used.used c.feed-used.result _ _ _ _ _ _ c.loop-used.invariant.replies (behind c.args.piece.now c.loop-used.used)
       c.feed-used.ensures.one (rw c.as_slice.ensures.value at c.in_ok-send_all.ensures.sends.ok);
   counted = c.in_ok-send_all.ensures.sends.counts.sound ∙ c.loop-used.invariant.counted;
+  comes = λ start of. c.in_ok-send_all.ensures.comes start (c.loop-used.invariant.comes start of);
 }

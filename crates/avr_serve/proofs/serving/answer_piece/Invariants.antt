@@ -1,4 +1,5 @@
 use Rattle.std.proofs.Common.{length, take, ◌-◌, ◌≤◌, ◌≡◌}
+use Rattle.stk_host.specs.Talk.{Stays}
 use Rattle.avr_serve.specs.Replying.{Replies}
 use Rattle.avr_serve.proofs.serving.answer_piece.Given as goal
 
@@ -7,6 +8,7 @@ invariant-loop-used g l = record {
   in_range : l.used ≤ length l.piece;
   replies : Replies l.fn.emulator (take l.used l.piece) (g.L.Link.view l.fn.link) (g.L.Link.view l.link) l.emulator;
   counted : (g.L.Link.view l.link).failures ≡ (g.L.Link.view l.fn.link).failures;
+  comes : Stays g.L.Link.comes_of l.fn.link l.link;
 }
 
 abbrev pub decreases-loop-used : goal.decreases-loop-used

@@ -1,0 +1,93 @@
+-- THE PROGRAM. What it does with the words of a command line, on its standard streams and at its desk, and its status.
+use Rattle.std.specs.Prelude.{◌≡◌, ◌≢◌, ◌⊎◌, ℕ, Bool, true, List, [], Result, Ok, Err}
+use Rattle.clap.specs.Words.{fault_of, kind_of, takes, HasKind}
+use Rattle.clap.specs.declared.error.Error.{Error}
+use Rattle.clap.specs.declared.error.kind.ErrorKind.{ErrorKind}
+use Rattle.clap.specs.declared.error.kind.ErrorKind.TheVariants.{OutOfMemory, DisplayHelp, DisplayVersion}
+use Rattle.avr_cli.specs.Command.{avrstk, asked_by}
+use Rattle.avr_cli.specs.declared.settings.Port.{Port}
+use Rattle.avr_cli.specs.declared.settings.Port.TheVariants.{Stdio, Emulated, Network, Served}
+use Rattle.avr_cli.specs.declared.settings.Settings.{Settings}
+use Rattle.avr_cli.specs.declared.settings.SettingsFault.TheVariants.{Memory}
+use Rattle.avr_desk.specs.Record.{DeskView, Bytes}
+use Rattle.avr_desk.specs.Said.{Tells}
+use Rattle.avr_emulated.specs.Emulated.{RunsEmulator}
+use Rattle.avr_net.specs.OverNet.{RunsOverNet}
+use Rattle.avr_net.specs.ServedNet.{ServesNet}
+use Rattle.avr_session.specs.Refusal.{refusal_line}
+use Rattle.avr_session.specs.Runs.{devices}
+use Rattle.avr_tool.specs.Asked.{IsRefused}
+use Rattle.avr_tool.specs.Headline.{IsRun, IsStopped}
+use Rattle.stk_host.specs.Talk.{LinkView}
+
+-- The port of the settings decides: standard input and output, between `before` and `after`; the emulator over a chip
+-- file; a connection; or a service, of which nothing but the chip file, the port and the part are looked at.
+abbrev pub RunsPort : Port → Settings → LinkView → LinkView → DeskView → DeskView → ℕ → Type 0
+RunsPort Stdio settings before after old new status =
+    IsRun settings (devices before old) (devices after new) status
+    ⊎ IsStopped settings (devices before old) (devices after new) status
+RunsPort (Emulated file) settings before after old new status =
+    RunsEmulator settings file old new status × (after ≡ before)
+RunsPort (Network address) settings before after old new status =
+    RunsOverNet settings address old new status × (after ≡ before)
+RunsPort (Served port chip) settings before after old new status =
+    ServesNet settings port chip old new status × (after ≡ before)
+
+-- The command takes the words, which ask for these settings, and that is what was run.
+pub record RunsAsked (words : List Bytes) (before after : LinkView) (old new : DeskView) (status : ℕ) : Type 0 where
+  pub settings : Settings
+  pub asked : Ok settings ≡ asked_by words
+  pub taken : fault_of avrstk words ≡ []
+  pub runs : RunsPort settings.port settings before after old new status
+
+-- What they ask for has a fault, or memory was refused: that was told, and nothing else was done.
+pub record RunsNothing (words : List Bytes) (before after : LinkView) (old new : DeskView) (status : ℕ) : Type 0 where
+  pub why : IsRefused words old new status ⊎ Tells old new (refusal_line Memory)
+  pub untouched : after ≡ before
+  pub status_is : status ≡ 1
+
+-- The command doesn't take the words, or they ask for help: an error of a kind that they call for is left to be
+-- printed, and nothing was done.
+pub record LeavesError (words : List Bytes) (before after : LinkView) (old new : DeskView) (error : Error)
+    : Type 0 where
+  pub kind : HasKind (fault_of avrstk words) error
+  pub not_memory : kind_of error ≢ OutOfMemory
+  pub not_taken : takes avrstk words ≢ true
+  pub untold : new ≡ old
+  pub untouched : after ≡ before
+
+abbrev pub RunsWords : List Bytes → LinkView → LinkView → DeskView → DeskView → Result ℕ Error → Type 0
+RunsWords words before after old new (Ok status) =
+    RunsAsked words before after old new status ⊎ RunsNothing words before after old new status
+RunsWords words before after old new (Err error) = LeavesError words before after old new error
+
+-- an error of `clap`: that memory was refused is told, any other is left
+abbrev pub LeavesWords : Error → DeskView → DeskView → Result ℕ Error → Type 0
+LeavesWords error old new (Ok status) =
+    (kind_of error ≡ OutOfMemory) × Tells old new (refusal_line Memory) × (status ≡ 1)
+LeavesWords error old new (Err left) = (kind_of error ≢ OutOfMemory) × (left ≡ error) × (new ≡ old)
+
+-- help and the version that were printed are no mistake
+abbrev pub usage_status : ErrorKind → Bool → ℕ
+usage_status DisplayHelp true = 0
+usage_status DisplayVersion true = 0
+usage_status kind printed = 1
+
+-- The error was printed or could not be (what is printed no clause says), and the status is its.
+pub record TellsUsage (words : List Bytes) (before after : LinkView) (old new : DeskView) (status : ℕ) : Type 0 where
+  pub error : Error
+  pub leaves : LeavesError words before after old new error
+  pub printed : Bool
+  pub status_is : status ≡ usage_status (kind_of error) printed
+
+-- From words to a status.
+abbrev pub RunsProgram : List Bytes → LinkView → LinkView → DeskView → DeskView → ℕ → Type 0
+RunsProgram words before after old new status =
+    RunsWords words before after old new (Ok status) ⊎ TellsUsage words before after old new status
+
+-- From the start of a process: its words, which no clause knows, were read and run, or could not be read, and then
+-- nothing was done but to print that, with status 1.
+abbrev pub RunsArguments : LinkView → LinkView → DeskView → DeskView → ℕ → Type 0
+RunsArguments before after old new status =
+    ((words : List Bytes) × RunsProgram words before after old new status)
+    ⊎ ((status ≡ 1) × (new ≡ old) × (after ≡ before))

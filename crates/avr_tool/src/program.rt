@@ -1,0 +1,107 @@
+//! The program: from the words of a command line to a status.
+ghost use Rattle.std.specs.Prelude.{◌≡◌, map, string_bytes};
+ghost use Rattle.clap.specs.Words.{kind_of};
+ghost use Rattle.avr_tool.specs.Program.{LeavesWords, RunsPort, RunsProgram, RunsWords, usage_status};
+ghost use Rattle.stk_host.specs.Links.{IsTrueSince, stream_view};
+
+use crate::asking::{NotAsked, asked};
+use crate::of_port::{run_emu, run_net, serve_net};
+use crate::running::run_streams;
+use avr_cli::{Port, Settings, SettingsFault};
+use avr_desk::Desk;
+use avr_session::refuse;
+use clap::Error;
+use clap::error::ErrorKind;
+use std::alloc::Global;
+use std::io::{Eprint, Print, Read, Write};
+use std::net::Net;
+use stk_host::StreamLink;
+
+/// Runs over the port of the settings: `stdio:` has its frames on the link, `emu:` is the emulator, `net:` a
+/// connection; or serves the emulator.
+fn run_port<N: Net, D: Desk, R: Read + Drop, W: Write + Drop>(
+    rt: &N,
+    alloc: Global,
+    settings: &Settings,
+    desk: &mut D,
+    link: &mut StreamLink<R, W>,
+) -> u8
+    ensures runs { RunsPort settings.now.port settings.now (stream_view link.old) (stream_view link.new)
+        (D.view desk.old) (D.view desk.new) result }
+    ensures tells { IsTrueSince R.remaining W.contents link.old link.new }
+{
+    match &settings.port {
+        Port::Stdio => run_streams(alloc, settings, desk, link),
+        Port::Emulated(_) => run_emu(alloc, settings, desk),
+        Port::Network(_) => run_net(rt, alloc, settings, desk),
+        Port::Served { .. } => serve_net(rt, alloc, settings, desk),
+    }
+}
+
+/// Tells that memory was refused to `clap`, and leaves any other error as it is.
+fn words_untaken<D: Desk>(error: Error, desk: &mut D) -> Result<u8, Error>
+    ensures { LeavesWords error (D.view desk.old) (D.view desk.new) result }
+{
+    if error.kind() == ErrorKind::OutOfMemory {
+        return Ok(refuse(&SettingsFault::Memory, desk));
+    }
+    Err(error)
+}
+
+/// Runs what the words of a command line ask for, the program's name first, with a link for `stdio:`.
+///
+/// The status is 0 where no fault came, else 1; a fault of what they ask for, and that memory was refused, has its
+/// line.
+///
+/// `Err` is an error of `clap`, not printed yet: it doesn't take the words, or they ask for help or the version.
+/// Nothing was done then.
+pub fn run_words<N: Net, D: Desk, R: Read + Drop, W: Write + Drop>(
+    rt: &N,
+    alloc: Global,
+    words: &[String],
+    desk: &mut D,
+    link: &mut StreamLink<R, W>,
+) -> Result<u8, Error>
+    ensures runs { RunsWords (map string_bytes words.now) (stream_view link.old) (stream_view link.new)
+        (D.view desk.old) (D.view desk.new) result }
+    ensures tells { IsTrueSince R.remaining W.contents link.old link.new }
+{
+    match asked(alloc, words, desk) {
+        Ok(settings) => Ok(run_port(rt, alloc, &settings, desk, link)),
+        Err(NotAsked::Refused(status)) => Ok(status),
+        Err(NotAsked::Words(error)) => words_untaken(error, desk),
+    }
+}
+
+/// The status of an error of `clap`: help and the version that were printed are no mistake.
+fn status_of_usage(error: &Error, was_printed: bool) -> u8
+    ensures { result ≡ usage_status (kind_of error.now) was_printed }
+{
+    match error.kind() {
+        ErrorKind::DisplayHelp | ErrorKind::DisplayVersion if was_printed => 0,
+        _ => 1,
+    }
+}
+
+/// The program: runs what the words of a command line ask for as [`run_words`] does, and prints an error of `clap`.
+///
+/// The status of help and of the version that were printed is 0, that of any other such error 1.
+pub fn run_program<N: Net + Print + Eprint, D: Desk, R: Read + Drop, W: Write + Drop>(
+    rt: &N,
+    alloc: Global,
+    words: &[String],
+    desk: &mut D,
+    link: &mut StreamLink<R, W>,
+) -> u8
+    ensures runs { RunsProgram (map string_bytes words.now) (stream_view link.old) (stream_view link.new)
+        (D.view desk.old) (D.view desk.new) result }
+    ensures tells { IsTrueSince R.remaining W.contents link.old link.new }
+{
+    match run_words(rt, alloc, words, desk, link) {
+        Ok(status) => status,
+        Err(error) => {
+            let was_printed = error.print(rt).is_ok();
+            status_of_usage(&error, was_printed)
+        }
+    }
+}

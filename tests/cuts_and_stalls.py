@@ -1,0 +1,217 @@
+#!/usr/bin/env python3
+"""A run and the programmer that the program serves, as two processes at the ends of a line that keeps the order of bytes,
+loses none and adds none, and cuts and stalls wherever it was drawn to, inside frames too: 500 runs, of fixed seeds.
+
+    tests/cuts_and_stalls.py [CASE ..]    needs crates/avrstk/out/avrstk, as rt ci leaves it
+
+What the laws of two processes say is looked at in each run: without a stall it does what it does over `emu:`; with status
+0 the chip has what was written, and the messages are those of `emu:`; whatever the status, the chip is as the first so
+many strokes of the plan leave it (the erase, pages of flash in their order, pages of EEPROM, the fuse), and the messages
+in front of the error begin those of `emu:`. A stall lasts until the run sends again, after its second of silence.
+"""
+
+import random
+import socket
+import sys
+import threading
+from concurrent.futures import ThreadPoolExecutor
+
+from cases import named, run_cases, same, see
+from line import Peer
+from program import CHIP_FILE, Room, Server
+
+AT_ONCE = 24
+FLASH, EEPROM = 32_768, 1_024
+FLASH_PAGE, EEPROM_PAGE = 128, 4
+WORDS = ["-U", "flash:w:flash.bin:r", "-U", "eeprom:w:eeprom.bin:r", "-U", "lfuse:w:0xE2:m"]
+LFUSE = FLASH + EEPROM
+
+
+class Plan:
+    """Images, drawn, and a chip that is full of other bytes; it has no lock, and an erase takes its EEPROM too."""
+
+    def __init__(self, seed):
+        lots = random.Random(f"plan {seed}")
+        # no image ends with FF, of which the end of one for flash is cut off
+        self.flash = lots.randbytes(lots.randint(1, 260)) + b"\x00"
+        self.eeprom = lots.randbytes(lots.randint(1, 14))
+        self.chip = lots.randbytes(FLASH + EEPROM) + b"\x62\xd9\xff\xff"
+        self.strokes = list(self.states())
+
+    def states(self):
+        """The chip at first, and behind each stroke."""
+        chip = bytearray(self.chip)
+        yield bytes(chip)
+        chip[: FLASH + EEPROM] = b"\xff" * (FLASH + EEPROM)
+        yield bytes(chip)
+        for base, page, image in [(0, FLASH_PAGE, self.flash), (FLASH, EEPROM_PAGE, self.eeprom)]:
+            for place in range(0, len(image), page):
+                piece = image[place : place + page]
+                chip[base + place : base + place + len(piece)] = piece
+                yield bytes(chip)
+        chip[LFUSE] = 0xE2
+        yield bytes(chip)
+
+    def run(self, room, port, chip):
+        """The status and messages of a run of this plan in this room, to a chip in this file."""
+        room.put("flash.bin", self.flash)
+        room.put("eeprom.bin", self.eeprom)
+        room.put(chip, self.chip)
+        status, _, messages = room.run(["-p", "m328p", "-P", port(), *WORDS])
+        return status, messages
+
+
+class Line(Peer):
+    """An ordered line to a programmer. Each way is cut into pieces of at most so many bytes, and stalls in front of the
+    bytes at these places; from the place `lags_from` on each answer comes when the next frame was sent."""
+
+    def __init__(self, room, lots, most, stalls_up=(), stalls_down=(), lags_from=None):
+        self.lots, self.most, self.lags_from = lots, most, lags_from
+        self.stalls_up, self.stalls_down = set(stalls_up), set(stalls_down)
+        self.changed = threading.Condition()
+        self.count, self.ended = 0, False
+        self.server = Server(room)
+        super().__init__()
+
+    def serve(self, caller):
+        with self.server.call() as programmer:
+            programmer.settimeout(60)
+            up = threading.Thread(target=self.carry_up, args=(caller, programmer), daemon=True)
+            up.start()
+            self.carry_down(programmer, caller)
+            up.join()
+
+    def heard_from(self, caller):
+        """What the run sends next; nothing at its end."""
+        try:
+            piece = caller.recv(4096)
+        except ConnectionResetError:
+            # it has gone, with answers that it didn't read
+            piece = b""
+        with self.changed:
+            self.count += len(piece)
+            self.ended = not piece
+            self.changed.notify_all()
+        return piece
+
+    def carry_up(self, caller, programmer):
+        lots, place = random.Random(self.lots.random()), 0
+        while piece := self.heard_from(caller):
+            while piece:
+                if place in self.stalls_up:
+                    self.stalls_up.remove(place)
+                    # behind a second of silence the run sends again
+                    piece += self.heard_from(caller)
+                size = self.size(lots, place, self.stalls_up)
+                programmer.sendall(piece[:size])
+                place, piece = place + len(piece[:size]), piece[size:]
+            if self.ended:
+                break
+        programmer.shutdown(socket.SHUT_WR)
+
+    def carry_down(self, programmer, caller):
+        lots, place = random.Random(self.lots.random()), 0
+        try:
+            while piece := programmer.recv(4096):
+                if place in self.stalls_down or self.lags_from is not None and place >= self.lags_from:
+                    self.await_more()
+                while piece:
+                    if place in self.stalls_down:
+                        self.stalls_down.remove(place)
+                        self.await_more()
+                    size = self.size(lots, place, self.stalls_down)
+                    caller.sendall(piece[:size])
+                    place, piece = place + len(piece[:size]), piece[size:]
+        except OSError:
+            # the run has gone with answers on their way
+            while programmer.recv(4096):
+                pass
+
+    def size(self, lots, place, stalls):
+        """How long the next piece is: not past a stall."""
+        size = lots.randint(1, self.most)
+        return next((far for far in range(1, size) if place + far in stalls), size)
+
+    def await_more(self):
+        """Until the run has sent more, or has ended."""
+        with self.changed:
+            count = self.count
+            self.changed.wait_for(lambda: self.count > count or self.ended, 30)
+
+    def end(self):
+        """The status of the programmer, once it has saved its chip."""
+        super().end()
+        return self.server.end()
+
+
+def over(plan, number, line):
+    """A run of a plan over a line that this makes of a room and lots: its status and messages, the chip, and what the
+    server has said."""
+    room = Room()
+    peer = None
+
+    def port():
+        nonlocal peer
+        peer = line(room, random.Random(f"line {number}"))
+        return f"net:127.0.0.1:{peer.port}"
+
+    status, messages = plan.run(room, port, "served.bin")
+    return status, messages, peer.end(), room.read("served.bin")
+
+
+def many(count, line):
+    """So many runs, each over a line that this makes; gives how many ended with status 0."""
+    plans = [Plan(seed) for seed in range(10)]
+    courses = [plan.run(Room(), lambda: "emu:chip.bin", "chip.bin") for plan in plans]
+    same("over emu:", [status for status, _ in courses], [0] * len(plans))
+    with ThreadPoolExecutor(AT_ONCE) as pool:
+        begun = [pool.submit(over, plans[it % 10], it, line) for it in range(count)]
+        found = [it.result() for it in begun]
+    for it, (status, messages, served, chip) in enumerate(found):
+        told = courses[it % 10][1].splitlines()
+        holds(f"run {it}", plans[it % 10], told, status, messages.splitlines(), served, chip)
+    return sum(status == 0 for status, *_ in found)
+
+
+def holds(name, plan, told, status, messages, served, chip):
+    """What the laws say of a run and a server."""
+    see(f"{name}: the server", served == (0, b"", b""), served)
+    see(f"{name}: the chip is whole", chip is not None and len(chip) == CHIP_FILE)
+    if status == 0:
+        see(f"{name}: the chip has what was written", chip == plan.strokes[-1])
+        same(f"{name}: the messages", messages, told)
+    else:
+        see(f"{name}: the chip is as some first strokes leave it", chip in plan.strokes)
+        front = messages[:-1]
+        see(f"{name}: the messages begin so", status == 1 and front == told[: len(front)], messages)
+        see(f"{name}: and end with an error", messages[-1:] == [b"avrstk: error: no answer"], messages)
+
+
+def cuts():
+    """A line that never stalls."""
+    count = many(150, lambda room, lots: Line(room, lots, lots.choice([1, 7, 40, 300])))
+    same("each run succeeds", count, 150)
+
+
+def stalls():
+    """A line that stalls up to four times, anywhere."""
+
+    def line(room, lots):
+        places = [[lots.randint(0, 1_000) for _ in range(lots.randint(0, 2))] for _ in range(2)]
+        return Line(room, lots, lots.choice([3, 20, 300]), *places)
+
+    count = many(310, line)
+    see("most runs succeed", count > 250, count)
+
+
+def lags():
+    """A line on which, from some place on, each answer comes too late: a run ends there."""
+    count = many(40, lambda room, lots: Line(room, lots, 300, lags_from=lots.randint(0, 1_000)))
+    see("most runs fail", count < 20, count)
+
+
+CASES = named(cuts, stalls, lags)
+
+
+if __name__ == "__main__":
+    sys.exit(run_cases(CASES, __doc__))
