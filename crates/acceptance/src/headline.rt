@@ -1,6 +1,6 @@
 //! A caller of the headline's calls: that its conditions can be met.
 use crate::support::{OPENING, desk_with, fates, run_wired_on, settings_for};
-use avr_tool::{Fate, StreamLink, SystemDesk, run_streams};
+use avr_tool::{Fate, Settings, StreamLink, SystemDesk, run_streams};
 use std::test::Fail;
 
 /// The answers to a session that opens and ends, in hexadecimal digits.
@@ -19,17 +19,35 @@ struct Passed {
     status: u8,
 }
 
-/// Runs a session at a desk and over a link of the program's own kinds, with a reader of these answers, and with
-/// writers in memory.
+/// Runs at a desk and over a link of the program's own kinds, with a reader of these answers and these writers.
+fn play<'a>(
+    rt: &'a HostRuntime,
+    settings: &Settings,
+    answers: &'a [u8],
+    sent: &'a mut Vec<u8>,
+    output: &'a mut Vec<u8>,
+    messages: &'a mut Vec<u8>,
+) -> u8 {
+    let mut desk = SystemDesk::new(rt, output, messages);
+    let mut link = StreamLink::new(answers, sent);
+    run_streams(rt.alloc(), settings, &mut desk, &mut link)
+}
+
+/// Runs a session over these answers, with writers in memory.
 fn run_over_streams(rt: &HostRuntime, answers: &[u8]) -> Result<Passed, Fail> {
     let alloc = rt.alloc();
     let settings = settings_for(alloc, &["-p", "m328p"])?;
     let mut sent = Vec::new(alloc);
     let mut output = Vec::new(alloc);
     let mut messages = Vec::new(alloc);
-    let mut desk = SystemDesk::new(rt, &mut output, &mut messages);
-    let mut link = StreamLink::new(answers, &mut sent);
-    let status = run_streams(alloc, &settings, &mut desk, &mut link);
+    let status = play(
+        rt,
+        &settings,
+        answers,
+        &mut sent,
+        &mut output,
+        &mut messages,
+    );
     Ok(Passed {
         sent,
         output,
