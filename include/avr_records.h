@@ -26,6 +26,9 @@
 extern "C" {
 #endif
 
+/* The version of avrstk that this header is of. */
+#define AVR_RECORDS_VERSION "0.9.0"
+
 /* Formats of files. */
 enum {
     AVR_RECORDS_RAW = 0,  /* bytes as they are */

@@ -5,11 +5,13 @@ what it asks of sockets.
     tests/faults.py [CASE ..]        needs crates/avrstk/out/avrstk and the tests of two crates, as rt ci leaves them,
                                      and a C compiler (tests/refuse.c), or all is left out
 
-For every run below and every kind of call the nth is refused, for n from 1 upwards until a run meets no refusal; of the
+The runs over the emulator begin with a chip that has something to lose, and its file has to be as it was or as the
+sound run leaves it, whole. For every run below and every kind of call the nth is refused, for n from 1 upwards until a run meets no refusal; of the
 requests for memory also the nth and all after it. What was sent and said has to be a front of what the sound run sends and
 says, and then the line of that fault, with the name of the file that the call was for (a front of it where a message
 couldn't be written), with status 1; or all that the sound run sends and says, with its status, where what was refused
-wasn't needed. A read or a write that a signal breaks off, or that moves one byte alone, has to change nothing.
+wasn't needed. A read or a write that a signal breaks off, or that moves one byte alone, and a file that says a failure
+where it is closed, have to change nothing.
 The crates' own devices in memory meet refused growths in their tests, which may fail there, but have to end.
 """
 
@@ -27,6 +29,15 @@ from line import BadLine
 from program import ANSWERS, CHIP_FILE, ENDS, FRAMES, TOP, Room, Server
 
 EMULATED = ["-p", "m328p", "-P", "emu:chip.bin"]
+
+
+def full_chip(flash, eeprom):
+    """A chip with a program, data and fuses of its own, which isn't locked."""
+    return bytes(place % 241 for place in range(flash)) + bytes(place % 239 for place in range(eeprom)) + b"\xe2\xd9\xfd\xff"
+
+
+# the chip files that the runs begin with, by the part's name
+CHIPS = {"m328p": full_chip(32_768, 1024), "m2560": full_chip(262_144, 4096)}
 
 # the words behind the program's name, and what stands on standard input
 RUNS = {
@@ -51,10 +62,11 @@ REFUSED = {
 # The lines that a refused call of each kind may have; the file is the one that the call was for. (A device that lacks
 # memory fails like any other.)
 LINES = {
-    "growth": ["out of memory", "link cannot be written", "link cannot be read"],
+    "growth": ["out of memory", "link cannot be written", "link cannot be read", "chip.bin: cannot be written"],
     "read": ["link cannot be read", "{file}: cannot be read"],
     "write": ["link cannot be written", "{file}: cannot be written"],
-    "open": ["{file}: cannot be opened", "{file}: cannot be created"],
+    "open": ["{file}: cannot be opened", "{file}: cannot be created", "{file}: cannot be written"],
+    "file": ["{file}: cannot be written"],
     "socket": ["port net:127.0.0.1:PORT cannot be opened", "port PORT cannot be opened"],
 }
 
@@ -66,7 +78,7 @@ FAULTS = [*((kind, "fail") for kind in LINES), ("growth", "onwards")]
 DEVICES = {"library_tests": "desks::", "host_tests": ""}
 
 # what has to change nothing
-HARMLESS = [("read", "interrupt"), ("read", "one"), ("write", "interrupt"), ("write", "one")]
+HARMLESS = [("read", "interrupt"), ("read", "one"), ("write", "interrupt"), ("write", "one"), ("close", "fail")]
 
 
 class Sweep:
@@ -78,9 +90,17 @@ class Sweep:
         if self.sound[0] != status:
             raise AssertionError(f"{label}: {self.sound}")
 
+    def prepare(self):
+        """An empty room, but for the chip."""
+        self.room.clear()
+        self.old = None
+        if "emu:chip.bin" in self.words:
+            self.old = CHIPS[self.words[self.words.index("-p") + 1]]
+            self.room.put("chip.bin", self.old)
+
     def done(self, refused=None):
         """The status, the output and the messages, and the files that were made."""
-        self.room.clear()
+        self.prepare()
         environment = {"LD_PRELOAD": str(self.shim), "REFUSE": refused, "REFUSED": "refused"} if refused else None
         ran = self.room.run(self.words, self.given, environment)
         return *ran, self.room.read("chip.bin"), self.room.read("out.hex")
@@ -101,14 +121,14 @@ class Sweep:
 
     def is_told(self, kind, how, status, output, messages, chip, read_file):
         """Whether a run says that it failed, and leaves nothing that is half written without a word."""
-        file = Path(self.room.read("refused").decode()).name
+        file = Path(self.room.read("refused").decode()).name.removesuffix(".avrstk-new")
         lines = [line.format(file=file) for line in LINES[kind]]
-        if how == "onwards" and any("chip.bin" in word for word in self.words) and chip is None:
+        if how == "onwards" and self.old and chip == self.old:
             # (behind a fault of the session there is no memory to save the chip either, which is told too)
             lines += [f"{line}\navrstk: error: out of memory" for line in lines]
         # (the line is whole, unless it was a message that couldn't be written)
         is_told = any(is_front_and_line(messages, self.sound[2], line, kind == "write") for line in lines)
-        is_chip = chip is None or len(chip) == len(self.sound[3] or b"") or b"chip.bin: " in messages
+        is_chip = chip in (self.old, self.sound[3])
         is_front = read_file is None or (self.sound[4] or b"").startswith(read_file)
         return status == 1 and self.sound[1].startswith(output) and is_told and is_chip and is_front
 
@@ -118,6 +138,8 @@ class Serving(Sweep):
 
     def done(self, refused=None):
         self.room.clear()
+        self.old = CHIPS["m328p"]
+        self.room.put("chip.bin", self.old)
         environment = {"LD_PRELOAD": str(self.shim), "REFUSE": refused, "REFUSED": "refused"} if refused else {}
         with Server(self.room, "chip.bin", waits=False, env=os.environ | environment) as server:
             heard = heard_from(server)
@@ -169,7 +191,7 @@ class OverNet(Sweep):
     """A run over a line whose answer to frame 255 is late: it takes a second, which is the silence of a network."""
 
     def done(self, refused=None):
-        self.room.clear()
+        self.prepare()
         peer = BadLine(self.room, {255: "late answer"})
         self.words = ["-p", "m328p", "-P", f"net:127.0.0.1:{peer.port}", "-V", "-U", "eeprom:w:whole.bin:r"]
         environment = {"LD_PRELOAD": str(self.shim), "REFUSE": refused, "REFUSED": "refused"} if refused else None

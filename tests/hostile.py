@@ -80,6 +80,16 @@ def descriptors_are_closed():
         same(f"{closed}: {words}", room.run(words, closed=closed), wanted)
 
 
+def closed_streams_stay_closed():
+    """No file or connection takes the number of a stream that is closed: frames alone go over the line."""
+    for closed, status in [("0<&-", 0), ("1>&-", 0), ("2>&-", 1), ("0<&- 1>&- 2>&-", 1)]:
+        peer = FrontOfAnswers(ANSWERS, resets=False)
+        found = room.run(["-p", "m328p", "-P", f"net:127.0.0.1:{peer.port}"], closed=closed)
+        frames = peer.end()
+        see(f"{closed}: frames alone", frames and frames == FRAMES[: len(frames)], frames)
+        see(f"{closed}: status", found[:2] == (status, b"") and len(frames) >= 5, found)
+
+
 def files_fail():
     """Files that aren't there, folders in their place, and files that can't be made or written."""
     (room.folder / "folder").mkdir()
@@ -97,7 +107,7 @@ def files_fail():
         ([*EMULATED, "-U", "flash:r:folder"], [SIGNATURE, "error: folder: cannot be created"]),
         ([*EMULATED, "-U", "flash:r:nowhere/out.hex"], [SIGNATURE, "error: nowhere/out.hex: cannot be created"]),
         ([*EMULATED, "-U", "eeprom:r:/dev/full"], [SIGNATURE, "error: /dev/full: cannot be written"]),
-        (["-p", "m328p", "-P", "emu:nowhere/chip.bin", "-e"], [*erased, "done", "error: nowhere/chip.bin: cannot be created"]),
+        (["-p", "m328p", "-P", "emu:nowhere/chip.bin", "-e"], ["error: nowhere/chip.bin: cannot be written"]),
         (["-p", "m328p", "-P", "net:127.0.0.1:1", "-e"], ["error: port net:127.0.0.1:1 cannot be opened"]),
         (["-p", "m328p", "-P", "net:no such host:1"], ["error: port net:no such host:1 cannot be opened"]),
     ]:
@@ -201,7 +211,8 @@ def exchanged(caller, sent):
 
 
 CASES = named(
-    output_fails, input_fails, descriptors_are_closed, files_fail, answers_are_cut, lines_are_bad, callers_are_odd
+    *(output_fails, input_fails, descriptors_are_closed, closed_streams_stay_closed, files_fail, answers_are_cut),
+    *(lines_are_bad, callers_are_odd),
 )
 
 if __name__ == "__main__":

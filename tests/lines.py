@@ -35,6 +35,7 @@ ELSEWHERE = {
     "error: FILE: cannot be created": "tests/hostile.py names missing folders",
     "error: FILE: cannot be written": "tests/hostile.py names a full device",
     "error: FILE: cannot be read": "tests/hostile.py names folders",
+    "error: FILE: in use by another run": "tests/chips.py has runs at once",
 }
 
 room = Room()

@@ -22,8 +22,10 @@ from program import PROGRAM, TOP
 USAGE = TOP / "docs/USAGE.md"
 PAGE = TOP / "docs/avrstk.1"
 
-HEAD = r""".\" Made of docs/USAGE.md by tests/manual.py --write.
-.TH AVRSTK 1 "" "" "Programming AVR parts"
+VERSION = (TOP / "VERSION").read_text().strip()
+
+HEAD = rf""".\" Made of docs/USAGE.md by tests/manual.py --write.
+.TH AVRSTK 1 "" "avrstk {VERSION}" "Programming AVR parts"
 .SH NAME
 avrstk \- programs AVR parts through an STK500v2 programmer
 .SH SYNOPSIS
@@ -255,6 +257,15 @@ def names_agree():
     see("the completions have the built-in parts", f'"{" ".join(parts())}"' in completions, parts())
 
 
+def version_agrees():
+    """The version of VERSION is that of the help, of the header for C and of the newest changes."""
+    _, shown = of_help()
+    see("--help tells the version", f"This is avrstk {VERSION}." in " ".join(shown.split()), shown[-200:])
+    see("the header has it", f'AVR_RECORDS_VERSION "{VERSION}"' in (TOP / "include/avr_records.h").read_text())
+    newest = re.search(r"^## ([0-9.]+)", (TOP / "CHANGELOG.md").read_text(), re.M)[1]
+    same("the newest changes are its own", newest, VERSION)
+
+
 def runs_of_readme():
     for what, holds in shown_runs("README.md"):
         see(what, holds)
@@ -281,7 +292,7 @@ def page_is_shown():
     see("the page shows no mark of docs/USAGE", not set("*`") & set(plain))
 
 
-CASES = named(page_is_made, names_agree, runs_of_readme, runs_of_usage, differences_hold, page_is_shown)
+CASES = named(page_is_made, names_agree, version_agrees, runs_of_readme, runs_of_usage, differences_hold, page_is_shown)
 
 
 def main():

@@ -1,6 +1,7 @@
 /* Lets one call of the C library fail. With LD_PRELOAD in front of a program, REFUSE names the call by its kind, its
  * number from 1, and what becomes of it: "growth 3 fail" refuses the third request for memory, "growth 3 onwards" that one
- * and all after it. A read or a write may also be interrupted by a signal ("interrupt"), or move one byte alone ("one").
+ * and all after it. A read or a write may also be interrupted by a signal ("interrupt"), or move one byte alone ("one"). At
+ * any call the program may be ended by a signal, "kill" or "int"; "any 3 kill" counts the calls of all kinds.
  * Whether the program came to that call is told by the file REFUSED, which then holds the name of the file that the call
  * was for, if it was for one. */
 #define _GNU_SOURCE
@@ -8,18 +9,23 @@
 #include <errno.h>
 #include <fcntl.h>
 #include <netdb.h>
+#include <signal.h>
 #include <stdarg.h>
 #include <stdio.h>
 #include <stdlib.h>
 #include <string.h>
+#include <sys/file.h>
 #include <sys/socket.h>
+#include <sys/stat.h>
 #include <unistd.h>
 
-enum kind { GROWTH, READ, WRITE, OPEN, SOCKET, KINDS };
+enum kind { GROWTH, READ, WRITE, OPEN, SOCKET, FILES, CLOSE, KINDS };
 
-static const char *const names[KINDS] = {"growth", "read", "write", "open", "socket"};
+static const char *const names[KINDS] = {"growth", "read", "write", "open", "socket", "file", "close"};
 
 enum fate { PASS, FAIL, INTERRUPT, ONE };
+
+#define NEXT(name) ((__typeof__(&name))dlsym(RTLD_NEXT, #name))
 
 /* Tells that a call was refused, and for which file: by its name, or by its descriptor; a pipe is "-". */
 static void tell_refused(const char *name, int file)
@@ -35,13 +41,13 @@ static void tell_refused(const char *name, int file)
             strcpy(held, "-");
     }
     dprintf(out, "%s", name ? name : held);
-    close(out);
+    NEXT(close)(out);
 }
 
 /* What becomes of this call, which is counted. */
 static enum fate fate_of(enum kind kind, const char *name, int file)
 {
-    static long calls[KINDS];
+    static long calls;
     static char due[16], how[16];
     static long number;
     if (!number) {
@@ -49,17 +55,17 @@ static enum fate fate_of(enum kind kind, const char *name, int file)
         if (!text || sscanf(text, "%15s %ld %15s", due, &number, how) != 3)
             number = -1;
     }
-    if (number < 0 || strcmp(names[kind], due))
+    if (number < 0 || (strcmp(names[kind], due) && strcmp(due, "any")))
         return PASS;
-    long call = ++calls[kind];
+    long call = ++calls;
     if (call < number || (call > number && strcmp(how, "onwards")))
         return PASS;
     if (call == number)
         tell_refused(name, file);
+    if (!strcmp(how, "kill") || !strcmp(how, "int"))
+        raise(!strcmp(how, "kill") ? SIGKILL : SIGINT);
     return !strcmp(how, "interrupt") ? INTERRUPT : !strcmp(how, "one") ? ONE : FAIL;
 }
-
-#define NEXT(name) ((__typeof__(&name))dlsym(RTLD_NEXT, #name))
 
 /* A call that answers `refused` where it is refused, with this reason. */
 #define REFUSABLE(kind, reason, refused, result, name, parameters, arguments) \
@@ -107,6 +113,39 @@ MOVING(READ, read, bytes, (int file, void *bytes, size_t count), (file, bytes, c
 MOVING(READ, recv, bytes, (int file, void *bytes, size_t count, int flags), (file, bytes, count, flags), (file, bytes, 1, flags))
 MOVING(WRITE, write, bytes, (int file, const void *bytes, size_t count), (file, bytes, count), (file, bytes, 1))
 MOVING(WRITE, send, bytes, (int file, const void *bytes, size_t count, int flags), (file, bytes, count, flags), (file, bytes, 1, flags))
+
+/* A call that is for a file, by its name or its descriptor. */
+#define OF_FILE(kind, reason, refused, result, name, path, file, parameters, arguments) \
+    result name parameters                                                              \
+    {                                                                                   \
+        if (fate_of(kind, path, file) != PASS) {                                        \
+            errno = reason;                                                             \
+            return refused;                                                             \
+        }                                                                               \
+        return NEXT(name) arguments;                                                    \
+    }
+
+OF_FILE(FILES, ENOLCK, -1, int, flock, NULL, file, (int file, int how), (file, how))
+OF_FILE(FILES, EIO, -1, int, fsync, NULL, file, (int file), (file))
+OF_FILE(FILES, EIO, -1, int, ftruncate, NULL, file, (int file, off_t length), (file, length))
+OF_FILE(FILES, EPERM, -1, int, fchmod, NULL, file, (int file, mode_t mode), (file, mode))
+OF_FILE(FILES, EIO, -1, off_t, lseek, NULL, file, (int file, off_t offset, int whence), (file, offset, whence))
+OF_FILE(FILES, EIO, -1, int, rename, from, -1, (const char *from, const char *to), (from, to))
+OF_FILE(FILES, EACCES, -1, int, unlink, path, -1, (const char *path), (path))
+OF_FILE(FILES, EACCES, NULL, char *, realpath, path, -1, (const char *path, char *resolved), (path, resolved))
+OF_FILE(FILES, EACCES, -1, int, statx, *path ? path : NULL, file, (int file, const char *path, int flags, unsigned int mask, struct statx *found),
+        (file, path, flags, mask, found))
+
+/* A file that is closed is closed, whatever is answered. */
+int close(int file)
+{
+    enum fate fate = fate_of(CLOSE, NULL, file);
+    int closed = NEXT(close)(file);
+    if (fate == PASS)
+        return closed;
+    errno = EIO;
+    return -1;
+}
 
 static int opened(const char *name, const char *path, int flags, mode_t mode)
 {

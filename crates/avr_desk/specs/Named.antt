@@ -1,7 +1,7 @@
 -- Files by their names, and the place where the open one stands.
-use Rattle.std.specs.Prelude.{List, [], ◌∷◌, Option, Some, if◌then◌else◌}
+use Rattle.std.specs.Prelude.{Bool, false, List, [], ◌∷◌, Option, Some, None, if◌then◌else◌}
 use Rattle.std.specs.Str.{bytes_eq}
-use Rattle.avr_desk.specs.Record.{Bytes}
+use Rattle.avr_desk.specs.Record.{Bytes, Record}
 use Rattle.avr_desk.specs.declared.record.Open.{Open}
 use Rattle.avr_desk.specs.declared.record.Open.TheVariants.{ToRead}
 use Rattle.avr_desk.specs.declared.record.Writing.{Writing}
@@ -14,6 +14,14 @@ or_older name older f = if bytes_eq f.name name then Some f.bytes else older
 abbrev pub newest : Bytes → Option Bytes → List Writing → Option Bytes
 newest name older [] = older
 newest name older (f ∷ fs) = newest name (or_older name older f) fs
+
+-- the file of this name is held
+abbrev pub is_held_name : Bytes → Option Bytes → Bool
+is_held_name name None = false
+is_held_name name (Some held) = bytes_eq held name
+
+abbrev pub holds : Bytes → Record → Bool
+holds name r = is_held_name name r.held
 
 -- the bytes that the open file has given
 abbrev pub bytes_given : Open → Bytes

@@ -1,5 +1,5 @@
 -- What a desk was asked, and what it gave.
-use Rattle.std.specs.Prelude.{◌≡◌, ◌==◌, ◌&&◌, ◌||◌, ℕ, Bool, true, false, not, List, [], ◌∷◌, ◌++◌, take, length, Option, option_map, Result, Ok, Err, IfSome, OnOk, ⊤}
+use Rattle.std.specs.Prelude.{◌≡◌, ◌==◌, ◌&&◌, ◌||◌, ℕ, Bool, true, false, not, List, [], ◌∷◌, ◌++◌, take, length, Option, Some, None, option_map, Result, Ok, Err, IfSome, OnOk, ⊤}
 use Rattle.avr_desk.specs.declared.desk.DeskFault.{DeskFault}
 use Rattle.avr_desk.specs.declared.desk.DeskFault.TheVariants.{NotFound, Failed}
 use Rattle.avr_desk.specs.declared.record.Writing.{Writing}
@@ -11,12 +11,14 @@ use Rattle.avr_desk.specs.declared.record.Open.TheVariants.{Closed, ToRead, ToWr
 abbrev pub Bytes : Type 0
 Bytes = List ℕ
 
--- what a desk keeps: the openings that are over, the files that are done, the file that is open,
--- the output and the messages
+-- what a desk keeps: the openings that are over, the files that are done, the file that is open, the name of the file
+-- that is held, the names of those that were held already, the output and the messages
 pub record Record : Type 0 where
   pub openings : List Opening
   pub files : List Writing
   pub current : Open
+  pub held : Option Bytes
+  pub denied : List Bytes
   pub output : Bytes
   pub messages : Bytes
 
@@ -68,6 +70,39 @@ abbrev pub after_create : Bytes → Result ⊤ DeskFault → Record → Record
 after_create name (Ok done) r = with_open (ToWrite (record { name = name; bytes = [] })) r
 after_create name (Err fault) r = r
 
+-- a file is held, or it is held already
+abbrev pub with_held : Bytes → Record → Record
+with_held name r = record r { held = Some name }
+
+abbrev pub with_denied : Bytes → Record → Record
+with_denied name r = record r { denied = r.denied ++ name ∷ [] }
+
+abbrev pub after_hold : Bytes → Result Bool DeskFault → Record → Record
+after_hold name (Ok true) r = with_held name r
+after_hold name (Ok false) r = with_denied name r
+after_hold name (Err fault) r = r
+
+abbrev pub with_none_held : Record → Record
+with_none_held r = record r { held = None }
+
+-- what a desk shows once it holds nothing
+abbrev pub released : DeskView → DeskView
+released view = record view { kept = option_map with_none_held view.kept }
+
+-- the open file is put by, a file of this name has these bytes, whole, and nothing is held
+abbrev pub with_replaced : Bytes → Bytes → Record → Record
+with_replaced name bytes r = record r {
+  openings = all_openings r;
+  files = all_files r ++ record { name = name; bytes = bytes } ∷ [];
+  current = Closed;
+  held = None;
+}
+
+-- where it can't be replaced nothing passed
+abbrev pub after_replace : Bytes → Bytes → Result ⊤ DeskFault → Record → Record
+after_replace name bytes (Ok done) r = with_replaced name bytes r
+after_replace name bytes (Err fault) r = r
+
 abbrev pub is_nil : Bytes → Bool
 is_nil bytes = length bytes == 0
 
@@ -115,4 +150,5 @@ abbrev pub HasOpen : {T : Type 0} → (Open → Bool) → DeskView → Result T 
 HasOpen test old r = OnOk r (IfSome old.kept (λ k. test k.current ≡ true))
 
 abbrev pub nothing_kept : Record
-nothing_kept = record { openings = []; files = []; current = Closed; output = []; messages = [] }
+nothing_kept =
+    record { openings = []; files = []; current = Closed; held = None; denied = []; output = []; messages = [] }

@@ -52,6 +52,11 @@ abbrev pub to_output_opened : Result (Unit {0}) DeskFault → Bool → Bool
 to_output_opened (Err Failed) before = before
 to_output_opened result before = false
 
+-- a replaced file is closed
+abbrev pub to_output_replaced : Result (Unit {0}) DeskFault → Bool → Bool
+to_output_replaced (Ok done) before = false
+to_output_replaced (Err fault) before = before
+
 abbrev pub to_output_created : Bytes → Result (Unit {0}) DeskFault → Bool → Bool
 to_output_created name (Ok done) before = is_dash name
 to_output_created name (Err fault) before = before

@@ -64,7 +64,7 @@ impl<D> FailingDesk<D> {
 }
 
 impl<D: Desk> Desk for FailingDesk<D> {
-    ghost use Rattle.avr_desk.specs.Record.{Passes, after_open, after_create, after_read, HasOpen, is_to_read, is_to_write};
+    ghost use Rattle.avr_desk.specs.Record.{Passes, after_open, after_create, after_hold, after_read, after_replace, released, HasOpen, is_to_read, is_to_write};
     ghost use Rattle.avr_desk.specs.Fault.{Counts, WriteCounts};
     ghost use Rattle.avr_desk.specs.Stream.{SendsTaken};
     ghost use Rattle.avr_desk.specs.declared.stream.Stream.TheVariants.{File, Output, Messages};
@@ -97,6 +97,41 @@ impl<D: Desk> Desk for FailingDesk<D> {
             return Err(DeskFault::Failed);
         }
         self.inner.create(name)
+    }
+
+    fn hold(&mut self, name: &str) -> Result<bool, DeskFault>
+        ensures kept { Passes (after_hold name.now result) (D.view self.old.inner) (D.view self.new.inner) }
+        ensures counts { Counts File (failing_view (D.view self.old.inner) self.old)
+            (failing_view (D.view self.new.inner) self.new) result }
+        ensures fault { IfErr result (λ e. e ≡ DeskFault.Failed) }
+        ensures when_due { FailsWhenDue File (Counts File (D.view self.old.inner) (D.view self.new.inner) result)
+            self.old self.new result }
+    {
+        if self.is_due() {
+            return Err(DeskFault::Failed);
+        }
+        self.inner.hold(name)
+    }
+
+    fn release(&mut self)
+        ensures released { D.view self.new.inner ≡ released (D.view self.old.inner) }
+        ensures quiet { self.new ≡ record self.old { inner = self.new.inner } }
+    {
+        self.inner.release();
+    }
+
+    fn replace(&mut self, name: &str, bytes: &[u8]) -> Result<(), DeskFault>
+        ensures kept { Passes (after_replace name.now bytes.now result) (D.view self.old.inner) (D.view self.new.inner) }
+        ensures counts { Counts File (failing_view (D.view self.old.inner) self.old)
+            (failing_view (D.view self.new.inner) self.new) result }
+        ensures fault { IfErr result (λ e. e ≡ DeskFault.Failed) }
+        ensures when_due { FailsWhenDue File (Counts File (D.view self.old.inner) (D.view self.new.inner) result)
+            self.old self.new result }
+    {
+        if self.is_due() {
+            return Err(DeskFault::Failed);
+        }
+        self.inner.replace(name, bytes)
     }
 
     fn read(&mut self, buf: &mut [u8]) -> Result<usize, DeskFault>

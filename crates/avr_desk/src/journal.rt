@@ -15,6 +15,14 @@ pub(crate) enum Call<'a> {
     Absent(&'a [u8]),
     /// A file of this name was created.
     Created(&'a [u8]),
+    /// A file of this name is held.
+    Held(&'a [u8]),
+    /// The file of this name was held already.
+    Denied(&'a [u8]),
+    /// What was held is released.
+    Released,
+    /// A file of this name was replaced by one of these bytes.
+    Replaced(&'a [u8], &'a [u8]),
     /// So many bytes were read, which stand at the buffer's front.
     Read(&'a [u8], usize),
     /// So many of these bytes went there.

@@ -14,6 +14,8 @@ pub struct Kept {
     openings: Vec<Opening>,
     files: Vec<Writing>,
     current: Open,
+    held: Option<Bytes>,
+    denied: Vec<Bytes>,
     output: Bytes,
     messages: Bytes,
 }
@@ -27,15 +29,17 @@ impl Model for Kept {
       openings = k.openings.items;
       files = k.files.items;
       current = k.current;
+      held = k.held;
+      denied = k.denied.items;
       output = k.output;
       messages = k.messages;
     } };
 }
 
 impl Kept {
-    ghost use Rattle.avr_desk.specs.Record.{after_err, after_out, after_write, with_open, with_absent, nothing_kept, all_files, is_to_read, is_to_write};
+    ghost use Rattle.avr_desk.specs.Record.{after_err, after_out, after_write, with_open, with_absent, with_denied, with_held, with_none_held, with_replaced, nothing_kept, all_files, is_to_read, is_to_write};
     ghost use Rattle.avr_desk.specs.Files.{after_reading};
-    ghost use Rattle.avr_desk.specs.Named.{bytes_given, newest};
+    ghost use Rattle.avr_desk.specs.Named.{bytes_given, holds, newest};
 
     pub fn new(alloc: Global) -> Kept
         ensures { result ≡ nothing_kept }
@@ -44,6 +48,8 @@ impl Kept {
             openings: Vec::new(alloc),
             files: Vec::new(alloc),
             current: Open::Closed,
+            held: None,
+            denied: Vec::new(alloc),
             output: Bytes::new(alloc),
             messages: Bytes::new(alloc),
         }
@@ -139,6 +145,54 @@ impl Kept {
             Open::ToWrite(writing) => self.files.push(writing).unwrap(),
         }
         self.openings.push(Opening::Absent(name)).unwrap();
+        Ok(())
+    }
+
+    /// Whether the file of this name is held.
+    pub fn holds(&self, name: &[u8]) -> bool
+        ensures { result ≡ holds name.now self.now }
+    {
+        match &self.held {
+            Some(held) => held.as_slice() == name,
+            None => false,
+        }
+    }
+
+    /// The file of this name is held, and no other one.
+    pub fn hold(&mut self, name: Bytes)
+        ensures { self.new ≡ with_held name self.old }
+    {
+        self.held = Some(name);
+    }
+
+    /// Notes that the file of this name was held already.
+    pub fn deny(&mut self, name: Bytes) -> Result<(), AllocError>
+        ensures { self.new ≡ (if is_ok result then with_denied name self.old else self.old) }
+    {
+        self.denied.push(name)?;
+        Ok(())
+    }
+
+    /// Nothing is held any more.
+    pub fn release(&mut self)
+        ensures { self.new ≡ with_none_held self.old }
+    {
+        self.held = None;
+    }
+
+    /// Puts the open file by, and adds a file that was written whole. Nothing is held any more.
+    pub fn add(&mut self, file: Writing) -> Result<(), AllocError>
+        ensures { self.new ≡ (if is_ok result then with_replaced file.name file.bytes self.old else self.old) }
+    {
+        self.openings.reserve(1)?;
+        self.files.reserve(2)?;
+        match mem::replace(&mut self.current, Open::Closed) {
+            Open::Closed => {}
+            Open::ToRead(reading) => self.openings.push(Opening::Found(reading)).unwrap(),
+            Open::ToWrite(writing) => self.files.push(writing).unwrap(),
+        }
+        self.files.push(file).unwrap();
+        self.held = None;
         Ok(())
     }
 

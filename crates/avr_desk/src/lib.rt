@@ -26,6 +26,7 @@ mod failing;
 mod journal;
 mod kept;
 mod mem_desk;
+mod replacing;
 mod system;
 
 pub use bytes::Bytes;

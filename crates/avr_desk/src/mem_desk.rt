@@ -1,5 +1,5 @@
 //! A desk in memory.
-ghost use Rattle.std.specs.Prelude.{◌≡◌, ◌≤◌, ◌++◌, ◌∷◌, [], min, take, drop, length, Some, None, IfOk, IfErr, OnOk, OnErr, is_ok, true, if◌then◌else◌};
+ghost use Rattle.std.specs.Prelude.{◌≡◌, ◌≤◌, ◌++◌, ◌∷◌, [], min, take, drop, length, Some, None, IfOk, IfErr, OnOk, OnErr, is_ok, not, true, if◌then◌else◌};
 ghost use Rattle.std.specs.Option.{option_copied};
 
 use crate::bytes::Bytes;
@@ -168,9 +168,10 @@ impl MemDesk {
 }
 
 impl Desk for MemDesk {
-    ghost use Rattle.avr_desk.specs.Record.{after_open, after_create, after_read, after_write, after_out, after_err, bytes_taken, is_to_read, is_to_write};
+    ghost use Rattle.avr_desk.specs.Record.{after_open, after_create, after_hold, after_read, after_replace, released, with_none_held, after_write, after_out, after_err, bytes_taken, is_to_read, is_to_write};
     ghost use Rattle.avr_desk.specs.Fault.{Counts, WriteCounts};
     ghost use Rattle.avr_desk.specs.Memory.{contents, memory_view, unread_bytes};
+    ghost use Rattle.avr_desk.specs.Named.{holds};
     ghost use Rattle.avr_desk.specs.declared.stream.Stream.TheVariants.{File, Output, Messages};
 
     ghost view = { memory_view };
@@ -227,6 +228,54 @@ impl Desk for MemDesk {
             .begin(Open::ToWrite(Writing { name, bytes }))
             .is_err()
         {
+            return Err(self.fail());
+        }
+        Ok(())
+    }
+
+    fn hold(&mut self, name: &str) -> Result<bool, DeskFault>
+        ensures free { IfOk result (λ b. b ≡ not (holds name.now self.old.kept)) }
+        ensures kept { self.new ≡ record self.old {
+          kept = after_hold name.now result self.old.kept;
+          failures = self.new.failures;
+        } }
+        ensures counts { Counts File (memory_view self.old) (memory_view self.new) result }
+        ensures fault { IfErr result (λ e. e ≡ DeskFault.Failed) }
+    {
+        let Ok(own_name) = Bytes::copied(self.alloc, name.as_bytes()) else {
+            return Err(self.fail());
+        };
+        if !self.kept.holds(name.as_bytes()) {
+            self.kept.hold(own_name);
+            return Ok(true);
+        }
+        if self.kept.deny(own_name).is_err() {
+            return Err(self.fail());
+        }
+        Ok(false)
+    }
+
+    fn release(&mut self)
+        ensures kept { self.new ≡ record self.old { kept = with_none_held self.old.kept } }
+    {
+        self.kept.release();
+    }
+
+    fn replace(&mut self, name: &str, bytes: &[u8]) -> Result<(), DeskFault>
+        ensures kept { self.new ≡ record self.old {
+          kept = after_replace name.now bytes.now result self.old.kept;
+          failures = self.new.failures;
+        } }
+        ensures counts { Counts File (memory_view self.old) (memory_view self.new) result }
+        ensures fault { IfErr result (λ e. e ≡ DeskFault.Failed) }
+    {
+        let Ok(name) = Bytes::copied(self.alloc, name.as_bytes()) else {
+            return Err(self.fail());
+        };
+        let Ok(bytes) = Bytes::copied(self.alloc, bytes) else {
+            return Err(self.fail());
+        };
+        if self.kept.add(Writing { name, bytes }).is_err() {
             return Err(self.fail());
         }
         Ok(())

@@ -2,15 +2,17 @@
 ghost use Rattle.std.specs.Prelude.{◌≡◌, ◌≤◌, length, take, IfOk, IfErr, OnErr, true, false, []};
 ghost use Rattle.std.specs.Io.KnownBytes.{Keeps, Appends};
 ghost use Rattle.avr_desk.specs.Fault.{Counts, HasRisen, WriteCounts};
-ghost use Rattle.avr_desk.specs.Record.{HasOpen, Passes, after_open, after_create, after_read, is_to_read, is_to_write, nothing_kept};
-ghost use Rattle.avr_desk.specs.Shown.{AppendsTaken, TakesTruly, shown_view, to_output_opened, to_output_created};
+ghost use Rattle.avr_desk.specs.Record.{HasOpen, Passes, after_open, after_create, after_hold, after_read, after_replace, released, is_to_read, is_to_write, nothing_kept};
+ghost use Rattle.avr_desk.specs.Shown.{AppendsTaken, TakesTruly, shown_view, to_output_opened, to_output_created, to_output_replaced};
 ghost use Rattle.avr_desk.specs.Stream.{SendsTaken};
 ghost use Rattle.avr_desk.specs.declared.desk.DeskFault.TheVariants.{Failed};
 ghost use Rattle.avr_desk.specs.declared.stream.Stream.TheVariants.{File, Output, Messages};
 
 use crate::desk::{Desk, DeskFault};
 use crate::journal::{Call, Journal};
+use crate::replacing::{Replacement, replace_at_once};
 use crate::stream::Stream;
+use std::alloc::Global;
 use std::io::{ErrorKind, Read, Write};
 use std::marker::Model;
 use std::rt::Files;
@@ -32,18 +34,33 @@ enum Held<F, I> {
 /// `-` is standard input to `open`, and the output to `create`. Files are written without a
 /// buffer, and the writers are flushed at each call, so nothing is left unwritten at the end; a
 /// flush that fails is a failure. A call that a signal broke off is made again.
+///
+/// A file is replaced by a new one beside it, of its name with `.avrstk-new`, which is renamed once it is on the disk,
+/// and it is held by a lock on that one. What is no regular file, and a link to no file, is written as it is, and held
+/// by nobody.
 #[derive(Drop)]
-pub struct SystemDesk<'a, R: Files + Input, O: Write + Drop, E: Write + Drop> {
+pub struct SystemDesk<
+    'a,
+    R: Files<File = fs::File> + Input + Alloc<A = Global>,
+    O: Write + Drop,
+    E: Write + Drop,
+> {
     rt: &'a R,
     output: O,
     messages: E,
     held: Held<R::File, R::Reader>,
+    replacement: Option<Replacement>,
     failures: u64,
     unsaid: u64,
     journal: Journal,
 }
 
-impl<'a, R: Files + Input, O: Write + Drop, E: Write + Drop> Model for SystemDesk<'a, R, O, E> {
+impl<
+    'a,
+    R: Files<File = fs::File> + Input + Alloc<A = Global>,
+    O: Write + Drop,
+    E: Write + Drop,
+> Model for SystemDesk<'a, R, O, E> {
     ghost use Rattle.avr_desk.specs.Shown.{Shown};
     ghost use Rattle.avr_desk.specs.Standing.{is_output, Stands};
 
@@ -142,7 +159,12 @@ fn fail(failures: &mut u64) -> DeskFault
     DeskFault::Failed
 }
 
-impl<'a, R: Files + Input, O: Write + Drop, E: Write + Drop> SystemDesk<'a, R, O, E> {
+impl<
+    'a,
+    R: Files<File = fs::File> + Input + Alloc<A = Global>,
+    O: Write + Drop,
+    E: Write + Drop,
+> SystemDesk<'a, R, O, E> {
     /// A desk with nothing open.
     pub fn new(rt: &'a R, output: O, messages: E) -> SystemDesk<'a, R, O, E>
         ensures { result ≡ record {
@@ -159,14 +181,29 @@ impl<'a, R: Files + Input, O: Write + Drop, E: Write + Drop> SystemDesk<'a, R, O
             output,
             messages,
             held: Held::Nothing,
+            replacement: None,
             failures: 0,
             unsaid: 0,
             journal: Journal::new(),
         }
     }
+
+    /// Ends what is held to be replaced.
+    fn leave_replacement(&mut self)
+        ensures { self.new ≡ self.old }
+    {
+        if let Some(replacement) = self.replacement.take() {
+            replacement.leave(self.rt);
+        }
+    }
 }
 
-impl<'a, R: Files + Input, O: Write + Drop, E: Write + Drop> Desk for SystemDesk<'a, R, O, E> {
+impl<
+    'a,
+    R: Files<File = fs::File> + Input + Alloc<A = Global>,
+    O: Write + Drop,
+    E: Write + Drop,
+> Desk for SystemDesk<'a, R, O, E> {
     ghost view = { shown_view };
 
     fn open(&mut self, name: &str) -> Result<(), DeskFault>
@@ -217,6 +254,60 @@ impl<'a, R: Files + Input, O: Write + Drop, E: Write + Drop> Desk for SystemDesk
             Ok(file) => {
                 self.held = Held::ToWrite(file);
                 self.journal = self.journal.then(&Call::Created(name.as_bytes()));
+                Ok(())
+            }
+            Err(_) => Err(fail(&mut self.failures)),
+        }
+    }
+
+    fn hold(&mut self, name: &str) -> Result<bool, DeskFault>
+        ensures kept { Passes (after_hold name.now result) (shown_view self.old) (shown_view self.new) }
+        ensures counts { Counts File (shown_view self.old) (shown_view self.new) result }
+        ensures fault { IfErr result (λ e. e ≡ Failed) }
+        ensures quiet { self.new ≡ record self.old { failures = self.new.failures; kept = self.new.kept } }
+    {
+        match Replacement::begin(self.rt, name) {
+            Ok(Some(replacement)) => {
+                self.leave_replacement();
+                self.replacement = Some(replacement);
+                self.journal = self.journal.then(&Call::Held(name.as_bytes()));
+                Ok(true)
+            }
+            Ok(None) => {
+                self.journal = self.journal.then(&Call::Denied(name.as_bytes()));
+                Ok(false)
+            }
+            Err(_) => Err(fail(&mut self.failures)),
+        }
+    }
+
+    fn release(&mut self)
+        ensures released { shown_view self.new ≡ released (shown_view self.old) }
+        ensures quiet { self.new ≡ record self.old { kept = self.new.kept } }
+    {
+        self.leave_replacement();
+        self.journal = self.journal.then(&Call::Released);
+    }
+
+    fn replace(&mut self, name: &str, bytes: &[u8]) -> Result<(), DeskFault>
+        ensures kept { Passes (after_replace name.now bytes.now result) (shown_view self.old) (shown_view self.new) }
+        ensures counts { Counts File (shown_view self.old) (shown_view self.new) result }
+        ensures fault { IfErr result (λ e. e ≡ Failed) }
+        ensures quiet { self.new ≡ record self.old {
+          failures = self.new.failures;
+          to_output = to_output_replaced result self.old.to_output;
+          kept = self.new.kept;
+        } }
+    {
+        let replaced = match &mut self.replacement {
+            Some(replacement) if replacement.is_of(name) => replacement.put(self.rt, bytes),
+            _ => replace_at_once(self.rt, name, bytes),
+        };
+        match replaced {
+            Ok(()) => {
+                self.leave_replacement();
+                self.held = Held::Nothing;
+                self.journal = self.journal.then(&Call::Replaced(name.as_bytes(), bytes));
                 Ok(())
             }
             Err(_) => Err(fail(&mut self.failures)),

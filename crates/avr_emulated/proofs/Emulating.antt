@@ -1,6 +1,6 @@
 -- A run over the emulated programmer, from its stages.
 use Rattle.std.proofs.Common.{◌≡◌, ℕ, [], All, ap, subst, ◌∙◌}
-use Rattle.avr_chip.specs.Loading.{chip_stage}
+use Rattle.avr_chip.specs.Holding.{Loaded}
 use Rattle.avr_cli.specs.declared.settings.Settings.{Settings}
 use Rattle.avr_desk.specs.Fault.{Follows}
 use Rattle.avr_desk.specs.Record.{DeskView, Bytes}
@@ -35,7 +35,7 @@ module _ (settings : Settings) (file : Bytes) (plan : Plan) (chip : Chip) (w v :
   is_new = as_new chip w held begun waits silent unfailed
 
   pub runs_over_emulator : (old planned_desk loaded_desk played_desk now : DeskView) (ran status : ℕ)
-      → Went (planned settings) old planned_desk (Made plan) → Went (chip_stage plan.part file) planned_desk loaded_desk (Made chip)
+      → Went (planned settings) old planned_desk (Made plan) → Loaded plan.part file planned_desk loaded_desk chip
       → Follows loaded_desk played_desk → Follows played_desk now
       → RunsSession plan (devices (wired_view w) loaded_desk) (devices (wired_view v) played_desk) ran
       → Stays ComesOf w v → (w.wire.programmer.chip.part ≡ plan.part → OverAnyLine plan w v loaded_desk played_desk ran)

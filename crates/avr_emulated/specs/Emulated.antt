@@ -1,10 +1,10 @@
 -- Section 6 of the page (avr_tool's specs/Headline): a run over the emulator, whose chip has a file.
 use Rattle.std.specs.Prelude.{◌≡◌, ◌⊎◌, ℕ, List, [], ◌∷◌, All, None, Ok, Err}
-use Rattle.avr_chip.specs.Loading.{chip_stage}
+use Rattle.avr_chip.specs.Holding.{HoldsAndLoads, Loaded}
 use Rattle.avr_chip.specs.Saving.{Saves}
 use Rattle.avr_cli.specs.declared.settings.Settings.{Settings}
 use Rattle.avr_desk.specs.Fault.{Follows}
-use Rattle.avr_desk.specs.Record.{DeskView, Bytes}
+use Rattle.avr_desk.specs.Record.{DeskView, Bytes, released}
 use Rattle.avr_part.specs.ChipFile.{chip_file}
 use Rattle.avr_part.specs.Sound.{IsSoundChip}
 use Rattle.avr_part.specs.State.{ChipState as Chip}
@@ -21,9 +21,9 @@ use Rattle.avr_session.specs.Run.{RunsSession}
 use Rattle.avr_session.specs.Runs.{devices}
 use Rattle.avr_emulated.specs.AnyLine.{OverAnyLine}
 
--- The chip's file is written again if anything was sent; where it can't be, the status is 1.
+-- The chip's file is replaced if anything was sent, else only released; where it can't be, the status is 1.
 abbrev pub IsSaved : List ℕ → DeskView → DeskView → Bytes → Bytes → ℕ → ℕ → Type 0
-IsSaved [] old now file bytes ran status = (now ≡ old) × (status ≡ ran)
+IsSaved [] old now file bytes ran status = (now ≡ released old) × (status ≡ ran)
 IsSaved (byte ∷ sent) old now file bytes ran status =
     (Saves old now file bytes (Ok tt) × (status ≡ ran))
     ⊎ ((fault : ℕ) × Saves old now file bytes (Err fault) × (status ≡ 1))
@@ -33,10 +33,11 @@ abbrev pub new_wire : Chip → List Fate → WiredState
 new_wire chip fates =
     record { held = []; wire = fresh_wire (fresh_programmer chip) fates; waits = []; talk = []; failures = 0 }
 
--- A plan was made, whose images have the sizes of their memories, and a chip of its part, with memories of its sizes,
--- was loaded from the file. The session was run, to a status, as over any link, over a new wire to that chip, on which
--- no frame goes wrong: so it is its course, unless it stopped. Then, if anything was sent, the chip as the wire left it
--- was saved to the file, else nothing more was done. A failure of the desk in a stage is one since the stage before it.
+-- A plan was made, whose images have the sizes of their memories; then the file was held, and a chip of its part, with
+-- memories of its sizes, was loaded from it. The session was run, to a status, as over any link, over a new wire to
+-- that chip, on which no frame goes wrong: so it is its course, unless it stopped. Then, if anything was sent, the chip
+-- as the wire left it was saved to the file; it is held no longer. A failure of the desk in a stage is one since the
+-- stage before it.
 pub record RunsOverEmulator (settings : Settings) (file : Bytes) (old now : DeskView) (status : ℕ) : Type 0 where
   pub plan : Plan
   pub chip : Chip
@@ -47,7 +48,7 @@ pub record RunsOverEmulator (settings : Settings) (file : Bytes) (old now : Desk
   pub played_desk : DeskView
   pub made : Went (planned settings) old planned_desk (Made plan)
   pub fitted : All (IsFitted plan.part) plan.tasks
-  pub loaded : Went (chip_stage plan.part file) planned_desk loaded_desk (Made chip)
+  pub loaded : Loaded plan.part file planned_desk loaded_desk chip
   pub part : chip.part ≡ plan.part
   pub sound : IsSoundChip chip
   pub runs : RunsSession plan (devices (wired_view (new_wire chip [])) loaded_desk)
@@ -62,7 +63,7 @@ pub record LacksChip (settings : Settings) (file : Bytes) (old now : DeskView) (
   pub plan : Plan
   pub between : DeskView
   pub made : Went (planned settings) old between (Made plan)
-  pub refused : Goes (chip_stage plan.part file) between now (Err status)
+  pub refused : HoldsAndLoads plan.part file between now (Err status)
 
 -- There is no plan: nothing was sent. Without a part file and updates it is only that no part has the name.
 abbrev pub LacksPlan : Settings → DeskView → DeskView → ℕ → Type 0

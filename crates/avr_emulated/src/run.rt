@@ -9,7 +9,7 @@ ghost use Rattle.stk_host.specs.Talk.{Stays, sent};
 ghost use Rattle.avr_part.specs.ChipFile.{chip_file};
 ghost use Rattle.avr_emulated.specs.Emulated.{IsSaved, RunsEmulator};
 
-use avr_chip::{load_chip, save_chip};
+use avr_chip::{hold_chip, save_chip};
 use avr_cli::Settings;
 use avr_desk::Desk;
 use avr_plan::{Plan, plan};
@@ -39,13 +39,15 @@ pub fn drive_wired<D: Desk>(alloc: Global, plan: &Plan, desk: &mut D, wire: &mut
     drive(alloc, plan, desk, wire)
 }
 
-/// Saves the chip of a wire if anything was sent over it, and answers the status of a run of this one.
+/// Saves the chip of a wire if anything was sent over it, releases its file, and answers the status of a run of this
+/// one.
 fn save_if_sent<D: Desk>(alloc: Global, wire: &Wired, file: &str, desk: &mut D, status: u8) -> u8
     ensures saved { IsSaved (sent wire.now.talk) (D.view desk.old) (D.view desk.new) file.now
         (chip_file wire.now.wire.programmer.chip) status result }
     ensures follows { Follows (D.view desk.old) (D.view desk.new) }
 {
     if wire.sent().is_empty() {
+        desk.release();
         return status;
     }
     match save_chip(alloc, wire.chip(), file, desk) {
@@ -55,7 +57,8 @@ fn save_if_sent<D: Desk>(alloc: Global, wire: &Wired, file: &str, desk: &mut D, 
 }
 
 /// Plans what the settings ask for and runs it over the emulated programmer, whose part is loaded from the file of this
-/// name (a fresh one, where there is no such file) and saved to it again if a frame was sent.
+/// name (a fresh one, where there is no such file) and saved to it again if a frame was sent. From then to then the file
+/// is held: another run that wants it is refused.
 ///
 /// The status is 0 where no fault came, else 1. Every fault has its line; what is refused is told before any frame is
 /// sent.
@@ -66,7 +69,7 @@ pub fn run_emulated<D: Desk>(alloc: Global, settings: &Settings, file: &str, des
         Ok(plan) => plan,
         Err(status) => return status,
     };
-    let chip = match load_chip(alloc, plan.part(), file, desk) {
+    let chip = match hold_chip(alloc, plan.part(), file, desk) {
         Ok(chip) => chip,
         Err(status) => return status,
     };

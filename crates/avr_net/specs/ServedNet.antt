@@ -1,23 +1,20 @@
 -- Serving an emulated programmer at a port of this machine, from settings to status.
-use Rattle.std.specs.Prelude.{ℕ, ◌≡◌, ◌⊎◌, [], Option, Some, None, Err}
-use Rattle.avr_chip.specs.Loading.{chip_stage}
+use Rattle.std.specs.Prelude.{ℕ, ◌≡◌, ◌⊎◌, [], Option, Some, None, Ok, Err}
 use Rattle.avr_cli.specs.Port.{port_number}
 use Rattle.avr_cli.specs.declared.settings.Settings.{Settings}
 use Rattle.avr_desk.specs.Record.{DeskView, Bytes}
 use Rattle.avr_desk.specs.Said.{Tells}
 use Rattle.avr_part.specs.Part.{Part}
-use Rattle.avr_desk.specs.Playing.{Goes, Went}
-use Rattle.avr_desk.specs.Stage.{Made}
-use Rattle.avr_serve.specs.ServedRun.{sides, ServesFrom, judged_part}
+use Rattle.avr_serve.specs.ServedRun.{sides, JudgesPart, ServesPart}
 use Rattle.avr_net.specs.Lines.{unopened_line}
 use Rattle.avr_net.specs.OverNet.{connection}
 use Rattle.stk_host.specs.Talk.{Talk}
 
--- A connection was accepted, and then the chip of this file was loaded and served over it, or refused.
+-- A connection was accepted, and then the chip file was held, its chip loaded and served over it, or refused.
 pub record ServesCaller (part : Part) (file : Bytes) (old new : DeskView) (status : ℕ) : Type 0 where
   pub talk : Talk
   pub link_failures : ℕ
-  pub serves : ServesFrom (chip_stage part file) file 16777216 (sides (connection [] 0) old)
+  pub serves : ServesPart part file 16777216 (sides (connection [] 0) old)
       (sides (connection talk link_failures) new) status
 
 -- No connection could be accepted: that was told, nothing else was done at the desk, and the status is 1.
@@ -38,10 +35,10 @@ ServesAt (Some number) part port file old new status = ServesOn part port file o
 pub record ServesJudged (settings : Settings) (port file : Bytes) (old new : DeskView) (status : ℕ) : Type 0 where
   pub part : Part
   pub judged_desk : DeskView
-  pub judged : Went (judged_part settings file) old judged_desk (Made part)
+  pub judged : JudgesPart settings file old judged_desk (Ok part)
   pub serves : ServesAt (port_number port) part port file judged_desk new status
 
 -- so it was, or they are refused (that the port was left alone then, no clause says)
 abbrev pub ServesNet : Settings → Bytes → Bytes → DeskView → DeskView → ℕ → Type 0
 ServesNet settings port file old new status =
-    ServesJudged settings port file old new status ⊎ Goes (judged_part settings file) old new (Err status)
+    ServesJudged settings port file old new status ⊎ JudgesPart settings file old new (Err status)

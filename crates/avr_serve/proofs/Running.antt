@@ -1,6 +1,5 @@
 -- A fresh emulator that served, from settings to status.
 use Rattle.std.proofs.Common.{◌≡◌, ℕ, List, [], ap₂, subst, Result, Ok, Err}
-use Rattle.avr_chip.specs.Loading.{chip_stage}
 use Rattle.avr_cli.specs.declared.settings.Settings.{Settings}
 use Rattle.avr_desk.specs.Fault.{Follows}
 use Rattle.avr_desk.specs.Record.{DeskView, Bytes}
@@ -9,14 +8,14 @@ use Rattle.avr_part.specs.Part.{Part}
 use Rattle.avr_part.specs.State as chips
 use Rattle.avr_plan.specs.Planning.{parts_stage, part_stage}
 use Rattle.avr_desk.specs.Playing.{Goes, Went}
-use Rattle.avr_desk.specs.Stage.{Made, verdict_stage}
-use Rattle.avr_desk.proofs.Played.{goes_on, goes_no_further, went_into}
+use Rattle.avr_desk.specs.Stage.{Made}
+use Rattle.avr_desk.proofs.Played.{goes_on, goes_no_further}
 use Rattle.stk_host.specs.Talk.{LinkView}
 use Rattle.stk_emu.specs.Programmer.{fresh_programmer}
 use Rattle.stk_emu.specs.Emulator.{Machine, IsFed}
 use Rattle.avr_serve.specs.declared.serving.Served.{Served}
 use Rattle.avr_serve.specs.Serving.{Serves, FailsBy}
-use Rattle.avr_serve.specs.ServedRun.{settings_part, settings_chip, judging_stage, judged_part}
+use Rattle.avr_serve.specs.ServedRun.{settings_part}
 use Rattle.avr_serve.specs.ServedRun.{sides, fresh_machine, TellsEnd, SavesAfterServing, ServesChip}
 
 pub goes_without_parts : (s : Settings) (old new : DeskView) (status : ℕ) → Goes (parts_stage s.parts) old new (Err status)
@@ -29,35 +28,6 @@ pub goes_with_parts : (s : Settings) (id : Bytes) (old mid new : DeskView) (part
 goes_with_parts s id old mid new parts result same went goes =
     goes_on (parts_stage s.parts) (λ parts. part_stage s.part parts) old mid new parts result went
     (subst (λ (i : Bytes). Goes (part_stage i parts) mid new result) same goes)
-
-pub goes_without_part : (s : Settings) (file : Bytes) (old new : DeskView) (status : ℕ) → Goes (settings_part s) old new (Err status)
-    → Goes (settings_chip s file) old new (Err status)
-goes_without_part s file old new status goes = goes_no_further (settings_part s) (λ part. chip_stage part file) old new status goes
-
-pub goes_with_part : (s : Settings) (file : Bytes) (old mid new : DeskView) (part : Part) (result : Result chips.ChipState ℕ)
-    → Went (settings_part s) old mid (Made part) → Goes (chip_stage part file) mid new result → Goes (settings_chip s file) old new result
-goes_with_part s file old mid new part result went goes =
-    goes_on (settings_part s) (λ part. chip_stage part file) old mid new part result went goes
-
-pub goes_judged : (part : Part) (file : Bytes) (old new : DeskView) (chip : chips.ChipState)
-    → Went (chip_stage part file) old new (Made chip) → Goes (judging_stage file part) old new (Ok part)
-goes_judged part file old new chip went = went_into (chip_stage part file) (λ judged. part) old new chip went
-
-pub goes_unjudged : (part : Part) (file : Bytes) (old new : DeskView) (status : ℕ)
-    → Goes (chip_stage part file) old new (Err status) → Goes (judging_stage file part) old new (Err status)
-goes_unjudged part file old new status goes =
-    goes_no_further (chip_stage part file) (λ chip. verdict_stage (Ok part)) old new status goes
-
-pub goes_without_judgment : (s : Settings) (file : Bytes) (old new : DeskView) (status : ℕ)
-    → Goes (settings_part s) old new (Err status) → Goes (judged_part s file) old new (Err status)
-goes_without_judgment s file old new status goes =
-    goes_no_further (settings_part s) (judging_stage file) old new status goes
-
-pub goes_with_judgment : (s : Settings) (file : Bytes) (old mid new : DeskView) (part : Part) (result : Result Part ℕ)
-    → Went (settings_part s) old mid (Made part) → Goes (judging_stage file part) mid new result
-    → Goes (judged_part s file) old new result
-goes_with_judgment s file old mid new part result went goes =
-    goes_on (settings_part s) (judging_stage file) old mid new part result went goes
 
 is_fresh : (chip : chips.ChipState) (machine : Machine) → machine.held ≡ [] → machine.programmer ≡ fresh_programmer chip → machine ≡ fresh_machine chip
 is_fresh chip machine held programmer = ap₂ (λ h p. record { held = h; programmer = p }) held programmer

@@ -1,10 +1,10 @@
 -- Serving an emulated programmer, from settings to status.
-use Rattle.std.specs.Prelude.{◌≡◌, ◌⊎◌, ℕ, List, [], ◌∷◌, Option, Some, None, Ok, Err, codes}
-use Rattle.avr_chip.specs.Loading.{chip_stage}
+use Rattle.std.specs.Prelude.{◌≡◌, ◌⊎◌, ℕ, List, [], ◌∷◌, Option, Some, None, Result, Ok, Err, codes}
+use Rattle.avr_chip.specs.Holding.{HoldsAndLoads, Loaded}
 use Rattle.avr_chip.specs.Saving.{Saves}
 use Rattle.avr_cli.specs.declared.settings.Settings.{Settings}
 use Rattle.avr_desk.specs.Fault.{Follows}
-use Rattle.avr_desk.specs.Record.{DeskView, Bytes}
+use Rattle.avr_desk.specs.Record.{DeskView, Bytes, released}
 use Rattle.avr_desk.specs.Lines.{error}
 use Rattle.avr_desk.specs.Said.{Tells}
 use Rattle.avr_part.specs.ChipFile.{chip_file}
@@ -12,7 +12,7 @@ use Rattle.avr_part.specs.Part.{Part}
 use Rattle.avr_part.specs.State as chips
 use Rattle.avr_plan.specs.Planning.{parts_stage, part_stage}
 use Rattle.avr_desk.specs.Playing.{Goes, Went}
-use Rattle.avr_desk.specs.Stage.{Stage, Made, ◌>>=◌, verdict_stage}
+use Rattle.avr_desk.specs.Stage.{Stage, Made, ◌>>=◌}
 use Rattle.stk_host.specs.Talk.{LinkView}
 use Rattle.stk_emu.specs.Programmer.{fresh_programmer}
 use Rattle.stk_emu.specs.Emulator.{Machine}
@@ -24,16 +24,31 @@ use Rattle.avr_serve.specs.declared.serving.Served.TheVariants.{Ended, RecvFaile
 abbrev pub settings_part : Settings → Stage Part
 settings_part s = parts_stage s.parts >>= λ parts. part_stage s.part parts
 
--- the chip of that part which this file holds; where there is no such file it is fresh
-abbrev pub settings_chip : Settings → Bytes → Stage chips.ChipState
-settings_chip s file = settings_part s >>= λ part. chip_stage part file
+-- the file was held, it holds a chip of this part, and it is held no longer
+pub record JudgedChip (part : Part) (file : Bytes) (old new : DeskView) : Type 0 where
+  pub chip : chips.ChipState
+  pub loaded_desk : DeskView
+  pub loaded : Loaded part file old loaded_desk chip
+  pub released_is : new ≡ released loaded_desk
 
--- the part, once this file was judged as that of a chip of it
-abbrev pub judging_stage : Bytes → Part → Stage Part
-judging_stage file part = chip_stage part file >>= λ chip. verdict_stage (Ok part)
+-- a file is judged as that of a chip of this part, which stays
+abbrev pub JudgesChip : Part → Bytes → DeskView → DeskView → Result Part ℕ → Type 0
+JudgesChip part file old new (Ok judged) = (judged ≡ part) × JudgedChip part file old new
+JudgesChip part file old new (Err status) = HoldsAndLoads part file old new (Err status)
 
-abbrev pub judged_part : Settings → Bytes → Stage Part
-judged_part s file = settings_part s >>= judging_stage file
+-- the part of the settings was found, and what is said of it there
+pub record WithPart (settings : Settings) (old : DeskView) (Then : Part → DeskView → Type 0) : Type 0 where
+  pub part : Part
+  pub part_desk : DeskView
+  pub found : Went (settings_part settings) old part_desk (Made part)
+  pub then_is : Then part part_desk
+
+-- The part of the settings was found, and this file judged as that of a chip of it; or the one or the other is refused.
+abbrev pub JudgesPart : Settings → Bytes → DeskView → DeskView → Result Part ℕ → Type 0
+JudgesPart settings file old new (Ok judged) = WithPart settings old (λ part desk. JudgesChip part file desk new (Ok judged))
+JudgesPart settings file old new (Err status) =
+    Goes (settings_part settings) old new (Err status)
+    ⊎ WithPart settings old (λ part desk. JudgesChip part file desk new (Err status))
 
 -- an emulator with this chip that was fed nothing
 abbrev pub fresh_machine : chips.ChipState → Machine
@@ -91,24 +106,30 @@ pub record ServesChip (chip : chips.ChipState) (file : Bytes) (turns : ℕ) (old
   pub saved : SavesAfterServing served told_desk new.desk file (chip_file left.programmer.chip) status
   pub follows : Follows told_desk new.desk
 
--- A chip was loaded so, and it was served.
-pub record ServesLoaded (loading : Stage chips.ChipState) (file : Bytes) (turns : ℕ) (old new : Sides) (status : ℕ)
-    : Type 0 where
+-- The file was held and the chip of this part loaded from it, and it was served.
+pub record ServesLoaded (part : Part) (file : Bytes) (turns : ℕ) (old new : Sides) (status : ℕ) : Type 0 where
   pub chip : chips.ChipState
   pub loaded_desk : DeskView
-  pub loaded : Went loading old.desk loaded_desk (Made chip)
+  pub loaded : Loaded part file old.desk loaded_desk chip
   pub serves : ServesChip chip file turns (sides old.link loaded_desk) new status
 
 -- There is no chip, which was told: nothing was heard or sent.
-pub record ServesNoChip (loading : Stage chips.ChipState) (old new : Sides) (status : ℕ) : Type 0 where
-  pub refused : Goes loading old.desk new.desk (Err status)
+pub record ServesNoChip (part : Part) (file : Bytes) (old new : Sides) (status : ℕ) : Type 0 where
+  pub refused : HoldsAndLoads part file old.desk new.desk (Err status)
   pub silent : new.link ≡ old.link
 
 -- the one or the other
-abbrev pub ServesFrom : Stage chips.ChipState → Bytes → ℕ → Sides → Sides → ℕ → Type 0
-ServesFrom loading file turns old new status =
-    ServesLoaded loading file turns old new status ⊎ ServesNoChip loading old new status
+abbrev pub ServesPart : Part → Bytes → ℕ → Sides → Sides → ℕ → Type 0
+ServesPart part file turns old new status =
+    ServesLoaded part file turns old new status ⊎ ServesNoChip part file old new status
 
--- so with the chip of the settings
+-- There is no part, which was told: nothing was heard or sent.
+pub record ServesNoPart (settings : Settings) (old new : Sides) (status : ℕ) : Type 0 where
+  pub refused : Goes (settings_part settings) old.desk new.desk (Err status)
+  pub silent : new.link ≡ old.link
+
+-- so with the part of the settings
 abbrev pub RunsServed : Settings → Bytes → ℕ → Sides → Sides → ℕ → Type 0
-RunsServed settings file = ServesFrom (settings_chip settings file) file
+RunsServed settings file turns old new status =
+    WithPart settings old.desk (λ part desk. ServesPart part file turns (sides old.link desk) new status)
+    ⊎ ServesNoPart settings old new status

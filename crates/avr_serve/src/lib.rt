@@ -17,5 +17,5 @@ mod serving;
 mod ending;
 mod run;
 
-pub use run::{READS, find_chip, judge_part, serve, serve_chip, serve_for, serve_part};
+pub use run::{READS, judge_part, serve, serve_chip, serve_for, serve_part};
 pub use serving::{Served, answer_all};

@@ -1,15 +1,14 @@
 //! Serving an emulated programmer, from settings to status.
 ghost use Rattle.std.specs.Prelude.{◌≤◌};
-ghost use Rattle.avr_chip.specs.Loading.{chip_stage};
 ghost use Rattle.avr_desk.specs.Fault.{Follows};
 ghost use Rattle.avr_desk.specs.Playing.{Goes};
-ghost use Rattle.avr_serve.specs.ServedRun.{judged_part, judging_stage, settings_chip, settings_part};
-ghost use Rattle.avr_serve.specs.ServedRun.{RunsServed, ServesChip, ServesFrom, sides};
+ghost use Rattle.avr_serve.specs.ServedRun.{JudgesChip, JudgesPart, settings_part};
+ghost use Rattle.avr_serve.specs.ServedRun.{RunsServed, ServesChip, ServesPart, sides};
 ghost use Rattle.stk_host.specs.Talk.{Stays};
 
 use crate::ending::{save_served, tell_end};
 use crate::serving::answer_all;
-use avr_chip::load_chip;
+use avr_chip::hold_chip;
 use avr_cli::Settings;
 use avr_desk::Desk;
 use avr_part::{Chip, Part};
@@ -32,48 +31,31 @@ fn find_part<D: Desk>(alloc: Global, desk: &mut D, settings: &Settings) -> Resul
     chosen_part(desk, &parts, settings.part.as_str())
 }
 
-/// The chip that is served: of the settings' part, loaded from the file of this name, and fresh where there is no such
-/// file.
-///
-/// Where the part file, the name of the part or the chip file is refused, where the desk fails or memory is refused,
-/// the answer is `Err(1)`, and the line that tells why was printed as far as the desk takes it.
-pub fn find_chip<D: Desk>(
-    alloc: Global,
-    settings: &Settings,
-    file: &str,
-    desk: &mut D,
-) -> Result<Chip, u8>
-    ensures { Goes (settings_chip settings.now file.now) (D.view desk.old) (D.view desk.new) result }
-{
-    let part = match find_part(alloc, desk, settings) {
-        Ok(part) => part,
-        Err(status) => return Err(status),
-    };
-    load_chip(alloc, &part, file, desk)
-}
-
 /// The part, once the file of this name was judged as that of a chip of it.
 fn judge_chip<D: Desk>(alloc: Global, part: Part, file: &str, desk: &mut D) -> Result<Part, u8>
-    ensures { Goes (judging_stage file.now part) (D.view desk.old) (D.view desk.new) result }
+    ensures { JudgesChip part file.now (D.view desk.old) (D.view desk.new) result }
 {
-    let _judged = match load_chip(alloc, &part, file, desk) {
+    let _judged = match hold_chip(alloc, &part, file, desk) {
         Ok(judged) => judged,
         Err(status) => return Err(status),
     };
+    desk.release();
     Ok(part)
 }
 
 /// The part of the settings, once the file of this name was judged as that of a chip of it, for a chip that is loaded
 /// later: all that refuses a chip before a caller comes.
 ///
-/// `Err(1)` is as with [`find_chip`].
+/// Where the part file, the name of the part or the chip file is refused, where another run has the chip file or it
+/// could not be saved, where the desk fails or memory is refused, the answer is `Err(1)`, and the line that tells why
+/// was printed as far as the desk takes it.
 pub fn judge_part<D: Desk>(
     alloc: Global,
     settings: &Settings,
     file: &str,
     desk: &mut D,
 ) -> Result<Part, u8>
-    ensures { Goes (judged_part settings.now file.now) (D.view desk.old) (D.view desk.new) result }
+    ensures { JudgesPart settings.now file.now (D.view desk.old) (D.view desk.new) result }
 {
     match find_part(alloc, desk, settings) {
         Ok(part) => judge_chip(alloc, part, file, desk),
@@ -109,8 +91,8 @@ pub fn serve_chip<D: Desk, L: Link>(
     save_served(alloc, emulator.chip(), file, desk, served)
 }
 
-/// Loads the chip of this part from the file of this name, fresh where there is no such file, and serves it over a link
-/// as [`serve_chip`] does.
+/// Holds the file of this name, loads the chip of this part from it, fresh where there is no such file, and serves it
+/// over a link as [`serve_chip`] does. Until the chip was saved no other run has the file.
 ///
 /// The status is 0 where an end was heard and the chip was saved, else 1. Where the chip file is refused nothing is
 /// heard or sent, and no file is written.
@@ -122,13 +104,13 @@ pub fn serve_part<D: Desk, L: Link>(
     link: &mut L,
     turns: u32,
 ) -> u8
-    ensures runs { ServesFrom (chip_stage part.now file.now) file.now turns
+    ensures runs { ServesPart part.now file.now turns
         (sides (L.view link.old) (D.view desk.old)) (sides (L.view link.new) (D.view desk.new)) result }
     ensures follows { Follows (D.view desk.old) (D.view desk.new) }
     ensures counted { (L.view link.old).failures ≤ (L.view link.new).failures }
     ensures comes { Stays L.comes_of link.old link.new }
 {
-    match load_chip(alloc, part, file, desk) {
+    match hold_chip(alloc, part, file, desk) {
         Ok(chip) => serve_chip(alloc, chip, file, desk, link, turns),
         Err(status) => status,
     }
@@ -136,7 +118,8 @@ pub fn serve_part<D: Desk, L: Link>(
 
 /// Serves the emulated programmer of the settings' part over a link, in at most `turns` reads.
 ///
-/// The chip is loaded from the file of this name, and is fresh where there is no such file. What is sent are the
+/// The chip is loaded from the file of this name, which is held until the chip was saved, and is fresh where there is
+/// no such file. What is sent are the
 /// answers of a fresh programmer with this chip to what is heard, and all of them are sent before the next read.
 /// However that ends, its line is printed, but for an end that was heard, and the chip is saved to the file.
 ///
@@ -156,11 +139,10 @@ pub fn serve_for<D: Desk, L: Link>(
     ensures counted { (L.view link.old).failures ≤ (L.view link.new).failures }
     ensures comes { Stays L.comes_of link.old link.new }
 {
-    let chip = match find_chip(alloc, settings, file, desk) {
-        Ok(chip) => chip,
-        Err(status) => return status,
-    };
-    serve_chip(alloc, chip, file, desk, link, turns)
+    match find_part(alloc, desk, settings) {
+        Ok(part) => serve_part(alloc, &part, file, desk, link, turns),
+        Err(status) => status,
+    }
 }
 
 /// Serves as [`serve_for`] does, in at most 16,777,216 reads.

@@ -179,8 +179,9 @@ RunsWired settings before after desk_before desk_now status =
 
 -- ---- 6. Over the emulator, whose chip has a file: avr_emulated's specs/Emulated
 --
--- `RunsEmulator`: a plan is made, a chip is loaded from the file, the session is run as section 4 has it over a new
--- wire on which no frame goes wrong, and the chip is saved if anything was sent.
+-- `RunsEmulator`: a plan is made, the file is held and a chip loaded from it, the session is run as section 4 has it
+-- over a new wire on which no frame goes wrong, and if anything was sent the file is replaced by the chip, whole, or is
+-- as it was.
 
 -- ---- 7. Over any link, as long as no frame is made
 

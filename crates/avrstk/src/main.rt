@@ -7,14 +7,22 @@ ghost use Rattle.avr_tool.specs.Program.{RunsArguments};
 ghost use Rattle.avr_tool.specs.Shown.{shown_view};
 
 use avr_tool::{StreamLink, SystemDesk, run_program};
+use std::fs::File;
 use std::io::{Stderr, Stdin, Stdout};
 use std::process::ExitCode;
-use std::{env, io};
+use std::{env, fs, io};
 
 fn main(rt: HostRuntime) -> ExitCode {
+    let _taken = take_closed_streams(&rt);
     let mut desk = SystemDesk::new(&rt, rt.stdout(), rt.stderr());
     let mut link = StreamLink::new(rt.stdin(), rt.stdout());
     ExitCode::from(run(&rt, &mut desk, &mut link))
+}
+
+/// Takes the places of standard streams that were closed, as long as the program runs: else a file or a connection that
+/// is opened later would have one, and what is printed would go there. A folder can be neither read nor written.
+fn take_closed_streams(rt: &HostRuntime) -> [io::Result<File>; 3] {
+    [fs::open(rt, "/"), fs::open(rt, "/"), fs::open(rt, "/")]
 }
 
 /// Runs what the words of the command line ask for.

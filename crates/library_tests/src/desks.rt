@@ -64,6 +64,19 @@ fn a_created_file_is_new(rt: HostRuntime) -> Result<(), Fail> {
 }
 
 #[test]
+fn a_file_is_held_until_it_is_replaced(rt: HostRuntime) -> Result<(), Fail> {
+    let mut desk = desk_with(rt.alloc(), "a.hex", b"one two three")?;
+    assert!(rt; desk.hold("a.hex") == Ok(true));
+    assert!(rt; desk.hold("a.hex") == Ok(false));
+    assert!(rt; desk.replace("a.hex", b"new") == Ok(()));
+    assert!(rt; desk.file("a.hex") == Some(b"new".as_slice()));
+    assert!(rt; desk.hold("a.hex") == Ok(true));
+    desk.release();
+    assert!(rt; desk.hold("a.hex") == Ok(true));
+    Ok(())
+}
+
+#[test]
 fn output_and_messages(rt: HostRuntime) {
     let mut desk = MemDesk::new(rt.alloc(), Bytes::new(rt.alloc()));
     assert!(rt; put(&mut desk, Stream::Output, b"0xe2\n") == Ok(()));
@@ -108,6 +121,29 @@ fn files_of_the_system(rt: HostRuntime) -> Result<(), Fail> {
     assert!(rt; !holds(alloc, &mut desk, ".", 3, b""));
     assert!(rt; desk.create("/no/such/folder/x") == Err(DeskFault::Failed));
     assert!(rt; put(&mut desk, Stream::Messages, b"a message\n") == Ok(()));
+    Ok(())
+}
+
+#[test]
+fn a_file_of_the_system_is_replaced(rt: HostRuntime) -> Result<(), Fail> {
+    let alloc = rt.alloc();
+    let folder = env::temp_dir(&rt)?;
+    let id = process::id(rt.process());
+    let name = format!(in alloc; "{}/avr_desk_held_{id}.bin", folder.display())?;
+    let new_name = format!(in alloc; "{}/avr_desk_held_{id}.bin.avrstk-new", folder.display())?;
+    let mut desk = SystemDesk::new(&rt, rt.stdout(), rt.stderr());
+    let mut other = SystemDesk::new(&rt, rt.stdout(), rt.stderr());
+    assert!(rt; desk.hold(name.as_str()) == Ok(true));
+    assert!(rt; other.hold(name.as_str()) == Ok(false));
+    assert!(rt; other.replace(name.as_str(), b"other") == Err(DeskFault::Failed));
+    assert!(rt; desk.replace(name.as_str(), b"first") == Ok(()));
+    assert!(rt; other.hold(name.as_str()) == Ok(true));
+    other.release();
+    assert!(rt; desk.replace(name.as_str(), b"second") == Ok(()));
+    assert!(rt; holds(alloc, &mut desk, name.as_str(), 6, b"second"));
+    assert!(rt; !fs::exists(&rt, new_name.as_str())?);
+    fs::remove_file(&rt, name.as_str())?;
+    assert!(rt; desk.hold("/no/such/folder/x") == Err(DeskFault::Failed));
     Ok(())
 }
 

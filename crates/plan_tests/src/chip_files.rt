@@ -1,5 +1,5 @@
 //! Chip files that are missing, whole, of another length, and at a desk that fails.
-use avr_chip::{load_chip, save_chip};
+use avr_chip::{hold_chip, load_chip, save_chip};
 use avr_desk::{Bytes, Desk, FailingDesk, MemDesk};
 use avr_part::{Chip, Mem, Part, PartFault, Parts};
 use std::alloc::{AllocError, Global};
@@ -93,6 +93,21 @@ fn fails_to_load(alloc: Global, n: u64, line: &str) -> Result<bool, Fail> {
     Ok(matches!(loaded, Err(1)) && desk.inner().messages() == line.as_bytes())
 }
 
+/// The same of a chip that is not held.
+fn fails_to_hold(alloc: Global, n: u64, line: &str) -> Result<bool, Fail> {
+    let mut desk = FailingDesk::new(desk_with(alloc, b"")?, n);
+    let held = hold(alloc, &mut desk)?;
+    Ok(matches!(held, Err(1)) && desk.inner().messages() == line.as_bytes())
+}
+
+/// Whether this chip is saved.
+fn saves<D: Desk>(alloc: Global, held: &Result<Chip, u8>, desk: &mut D) -> bool {
+    match held {
+        Ok(chip) => save_chip(alloc, chip, "chip.bin", desk) == Ok(()),
+        Err(_) => false,
+    }
+}
+
 /// The same of a chip that is not saved.
 fn fails_to_save(alloc: Global, n: u64, line: &str) -> Result<bool, Fail> {
     let chip = Chip::fresh(alloc, m328p()?)?;
@@ -108,7 +123,37 @@ fn a_desk_that_fails(rt: HostRuntime) -> Result<(), Fail> {
     assert!(rt; fails_to_load(alloc, 2, "avrstk: error: chip.bin: cannot be read\n")?);
     // the call that prints the file's name
     assert!(rt; fails_to_load(alloc, 4, "avrstk: error: ")?);
-    assert!(rt; fails_to_save(alloc, 1, "avrstk: error: chip.bin: cannot be created\n")?);
-    assert!(rt; fails_to_save(alloc, 2, "avrstk: error: chip.bin: cannot be written\n")?);
+    assert!(rt; fails_to_hold(alloc, 1, "avrstk: error: chip.bin: cannot be written\n")?);
+    assert!(rt; fails_to_hold(alloc, 2, "avrstk: error: chip.bin: cannot be opened\n")?);
+    assert!(rt; fails_to_save(alloc, 1, "avrstk: error: chip.bin: cannot be written\n")?);
+    Ok(())
+}
+
+/// The chip of chip.bin, held, likewise.
+fn hold<D: Desk>(alloc: Global, desk: &mut D) -> Result<Result<Chip, u8>, PartFault> {
+    Ok(hold_chip(alloc, &m328p()?, "chip.bin", desk))
+}
+
+#[test]
+fn a_chip_is_held_until_it_is_saved(rt: HostRuntime) -> Result<(), Fail> {
+    let alloc = rt.alloc();
+    let mut desk = MemDesk::new(alloc, Bytes::new(alloc));
+    let held = hold(alloc, &mut desk)?;
+    assert!(rt; matches!(hold(alloc, &mut desk)?, Err(1)));
+    assert!(rt; desk.messages() == b"avrstk: error: chip.bin: in use by another run\n".as_slice());
+    assert!(rt; saves(alloc, &held, &mut desk));
+    assert!(rt; hold(alloc, &mut desk)?.is_ok());
+    Ok(())
+}
+
+#[test]
+fn a_chip_that_is_refused_is_not_held(rt: HostRuntime) -> Result<(), Fail> {
+    let alloc = rt.alloc();
+    let mut desk = desk_with(alloc, b"abc")?;
+    assert!(rt; matches!(hold(alloc, &mut desk)?, Err(1)));
+    assert!(rt;
+        desk.messages() == b"avrstk: error: chip.bin: 3 bytes, 33796 expected\n".as_slice()
+    );
+    assert!(rt; desk.hold("chip.bin") == Ok(true));
     Ok(())
 }

@@ -1,5 +1,8 @@
-use Rattle.avr_chip.proofs.Savings.{not_held}
+use Rattle.avr_part.specs.ChipFile.{chip_file}
+use Rattle.avr_chip.proofs.Savings.{no_memory}
 use Rattle.avr_chip.proofs.saving.save_chip.Goals as goal
 
 pub returns-in-Err-clause-saves : goal.returns-in-Err-clause-saves
-returns-in-Err-clause-saves g c = not_held _ _ _ _ _ c.refuse.ensures.status (rw c.memory_message.ensures at c.refuse.ensures.told)
+returns-in-Err-clause-saves g c =
+    let told = rw c.memory_message.ensures at c.refuse.ensures.told in
+    no_memory _ _ c.args.file.now (chip_file c.args.chip.now) _ c.refuse.ensures.status (rw c.release.ensures.released at told)
