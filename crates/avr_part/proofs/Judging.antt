@@ -6,26 +6,25 @@ use Rattle.std.proofs.lemmas.Str.{is_utf8-from_IsUtf8, IsUtf8-from_is_utf8}
 use Rattle.toml.specs.View.{view, members_view}
 use Rattle.toml.specs.declared.value.Value.{Value}
 use Rattle.avr_part.specs.Part.{Part}
-use Rattle.avr_part.specs.PartFile.{Bytes, ◌>>=◌, part_of, parts_in, utf8_text}
-use Rattle.avr_part.specs.declared.fault.PartFault.{PartFault}
+use Rattle.avr_part.specs.PartFile.{Bytes, FileFault, ◌>>=◌, in_part, part_of, parts_in, utf8_text}
 
 -- these parts, and then those of the result
-abbrev pub onto : List Part → Result (List Part) PartFault → Result (List Part) PartFault
+abbrev pub onto : List Part → Result (List Part) FileFault → Result (List Part) FileFault
 onto ps (Ok qs) = Ok (ps ++ qs)
 onto ps (Err e) = Err e
 
-pub onto-next : (ps : List Part) (p : Part) (r : Result (List Part) PartFault) → onto ps (r >>= (λ qs. Ok (p ∷ qs))) ≡ onto (ps ++ p ∷ []) r
+pub onto-next : (ps : List Part) (p : Part) (r : Result (List Part) FileFault) → onto ps (r >>= (λ qs. Ok (p ∷ qs))) ≡ onto (ps ++ p ∷ []) r
 onto-next ps p (Ok qs) = ap (λ (xs : List Part). Ok xs) (sym (append_assoc ps (p ∷ []) qs))
 onto-next ps p (Err e) = refl
 
 -- one more member is judged
-pub judged_next : (all : Result (List Part) PartFault) (ps : List Part) (left next : List (String Global × Value)) (k : String Global) (v : Value) (p : Part)
-    → left ≡ (k, v) ∷ next → all ≡ onto ps (parts_in (members_view left)) → Ok p ≡ part_of (string_bytes k) (view v)
+pub judged_next : (all : Result (List Part) FileFault) (ps : List Part) (left next : List (String Global × Value)) (k : String Global) (v : Value) (p : Part)
+    → left ≡ (k, v) ∷ next → all ≡ onto ps (parts_in (members_view left)) → Ok p ≡ in_part (string_bytes k) (part_of (string_bytes k) (view v))
     → all ≡ onto (ps ++ p ∷ []) (parts_in (members_view next))
 judged_next all ps left next k v p split so_far is =
     so_far
     ∙ ap (λ (es : List (String Global × Value)). onto ps (parts_in (members_view es))) split
-    ∙ ap (λ (r : Result Part PartFault). onto ps (r >>= (λ part. parts_in (members_view next) >>= (λ parts. Ok (part ∷ parts))))) (sym is)
+    ∙ ap (λ (r : Result Part FileFault). onto ps (r >>= (λ part. parts_in (members_view next) >>= (λ parts. Ok (part ∷ parts))))) (sym is)
     ∙ onto-next ps p (parts_in (members_view next))
 
 -- bytes that are text, and bytes that are none

@@ -1,16 +1,17 @@
 -- The definitions, tried on examples.
-use Rattle.std.proofs.Common.{◌≡◌, refl, ℕ, List, [], ◌∷◌, ◌++◌, codes, Ok, Err, Some, None, true, false}
+use Rattle.std.proofs.Common.{◌≡◌, ◌∙◌, refl, sym, ap, ℕ, List, [], ◌∷◌, ◌++◌, codes, Result, Ok, Err, Option, Some, None, true, false}
 use Rattle.std.specs.Str.{is_utf8, chars}
 use Rattle.toml.proofs.OnLiterals.{toml_on_literals}
 use Rattle.hex.proofs.OnLiterals.{hex_on_literals}
 use Rattle.avr_part.specs.Mem.{memory_named}
 use Rattle.avr_part.specs.Part.{Part, is_id}
 use Rattle.avr_part.specs.BuiltIn.{m328p, t85, m2560, part_of_id}
-use Rattle.avr_part.specs.PartFile.{parts_of}
+use Rattle.avr_part.specs.PartFile.{FileFault, parts_of, of_file}
 use Rattle.avr_part.specs.State.{ChipState, fresh_state, spi_of, word_address}
 use Rattle.avr_part.specs.ChipFile.{chip_in}
 use Rattle.avr_part.specs.declared.part.Mem.TheVariants.{Efuse}
 use Rattle.avr_part.specs.declared.fault.Field.TheVariants as field
+use Rattle.avr_part.specs.declared.fault.PartFault.{PartFault}
 use Rattle.avr_part.specs.declared.fault.PartFault.TheVariants.{NotToml, Missing, BadValue, BadSizes, NoSuchPart, BadChipFile}
 
 -- a name is a memory's in its own spelling alone
@@ -147,15 +148,15 @@ found_none : part_of_id (codes "m9") [] ≡ Err NoSuchPart
 found_none = refl
 
 -- part files
-nothing : parts_of [] ≡ Err (Missing field.Parts)
+nothing : parts_of [] ≡ Err (of_file (Missing field.Parts))
 unfolding is_utf8 chars toml_on_literals
 nothing = refl
 
-no_table : parts_of (codes "parts = 3") ≡ Err (BadValue field.Parts)
+no_table : parts_of (codes "parts = 3") ≡ Err (of_file (BadValue field.Parts))
 unfolding is_utf8 chars toml_on_literals
 no_table = refl
 
-no_toml : parts_of (codes "parts = [") ≡ Err NotToml
+no_toml : parts_of (codes "parts = [") ≡ Err (of_file NotToml)
 unfolding is_utf8 chars toml_on_literals
 no_toml = refl
 
@@ -163,18 +164,32 @@ one_part : parts_of (codes "[parts.m328p]\nsignature = \"1E950F\"\nflash_size = 
 unfolding is_utf8 chars toml_on_literals hex_on_literals lib.Count.ones
 one_part = refl
 
-short_signature : parts_of (codes "[parts.x]\nsignature = \"1E95\"") ≡ Err (BadValue field.Signature)
+-- of two parts the second one is at fault; and a part that is at fault is told
+second_part : parts_of (codes "[parts.a1]\nsignature = \"1E950F\"\nflash_size = 32768\nflash_page = 128\neeprom_size = 1024\neeprom_page = 4\neesave_bit = 3\n[parts.b1]\n")
+    ≡ Err (record { part = Some (codes "b1"); fault = Missing field.Signature })
+unfolding is_utf8 chars toml_on_literals hex_on_literals lib.Count.ones
+second_part = refl
+
+abbrev blamed : Result (List Part) FileFault → Option (List ℕ)
+blamed (Ok parts) = None
+blamed (Err e) = e.part
+
+none_else : (r : Result (List Part) FileFault) (id : List ℕ) (one other : PartFault)
+    → r ≡ Err (record { part = Some id; fault = one }) → r ≡ Err (of_file other) → ⊥
+none_else r id one other is of_none = let same : Some id ≡ None = ap blamed (sym is ∙ of_none) in absurd (cc same)
+
+short_signature : parts_of (codes "[parts.x]\nsignature = \"1E95\"") ≡ Err (record { part = Some (codes "x"); fault = BadValue field.Signature })
 unfolding is_utf8 chars toml_on_literals hex_on_literals
 short_signature = refl
 
-odd_sizes : parts_of (codes "[parts.x]\nsignature = \"1E950F\"\nflash_size = 1000\nflash_page = 128\neeprom_size = 1024\neeprom_page = 4\neesave_bit = 3\n") ≡ Err BadSizes
+odd_sizes : parts_of (codes "[parts.x]\nsignature = \"1E950F\"\nflash_size = 1000\nflash_page = 128\neeprom_size = 1024\neeprom_page = 4\neesave_bit = 3\n") ≡ Err (record { part = Some (codes "x"); fault = BadSizes })
 unfolding is_utf8 chars toml_on_literals hex_on_literals lib.Count.ones
 odd_sizes = refl
 
-no_page : parts_of (codes "[parts.x]\nsignature = \"1E950F\"\nflash_size = 32768\nflash_page = 128\neeprom_size = 1024\n") ≡ Err (Missing field.EepromPage)
+no_page : parts_of (codes "[parts.x]\nsignature = \"1E950F\"\nflash_size = 32768\nflash_page = 128\neeprom_size = 1024\n") ≡ Err (record { part = Some (codes "x"); fault = Missing field.EepromPage })
 unfolding is_utf8 chars toml_on_literals hex_on_literals lib.Count.ones
 no_page = refl
 
-too_large : parts_of (codes "[parts.x]\nsignature = \"1E950F\"\nflash_size = 262400\nflash_page = 256\n") ≡ Err (BadValue field.FlashSize)
+too_large : parts_of (codes "[parts.x]\nsignature = \"1E950F\"\nflash_size = 262400\nflash_page = 256\n") ≡ Err (record { part = Some (codes "x"); fault = BadValue field.FlashSize })
 unfolding is_utf8 chars toml_on_literals hex_on_literals
 too_large = refl

@@ -21,7 +21,7 @@ abbrev pub Bytes : Type 0
 Bytes = List ℕ
 
 infixl 10 ◌>>=◌
-abbrev pub ◌>>=◌ : {A B : Type 0} → Result A PartFault → (A → Result B PartFault) → Result B PartFault
+abbrev pub ◌>>=◌ : {A B E : Type 0} → Result A E → (A → Result B E) → Result B E
 Ok x >>= f = f x
 Err e >>= f = Err e
 
@@ -85,41 +85,57 @@ part_of key d = do
   id ← ok_or (id_of key) (BadValue field.Id)
   part_with id fields
 
+-- why a part file is refused, and the id of the part that is at fault, if one is, and has an id
+pub record FileFault : Type 0 where
+  pub part : Option Bytes
+  pub fault : PartFault
+
+-- a fault of no part
+abbrev pub of_file : PartFault → FileFault
+of_file fault = record { part = None; fault = fault }
+
+-- the fault is of the part of this key
+abbrev pub in_part : Bytes → Result Part PartFault → Result Part FileFault
+in_part key (Ok part) = Ok part
+in_part key (Err fault) = Err (record { part = id_of key; fault = fault })
+
 -- the members of the table of parts, in the byte order of their keys
-abbrev pub parts_in : Members → Result (List Part) PartFault
+abbrev pub parts_in : Members → Result (List Part) FileFault
 parts_in no_members = Ok []
 parts_in (member key d rest) = do
-  part ← part_of key d
+  part ← in_part key (part_of key d)
   parts ← parts_in rest
   Ok (part ∷ parts)
 
-abbrev pub document_parts : Members → Result (List Part) PartFault
+abbrev pub document_parts : Members → Result (List Part) FileFault
 document_parts ms = do
-  parts ← ok_or (get_member (codes "parts") ms) (Missing field.Parts)
-  members ← ok_or (as_table parts) (BadValue field.Parts)
+  parts ← ok_or (get_member (codes "parts") ms) (of_file (Missing field.Parts))
+  members ← ok_or (as_table parts) (of_file (BadValue field.Parts))
   parts_in members
 
 abbrev pub utf8_text : Bytes → Option Bytes
 utf8_text bytes = if is_utf8 bytes then Some bytes else None
 
 -- the parts that a text defines
-abbrev pub parts_of : Bytes → Result (List Part) PartFault
+abbrev pub parts_of : Bytes → Result (List Part) FileFault
 parts_of bytes = do
-  text ← ok_or (utf8_text bytes) NotToml
-  document ← ok_or (parse_document text) NotToml
+  text ← ok_or (utf8_text bytes) (of_file NotToml)
+  document ← ok_or (parse_document text) (of_file NotToml)
   document_parts document
 
 -- the result is the one wanted, or memory was refused
 abbrev pub GivesOrMemory : {T : Type 0} → Result T PartFault → Result T PartFault → Type 0
 GivesOrMemory want got = (got ≡ want) ⊎ (got ≡ Err Memory)
 
-abbrev pub listed_items : Result (Vec Part) PartFault → Result (List Part) PartFault
+-- the same of what a file gives
+abbrev pub ReadsOrMemory : {T : Type 0} → Result T FileFault → Result T FileFault → Type 0
+ReadsOrMemory want got = (got ≡ want) ⊎ (got ≡ Err (of_file Memory))
+
+abbrev pub listed_items : Result (Vec Part) FileFault → Result (List Part) FileFault
 listed_items (Ok v) = Ok v.items
 listed_items (Err e) = Err e
 
 -- what was read is the document, or memory was refused
-abbrev pub ReadsDocument : Option Members → Result (BTreeMap (String Global) Value) PartFault → Type 0
+abbrev pub ReadsDocument : Option Members → Result (BTreeMap (String Global) Value) FileFault → Type 0
 ReadsDocument want (Ok t) = want ≡ Some (table_view t)
-ReadsDocument want (Err NotToml) = want ≡ None
-ReadsDocument want (Err Memory) = Unit {0}
-ReadsDocument want (Err fault) = ⊥
+ReadsDocument want (Err e) = (e ≡ of_file Memory) ⊎ ((e ≡ of_file NotToml) × (want ≡ None))

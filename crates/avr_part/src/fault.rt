@@ -57,8 +57,7 @@ impl fmt::Display for Field {
 /// Why there is no part or no chip.
 ///
 /// ```text
-/// let fault = parse_parts(alloc, b"[parts.x1]").err();
-/// assert_eq!(rt; fault, Some(PartFault::Missing(Field::Signature)));
+/// assert_eq!(rt; Parts::none().find("m9").err(), Some(PartFault::NoSuchPart));
 /// ```
 #[derive(Clone, Copy, Debug, PartialEq, Eq, Error)]
 pub enum PartFault {

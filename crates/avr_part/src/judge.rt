@@ -5,9 +5,10 @@ ghost use Rattle.hex.specs.Hex.{decode_sized};
 ghost use Rattle.toml.specs.View.{table_view, view};
 ghost use Rattle.toml.specs.Data.{get_member};
 ghost use Rattle.avr_part.specs.Part.{is_id_byte, is_id, id_of};
-ghost use Rattle.avr_part.specs.PartFile.{number_in, number_field, page_field, power_of, hex_value, signature_field, part_with, part_of};
+ghost use Rattle.avr_part.specs.PartFile.{number_in, number_field, page_field, power_of, hex_value, signature_field, part_with, part_of, in_part};
 
 use crate::fault::{Field, PartFault};
+use crate::file_fault::PartFileFault;
 use crate::part::Part;
 use arrayvec::ArrayString;
 use hex::FromHex;
@@ -37,7 +38,7 @@ fn is_id(text: &[u8]) -> bool
 }
 
 /// The key as an id.
-fn id_of(key: &str) -> Option<ArrayString<31>>
+pub(crate) fn id_of(key: &str) -> Option<ArrayString<31>>
     ensures value { option_map (λ t. t.bytes) result ≡ id_of key.now }
     ensures is_id { IfSome result (λ t. is_id t.bytes ≡ true) }
 {
@@ -147,10 +148,20 @@ fn judge_fields(id: ArrayString<31>, table: &Table) -> Result<Part, PartFault>
 }
 
 /// A member of the table of parts.
-pub fn judge_part(key: &str, value: &Value) -> Result<Part, PartFault>
+fn judge_part(key: &str, value: &Value) -> Result<Part, PartFault>
     ensures { result ≡ part_of key.now (view value.now) }
 {
     let table = value.as_table().ok_or(PartFault::BadValue(Field::Parts))?;
     let id = id_of(key).ok_or(PartFault::BadValue(Field::Id))?;
     judge_fields(id, table)
+}
+
+/// A member of the table of parts, or its fault with the part's id.
+pub fn judge_member(key: &str, value: &Value) -> Result<Part, PartFileFault>
+    ensures { result ≡ in_part key.now (part_of key.now (view value.now)) }
+{
+    match judge_part(key, value) {
+        Ok(part) => Ok(part),
+        Err(fault) => Err(PartFileFault::of_part(key, fault)),
+    }
 }

@@ -17,6 +17,7 @@ mod built_in;
 mod parts;
 // the part file
 mod fault;
+mod file_fault;
 mod judge;
 mod part_file;
 // the chip: what four bytes ask of it,
@@ -30,6 +31,7 @@ pub mod laws;
 
 pub use chip::Chip;
 pub use fault::{Field, PartFault};
+pub use file_fault::PartFileFault;
 pub use instruction::{Fuse, Half, Instruction};
 pub use part::{Mem, Part};
 pub use part_file::parse_parts;

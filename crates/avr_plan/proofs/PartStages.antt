@@ -7,8 +7,7 @@ use Rattle.avr_desk.specs.Record.{DeskView, Passes, Bytes}
 use Rattle.avr_desk.specs.Lines.{too_long_line}
 use Rattle.avr_desk.specs.Said.{Tells}
 use Rattle.avr_part.specs.Part.{Part}
-use Rattle.avr_part.specs.PartFile.{GivesOrMemory, parts_of}
-use Rattle.avr_part.specs.declared.fault.PartFault.{PartFault}
+use Rattle.avr_part.specs.PartFile.{FileFault, ReadsOrMemory, of_file, parts_of}
 use Rattle.avr_part.specs.declared.fault.PartFault.TheVariants.{Memory}
 use Rattle.avr_desk.proofs.FileStages.{goes_whole, went_whole}
 use Rattle.avr_desk.proofs.Played.{went_settled, goes_unsettled, goes_without_memory}
@@ -37,7 +36,7 @@ goes_long_parts file bytes false old mid new status kept whole is same one told 
 
 pub went_parts : (file bytes : Bytes) (ended : Bool) (old mid : DeskView) (parts : List Part)
     → Passes (with_read file bytes ended) old mid
-    → IsWhole 65536 (record { bytes = bytes; ended = ended }) → ended ≡ true → HasSameCounts old mid → GivesOrMemory (parts_of bytes) (Ok parts)
+    → IsWhole 65536 (record { bytes = bytes; ended = ended }) → ended ≡ true → HasSameCounts old mid → ReadsOrMemory (parts_of bytes) (Ok parts)
     → Went (file_stage file 65536 (judged_parts file)) old mid (Made parts)
 went_parts file bytes false old mid parts kept whole is same gives = cc
 went_parts file bytes true old mid parts kept whole is same (inl gives) =
@@ -46,19 +45,19 @@ went_parts file bytes true old mid parts kept whole is same (inl gives) =
     (went_settled (judged_parts file bytes) parts mid given)
 went_parts file bytes true old mid parts kept whole is same (inr memory) = cc
 
-pub goes_bad_parts : (file bytes : Bytes) (ended : Bool) (old mid new : DeskView) (status : ℕ) (fault : PartFault)
+pub goes_bad_parts : (file bytes : Bytes) (ended : Bool) (old mid new : DeskView) (status : ℕ) (refused : FileFault)
     → Passes (with_read file bytes ended) old mid → IsWhole 65536 (record { bytes = bytes; ended = ended }) → ended ≡ true → HasSameCounts old mid
-    → GivesOrMemory (parts_of bytes) (Err fault) → status ≡ 1 → Tells mid new (part_file_line file fault)
+    → ReadsOrMemory (parts_of bytes) (Err refused) → status ≡ 1 → Tells mid new (part_file_line file refused.fault)
     → Goes (file_stage file 65536 (judged_parts file)) old new (Err status)
-goes_bad_parts file bytes false old mid new status fault kept whole is same gives one told = cc
-goes_bad_parts file bytes true old mid new status fault kept whole is same (inl gives) one told =
-    let given : judged_parts file bytes ≡ Err (part_file_line file fault) = judged-within file bytes whole ∙ ap (parts_or_line file) (sym gives) in
+goes_bad_parts file bytes false old mid new status refused kept whole is same gives one told = cc
+goes_bad_parts file bytes true old mid new status refused kept whole is same (inl gives) one told =
+    let given : judged_parts file bytes ≡ Err (part_file_line file refused.fault) = judged-within file bytes whole ∙ ap (parts_or_line file) (sym gives) in
     goes_whole file 65536 (judged_parts file) bytes true old mid new (Err status)
     kept whole same
-    (goes_unsettled (judged_parts file bytes) (part_file_line file fault) mid new status given one told)
-goes_bad_parts file bytes true old mid new status fault kept whole is same (inr memory) one told =
-    let memory_is : fault ≡ Memory = cc in
-    let refused = subst (λ f. Tells mid new (part_file_line file f)) memory_is told in
+    (goes_unsettled (judged_parts file bytes) (part_file_line file refused.fault) mid new status given one told)
+goes_bad_parts file bytes true old mid new status refused kept whole is same (inr memory) one told =
+    let memory_is : refused ≡ of_file Memory = cc in
+    let told_so = subst (λ r. Tells mid new (part_file_line file r.fault)) memory_is told in
     goes_whole file 65536 (judged_parts file) bytes true old mid new (Err status)
     kept whole same
-    (goes_without_memory (verdict_stage (judged_parts file bytes)) mid new status one refused)
+    (goes_without_memory (verdict_stage (judged_parts file bytes)) mid new status one told_so)

@@ -25,7 +25,7 @@ fn file_parts<D: Desk>(alloc: Global, desk: &mut D, file: &str) -> Result<Parts,
     }
     match parse_parts(alloc, contents.bytes.as_slice()) {
         Ok(parts) => Ok(parts),
-        Err(fault) => Err(refuse(desk, &part_file_message(file, fault))),
+        Err(refused) => Err(refuse(desk, &part_file_message(file, refused.fault()))),
     }
 }
 
