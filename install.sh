@@ -1,6 +1,7 @@
 #!/usr/bin/env bash
 # Puts the built program, avrstk-serial, the part file, the page of manual and the completions for bash under a folder,
-# and with --with-c the library for C with its header; or takes them all away again.
+# and with --with-c the library for C (archive, shared library, header, pkg-config's file); or takes them all away
+# again.
 #
 #     ./install.sh [--with-c] [PREFIX]      PREFIX is /usr/local where it isn't given
 #     ./install.sh --remove [PREFIX]
@@ -30,8 +31,14 @@ completions=$prefix/share/bash-completion/completions/avrstk
 # bash looks for a command's completions under its name
 of_serial=$prefix/share/bash-completion/completions/avrstk-serial
 archive=$prefix/lib/libavr_records.a
+# its name says with which programs it goes: the version's first number
+version=$(cat "$top/VERSION")
+shared=libavr_records.so.${version%%.*}
+link=$prefix/lib/libavr_records.so
+config=$prefix/lib/pkgconfig/avr_records.pc
 header=$prefix/include/avr_records.h
-all=("$program" "$serial" "$parts" "$manual" "$completions" "$of_serial" "$archive" "$header")
+all=("$program" "$serial" "$parts" "$manual" "$completions" "$of_serial")
+all+=("$archive" "$header" "$config" "$link" "$prefix/lib/$shared")
 
 # the folders that were made for these, so that --remove takes away no other
 folders=$prefix/share/avrstk/folders
@@ -101,3 +108,11 @@ echo "proves and builds the library for C, in several minutes"
 start "$top/examples/c/build.sh" "$top/out/c"
 put 644 "$top/out/c/libavr_records.a" "$archive"
 put 644 "$top/include/avr_records.h" "$header"
+put 644 "$top/out/c/avr_records.pc" "$config"
+if [ -e "$top/out/c/$shared" ]; then
+    put 644 "$top/out/c/$shared" "$prefix/lib/$shared"
+    ln -sf "$shared" "$link"
+    echo "installed $link"
+else
+    echo "no shared library was made, since there is no C compiler"
+fi

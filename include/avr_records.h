@@ -2,8 +2,9 @@
  * Record files of microcontrollers' memories, Intel HEX and Motorola S-records, read into a memory that the caller
  * lends and written from one.
  *
- * The functions are those of the archive libavr_records.a, which examples/c/build.sh makes. That they do what is said
- * here is proved (crates/avr_records_c), for every caller that keeps to this:
+ * The functions are those of the archive libavr_records.a and of the shared library libavr_records.so of it, which
+ * examples/c/build.sh makes. That they do what is said here is proved (crates/avr_records_c), but for
+ * avr_records_fault_text, which stands in this header alone, and for every caller that keeps to this:
  *
  * - No pointer is NULL, also where its length is 0. Each points to as many bytes as its length says, which nothing else
  *   writes while the call runs. What a function changes overlaps nothing else that it is given.
@@ -48,7 +49,8 @@ enum {
     AVR_RECORDS_LINE_TOO_LONG = 7, /* more than 600 bytes stand before the line's end */
     AVR_RECORDS_BAD_COUNT = 8,     /* the record counts another number of data records than stand before it */
     AVR_RECORDS_NO_MEMORY = 10,    /* malloc refused */
-    AVR_RECORDS_MISFIT = 11        /* the arguments don't fit one another: see the functions */
+    AVR_RECORDS_MISFIT = 11,       /* the arguments don't fit one another: see the functions */
+    AVR_RECORDS_NO_RECORDS = 12    /* the file is no record file: raw bytes, or an executable */
 };
 
 /* How many octets the bitmap of a memory of so many bytes has. */
@@ -65,7 +67,7 @@ struct avr_records_outcome {
     bool ended;       /* whether the end record came; a file cut short at a line's end reads well but for this */
 };
 
-/* How much of a file was put: all that the room takes, where `fault` is 0. */
+/* How much of a file was put, all that the room takes, or how long it is; where `fault` is 0. */
 struct avr_records_piece {
     size_t length; /* in bytes; 0 behind the file's end */
     uint8_t fault; /* 0, or the number of the fault */
@@ -82,8 +84,9 @@ uint8_t avr_records_detect(const uint8_t *front, size_t length);
  * and into its bitmap. Start addresses and the headers of S-records (S0) are dropped. After a fault bytes and bitmap
  * are as they were.
  *
- * AVR_RECORDS_MISFIT: another format; a file or a memory of 2 to the power 32 bytes or more; a bitmap that doesn't have
- * AVR_RECORDS_BITMAP(size) octets.
+ * AVR_RECORDS_MISFIT: a number that no format has; a file or a memory of 2 to the power 32 bytes or more; a bitmap
+ * that doesn't have AVR_RECORDS_BITMAP(size) octets. AVR_RECORDS_NO_RECORDS, where all these are right: AVR_RECORDS_RAW or
+ * _ELF, so that what avr_records_detect tells of a file can be handed on as it is.
  */
 struct avr_records_outcome avr_records_read(uint8_t format, const uint8_t *file, size_t length,
                                             uint8_t *bytes, size_t size, uint8_t *present, size_t octets);
@@ -94,12 +97,39 @@ struct avr_records_outcome avr_records_read(uint8_t format, const uint8_t *file,
  * records of at most 32 bytes, and the end record; no header, and no start address (0 in the end record of S-records).
  * After a fault the room is as it was.
  *
- * Each call makes the whole file anew in memory of its own, so large rooms are the fastest. AVR_RECORDS_MISFIT: another
- * format; a memory of 2 to the power 32 bytes or more; a bitmap that doesn't have AVR_RECORDS_BITMAP(size) octets.
+ * Each call makes the whole file anew in memory of its own: ask avr_records_length once, and take a room for all of it.
+ * AVR_RECORDS_MISFIT: another format; a memory of 2 to the power 32 bytes or more; a bitmap that doesn't have
+ * AVR_RECORDS_BITMAP(size) octets.
  */
 struct avr_records_piece avr_records_write(uint8_t format, const uint8_t *bytes, size_t size,
                                            const uint8_t *present, size_t octets, size_t from,
                                            uint8_t *room, size_t length);
+
+/*
+ * Tells how many bytes the file of a memory has, in a format (AVR_RECORDS_IHEX or _SREC). It makes the file for that,
+ * as avr_records_write does, and has the same faults, with which the length is 0.
+ */
+struct avr_records_piece avr_records_length(uint8_t format, const uint8_t *bytes, size_t size,
+                                            const uint8_t *present, size_t octets);
+
+/* What a fault's number means, in a few words; they last as long as the program. */
+static inline const char *avr_records_fault_text(uint8_t fault) {
+    switch (fault) {
+    case 0: return "no fault";
+    case AVR_RECORDS_BAD_MARK: return "no record mark";
+    case AVR_RECORDS_BAD_DIGIT: return "bad digit";
+    case AVR_RECORDS_BAD_LENGTH: return "bad length";
+    case AVR_RECORDS_BAD_SUM: return "bad checksum";
+    case AVR_RECORDS_BAD_TYPE: return "bad record type";
+    case AVR_RECORDS_OUT_OF_RANGE: return "address out of range";
+    case AVR_RECORDS_LINE_TOO_LONG: return "line too long";
+    case AVR_RECORDS_BAD_COUNT: return "bad record count";
+    case AVR_RECORDS_NO_MEMORY: return "out of memory";
+    case AVR_RECORDS_MISFIT: return "arguments don't fit one another";
+    case AVR_RECORDS_NO_RECORDS: return "no record file";
+    default: return "no fault of this number";
+    }
+}
 
 #ifdef __cplusplus
 }

@@ -27,13 +27,13 @@ PROVED = TOP / "crates/avrstk/out/avrstk"
 
 # the scripts beside this one, and one that counts calls of the system
 SCRIPTS = (
-    *("avrdude", "build", "chips", "claims", "cuts_and_stalls", "faults", "hostile", "lines", "made_frames", "manual", "others"),
-    *("parts", "programmer", "runs", "serial", "why", "calls"),
+    *("avrdude", "build", "chips", "claims", "cuts_and_stalls", "faults", "from_c", "hostile", "lines", "made_frames"),
+    *("manual", "others", "parts", "programmer", "runs", "serial", "why", "calls"),
 )
 COMMANDS = {"calls": [TOP / "bench/run.py", "--calls"]}
 
 # those that need what rt ci alone leaves, or take long
-PROVED_ONLY = ("cuts_and_stalls", "faults", "others")
+PROVED_ONLY = ("cuts_and_stalls", "faults", "from_c", "others")
 
 # what a script says of what it leaves out
 LEFT_OUT = re.compile(r"\s*(?:left out|skipped): (.*)")

@@ -90,21 +90,29 @@ class Library:
     def written(self, file, size, kind):
         return subprocess.run([self.program, file, str(size), kind], capture_output=True, check=True).stdout
 
+    def refused(self, *words):
+        done = subprocess.run([self.program, *words], capture_output=True, text=True)
+        return done.returncode, done.stdout, done.stderr
+
     def fault(self, file, size):
         done = subprocess.run([self.program, file, str(size), "ihex"], capture_output=True)
         assert done.returncode == 1 and done.stdout == b"", done
         return done.stderr.decode().strip()
 
     def printed(self, file, size):
-        program, library = ROOT / "examples/python/records.py", self.folder / "libavr_records.so"
-        words = [sys.executable, program, library, file, str(size)]
-        return subprocess.run(words, capture_output=True, check=True, text=True).stdout.splitlines()
+        return self.by_python(file, str(size), check=True).stdout.decode().splitlines()
+
+    def by_python(self, *words, check=False):
+        environment = os.environ | {"AVR_RECORDS_LIBRARY": str(self.folder / "libavr_records.so")}
+        words = [sys.executable, ROOT / "examples/python/records.py", *words]
+        return subprocess.run(words, capture_output=True, check=check, env=environment)
 
 
 def comes_back(library, file, image, size):
     for kind in ("ihex", "srec"):
         text = library.written(file, size, kind)
         same(f"{file} as {kind}", parse(text), image)
+        same(f"{file} as {kind} by Python", library.by_python(file, str(size), kind, check=True).stdout, text)
         again = library.folder / "again"
         again.write_bytes(text)
         same(f"{file} as {kind}, again", library.written(again, size, kind), text)
@@ -131,20 +139,45 @@ def images_come_back(library):
 def faults_are_told(library):
     file = library.folder / "damaged"
     for text, size, told in (
-        (b":0400000001020304F3\n", 4, "line 1: fault 4, address 00000000"),
-        (b"\n:0400000001020304F2\n:01000000zzFF\n", 4, "line 3: fault 2, address 00000000"),
-        (b":020000040001F9\n:0100000055AA\n", 4, "line 2: fault 6, address 00010000"),
-        (b":0400000001020304F2\n", 3, "line 1: fault 6, address 00000003"),
-        (b":0400000001020304F2\n:02000009AABB90\n", 4, "line 2: fault 5, address 00000000"),
-        (b"S107000001020304EE\nS5030009F3\n", 4, "line 2: fault 8, address 00000000"),
-        (b"no record", 4, "line 0: fault 11, address 00000000"),
+        (b":0400000001020304F3\n", 4, "line 1: bad checksum"),
+        (b"\n:0400000001020304F2\n:01000000zzFF\n", 4, "line 3: bad digit"),
+        (b":020000040001F9\n:0100000055AA\n", 4, "line 2: address out of range: 00010000"),
+        (b":0400000001020304F2\n", 3, "line 1: address out of range: 00000003"),
+        (b":0400000001020304F2\n:02000009AABB90\n", 4, "line 2: bad record type"),
+        (b"S107000001020304EE\nS5030009F3\n", 4, "line 2: bad record count"),
+        (b"no record", 4, f"{file}: no record file"),
+        (b"\x7fELF\1\1\1", 4, f"{file}: no record file"),
     ):
         file.write_bytes(text)
         same(f"{text} in {size} bytes", library.fault(file, size), told)
+        told = told.removeprefix(f"{file}: ")
+        by_python = library.by_python(file, str(size))
+        same(f"{text} in {size} bytes by Python", (by_python.returncode, by_python.stderr.decode().strip()), (1, told))
+
+
+def sizes_are_judged(library):
+    file = ROOT / "examples/blink.hex"
+    for size in ("", "-1", " 5", "5x", "4294967296", "18446744073709551616"):
+        same(f"size '{size}'", library.refused(file, size, "ihex"), (2, "", "usage: records FILE SIZE ihex|srec\n"))
+
+
+def only_its_calls_are_seen(library):
+    """The shared library has its name, and exports what the header declares, and nothing else."""
+    shared = library.folder / "libavr_records.so"
+    words = ["nm", "-D", "--defined-only", shared]
+    listed = subprocess.run(words, capture_output=True, check=True, text=True).stdout
+    exported = [it.split()[-1] for it in listed.splitlines()]
+    same("what is exported", exported, [f"avr_records_{it}" for it in ("detect", "length", "read", "write")])
+    name = f"libavr_records.so.{(ROOT / 'VERSION').read_text().split('.')[0]}"
+    same("the name", os.readlink(shared), name)
+    program = (ROOT / "examples/python/records.py").read_text()
+    same("the name that Python looks for", f'SONAME = "{name}"' in program, True)
+    listed = subprocess.run(["readelf", "-d", shared], capture_output=True, check=True, text=True).stdout
+    same("the name in it", f"soname: [{name}]" in listed, True)
 
 
 def main():
-    looks = named(files_come_back, images_come_back, faults_are_told)
+    looks = named(files_come_back, images_come_back, faults_are_told, sizes_are_judged, only_its_calls_are_seen)
     if shutil.which(os.environ.get("CC", "cc")) is None:
         return run_cases({name: lambda name=name: leave_out(name, "there is no C compiler") for name in looks}, __doc__)
     with tempfile.TemporaryDirectory() as folder:

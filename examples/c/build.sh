@@ -1,15 +1,45 @@
 #!/usr/bin/env bash
-# Makes DIR/libavr_records.a, and DIR/libavr_records.so of it where there is a C compiler: examples/c/build.sh DIR
-# The archive is what `rt lib` makes of crates/avr_records_c, with the kit's calls of malloc, realloc and free.
+# Makes the library for C: examples/c/build.sh DIR
+# DIR gets libavr_records.a, avr_records.pc (pkg-config's file, which looks for the library beside itself), and where
+# there is a C compiler the shared library libavr_records.so.N of the archive, with the link libavr_records.so to it.
+# N is the version's first number. The archive is what `rt lib` makes of crates/avr_records_c, where a source is newer
+# than what stands there, with the kit's calls of malloc, realloc and free.
 set -eu
 dir=$(mkdir -p "$1" && cd "$1" && pwd)
-cd "$(dirname "$0")/../../crates/avr_records_c"
-rt lib
+top=$(dirname "$(readlink -f "$0")")/../..
+version=$(cat "$top/VERSION")
+shared=libavr_records.so.${version%%.*}
+cd "$top/crates/avr_records_c"
+proved=$PWD/out/libavr_records_c.a
+sources=(../../crates.txt ../*/{src,specs,proofs})
+if [ ! -e "$proved" ] || [ -n "$(find "${sources[@]}" -newer "$proved" -print -quit 2>/dev/null)" ]; then
+    # the archive gets the time at which its build began, so that an edit during the build is seen
+    touch "$dir/begun"
+    rt lib
+    touch -r "$dir/begun" "$proved"
+    rm "$dir/begun"
+fi
 cd "$dir"
 rm -f libavr_records.a
 ar x "$(dirname "$(rt doc)")/c/liblibc_c.a"
-cp "$OLDPWD/out/libavr_records_c.a" libavr_records.a
+cp "$proved" libavr_records.a
 ar rs libavr_records.a heap.pic.o
 rm heap.pic.o
+cat >avr_records.pc <<END
+prefix=\${pcfiledir}/../..
+libdir=\${prefix}/lib
+includedir=\${prefix}/include
+
+Name: avr_records
+Description: Intel HEX and Motorola S-records, read into a memory and written from one
+Version: $version
+Libs: -L\${libdir} -lavr_records
+Cflags: -I\${includedir}
+END
 command -v "${CC:-cc}" >/dev/null || exit 0
-"${CC:-cc}" -shared -o libavr_records.so -Wl,--whole-archive libavr_records.a -Wl,--no-whole-archive
+# nothing but the header's functions is seen from outside
+echo '{ global: avr_records_*; local: *; };' >exported
+"${CC:-cc}" -shared -o "$shared" -Wl,-soname,"$shared" -Wl,--version-script=exported \
+    -Wl,--whole-archive libavr_records.a -Wl,--no-whole-archive
+rm exported
+ln -sf "$shared" libavr_records.so

@@ -1,7 +1,9 @@
 /* Writes a record file anew, as Intel HEX or as S-records: records FILE SIZE ihex|srec >OUT
- * SIZE is the memory's, in bytes. cc -I../../include records.c libavr_records.a */
+ * SIZE is the memory's, in bytes. cc -I../../include records.c libavr_records.a, or where the library is installed
+ * cc records.c $(pkg-config --cflags --libs avr_records) */
 #include "avr_records.h"
 
+#include <errno.h>
 #include <stdio.h>
 #include <stdlib.h>
 #include <string.h>
@@ -28,27 +30,49 @@ static uint8_t *load(const char *name, size_t *length) {
     return bytes;
 }
 
-/* Prints the memory's file piece by piece; the number of the fault, or 0. */
-static int print(uint8_t format, const uint8_t *bytes, size_t size, const uint8_t *present) {
-    static uint8_t room[65536];
-    size_t from = 0;
-    for (;;) {
-        struct avr_records_piece piece =
-            avr_records_write(format, bytes, size, present, AVR_RECORDS_BITMAP(size), from, room, sizeof room);
-        if (piece.fault != 0 || piece.length == 0) return piece.fault;
-        if (fwrite(room, 1, piece.length, stdout) != piece.length) return -1;
-        from += piece.length;
+/* The size that a word says, in decimal digits and below 2 to the power 32. */
+static bool is_size(const char *word, size_t *size) {
+    char *end;
+    errno = 0;
+    unsigned long long told = strtoull(word, &end, 10);
+    *size = (size_t)told;
+    return word[0] >= '0' && word[0] <= '9' && *end == '\0' && errno == 0 && told <= UINT32_MAX;
+}
+
+/* Prints the memory's file; the number of the fault, or 0. */
+static uint8_t print(uint8_t format, const uint8_t *bytes, size_t size, const uint8_t *present) {
+    size_t octets = AVR_RECORDS_BITMAP(size);
+    struct avr_records_piece all = avr_records_length(format, bytes, size, present, octets);
+    if (all.fault != 0) return all.fault;
+    uint8_t *room = malloc(all.length);
+    if (room == NULL) return AVR_RECORDS_NO_MEMORY;
+    struct avr_records_piece piece = avr_records_write(format, bytes, size, present, octets, 0, room, all.length);
+    /* (what stdout refuses, main sees) */
+    fwrite(room, 1, piece.length, stdout);
+    free(room);
+    return piece.fault;
+}
+
+/* Says what is wrong with a file, and where. */
+static void complain(const char *name, struct avr_records_outcome read) {
+    const char *text = avr_records_fault_text(read.fault);
+    if (read.line == 0) {
+        fprintf(stderr, "%s: %s\n", name, text);
+    } else if (read.fault == AVR_RECORDS_OUT_OF_RANGE) {
+        fprintf(stderr, "line %lu: %s: %08lX\n", (unsigned long)read.line, text, (unsigned long)read.address);
+    } else {
+        fprintf(stderr, "line %lu: %s\n", (unsigned long)read.line, text);
     }
 }
 
 int main(int argc, char **argv) {
-    if (argc != 4) {
+    size_t length, size;
+    if (argc != 4 || !is_size(argv[2], &size)) {
         fprintf(stderr, "usage: records FILE SIZE ihex|srec\n");
         return 2;
     }
-    size_t length, size = strtoul(argv[2], NULL, 10);
     uint8_t *file = load(argv[1], &length);
-    uint8_t *bytes = malloc(size + 1), *present = malloc(AVR_RECORDS_BITMAP(size) + 1);
+    uint8_t *bytes = malloc(size > 0 ? size : 1), *present = malloc(AVR_RECORDS_BITMAP(size) + 1);
     if (file == NULL || bytes == NULL || present == NULL) {
         fprintf(stderr, "%s: cannot be read\n", argv[1]);
         return 2;
@@ -56,14 +80,14 @@ int main(int argc, char **argv) {
     struct avr_records_outcome read = avr_records_read(avr_records_detect(file, length), file, length, bytes, size,
                                                        present, AVR_RECORDS_BITMAP(size));
     if (read.fault != 0) {
-        fprintf(stderr, "line %lu: fault %u, address %08lX\n", (unsigned long)read.line, read.fault,
-                (unsigned long)read.address);
+        complain(argv[1], read);
         return 1;
     }
     if (!read.ended) fprintf(stderr, "%s: no end record\n", argv[1]);
-    int fault = print(strcmp(argv[3], "srec") == 0 ? AVR_RECORDS_SREC : AVR_RECORDS_IHEX, bytes, size, present);
+    uint8_t fault = print(strcmp(argv[3], "srec") == 0 ? AVR_RECORDS_SREC : AVR_RECORDS_IHEX, bytes, size, present);
     free(file);
     free(bytes);
     free(present);
-    return fault == 0 && fflush(stdout) == 0 ? 0 : 1;
+    if (fault != 0) fprintf(stderr, "%s\n", avr_records_fault_text(fault));
+    return fault == 0 && fflush(stdout) == 0 && !ferror(stdout) ? 0 : 1;
 }

@@ -1,13 +1,33 @@
 #!/usr/bin/env python3
-"""Prints the runs of bytes of a record file: records.py LIBRARY FILE SIZE
+"""Prints the runs of bytes of a record file, or the file anew as Intel HEX or S-records:
 
-LIBRARY is libavr_records.so, as examples/c/build.sh makes it. SIZE is the memory's, in bytes.
+    records.py FILE SIZE [ihex | srec]
+
+SIZE is the memory's, in bytes. The library is the one that AVR_RECORDS_LIBRARY names in the environment, as
+examples/c/build.sh makes it; else the installed one.
 """
 
 import ctypes
 import itertools
+import os
 import sys
 from pathlib import Path
+
+SONAME = "libavr_records.so.0"
+FORMATS = {"ihex": 1, "srec": 2}
+FAULTS = {
+    1: "no record mark",
+    2: "bad digit",
+    3: "bad length",
+    4: "bad checksum",
+    5: "bad record type",
+    6: "address out of range",
+    7: "line too long",
+    8: "bad record count",
+    10: "out of memory",
+    11: "arguments don't fit one another",
+    12: "no record file",
+}
 
 
 class Outcome(ctypes.Structure):
@@ -19,22 +39,54 @@ class Outcome(ctypes.Structure):
     ]
 
 
-def load(path):
-    library = ctypes.CDLL(path)
-    slice_of = [ctypes.c_char_p, ctypes.c_size_t]
-    library.avr_records_detect.argtypes = slice_of
-    library.avr_records_detect.restype = ctypes.c_uint8
-    library.avr_records_read.argtypes = [ctypes.c_uint8] + 3 * slice_of
-    library.avr_records_read.restype = Outcome
+class Piece(ctypes.Structure):
+    _fields_ = [("length", ctypes.c_size_t), ("fault", ctypes.c_uint8)]
+
+
+def load():
+    library = ctypes.CDLL(os.environ.get("AVR_RECORDS_LIBRARY", SONAME))
+    octet = ctypes.c_uint8
+    slice_of = [ctypes.POINTER(octet), ctypes.c_size_t]
+    for name, arguments, result in (
+        ("detect", slice_of, octet),
+        ("read", [octet] + 3 * slice_of, Outcome),
+        ("length", [octet] + 2 * slice_of, Piece),
+        ("write", [octet] + 2 * slice_of + [ctypes.c_size_t] + slice_of, Piece),
+    ):
+        function = getattr(library, f"avr_records_{name}")
+        function.argtypes, function.restype = arguments, result
     return library
 
 
+def lent(data):
+    """The memory of a bytearray, and its length, as the library takes both."""
+    return (ctypes.c_uint8 * len(data)).from_buffer(data), len(data)
+
+
+def fault_text(fault, line=0, address=0):
+    place = f"line {line}: " if line else ""
+    return place + FAULTS[fault] + (f": {address:08X}" if fault == 6 else "")
+
+
 def read(library, text, size):
-    """The bytes of a memory of this size and its bitmap, and how the read ended."""
-    data, present = ctypes.create_string_buffer(size + 1), ctypes.create_string_buffer(size // 8 + 1)
-    kind = library.avr_records_detect(text, len(text))
-    outcome = library.avr_records_read(kind, text, len(text), data, size, present, (size + 7) // 8)
-    return data.raw[:size], present.raw, outcome
+    """The bytes of a memory of this size, its bitmap, and whether the end record came."""
+    text, data, present = bytearray(text), bytearray(size), bytearray((size + 7) // 8)
+    kind = library.avr_records_detect(*lent(text))
+    outcome = library.avr_records_read(kind, *lent(text), *lent(data), *lent(present))
+    if outcome.fault:
+        raise ValueError(fault_text(outcome.fault, outcome.line, outcome.address))
+    return data, present, outcome.ended
+
+
+def write(library, kind, data, present):
+    """The record file of a memory."""
+    told = library.avr_records_length(kind, *lent(data), *lent(present))
+    text = bytearray(told.length)
+    if not told.fault:
+        told = library.avr_records_write(kind, *lent(data), *lent(present), 0, *lent(text))
+    if told.fault:
+        raise ValueError(fault_text(told.fault))
+    return text
 
 
 def runs(data, present):
@@ -45,9 +97,20 @@ def runs(data, present):
             yield places[0], data[places[0] : places[-1] + 1]
 
 
-if __name__ == "__main__":
-    data, present, outcome = read(load(sys.argv[1]), Path(sys.argv[2]).read_bytes(), int(sys.argv[3]))
-    if outcome.fault:
-        sys.exit(f"line {outcome.line}: fault {outcome.fault}, address {outcome.address:08X}")
+def main(file, size, kind=None):
+    library = load()
+    data, present, _ = read(library, Path(file).read_bytes(), int(size))
+    if kind is not None:
+        sys.stdout.buffer.write(write(library, FORMATS[kind], data, present))
+        return
     for address, run in runs(data, present):
         print(f"{address:08X}: {run.hex()}")
+
+
+if __name__ == "__main__":
+    if len(sys.argv) not in (3, 4) or sys.argv[3:] not in ([], ["ihex"], ["srec"]):
+        sys.exit(__doc__.strip())
+    try:
+        main(*sys.argv[1:])
+    except ValueError as fault:
+        sys.exit(str(fault))

@@ -1,8 +1,8 @@
 -- The definitions, tried on examples.
-use Rattle.std.proofs.Common.{◌≡◌, ap, refl, arith, false, ℕ, List, [], ◌∷◌, codes, Option, Some, None, Err, inl, inr}
+use Rattle.std.proofs.Common.{◌≡◌, ap, refl, arith, false, ℕ, List, [], ◌∷◌, codes, Option, Some, None, Ok, Err, inl, inr}
 use Rattle.avr_records.specs.declared.fault.RecordFault.TheVariants.{BadSum, OutOfRange}
 use Rattle.avr_records.specs.declared.kind.Kind.TheVariants.{Ihex, Srec}
-use Rattle.avr_records_c.specs.Numbers.{outcome_of_fault}
+use Rattle.avr_records_c.specs.Numbers.{outcome_of_fault, misfit, no_records}
 use Rattle.avr_records_c.specs.Bitmap.{octets_of, bitmap, image_of}
 use Rattle.avr_records_c.specs.Reading.{Left, asked_read, left_by, Reads}
 use Rattle.avr_records_c.specs.Writing.{Put, asked_write, put_from, put_none, Writes}
@@ -27,13 +27,22 @@ another_for_the_ninth : octets_of 9 ≡ 2
 another_for_the_ninth = refl
 
 -- arguments that fit one another, and such that don't
-ihex_of_nine : asked_read 1 4294967295 9 2 ≡ Some Ihex
+ihex_of_nine : asked_read 1 4294967295 9 2 ≡ Ok Ihex
 ihex_of_nine = refl
 
-no_third_kind : asked_read 3 0 9 2 ≡ None
-no_third_kind = refl
+no_fourth_kind : asked_read 4 0 9 2 ≡ Err misfit
+no_fourth_kind = refl
 
-no_longer_file : asked_read 1 4294967296 9 2 ≡ None
+no_records_in_raw_bytes : asked_read 0 0 9 2 ≡ Err no_records
+no_records_in_raw_bytes = refl
+
+no_records_in_an_executable : asked_read 3 0 9 2 ≡ Err no_records
+no_records_in_an_executable = refl
+
+misfit_before_the_format : asked_read 3 0 9 1 ≡ Err misfit
+misfit_before_the_format = refl
+
+no_longer_file : asked_read 1 4294967296 9 2 ≡ Err misfit
 no_longer_file = refl
 
 no_longer_bitmap : asked_write 2 8 2 ≡ None
@@ -63,8 +72,12 @@ no_fault_of_nothing (inl e) = let same : 4 ≡ 0 = ap (λ (l : Left). l.outcome.
 no_fault_of_nothing (inr e) = let same : 4 ≡ 10 = ap (λ (l : Left). l.outcome.fault) e in absurd (omega (arith, same))
 
 -- a misfit is told as one
-no_reading_of_a_third_kind : Reads 3 [] [] [] (record { outcome = outcome_of_fault (BadSum 1); bytes = []; present = [] }) → ⊥
-no_reading_of_a_third_kind e = let same : 4 ≡ 11 = ap (λ (l : Left). l.outcome.fault) e in absurd (omega (arith, same))
+no_reading_of_a_fourth_kind : Reads 4 [] [] [] (record { outcome = outcome_of_fault (BadSum 1); bytes = []; present = [] }) → ⊥
+no_reading_of_a_fourth_kind e = let same : 4 ≡ 11 = ap (λ (l : Left). l.outcome.fault) e in absurd (omega (arith, same))
+
+-- and a file that is no record file as such
+no_misfit_of_raw_bytes : Reads 0 [] [] [] (record { outcome = misfit; bytes = []; present = [] }) → ⊥
+no_misfit_of_raw_bytes e = let same : 11 ≡ 12 = ap (λ (l : Left). l.outcome.fault) e in absurd (omega (arith, same))
 
 -- a file of nothing is its end record: no call may put nothing of it without a fault
 not_empty : Writes 1 [] [] 0 (0 ∷ []) (put_none 0 (0 ∷ [])) → ⊥

@@ -1,5 +1,5 @@
 -- The numbers by which C knows formats and faults.
-use Rattle.std.specs.Prelude.{ℕ, true, false, ◌==◌, Option, Some, None, unwrap_or, if◌then◌else◌}
+use Rattle.std.specs.Prelude.{ℕ, true, false, ◌==◌, Option, Some, None, Result, Ok, Err, unwrap_or, if◌then◌else◌}
 use Rattle.avr_records.specs.Fault.{fault_number, fault_line_number, fault_address}
 use Rattle.avr_records.specs.declared.fault.RecordFault.{RecordFault}
 use Rattle.avr_records.specs.declared.kind.Kind.{Kind}
@@ -39,3 +39,17 @@ outcome_of_fault fault =
 -- the arguments do not fit one another
 abbrev pub misfit : Outcome
 misfit = record { line = 0; address = 0; fault = 11; ended = false }
+
+-- the file is of a format that has no records
+abbrev pub no_records : Outcome
+no_records = record { line = 0; address = 0; fault = 12; ended = false }
+
+-- the kind of record file that is to be read: raw bytes and executables (ELF) have no records, and no format has
+-- another number
+abbrev pub kind_to_read : ℕ → Result Kind Outcome
+kind_to_read number =
+    if number == 0 then Err no_records
+    else if number == 1 then Ok kind.Ihex
+    else if number == 2 then Ok kind.Srec
+    else if number == 3 then Err no_records
+    else Err misfit

@@ -1,5 +1,5 @@
 -- What C has of a record file that was read.
-use Rattle.std.specs.Prelude.{◌≡◌, ◌⊎◌, ℕ, ◌==◌, ◌&&◌, ◌^◌, nat_lt, List, length, Option, None, Result, Ok, Err, MatchOption, if◌then◌else◌}
+use Rattle.std.specs.Prelude.{◌≡◌, ◌⊎◌, ℕ, ◌==◌, ◌&&◌, ◌^◌, nat_lt, List, length, Option, Result, Ok, Err, MatchResult, if◌then◌else◌}
 use Rattle.avr_image.specs.Image.{filled_bytes}
 use Rattle.avr_records.specs.Reading.{image_in_text}
 use Rattle.avr_records.specs.declared.fault.RecordFault.{RecordFault}
@@ -7,7 +7,7 @@ use Rattle.avr_records.specs.declared.fault.RecordFault.TheVariants.{Memory}
 use Rattle.avr_records.specs.declared.kind.Kind.{Kind}
 use Rattle.avr_records.specs.declared.kind.Ending.{Ending}
 use Rattle.avr_records_c.specs.declared.outcome.Outcome.{Outcome}
-use Rattle.avr_records_c.specs.Numbers.{kind_numbered, outcome_of_end, outcome_of_fault, misfit}
+use Rattle.avr_records_c.specs.Numbers.{kind_to_read, outcome_of_end, outcome_of_fault, misfit}
 use Rattle.avr_records_c.specs.Bitmap.{octets_of, bitmap}
 
 -- what a call leaves: its outcome, the memory's bytes and their bitmap
@@ -26,17 +26,17 @@ left_by bytes present (Ok (image, ending)) =
     }
 left_by bytes present (Err fault) = record { outcome = outcome_of_fault fault; bytes = bytes; present = present }
 
--- the kind of file, where the number is that of one, file and memory have fewer than 2 to the power 32 bytes, and the
--- bitmap has as many octets as the memory needs
-abbrev pub asked_read : ℕ → ℕ → ℕ → ℕ → Option Kind
+-- the kind of file, where file and memory have fewer than 2 to the power 32 bytes, the bitmap has as many octets as
+-- the memory needs, and the number is that of a kind; else the outcome that says what is wrong
+abbrev pub asked_read : ℕ → ℕ → ℕ → ℕ → Result Kind Outcome
 asked_read kind text size present =
-    if nat_lt text (2 ^ 32) && nat_lt size (2 ^ 32) && present == octets_of size then kind_numbered kind else None
+    if nat_lt text (2 ^ 32) && nat_lt size (2 ^ 32) && present == octets_of size then kind_to_read kind else Err misfit
 
--- A call leaves what the file says, or memory was refused; where the arguments do not fit one another it leaves all as
--- it was.
+-- A call leaves what the file says, or memory was refused; where the arguments do not fit one another, or the format
+-- has no records, it leaves all as it was.
 abbrev pub Reads : ℕ → List ℕ → List ℕ → List ℕ → Left → Type 0
 Reads kind text bytes present left =
-    MatchOption (asked_read kind (length text) (length bytes) (length present))
-    (left ≡ record { outcome = misfit; bytes = bytes; present = present })
+    MatchResult (asked_read kind (length text) (length bytes) (length present))
     (λ k. (left ≡ left_by bytes present (image_in_text k text (length bytes)))
     ⊎ (left ≡ left_by bytes present (Err Memory)))
+    (λ outcome. left ≡ record { outcome = outcome; bytes = bytes; present = present })

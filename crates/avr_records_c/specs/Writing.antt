@@ -43,3 +43,11 @@ Writes kind bytes present from room put =
     (put ≡ put_none 11 room)
     (λ k. (put ≡ put_from (image_text k (image_of present bytes)) from room)
     ⊎ (put ≡ put_none (fault_number Memory) room))
+
+-- A call tells how many bytes the memory's file has, or memory was refused, or the arguments do not fit one another.
+abbrev pub Measures : ℕ → List ℕ → List ℕ → Piece → Type 0
+Measures kind bytes present piece =
+    MatchOption (asked_write kind (length bytes) (length present))
+    (piece ≡ record { length = 0; fault = 11 })
+    (λ k. (piece ≡ record { length = length (image_text k (image_of present bytes)); fault = 0 })
+    ⊎ (piece ≡ record { length = 0; fault = fault_number Memory }))

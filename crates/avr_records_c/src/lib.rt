@@ -19,7 +19,7 @@ pub use laws::{a_bitmap_says_what_is_there, what_is_written_reads_back};
 pub use outcome::Outcome;
 pub use piece::Piece;
 pub use reading::avr_records_read;
-pub use writing::avr_records_write;
+pub use writing::{avr_records_length, avr_records_write};
 
 #[cfg(test)]
 mod tests;

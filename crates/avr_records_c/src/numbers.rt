@@ -1,7 +1,12 @@
 //! The numbers by which C knows formats.
 ghost use Rattle.std.specs.Prelude.{◌≡◌};
-ghost use Rattle.avr_records_c.specs.Numbers.{found_number as spec_found_number, kind_numbered as spec_kind_numbered};
+ghost use Rattle.avr_records_c.specs.Numbers.{
+  found_number as spec_found_number,
+  kind_numbered as spec_kind_numbered,
+  kind_to_read as spec_kind_to_read,
+};
 
+use crate::outcome::Outcome;
 use avr_records::{Found, Kind};
 
 /// The number of a format.
@@ -24,5 +29,18 @@ pub fn kind_numbered(number: u8) -> Option<Kind>
         1 => Some(Kind::Ihex),
         2 => Some(Kind::Srec),
         _ => None,
+    }
+}
+
+/// The kind of record file that a number names; else the outcome of a read of that format.
+pub fn kind_to_read(number: u8) -> Result<Kind, Outcome>
+    ensures { result ≡ spec_kind_to_read number }
+{
+    match number {
+        0 => Err(Outcome::no_records()),
+        1 => Ok(Kind::Ihex),
+        2 => Ok(Kind::Srec),
+        3 => Err(Outcome::no_records()),
+        _ => Err(Outcome::misfit()),
     }
 }

@@ -1,11 +1,14 @@
 //! How a read ended.
 ghost use Rattle.std.specs.Prelude.{◌≡◌};
-ghost use Rattle.avr_records_c.specs.Numbers.{outcome_of_end, misfit, outcome_of_fault};
+ghost use Rattle.avr_records_c.specs.Numbers.{outcome_of_end, misfit, no_records, outcome_of_fault};
 
 use avr_records::{Ending, RecordFault};
 
 /// The fault of arguments that do not fit one another.
 pub const MISFIT: u8 = 11;
+
+/// The fault of a file whose format has no records.
+pub const NO_RECORDS: u8 = 12;
 
 /// How a read ended: well, where the fault is 0.
 #[repr(C)]
@@ -54,6 +57,18 @@ impl Outcome {
             line: 0,
             address: 0,
             fault: MISFIT,
+            ended: false,
+        }
+    }
+
+    /// The file is of a format that has no records.
+    pub(crate) fn no_records() -> Outcome
+        ensures { result ≡ no_records }
+    {
+        Outcome {
+            line: 0,
+            address: 0,
+            fault: NO_RECORDS,
             ended: false,
         }
     }

@@ -3,19 +3,19 @@ ghost use Rattle.std.specs.Prelude.{◌≡◌};
 ghost use Rattle.avr_records_c.specs.Reading.{asked_read as spec_asked_read, Reads};
 
 use crate::bitmap::{is_bitmap_of, put_bitmap};
-use crate::numbers::kind_numbered;
+use crate::numbers::kind_to_read;
 use crate::outcome::Outcome;
 use avr_records::{Kind, read_records};
 use std::alloc::Global;
 
-/// The kind of file, where the arguments fit one another.
-fn asked_read(kind: u8, text: usize, size: usize, present: usize) -> Option<Kind>
+/// The kind of file, where the arguments fit one another and the file is to have records; else the read's outcome.
+fn asked_read(kind: u8, text: usize, size: usize, present: usize) -> Result<Kind, Outcome>
     ensures { result ≡ spec_asked_read kind text size present }
 {
     if text <= u32::MAX as usize && is_bitmap_of(present, size) {
-        kind_numbered(kind)
+        kind_to_read(kind)
     } else {
-        None
+        Err(Outcome::misfit())
     }
 }
 
@@ -24,8 +24,9 @@ fn asked_read(kind: u8, text: usize, size: usize, present: usize) -> Option<Kind
 /// addresses and headers (S0) are dropped.
 ///
 /// After a fault bytes and bitmap are as they were. The faults have the numbers of `RecordFault`; 11 is that of
-/// arguments that do not fit one another: another kind, a bitmap of another length, a file or a memory of 2 to the
-/// power 32 bytes or more.
+/// arguments that do not fit one another: a number that no format has, a bitmap of another length, a file or a memory
+/// of 2 to the power 32 bytes or more. 12, where these fit, is that of a file which is no record file: raw bytes (kind
+/// 0) or ELF (kind 3), as `avr_records_detect` tells them.
 #[unsafe(no_mangle)]
 pub extern "C" fn avr_records_read(
     alloc: Global,
@@ -37,8 +38,9 @@ pub extern "C" fn avr_records_read(
     ensures { Reads kind text.now bytes.old present.old (record
         { outcome = result; bytes = bytes.new; present = present.new }) }
 {
-    let Some(kind) = asked_read(kind, text.len(), bytes.len(), present.len()) else {
-        return Outcome::misfit();
+    let kind = match asked_read(kind, text.len(), bytes.len(), present.len()) {
+        Ok(kind) => kind,
+        Err(outcome) => return outcome,
     };
     match read_records(alloc, kind, bytes.len() as u32, text) {
         Ok((image, ending)) => {

@@ -1,6 +1,8 @@
 //! Each call as a caller in C has it.
 
-use crate::{Outcome, Piece, avr_records_detect, avr_records_read, avr_records_write};
+use crate::{
+    Outcome, Piece, avr_records_detect, avr_records_length, avr_records_read, avr_records_write,
+};
 use std::alloc::Global;
 use std::process::Abort;
 use std::test::Fail;
@@ -60,8 +62,10 @@ fn a_fault_leaves_the_memory(rt: HostRuntime) -> Result<(), Fail> {
     is_fault(&rt, outcome, 6, 1, 2);
     let outcome = fault_of(rt.alloc(), 2, &mut bytes, &mut present);
     is_fault(&rt, outcome, 1, 1, 0);
-    let outcome = fault_of(rt.alloc(), 3, &mut bytes, &mut present);
+    let outcome = fault_of(rt.alloc(), 4, &mut bytes, &mut present);
     is_fault(&rt, outcome, 11, 0, 0);
+    let outcome = fault_of(rt.alloc(), 3, &mut bytes, &mut present);
+    is_fault(&rt, outcome, 12, 0, 0);
     assert_eq!(rt; bytes, [7; 2]);
     assert_eq!(rt; present, [7; 1]);
     Ok(())
@@ -97,5 +101,26 @@ fn a_file_is_written(rt: HostRuntime) -> Result<(), Fail> {
         }
     );
     assert_eq!(rt; room, *b"S9");
+    Ok(())
+}
+
+#[test]
+fn a_length_is_told(rt: HostRuntime) -> Result<(), Fail> {
+    let told = avr_records_length(rt.alloc(), 2, &[0xFF, 0x0A, 0x0B], &[0b110]);
+    assert_eq!(rt;
+        told,
+        Piece {
+            length: 26,
+            fault: 0
+        }
+    );
+    let told = avr_records_length(rt.alloc(), 3, &[], &[]);
+    assert_eq!(rt;
+        told,
+        Piece {
+            length: 0,
+            fault: 11
+        }
+    );
     Ok(())
 }

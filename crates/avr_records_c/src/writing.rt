@@ -1,7 +1,7 @@
 //! A record file written from the caller's memory.
 ghost use Rattle.std.specs.Prelude.{◌≡◌, ◌<◌, ◌^◌, IfOk, IfSome, length};
 ghost use Rattle.avr_records_c.specs.Bitmap.{image_of as spec_image_of, octets_of};
-ghost use Rattle.avr_records_c.specs.Writing.{asked_write as spec_asked_write, image_text, put_from, Writes};
+ghost use Rattle.avr_records_c.specs.Writing.{asked_write as spec_asked_write, image_text, put_from, Measures, Writes};
 
 use crate::bitmap::{image_of, is_bitmap_of};
 use crate::numbers::kind_numbered;
@@ -67,14 +67,32 @@ fn put_from(text: &[u8], from: usize, room: &mut [u8]) -> Piece
     Piece { length, fault: 0 }
 }
 
+/// Tells how many bytes the record file of a memory has, so that a room for all of it can be had; each argument is as
+/// that of `avr_records_write`, and so are the faults, with which no length comes.
+#[unsafe(no_mangle)]
+pub extern "C" fn avr_records_length(alloc: Global, kind: u8, bytes: &[u8], present: &[u8]) -> Piece
+    ensures { Measures kind bytes.now present.now result }
+{
+    let Some(kind) = asked_write(kind, bytes.len(), present.len()) else {
+        return Piece::none(MISFIT);
+    };
+    match text_of(alloc, kind, present, bytes) {
+        Some(text) => Piece {
+            length: text.len(),
+            fault: 0,
+        },
+        None => Piece::none(RecordFault::Memory.number()),
+    }
+}
+
 /// Puts a piece of the record file of a memory into a room that the caller lends: the file's bytes from the one
 /// numbered `from` on (the first is 0), as many as the room takes. A piece of no bytes is behind the file's end. The
 /// file has no header and no start address (0 in the end record of S-records).
 ///
 /// The kind is 1 for Intel HEX and 2 for S-records; the bitmap is that of `avr_records_read`, and says which bytes of
 /// the memory belong to the file. The faults are 10, where memory is refused, and 11, where the arguments do not fit
-/// one another; then the room is as it was. Each call makes the whole file anew, so a room that holds all of it is the
-/// cheapest.
+/// one another; then the room is as it was. Each call makes the whole file anew: a room that holds all of it, as
+/// `avr_records_length` tells, is the cheapest.
 #[unsafe(no_mangle)]
 pub extern "C" fn avr_records_write(
     alloc: Global,
@@ -87,16 +105,10 @@ pub extern "C" fn avr_records_write(
     ensures { Writes kind bytes.now present.now from room.old (record { piece = result; room = room.new }) }
 {
     let Some(kind) = asked_write(kind, bytes.len(), present.len()) else {
-        return Piece {
-            length: 0,
-            fault: MISFIT,
-        };
+        return Piece::none(MISFIT);
     };
     match text_of(alloc, kind, present, bytes) {
         Some(text) => put_from(text.as_slice(), from, room),
-        None => Piece {
-            length: 0,
-            fault: RecordFault::Memory.number(),
-        },
+        None => Piece::none(RecordFault::Memory.number()),
     }
 }
