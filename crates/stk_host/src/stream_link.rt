@@ -121,6 +121,22 @@ impl<R, W> StreamLink<R, W> {
             history: History::new(),
         }
     }
+
+    /// How many calls have failed so far.
+    pub fn failures(&self) -> u64
+        ensures { result ≡ self.now.failures }
+    {
+        self.failures
+    }
+
+    /// The reader and the writer, as the calls so far have left them.
+    pub fn into_inner(self) -> (R, W)
+        ensures reader { result.0 ≡ self.reader }
+        ensures writer { result.1 ≡ self.writer }
+    {
+        let StreamLink { reader, writer, .. } = self;
+        (reader, writer)
+    }
 }
 
 impl<R: Read + Drop, W: Write + Drop> Link for StreamLink<R, W> {
