@@ -16,6 +16,7 @@ import stat
 import struct
 import subprocess
 import sys
+import tempfile
 import threading
 import time
 from pathlib import Path
@@ -174,17 +175,38 @@ def told_before():
     told = (1, b"", lines("error: nowhere/chip.bin: cannot be written"))
     same("emu:", room.run(["-p", "m328p", "-P", "emu:nowhere/chip.bin", "-e"]), told)
     same("--serve", Server(room, "nowhere/chip.bin", waits=False).end(), told)
+    with tempfile.TemporaryDirectory() as bare:
+        may_not_write(bare)
+
+
+def may_not_write(bare):
+    """The same of a chip, and of a folder, that may only be read: by a copy of the program in a bare folder, and as
+    nobody where this is root, who may write all."""
+    copy = shutil.copy(PROGRAM, bare)
+    for path in [bare, copy]:
+        os.chmod(path, 0o755)
     room.put("chip.bin", OLD)
+    how = {"executable": copy}
     if os.geteuid() == 0:
-        return leave_out("a chip and a folder that may not be written", "root may write them")
-    (room.folder / "chip.bin").chmod(0o444)
+        how |= {"user": 65534, "group": 65534, "extra_groups": []}
+        os.chown(room.folder, 65534, 65534)
+        os.chown(room.folder / "chip.bin", 65534, 65534)
+
+    def run():
+        started = room.start(writes_fuse(0x62), **how)
+        output, messages = started.communicate(timeout=60)
+        return started.returncode, output, messages
+
     told = (1, b"", lines("error: chip.bin: cannot be written"))
-    same("a chip that may only be read", room.run(writes_fuse(0x62)), told)
+    (room.folder / "chip.bin").chmod(0o444)
+    same("a chip that may only be read", run(), told)
     (room.folder / "chip.bin").chmod(0o644)
     room.folder.chmod(0o555)
-    same("a folder that may only be read", room.run(writes_fuse(0x62)), told)
+    same("a folder that may only be read", run(), told)
     room.folder.chmod(0o755)
     same("the chip is as it was", room.read("chip.bin"), OLD)
+    same("a chip and a folder that may be written", run()[0], 0)
+    os.chown(room.folder, os.geteuid(), os.getegid())
 
 
 def what_stays():

@@ -1,10 +1,10 @@
 -- Bytes laid down at addresses: place by place, in parts, and as a span.
-use Rattle.std.proofs.Common.{append_assoc, ◌≡◌, ◌≢◌, ◌∙◌, sym, ap, ap₂, refl, arith, ℕ, suc, zero, ◌+◌, ◌-◌, ◌<◌, ◌≤◌, List, [], ◌∷◌, ◌++◌, length, get_or, set, take, drop, map, replicate, Bool, true, false, cond, ◌||◌, Option, Some, None, inl, inr}
+use Rattle.std.proofs.Common.{append_assoc, ◌≡◌, ◌≢◌, ◌∙◌, sym, ap, ap₂, refl, arith, ℕ, suc, zero, ◌+◌, ◌-◌, ◌<◌, ◌≤◌, List, [], ◌∷◌, ◌++◌, length, get_or, set, take, drop, map, replicate, Bool, true, false, cond, ◌||◌, Option, Some, None, inl, inr, ◌⊎◌}
 use Rattle.std.proofs.lemmas.Bool.{cases_lt, true≢false}
 use Rattle.std.proofs.lemmas.List.{get_or-set_same, get_or-set_other, length-set, length-drop, length-take, length-append, length-replicate, get_or_append_left, get_or-append_right, get_or-take, get_or-drop, length-map, map-append, set_at, append-nil}
 use Rattle.std.proofs.lemmas.Bool.Decides.{nat_tests}
 use Rattle.std.specs.List.{enumerate_from}
-use Rattle.avr_image.specs.Image.{byte_at, either, over, empty, image_of_pairs, laid_over, from_zero, fits}
+use Rattle.avr_image.specs.Image.{byte_at, either, over, empty, image_of_pairs, laid_over, from_zero, fits, with_byte}
 use Rattle.avr_image.specs.Present.{is_present, is_within}
 use Rattle.avr_image.specs.Dense.{dense_image, with_span, IsKept}
 use Rattle.avr_image.proofs.Masks.{within_yes, within_low, within_high}
@@ -29,6 +29,11 @@ over-set (x ∷ a) (y ∷ b) (suc i) n l = ap (λ (zs : List (Option ℕ)). eith
 pub over-empty : (a : List (Option ℕ)) → over a (empty (length a)) ≡ a
 over-empty [] = refl
 over-empty (x ∷ a) = ap (λ (zs : List (Option ℕ)). x ∷ zs) (over-empty a)
+
+pub empty_over : (a : List (Option ℕ)) → over (empty (length a)) a ≡ a
+empty_over [] = refl
+empty_over (None ∷ a) = ap (λ (zs : List (Option ℕ)). None ∷ zs) (empty_over a)
+empty_over (Some x ∷ a) = ap (λ (zs : List (Option ℕ)). Some x ∷ zs) (empty_over a)
 
 laid_over_over : (a b : List (Option ℕ)) (ys : List (ℕ × ℕ)) → length a ≤ length b → laid_over (over a b) ys ≡ over a (laid_over b ys)
 laid_over_over a b [] l = refl
@@ -56,21 +61,21 @@ over_over (x ∷ a) (y ∷ b) (None ∷ c) l = ap (λ (zs : List (Option ℕ)). 
 
 -- ---- a span, place by place
 
-span_low : (image : List (Option ℕ)) (addr : ℕ) (span : List ℕ) (i : ℕ) → i < addr
+pub span_low : (image : List (Option ℕ)) (addr : ℕ) (span : List ℕ) (i : ℕ) → i < addr
     → byte_at (laid_over image (enumerate_from addr span)) i ≡ byte_at image i
 span_low image addr [] i l = refl
 span_low image addr (b ∷ span) i l =
     let other : i ≢ addr = omega (arith, l) in
     span_low (set image addr (Some b)) (addr + 1) span i (omega (arith, l)) ∙ get_or-set_other image addr i (Some b) None other
 
-span_high : (image : List (Option ℕ)) (addr : ℕ) (span : List ℕ) (i : ℕ) → addr + length span ≤ i
+pub span_high : (image : List (Option ℕ)) (addr : ℕ) (span : List ℕ) (i : ℕ) → addr + length span ≤ i
     → byte_at (laid_over image (enumerate_from addr span)) i ≡ byte_at image i
 span_high image addr [] i l = refl
 span_high image addr (b ∷ span) i l =
     let other : i ≢ addr = omega (arith, l) in
     span_high (set image addr (Some b)) (addr + 1) span i (omega (arith, l)) ∙ get_or-set_other image addr i (Some b) None other
 
-span_in : (image : List (Option ℕ)) (addr : ℕ) (span : List ℕ) (j : ℕ) → j < length span → addr + length span ≤ length image
+pub span_in : (image : List (Option ℕ)) (addr : ℕ) (span : List ℕ) (j : ℕ) → j < length span → addr + length span ≤ length image
     → byte_at (laid_over image (enumerate_from addr span)) (addr + j) ≡ Some (get_or span j 0)
 span_in image addr [] j l room = absurd (omega (arith, l))
 span_in image addr (b ∷ span) zero l room =
@@ -81,6 +86,14 @@ span_in image addr (b ∷ span) (suc j) l room =
     let next : addr + suc j ≡ addr + 1 + j = omega arith in
     ap (λ (n : ℕ). byte_at (laid_over (set image addr (Some b)) (enumerate_from (addr + 1) span)) n) next
     ∙ span_in (set image addr (Some b)) (addr + 1) span j (omega (arith, l)) (omega (arith, room, length-set image addr (Some b)))
+
+-- ---- a byte, place by place
+
+pub byte_here : (image : List (Option ℕ)) (addr byte : ℕ) → addr < length image → byte_at (with_byte image addr byte) addr ≡ Some byte
+byte_here image addr byte l = get_or-set_same image addr (Some byte) None l
+
+pub byte_beside : (image : List (Option ℕ)) (addr byte other : ℕ) → other ≢ addr → byte_at (with_byte image addr byte) other ≡ byte_at image other
+byte_beside image addr byte other l = get_or-set_other image addr other (Some byte) None l
 
 -- ---- bytes with a span pasted
 
@@ -206,3 +219,7 @@ length-from_zero text size l =
 pub fits_within : (addr : ℕ) (bytes : List ℕ) (size : ℕ) → fits addr bytes size ≡ true → addr ≤ size → addr + length bytes ≤ size
 fits_within addr [] size test l = omega (arith, l)
 fits_within addr (b ∷ bytes) size test l = let n = length (b ∷ bytes) in grind (arith, nat_tests, test)
+
+pub fits_some : (addr : ℕ) (bytes : List ℕ) (size : ℕ) → fits addr bytes size ≡ true → (bytes ≡ []) ⊎ (addr + length bytes ≤ size)
+fits_some addr [] size test = inl refl
+fits_some addr (b ∷ bytes) size test = let n = length (b ∷ bytes) in inr (grind (arith, nat_tests, test))

@@ -1,6 +1,7 @@
 pub mod Rows
 pub mod Masks
 pub mod Shown
+pub mod Texts
 pub mod Laying
 pub mod Numerals
 pub mod Reading
@@ -9,3 +10,4 @@ pub mod Walking
 pub mod ByAddress
 pub mod RunWalk
 pub mod Listed
+pub mod Overlapping

@@ -7,6 +7,7 @@ pub mod Values
 pub mod Lists
 pub mod ByAddress
 pub mod Runs
+pub mod Overlap
 -- inside: how things are kept, and what inner functions promise one another
 pub mod Present
 pub mod Dense

@@ -1,10 +1,11 @@
 //! Images.
 
-ghost use Rattle.std.specs.Prelude.{◌≡◌, ◌==◌, ◌+◌, ◌*◌, ◌^◌, ◌<◌, ◌≤◌, ℕ, List, length, max, nat_lt, Ok, Err, OnOk, OnErr, MatchResult, IfOk, replicate, slice_index, slice_index_or, if◌then◌else◌};
+ghost use Rattle.std.specs.Prelude.{◌≡◌, ◌==◌, ◌+◌, ◌*◌, ◌^◌, ◌<◌, ◌≤◌, ℕ, List, length, max, nat_lt, Ok, Err, OnOk, OnErr, MatchOption, MatchResult, IfOk, replicate, slice_index, slice_index_or, if◌then◌else◌};
 ghost use Rattle.avr_image.specs.Image.{empty, byte_at, with_byte, byte_count, filled_bytes, first_from, run_end, fits, laid_over, over, IsImage};
 ghost use Rattle.avr_image.specs.Runs.{runs};
 ghost use Rattle.std.specs.List.{enumerate_from};
 ghost use Rattle.avr_image.specs.Dense.{with_span};
+ghost use Rattle.avr_image.specs.Overlap.{AreDisjoint, IsFirstOverlap, hold_both};
 
 use crate::bits::{find, is_set, mark, mark_span};
 use crate::fault::ImageFault;
@@ -93,6 +94,28 @@ impl Image {
             return Err(ImageFault::Memory);
         };
         Ok(Image { bytes, words })
+    }
+
+    /// A copy in memory of its own; where that is refused, the fault is `Memory`.
+    ///
+    /// ```text
+    /// let mut image = Image::new(alloc, 64)?;
+    /// image.put(8, 0x12)?;
+    /// let copy = image.try_clone(alloc)?;
+    /// image.put(8, 0x34)?;
+    /// assert_eq!(rt; copy.get(8), Some(0x12));
+    /// ```
+    #[tactic(auto, using(crate::proofs::Laying::empty_over))]
+    pub fn try_clone(&self, alloc: Global) -> Result<Image, ImageFault>
+        ensures { MatchResult result (λ copy. copy ≡ self.now) (λ fault. fault ≡ ImageFault.Memory) }
+    {
+        match Image::new(alloc, self.size()) {
+            Ok(mut copy) => {
+                copy.lay_over(self);
+                Ok(copy)
+            }
+            Err(fault) => Err(fault),
+        }
     }
 
     /// How many bytes the memory has: its addresses lie below.
@@ -263,6 +286,35 @@ impl Image {
             // Each run lies inside, since both images have one size.
             let _ = self.put_slice(addr, bytes);
         }
+    }
+
+    /// Whether this image and another one hold a byte at a byte address.
+    fn holds_both(&self, other: &Image, addr: u32) -> bool
+        ensures { result ≡ hold_both self.now other.now addr }
+    {
+        self.get(addr).is_some() && other.get(addr).is_some()
+    }
+
+    /// The least byte address at which this image and another one, of any size, hold a byte: where one would hide the
+    /// other's, once it is laid over it.
+    ///
+    /// ```text
+    /// let mut image = Image::new(alloc, 64)?;
+    /// image.put_slice(8, &[1, 2])?;
+    /// let mut other = Image::new(alloc, 64)?;
+    /// assert_eq!(rt; image.first_overlap(&other), None);
+    /// other.put_slice(9, &[3, 4])?;
+    /// assert_eq!(rt; image.first_overlap(&other), Some(9));
+    /// ```
+    pub fn first_overlap(&self, other: &Image) -> Option<u32>
+        ensures { MatchOption result (AreDisjoint self.now other.now) (IsFirstOverlap self.now other.now) }
+    {
+        for addr in 0..self.size() {
+            if self.holds_both(other, addr) {
+                return Some(addr);
+            }
+        }
+        None
     }
 
     /// The least byte address from `addr` on that holds a byte.

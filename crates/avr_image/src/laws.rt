@@ -1,7 +1,8 @@
 //! Laws of the definitions that contracts cite, whatever the code does.
 
-ghost use Rattle.std.specs.Prelude.{◌≡◌, ◌<◌, ◌≤◌, ◌++◌, ℕ, List, [], All, length, flat_map, Ok, Err, Option, None, Some};
-ghost use Rattle.avr_image.specs.Image.{byte_at, either, filled_bytes, first_from, from_zero, image_of_pairs, laid_over, over, run_end};
+ghost use Rattle.std.specs.Prelude.{◌≡◌, ◌≢◌, ◌<◌, ◌≤◌, ◌+◌, ◌++◌, ◌⊎◌, ℕ, true, List, [], All, length, flat_map, slice_index_or, Ok, Err, Option, None, Some};
+ghost use Rattle.std.specs.List.{enumerate_from};
+ghost use Rattle.avr_image.specs.Image.{byte_at, either, filled_bytes, first_from, fits, from_zero, image_of_pairs, laid_over, over, run_end, with_byte};
 ghost use Rattle.avr_image.specs.Lists.{list_line};
 ghost use Rattle.avr_image.specs.Runs.{places_of, runs};
 ghost use Rattle.avr_image.specs.Values.{values};
@@ -39,6 +40,38 @@ pub fn over_is_by_address()
         → byte_at (over first second) addr ≡ either (byte_at second addr) (byte_at first addr) }
     ensures laid { (image : List (Option ℕ)) (places : List (ℕ × ℕ)) (addr : ℕ) → addr < length image
         → byte_at (laid_over image places) addr ≡ either (last_at addr places) (byte_at image addr) }
+{}
+
+/// Behind a byte, or a span of bytes, that was laid down inside a memory: they stand at their addresses, and each other
+/// address holds what it held.
+pub fn a_span_is_by_address()
+    ensures byte { (image : List (Option ℕ)) (addr byte : ℕ) → addr < length image
+        → byte_at (with_byte image addr byte) addr ≡ Some byte }
+    ensures beside { (image : List (Option ℕ)) (addr byte other : ℕ) → other ≢ addr
+        → byte_at (with_byte image addr byte) other ≡ byte_at image other }
+    ensures inside { (image : List (Option ℕ)) (addr : ℕ) (bytes : List ℕ) (place : ℕ)
+        → addr + length bytes ≤ length image → place < length bytes
+        → byte_at (laid_over image (enumerate_from addr bytes)) (addr + place) ≡ Some (slice_index_or bytes place 0) }
+    ensures below { (image : List (Option ℕ)) (addr : ℕ) (bytes : List ℕ) (other : ℕ) → other < addr
+        → byte_at (laid_over image (enumerate_from addr bytes)) other ≡ byte_at image other }
+    ensures above { (image : List (Option ℕ)) (addr : ℕ) (bytes : List ℕ) (other : ℕ) → addr + length bytes ≤ other
+        → byte_at (laid_over image (enumerate_from addr bytes)) other ≡ byte_at image other }
+    ensures size { (image : List (Option ℕ)) (places : List (ℕ × ℕ))
+        → length (laid_over image places) ≡ length image }
+{}
+
+/// Bytes fit exactly where there are none, or the last one's address is below the size.
+pub fn bytes_fit_below_the_size()
+    ensures fitting { (addr : ℕ) (bytes : List ℕ) (size : ℕ) → fits addr bytes size ≡ true
+        → (bytes ≡ []) ⊎ (addr + length bytes ≤ size) }
+    ensures below { (addr : ℕ) (bytes : List ℕ) (size : ℕ) → addr + length bytes ≤ size → fits addr bytes size ≡ true }
+    ensures none { (addr size : ℕ) → fits addr [] size ≡ true }
+{}
+
+/// Images of one size that have the same byte, or none, at each address are one image.
+pub fn images_are_equal_by_address()
+    ensures { (first second : List (Option ℕ)) → length first ≡ length second
+        → ((addr : ℕ) → addr < length second → byte_at first addr ≡ byte_at second addr) → first ≡ second }
 {}
 
 /// A walk from byte to byte finds the next, and nothing only where none is left.

@@ -21,7 +21,8 @@ mod values;
 pub use fault::ImageFault;
 pub use image::Image;
 pub use laws::{
-    a_list_reads_back, an_image_is_its_runs, filled_is_by_address, first_from_is_the_next_held,
+    a_list_reads_back, a_span_is_by_address, an_image_is_its_runs, bytes_fit_below_the_size,
+    filled_is_by_address, first_from_is_the_next_held, images_are_equal_by_address,
     laying_is_laying_over, laying_over_groups, over_is_by_address, parts_are_laid_over,
     run_end_is_the_longest_run,
 };

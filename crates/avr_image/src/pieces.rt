@@ -1,8 +1,11 @@
 //! Texts that come in pieces.
 
-ghost use Rattle.std.specs.Prelude.{◌≡◌, ◌<◌, ◌↔◌, ◌++◌, ℕ, List, length, IsTrue};
+ghost use Rattle.std.specs.Prelude.{◌≡◌, ◌<◌, ◌↔◌, ◌++◌, ℕ, List, length, IfOk, IsTrue, OnOk};
+ghost use Rattle.std.specs.Io.KnownBytes.{Appends};
 
 use arrayvec::ArrayVec;
+use std::alloc::{AllocError, Global};
+use std::io::{self, Write};
 
 /// A text that is written in pieces of at most 80 bytes, for which its writer needs no memory.
 ///
@@ -27,4 +30,41 @@ pub trait Pieces {
         ensures some { IsTrue result ↔ (0 < length out.new.items) }
         ensures ends { IsTrue result ↔ (0 < length (rest self.old)) }
         ensures piece { IsTrue result → IsPiece out.new.items };
+
+    /// All of the text that is still to come, in memory of its own.
+    ///
+    /// ```text
+    /// let text = ListWriter::new(Base::Hex, &[18, 255]).to_vec(alloc)?;
+    /// assert_eq!(rt; text.as_slice(), b"0x12,0xff\n".as_slice());
+    /// ```
+    #[tactic(auto, using(crate::proofs::Texts::goes_on, crate::proofs::Texts::is_whole))]
+    final fn to_vec(&mut self, alloc: Global) -> Result<Vec<u8>, AllocError>
+        ensures { IfOk result (λ text. text.items ≡ rest self.old) }
+    {
+        let mut text = Vec::new(alloc);
+        let mut piece = ArrayVec::new();
+        'pieces: while self.next_piece(&mut piece) {
+            text.extend_from_slice(piece.as_slice())?;
+        }
+        Ok(text)
+    }
+
+    /// Writes all of the text that is still to come, and takes no memory. After an error of the writer a part of it
+    /// may have been written.
+    ///
+    /// ```text
+    /// let mut out = Vec::new(alloc);
+    /// ListWriter::new(Base::Dec, &[18, 255]).write_to(&mut out)?;
+    /// assert_eq!(rt; out.as_slice(), b"18,255\n".as_slice());
+    /// ```
+    #[tactic(auto, using(crate::proofs::Texts::piece_written, crate::proofs::Texts::all_written))]
+    final fn write_to<W: Write>(&mut self, out: &mut W) -> io::Result<()>
+        ensures { OnOk result (Appends (W.contents out.old) (W.contents out.new) (rest self.old)) }
+    {
+        let mut piece = ArrayVec::new();
+        'pieces: while self.next_piece(&mut piece) {
+            out.write_all(piece.as_slice())?;
+        }
+        Ok(())
+    }
 }

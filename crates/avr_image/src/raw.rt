@@ -1,6 +1,6 @@
 //! Raw files: their bytes as they are, from address 0 on.
 
-ghost use Rattle.std.specs.Prelude.{◌≡◌, ◌≢◌, ◌++◌, ℕ, List, [], length, true, Ok, Err, OnOk, OnErr, MatchResult};
+ghost use Rattle.std.specs.Prelude.{◌≡◌, ◌≢◌, ◌++◌, ℕ, List, [], length, true, Ok, Err, IfOk, OnOk, OnErr, MatchResult};
 
 use crate::fault::ImageFault;
 use crate::image::Image;
@@ -101,6 +101,7 @@ impl RawReader {
     /// ```
     pub fn finish(self) -> Result<Image, ImageFault>
         ensures answer { (text : List ℕ) → HoldsText self text → result ≡ raw text (length self.image) }
+        ensures size { IfOk result (λ image. length image ≡ length self.image) }
         ensures failed { self.failed ≡ true → result ≡ Err ImageFault.Failed }
         ensures memory { result ≢ Err ImageFault.Memory }
     {

@@ -1,6 +1,6 @@
 //! Values given in the words of a command.
 
-ghost use Rattle.std.specs.Prelude.{◌≡◌, ◌+◌, ◌-◌, ◌<◌, ◌≤◌, ◌==◌, ◌||◌, ◌^◌, ℕ, List, length, min, option_map, Ok, Err, OnOk, MatchResult};
+ghost use Rattle.std.specs.Prelude.{◌≡◌, ◌+◌, ◌-◌, ◌<◌, ◌≤◌, ◌==◌, ◌||◌, ◌^◌, ℕ, List, length, min, option_map, Ok, Err, IfOk, OnOk, MatchResult};
 ghost use Rattle.avr_image.specs.Values.{is_separator, number_in_base, value_of, fitting_value, values};
 ghost use Rattle.std.specs.List.{position_or_len};
 ghost use Rattle.avr_image.specs.Placing.{with_piece};
@@ -94,8 +94,9 @@ fn lay_value(image: &mut Image, addr: u32, piece: &[u8]) -> Result<(), ImageFaul
 /// Lays the values of a text down from address 0 on.
 fn lay_values(image: &mut Image, text: &[u8]) -> Result<(), ImageFault>
     requires { image.old ≡ empty (length image.old) }
-    ensures { MatchResult result (λ _. values text.now (length image.old) ≡ Ok image.new)
+    ensures laid { MatchResult result (λ _. values text.now (length image.old) ≡ Ok image.new)
         (λ fault. values text.now (length image.old) ≡ Err fault) }
+    ensures size { length image.new ≡ length image.old }
 {
     let mut addr = 0;
     let mut rest = text;
@@ -129,7 +130,8 @@ fn lay_values(image: &mut Image, text: &[u8]) -> Result<(), ImageFault>
 /// assert_eq!(rt; bytes, [0x12, 0x05, 0x0F, 0xFF]);
 /// ```
 pub fn parse_immediate(alloc: Global, text: &str, size: u32) -> Result<Image, ImageFault>
-    ensures { OrMemory result (values text.now size) }
+    ensures value { OrMemory result (values text.now size) }
+    ensures size { IfOk result (λ image. length image ≡ size) }
 {
     let mut image = Image::new(alloc, size)?;
     lay_values(&mut image, text.as_bytes())?;

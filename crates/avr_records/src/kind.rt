@@ -1,4 +1,6 @@
 //! Kinds of files.
+ghost use Rattle.std.specs.Prelude.{◌≡◌};
+ghost use Rattle.avr_records.specs.Detect.{record_kind};
 
 /// A kind of record file.
 ///
@@ -37,12 +39,7 @@ pub enum Ending {
 /// What the front of a file shows.
 ///
 /// ```text
-/// let kind = match detect(b"S107000001020304EE\n") {
-///     Found::Ihex => Some(Kind::Ihex),
-///     Found::Srec => Some(Kind::Srec),
-///     Found::Elf | Found::Raw => None,
-/// };
-/// assert_eq!(rt; kind, Some(Kind::Srec));
+/// assert_eq!(rt; detect(b"S107000001020304EE\n"), Found::Srec);
 /// ```
 #[derive(Clone, Copy, Debug, PartialEq, Eq)]
 pub enum Found {
@@ -54,6 +51,24 @@ pub enum Found {
     Elf,
     /// Bytes as they are.
     Raw,
+}
+
+impl Found {
+    /// The kind of record file; none of what is no record file.
+    ///
+    /// ```text
+    /// assert_eq!(rt; detect(b"S107000001020304EE\n").kind(), Some(Kind::Srec));
+    /// assert_eq!(rt; detect(b"\x7FELF").kind(), None);
+    /// ```
+    pub fn kind(self) -> Option<Kind>
+        ensures { result ≡ record_kind self }
+    {
+        match self {
+            Found::Ihex => Some(Kind::Ihex),
+            Found::Srec => Some(Kind::Srec),
+            Found::Elf | Found::Raw => None,
+        }
+    }
 }
 
 /// Where the addresses of data records count from.

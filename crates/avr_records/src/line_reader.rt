@@ -1,5 +1,5 @@
 //! The lines of a text that comes in pieces, and what is kept of one that has not ended.
-ghost use Rattle.std.specs.Prelude.{◌≡◌, ◌<◌, [], Some, None, MatchBool, MatchOption, ◌+◌, ◌≤◌, ◌^◌, ◌++◌, ℕ, List, false, Ok, Err, ◌∷◌, length, MatchResult, OnOk, IfErr};
+ghost use Rattle.std.specs.Prelude.{◌≡◌, ◌<◌, [], Some, None, MatchBool, MatchOption, ◌+◌, ◌≤◌, ◌^◌, ◌++◌, ℕ, List, false, Ok, Err, ◌∷◌, length, MatchResult, OnOk, IfErr, IfOk};
 ghost use Rattle.avr_records.specs.Steps.{grown, least_length, progress_of, next_progress, kept_says, line_step, ending_of, Begins, InRange, IsLineFault};
 ghost use Rattle.avr_records.specs.Closed.{closed_fault};
 ghost use Rattle.avr_records.specs.Lines.{lines};
@@ -219,6 +219,7 @@ impl LineReader {
             ≡ Ok (self.new.progress.image, ending_of (progress_of self.new.progress)))
             (λ fault. (text : List ℕ) → ReadsLines self.old.kind (progress_of self.old.progress) self.old.part text
             → image_in_text self.old.kind text (image_size (progress_of self.old.progress)) ≡ Err fault) }
+        ensures size { length self.new.progress.image ≡ length self.old.progress.image }
         ensures line { IfErr result IsLineFault }
     {
         if self.part.is_empty() {
@@ -233,6 +234,7 @@ impl LineReader {
         requires few { self.progress.lines + least_length self.part < 2 ^ 32 }
         ensures whole { (text : List ℕ) → ReadsLines self.kind (progress_of self.progress) self.part text
             → result ≡ image_in_text self.kind text (image_size (progress_of self.progress)) }
+        ensures size { IfOk result (λ read. length read.0 ≡ length self.progress.image) }
         ensures line { IfErr result IsLineFault }
     {
         match self.end_text() {

@@ -1,5 +1,5 @@
 //! The reader of record files: in pieces, or a whole file in one call.
-ghost use Rattle.std.specs.Prelude.{◌≡◌, ◌≢◌, ◌+◌, ◌<◌, ◌^◌, ◌++◌, ℕ, List, [], true, Ok, Err, length, MatchResult, OnOk, OnErr, ◌⊎◌};
+ghost use Rattle.std.specs.Prelude.{◌≡◌, ◌≢◌, ◌+◌, ◌<◌, ◌^◌, ◌++◌, ℕ, List, [], true, Ok, Err, length, MatchResult, IfOk, OnOk, OnErr, ◌⊎◌};
 ghost use Rattle.avr_records.specs.Closed.{closed_fault, ok_unless};
 ghost use Rattle.avr_records.specs.Reader.{ReaderState, StandsFor, IsNewReader, memory_size};
 ghost use Rattle.avr_records.specs.Reading.{image_in_text};
@@ -137,6 +137,7 @@ impl RecordReader {
     pub fn finish(self) -> Result<(Image, Ending), RecordFault>
         ensures answer { (text : List ℕ) → StandsFor self text → result
             ≡ image_in_text self.kind text (memory_size self) }
+        ensures size { IfOk result (λ read. length read.0 ≡ memory_size self) }
         ensures failed { self.failed ≡ true → result ≡ Err RecordFault.Failed }
         ensures memory { result ≢ Err RecordFault.Memory }
     {
@@ -164,7 +165,8 @@ pub fn read_records(
     text: &[u8],
 ) -> Result<(Image, Ending), RecordFault>
     requires { length text.now < 2 ^ 32 }
-    ensures { (result ≡ image_in_text kind text.now size) ⊎ (result ≡ Err RecordFault.Memory) }
+    ensures value { (result ≡ image_in_text kind text.now size) ⊎ (result ≡ Err RecordFault.Memory) }
+    ensures size { IfOk result (λ read. length read.0 ≡ size) }
 {
     let mut reader = RecordReader::new(alloc, kind, size)?;
     reader.feed(text)?;

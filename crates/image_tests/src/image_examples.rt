@@ -104,6 +104,41 @@ fn an_image_is_laid_over_another(rt: HostRuntime) -> Result<(), Fail> {
 }
 
 #[test]
+fn an_image_is_copied(rt: HostRuntime) -> Result<(), Fail> {
+    let alloc = rt.alloc();
+    let mut image = Image::new(alloc, 64)?;
+    image.put(8, 0x12)?;
+    let copy = image.try_clone(alloc)?;
+    image.put(8, 0x34)?;
+    assert_eq!(rt; copy.get(8), Some(0x12));
+    assert_eq!(rt; copy.get(9), None);
+    Ok(())
+}
+
+#[test]
+fn images_that_overlap_are_told(rt: HostRuntime) -> Result<(), Fail> {
+    let alloc = rt.alloc();
+    let mut image = Image::new(alloc, 64)?;
+    image.put_slice(8, &[1, 2])?;
+    let mut other = Image::new(alloc, 64)?;
+    assert_eq!(rt; image.first_overlap(&other), None);
+    other.put_slice(9, &[3, 4])?;
+    assert_eq!(rt; image.first_overlap(&other), Some(9));
+    Ok(())
+}
+
+#[test]
+fn a_text_is_taken_whole(rt: HostRuntime) -> Result<(), Fail> {
+    let alloc = rt.alloc();
+    let text = ListWriter::new(Base::Hex, &[18, 255]).to_vec(alloc)?;
+    assert_eq!(rt; text.as_slice(), b"0x12,0xff\n".as_slice());
+    let mut out = Vec::new(alloc);
+    ListWriter::new(Base::Dec, &[18, 255]).write_to(&mut out)?;
+    assert_eq!(rt; out.as_slice(), b"18,255\n".as_slice());
+    Ok(())
+}
+
+#[test]
 fn gaps_are_filled(rt: HostRuntime) -> Result<(), Fail> {
     let alloc = rt.alloc();
     let mut image = Image::new(alloc, 64)?;

@@ -13,11 +13,8 @@ fn formats_are_detected(rt: HostRuntime) {
     assert_eq!(rt; detect(b"\r\n:0400000001020304F2\r\n"), Found::Ihex);
     assert_eq!(rt; detect(b"S107000001020304EE\n"), Found::Srec);
     assert_eq!(rt; detect(&[0x0C, 0x94, 0x34, 0x00]), Found::Raw);
-    let kind = match detect(b"S107000001020304EE\n") {
-        Found::Ihex => Some(Kind::Ihex),
-        Found::Srec => Some(Kind::Srec),
-        Found::Elf | Found::Raw => None,
-    };
+    assert_eq!(rt; detect(b"\x7FELF").kind(), None);
+    let kind = detect(b"S107000001020304EE\n").kind();
     assert_eq!(rt; kind, Some(Kind::Srec));
 }
 

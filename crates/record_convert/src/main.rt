@@ -7,9 +7,8 @@
 #![tactic(auto)]
 
 use anyhow::{Result, bail};
-use arrayvec::ArrayVec;
 use avr_image::{Image, Pieces};
-use avr_records::{Found, IhexImageWriter, Kind, SrecImageWriter, detect, read_records};
+use avr_records::{IhexImageWriter, SrecImageWriter, detect, read_records};
 use std::alloc::Global;
 use std::env;
 use std::io::{self, BufWriter, Read, Write};
@@ -25,8 +24,8 @@ fn main(rt: HostRuntime) -> Result<()> {
     let image = read_image(rt.alloc(), size, text.as_slice())?;
     let mut out = BufWriter::new(rt.alloc(), io::writer(&rt))?;
     match format.as_str() {
-        "ihex" => write_pieces(&mut out, &mut IhexImageWriter::new(&image))?,
-        "srec" => write_pieces(&mut out, &mut SrecImageWriter::new(&image))?,
+        "ihex" => IhexImageWriter::new(&image).write_to(&mut out)?,
+        "srec" => SrecImageWriter::new(&image).write_to(&mut out)?,
         _ => bail!("the format is ihex or srec"),
     }
     out.flush()?;
@@ -35,23 +34,12 @@ fn main(rt: HostRuntime) -> Result<()> {
 
 /// The image of a record file of either kind, for a memory of so many bytes.
 fn read_image(alloc: Global, size: u32, text: &[u8]) -> Result<Image> {
-    let kind = match detect(text) {
-        Found::Ihex => Kind::Ihex,
-        Found::Srec => Kind::Srec,
-        Found::Elf | Found::Raw => bail!("this is no record file"),
+    let Some(kind) = detect(text).kind() else {
+        bail!("this is no record file");
     };
     if text.len() > u32::MAX as usize {
         bail!("the file is too long");
     }
     let (image, _) = read_records(alloc, kind, size, text)?;
     Ok(image)
-}
-
-/// Writes all pieces of a text.
-fn write_pieces<W: Write, P: Pieces>(out: &mut W, pieces: &mut P) -> io::Result<()> {
-    let mut piece = ArrayVec::new();
-    while pieces.next_piece(&mut piece) {
-        out.write_all(piece.as_slice())?;
-    }
-    Ok(())
 }

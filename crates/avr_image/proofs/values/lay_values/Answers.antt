@@ -5,8 +5,8 @@ use Rattle.avr_image.specs.Values.{pieces}
 use Rattle.avr_image.proofs.Immediate.{with_pieces, pieces_front, no_pieces, values_from, piece_bad, piece_good}
 use Rattle.avr_image.proofs.values.lay_values.Goals as goal
 
-pub returns-in_err-lay_value : goal.returns-in_err-lay_value
-returns-in_err-lay_value c =
+pub returns-in_err-lay_value-clause-laid : goal.returns-in_err-lay_value-clause-laid
+returns-in_err-lay_value-clause-laid c =
     let kept = c.loop-rest.invariant in
     let rest = c.loop-rest.rest.now in
     let piece = c.split_at.result.0.now in
@@ -36,8 +36,8 @@ loop-rest-preserved-then-len-gt0 c =
       count = omega (arith, kept.count, ap length first);
     }
 
-pub returns : goal.returns
-returns c =
+pub returns-clause-laid : goal.returns-clause-laid
+returns-clause-laid c =
     let kept = c.loop-rest.invariant in
     let empty_rest : length c.loop-rest.rest.now ≡ 0 = grind (arith, nat_tests, c.is_empty.ensures, c.loop-rest-test.false) in
     let none = no_pieces c.loop-rest.rest.now empty_rest in

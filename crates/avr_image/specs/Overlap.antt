@@ -1,0 +1,15 @@
+-- Addresses at which two images hold a byte.
+use Rattle.std.specs.Prelude.{◌≡◌, ◌<◌, ◌&&◌, ℕ, Bool, true, false, List, Option, is_some}
+use Rattle.avr_image.specs.Image.{byte_at}
+
+abbrev pub hold_both : List (Option ℕ) → List (Option ℕ) → ℕ → Bool
+hold_both first second addr = is_some (byte_at first addr) && is_some (byte_at second addr)
+
+-- at no address
+abbrev pub AreDisjoint : List (Option ℕ) → List (Option ℕ) → Type 0
+AreDisjoint first second = (addr : ℕ) → hold_both first second addr ≡ false
+
+-- at this one, and at none below it
+pub record IsFirstOverlap (first second : List (Option ℕ)) (addr : ℕ) : Type 0 where
+  pub both : hold_both first second addr ≡ true
+  pub least : (lower : ℕ) → lower < addr → hold_both first second lower ≡ false
