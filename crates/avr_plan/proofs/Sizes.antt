@@ -1,17 +1,12 @@
--- The size of an image that was read.
-use Rattle.std.proofs.Common.{◌≡◌, ◌∙◌, sym, ap, arith, ℕ, ◌+◌, ◌≤◌, List, [], ◌∷◌, length, map, flat_map, nat_le, Option, Some, None, Result, Ok, Err, inl, inr}
-use Rattle.std.proofs.Math.ListN.{length-set}
-use Rattle.std.proofs.lemmas.Bool.{cases_Bool, cases_lt}
+-- The size of an image that was read from a file.
+use Rattle.std.proofs.Common.{◌≡◌, ◌∙◌, sym, ap, arith, ℕ, ◌≤◌, List, [], length, map, flat_map, nat_le, Option, Some, None, Result, Ok, Err, inl, inr}
+use Rattle.std.proofs.lemmas.Bool.{cases_Bool}
 use Rattle.std.proofs.lemmas.Bool.Decides.{nat_tests}
 use Rattle.std.proofs.lemmas.List.{length-replicate}
 use Rattle.avr_cli.specs.declared.update.Format.{Format}
-use Rattle.avr_image.proofs.Immediate.{values_are, no_values, with_pieces, then_on}
 use Rattle.avr_image.proofs.Laying.{length-laid_over, length-from_zero}
-use Rattle.avr_image.specs.Image.{empty, from_zero, image_of_pairs, with_byte}
-use Rattle.avr_image.specs.Placing.{with_value}
+use Rattle.avr_image.specs.Image.{empty, from_zero, image_of_pairs}
 use Rattle.avr_image.specs.Raw as raw_file
-use Rattle.avr_image.specs.Values.{values, fitting_value, pieces}
-use Rattle.avr_image.specs.declared.fault.ImageFault.{ImageFault}
 use Rattle.avr_desk.specs.Record.{Bytes}
 use Rattle.avr_records.specs.Lines.{lines}
 use Rattle.avr_records.specs.Reading.{Said, image_or_fault, first_fault, in_place, up_to_end, placed_bytes, image_in_text, said_by_line, together, file_ending}
@@ -70,28 +65,4 @@ image-size limit format bytes size image last is =
           let whole : whole_file (kind_of format bytes) bytes size ≡ Ok (image, last) = sym (rw t at is) in
           whole-size (kind_of format bytes) bytes size (image, last) whole
       | inr f ↦ cc (rw f at is)
-    ]
-
-value-size : (image : Image) (addr : ℕ) (value : Result ℕ ImageFault) (next : Image → Result Image ImageFault) (out : Image)
-    → ((after : Image) → next after ≡ Ok out → length out ≡ length after) → then_on (with_value image addr value) next ≡ Ok out
-    → length out ≡ length image
-value-size image addr (Ok byte) next out onward is = onward (with_byte image addr byte) is ∙ length-set image addr (Some byte)
-value-size image addr (Err fault) next out onward is = cc
-
-pieces-size : (image : Image) (addr : ℕ) (parts : List Bytes) (out : Image) → with_pieces image addr parts ≡ Ok out → length out ≡ length image
-pieces-size image addr [] out is = let same : image ≡ out = cc in ap length (sym same)
-pieces-size image addr (part ∷ parts) out is =
-    value-size image addr (fitting_value (length image) (addr, part)) (λ next. with_pieces next (addr + 1) parts) out
-    (λ after onward. pieces-size after (addr + 1) parts out onward) is
-
--- an image of values
-pub values-size : (text : Bytes) (size : ℕ) (image : Image) → Ok image ≡ values text size → length image ≡ size
-values-size text size image is =
-    elim (cases_lt 0 (length (pieces text))) [
-      | inl some ↦
-          let laid' : with_pieces (empty size) 0 (pieces text) ≡ Ok image = sym (values_are text size some) ∙ sym is in
-          pieces-size (empty size) 0 (pieces text) image laid' ∙ length-replicate {A = Option ℕ} size None
-      | inr none ↦
-          let zero : length (pieces text) ≡ 0 = omega arith in
-          cc (is ∙ no_values text size zero)
     ]
