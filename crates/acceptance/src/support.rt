@@ -3,7 +3,7 @@ ghost use Rattle.std.specs.Prelude.{IfOk, OnOk};
 ghost use Rattle.stk_emu.specs.Wire.{AreLawful, IsLawfulFate};
 
 use avr_cli::{Settings, read_settings, read_words};
-use avr_desk::{Bytes, Desk, MemDesk};
+use avr_desk::{Desk, MemDesk};
 use avr_part::{Chip, Mem, Parts};
 use avr_session::run;
 use avr_tool::run_wired;
@@ -50,7 +50,7 @@ pub(crate) fn settings_for(alloc: Global, words: &[&str]) -> Result<Settings, Fa
 
 /// A desk with these files, each a name and its bytes.
 pub(crate) fn desk_with(alloc: Global, files: &[(&str, &[u8])]) -> Result<MemDesk, Fail> {
-    let mut desk = MemDesk::new(alloc, Bytes::new(alloc));
+    let mut desk = MemDesk::new(alloc);
     for (name, bytes) in files {
         desk.put(*name, *bytes)?;
     }

@@ -9,6 +9,7 @@ use Rattle.avr_cli.specs.Update.{update_of}
 use Rattle.avr_cli.specs.declared.update.Update.{Update}
 use Rattle.avr_cli.specs.declared.update.UpdateFault.{UpdateFault}
 use Rattle.avr_cli.specs.declared.settings.Port.{Port}
+use Rattle.avr_cli.specs.declared.settings.Port.TheVariants.{Stdio}
 use Rattle.avr_cli.specs.declared.settings.Switches.{Switches}
 use Rattle.avr_cli.specs.declared.settings.Settings.{Settings}
 use Rattle.avr_cli.specs.declared.settings.SettingsFault.{SettingsFault}
@@ -95,6 +96,11 @@ no_switches = record {
   all = false;
   quiet = 0;
 }
+
+-- the settings of a run over a link of the caller's own: a session with this part that does nothing yet; no run over a
+-- link looks at the port
+abbrev pub link_settings : Bytes → Settings
+link_settings part = record { part = part; port = Stdio; parts = None; updates = []; switches = no_switches }
 
 -- the settings of an emulator that serves at a port, for which the programmer, the updates and the switches count for
 -- nothing

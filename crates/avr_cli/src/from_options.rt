@@ -2,7 +2,7 @@
 ghost use Rattle.std.specs.Prelude.{◌≡◌, option_map, map, ◌≤◌, IsOk, length, [], unwrap_or};
 ghost use Rattle.clap.specs.Words.{found_of, rows_of, first_of, all_of};
 ghost use Rattle.avr_cli.specs.Command.{is_on, switches_of, entries_of};
-ghost use Rattle.avr_cli.specs.Settings.{GivesOrMemory, TellsAnyway, settings_of, checked_programmer, updates_of, updates_from, update_at, run_settings, serve_settings, no_switches};
+ghost use Rattle.avr_cli.specs.Settings.{GivesOrMemory, TellsAnyway, settings_of, checked_programmer, updates_of, updates_from, update_at, run_settings, serve_settings};
 ghost use Rattle.avr_cli.specs.Update.{update_of};
 
 use crate::owned::{owned, owned_option};
@@ -139,21 +139,6 @@ fn run_settings(
     })
 }
 
-/// The switches of an emulator that serves: they count for nothing.
-fn no_switches() -> Switches
-    ensures { result ≡ no_switches }
-{
-    Switches {
-        erase: false,
-        keep_flash: false,
-        no_verify: false,
-        dry: false,
-        force: false,
-        all: false,
-        quiet: 0,
-    }
-}
-
 /// The settings of an emulator that serves.
 fn serve_settings(
     alloc: Global,
@@ -177,7 +162,7 @@ fn serve_settings(
         port,
         parts,
         updates: Updates::new(alloc),
-        switches: no_switches(),
+        switches: Switches::none(),
     })
 }
 

@@ -1,9 +1,11 @@
 //! What a run was asked to do.
-ghost use Rattle.std.specs.Prelude.{◌≡◌};
+ghost use Rattle.std.specs.Prelude.{◌≡◌, IfOk};
 ghost use Rattle.avr_cli.specs.Fault.{settings_fault_number};
+ghost use Rattle.avr_cli.specs.Settings.{link_settings, no_switches};
 
 use crate::text::Text;
 use crate::update::{UpdateFault, Updates};
+use std::alloc::{AllocError, Global};
 use thiserror::Error;
 
 /// What the frames go over.
@@ -42,6 +44,23 @@ pub struct Switches {
     pub quiet: u8,
 }
 
+impl Switches {
+    /// All options off, and `-q` not given.
+    pub fn none() -> Switches
+        ensures { result ≡ no_switches }
+    {
+        Switches {
+            erase: false,
+            keep_flash: false,
+            no_verify: false,
+            dry: false,
+            force: false,
+            all: false,
+            quiet: 0,
+        }
+    }
+}
+
 /// What a run was asked to do.
 #[derive(Debug, Drop)]
 pub struct Settings {
@@ -55,6 +74,33 @@ pub struct Settings {
     pub updates: Updates,
     /// How it is done.
     pub switches: Switches,
+}
+
+impl Settings {
+    /// The settings of a run over a link of the caller's own, which opens a session with the part of
+    /// this id, compares its signature, and does nothing else. What it is to do is put into the
+    /// fields.
+    ///
+    /// The port is [`Port::Stdio`], at which no run over a link that is passed to it looks. So a
+    /// file `-` is the desk's standard input or output, which [`read_settings`](crate::read_settings)
+    /// refuses over that port, as the frames are there. Fails only where memory is refused.
+    ///
+    /// ```text
+    /// let mut settings = Settings::for_link(alloc, "m328p")?;
+    /// settings.updates.push(parse_update(alloc, "flash:w:a.hex")?)?;
+    /// settings.switches.erase = true;
+    /// ```
+    pub fn for_link(alloc: Global, part: &str) -> Result<Settings, AllocError>
+        ensures { IfOk result (λ s. s ≡ link_settings part.now) }
+    {
+        Ok(Settings {
+            part: Text::new(alloc, part)?,
+            port: Port::Stdio,
+            parts: None,
+            updates: Updates::new(alloc),
+            switches: Switches::none(),
+        })
+    }
 }
 
 /// Why a command line makes no settings. The first that holds is told, in the order in which they

@@ -68,8 +68,29 @@ impl MemDesk {
     ghost use Rattle.avr_desk.specs.Fault.{Follows, HasFailedToSay, HasRisen};
     ghost use Rattle.avr_desk.specs.Memory.{contents, file_named, memory_view};
 
-    /// A desk with this standard input and no files.
-    pub fn new(alloc: Global, input: Bytes) -> MemDesk
+    /// A desk with no files, whose standard input is empty.
+    ///
+    /// ```text
+    /// let mut desk = MemDesk::new(alloc);
+    /// desk.put("a.hex", b":00000001FF\n")?;
+    /// assert!(rt; desk.file("a.hex") == Some(b":00000001FF\n".as_slice()));
+    /// ```
+    pub fn new(alloc: Global) -> MemDesk
+        ensures { result ≡ record {
+          kept = nothing_kept;
+          failures = 0;
+          unsaid = 0;
+          input = [];
+          stored = [];
+          opened = [];
+        } }
+    {
+        MemDesk::with_input(alloc, Bytes::new(alloc))
+    }
+
+    /// A desk with no files, whose standard input has these bytes: what opening the name `-` gives,
+    /// each time anew.
+    pub fn with_input(alloc: Global, input: Bytes) -> MemDesk
         ensures { result ≡ record {
           kept = nothing_kept;
           failures = 0;

@@ -1,7 +1,7 @@
 //! The examples of the documentation.
 use avr_cli::{
-    Format, Op, Port, SettingsFault, Text, UpdateFault, Updates, make_command, parse_update,
-    port_number, read_settings, read_words,
+    Format, Op, Port, Settings, SettingsFault, Text, UpdateFault, Updates, make_command,
+    parse_update, port_number, read_settings, read_words,
 };
 use avr_part::Mem;
 use std::test::Fail;
@@ -46,6 +46,20 @@ fn updates_are_parsed(rt: HostRuntime) -> Result<(), Fail> {
     let mut updates = Updates::new(alloc);
     updates.push(parse_update(alloc, "flash:w:a.hex")?)?;
     assert_eq!(rt; updates.as_slice().len(), 1);
+    Ok(())
+}
+
+#[test]
+fn settings_are_made_for_a_link(rt: HostRuntime) -> Result<(), Fail> {
+    let alloc = rt.alloc();
+    let mut settings = Settings::for_link(alloc, "m328p")?;
+    settings
+        .updates
+        .push(parse_update(alloc, "flash:w:a.hex")?)?;
+    settings.switches.erase = true;
+    assert!(rt; settings.part.as_str() == "m328p" && settings.parts.is_none());
+    assert!(rt; matches!(&settings.port, Port::Stdio));
+    assert_eq!(rt; settings.updates.as_slice().len(), 1);
     Ok(())
 }
 

@@ -1,16 +1,10 @@
 //! Lines byte for byte: the examples of the documentation, and each piece.
-use avr_desk::{Bytes, MemDesk, Piece, print_error, print_information, print_warning};
-use std::alloc::Global;
+use avr_desk::{MemDesk, Piece, print_error, print_information, print_warning};
 use std::test::Fail;
-
-/// A desk with nothing on it.
-fn empty_desk(alloc: Global) -> Result<MemDesk, Fail> {
-    Ok(MemDesk::new(alloc, Bytes::copied(alloc, b"")?))
-}
 
 #[test]
 fn information_is_printed(rt: HostRuntime) -> Result<(), Fail> {
-    let mut desk = empty_desk(rt.alloc())?;
+    let mut desk = MemDesk::new(rt.alloc());
     let signature = Piece::Signature([0x1E, 0x95, 0x0F]);
     print_information(&mut desk, &[Piece::Text("device signature = "), signature])?;
     assert!(rt; desk.messages() == b"avrstk: device signature = 1E 95 0F\n".as_slice());
@@ -19,7 +13,7 @@ fn information_is_printed(rt: HostRuntime) -> Result<(), Fail> {
 
 #[test]
 fn a_warning_is_printed(rt: HostRuntime) -> Result<(), Fail> {
-    let mut desk = empty_desk(rt.alloc())?;
+    let mut desk = MemDesk::new(rt.alloc());
     print_warning(
         &mut desk,
         &[Piece::Text("a.hex"), Piece::Text(": no end record")],
@@ -30,7 +24,7 @@ fn a_warning_is_printed(rt: HostRuntime) -> Result<(), Fail> {
 
 #[test]
 fn an_error_is_printed(rt: HostRuntime) -> Result<(), Fail> {
-    let mut desk = empty_desk(rt.alloc())?;
+    let mut desk = MemDesk::new(rt.alloc());
     let pieces = [
         Piece::Text("command "),
         Piece::Byte(0x10),
@@ -43,7 +37,7 @@ fn an_error_is_printed(rt: HostRuntime) -> Result<(), Fail> {
 
 #[test]
 fn numbers_are_printed(rt: HostRuntime) -> Result<(), Fail> {
-    let mut desk = empty_desk(rt.alloc())?;
+    let mut desk = MemDesk::new(rt.alloc());
     let pieces = [
         Piece::Number(4_194_304),
         Piece::Text(" "),

@@ -1,6 +1,6 @@
 //! Chip files that are missing, whole, of another length, and at a desk that fails.
 use avr_chip::{hold_chip, load_chip, save_chip};
-use avr_desk::{Bytes, Desk, FailingDesk, MemDesk};
+use avr_desk::{Desk, FailingDesk, MemDesk};
 use avr_part::{Chip, Mem, Part, PartFault, Parts};
 use std::alloc::{AllocError, Global};
 use std::test::Fail;
@@ -20,7 +20,7 @@ fn file_of(alloc: Global, n: usize) -> Result<Vec<u8>, AllocError> {
 
 /// A desk with this file.
 fn desk_with(alloc: Global, file: &[u8]) -> Result<MemDesk, AllocError> {
-    let mut desk = MemDesk::new(alloc, Bytes::new(alloc));
+    let mut desk = MemDesk::new(alloc);
     desk.put("chip.bin", file)?;
     Ok(desk)
 }
@@ -51,7 +51,7 @@ fn is_given_back(
 fn no_file_is_a_fresh_chip(rt: HostRuntime) -> Result<(), Fail> {
     let alloc = rt.alloc();
     let fresh = vec![in alloc; 255; 33_796]?;
-    let mut desk = MemDesk::new(alloc, Bytes::new(alloc));
+    let mut desk = MemDesk::new(alloc);
     assert!(rt; is_given_back(alloc, &mut desk, 255, "chip.bin", fresh.as_slice())?);
     assert!(rt; desk.messages().is_empty());
     Ok(())
@@ -137,7 +137,7 @@ fn hold<D: Desk>(alloc: Global, desk: &mut D) -> Result<Result<Chip, u8>, PartFa
 #[test]
 fn a_chip_is_held_until_it_is_saved(rt: HostRuntime) -> Result<(), Fail> {
     let alloc = rt.alloc();
-    let mut desk = MemDesk::new(alloc, Bytes::new(alloc));
+    let mut desk = MemDesk::new(alloc);
     let held = hold(alloc, &mut desk)?;
     assert!(rt; matches!(hold(alloc, &mut desk)?, Err(1)));
     assert!(rt; desk.messages() == b"avrstk: error: chip.bin: in use by another run\n".as_slice());

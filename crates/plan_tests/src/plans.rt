@@ -1,6 +1,6 @@
 //! Every line of a plan brought about once, and what a plan holds.
 use avr_cli::{Format, Op, Port, Settings, Switches, Text, Update, Updates};
-use avr_desk::{Bytes, FailingDesk, MemDesk};
+use avr_desk::{FailingDesk, MemDesk};
 use avr_part::Mem;
 use avr_plan::{Task, plan};
 use std::alloc::{AllocError, Global};
@@ -82,7 +82,7 @@ fn refuses(
     asked: &Asked<'_>,
     line: &str,
 ) -> Result<bool, AllocError> {
-    let mut desk = MemDesk::new(alloc, Bytes::new(alloc));
+    let mut desk = MemDesk::new(alloc);
     desk.put(name, bytes)?;
     let refused = plan(alloc, &settings(alloc, asked)?, &mut desk).is_err();
     Ok(refused && desk.messages() == line.as_bytes())
@@ -97,7 +97,7 @@ fn plans(
     held: u32,
     line: &str,
 ) -> Result<bool, AllocError> {
-    let mut desk = MemDesk::new(alloc, Bytes::new(alloc));
+    let mut desk = MemDesk::new(alloc);
     desk.put(name, bytes)?;
     let Ok(made) = plan(alloc, &settings(alloc, asked)?, &mut desk) else {
         return Ok(false);
@@ -304,7 +304,7 @@ fn other_parts(rt: HostRuntime) -> Result<(), Fail> {
 
 /// The messages of a plan over a desk whose nth call fails.
 fn fails_at(alloc: Global, n: u64, line: &str) -> Result<bool, AllocError> {
-    let mut desk = MemDesk::new(alloc, Bytes::new(alloc));
+    let mut desk = MemDesk::new(alloc);
     desk.put("a.hex", b":00000001FF\n")?;
     let mut desk = FailingDesk::new(desk, n);
     let refused = plan(alloc, &settings(alloc, &flash_of("a.hex"))?, &mut desk).is_err();
@@ -323,7 +323,7 @@ fn a_desk_that_fails(rt: HostRuntime) -> Result<(), Fail> {
 #[test]
 fn reads_need_nothing(rt: HostRuntime) -> Result<(), Fail> {
     let alloc = rt.alloc();
-    let mut desk = MemDesk::new(alloc, Bytes::new(alloc));
+    let mut desk = MemDesk::new(alloc);
     let made = plan(alloc, &settings(alloc, &part_of("", "t85"))?, &mut desk);
     let Ok(made) = made else {
         assert!(rt; false, "no plan");

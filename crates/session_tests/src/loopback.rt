@@ -2,7 +2,7 @@
 ghost use Rattle.stk_host.specs.Links.{stream_view};
 
 use avr_cli::{Settings, read_settings, read_words};
-use avr_desk::{Bytes, MemDesk};
+use avr_desk::MemDesk;
 use avr_net::{accept, listen};
 use avr_part::{Chip, Mem, Parts};
 use avr_serve::answer_all;
@@ -77,7 +77,7 @@ struct Over {
 
 fn run_over(rt: &HostRuntime, updates: &[&str]) -> Result<Over, Fail> {
     let settings = settings_for(rt.alloc(), updates)?;
-    let mut desk = MemDesk::new(rt.alloc(), Bytes::new(rt.alloc()));
+    let mut desk = MemDesk::new(rt.alloc());
     desk.put("a.bin", b"")?;
     let mut link = connected(rt)?;
     let status = run(rt.alloc(), &settings, &mut desk, &mut link);

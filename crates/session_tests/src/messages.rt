@@ -1,13 +1,13 @@
 //! Faults show in the words of the lines that are printed of them.
 use avr_cli::{SettingsFault, Text, UpdateFault};
-use avr_desk::{Bytes, MemDesk};
+use avr_desk::MemDesk;
 use avr_session::refuse;
 use std::alloc::Global;
 use std::test::Fail;
 
 /// Whether a fault of the settings shows as the line that is printed of it.
 fn shows_as_printed(alloc: Global, fault: &SettingsFault) -> bool {
-    let mut desk = MemDesk::new(alloc, Bytes::new(alloc));
+    let mut desk = MemDesk::new(alloc);
     refuse(fault, &mut desk);
     match format!(in alloc; "avrstk: error: {fault}\n") {
         Ok(line) => desk.messages() == line.as_bytes(),

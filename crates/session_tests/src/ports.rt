@@ -1,6 +1,6 @@
 //! Both ends of a port of this machine, in one thread.
 use avr_cli::{Settings, read_settings, read_words};
-use avr_desk::{Bytes, MemDesk};
+use avr_desk::MemDesk;
 use avr_net::{accept, listen, run_net, serve_net, serve_on};
 use avr_part::Parts;
 use std::alloc::Global;
@@ -31,7 +31,7 @@ struct Over {
 fn run_at<R: Net>(rt: &R, alloc: Global, part: &str, port: u16) -> Result<Over, Fail> {
     let settings = settings_for(alloc, part)?;
     let address = format!(in alloc; "127.0.0.1:{port}")?;
-    let mut desk = MemDesk::new(alloc, Bytes::new(alloc));
+    let mut desk = MemDesk::new(alloc);
     let status = run_net(rt, alloc, &settings, address.as_str(), &mut desk);
     Ok(Over { desk, status })
 }
@@ -172,7 +172,7 @@ fn a_caller_is_answered_and_the_chip_is_saved(rt: HostRuntime) -> Result<(), Fai
     caller.write_all(FRAME.as_slice())?;
     caller.shutdown(Shutdown::Write)?;
     let part = Parts::none().find("m328p")?;
-    let mut desk = MemDesk::new(alloc, Bytes::new(alloc));
+    let mut desk = MemDesk::new(alloc);
     let status = serve_on(alloc, &part, "5000", "chip.bin", &listener, &mut desk);
     assert_eq!(rt; status, 0);
     assert!(rt; desk.messages().is_empty());
@@ -202,7 +202,7 @@ fn serve_at_taken(
     let number = listener.local_addr()?.port();
     let port = format!(in alloc; "{number}")?;
     let settings = settings_for(alloc, part)?;
-    let mut desk = MemDesk::new(alloc, Bytes::new(alloc));
+    let mut desk = MemDesk::new(alloc);
     if let Some(bytes) = chip {
         desk.put("chip.bin", bytes)?;
     }

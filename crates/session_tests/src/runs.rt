@@ -1,7 +1,7 @@
 //! Worked runs: what is sent, what is printed, and the status. The frames are those of the STK500 protocol, version 2
 //! (AVR068), written out by hand.
 use avr_cli::{Settings, read_settings, read_words};
-use avr_desk::{Bytes, Desk, FailingDesk, MemDesk};
+use avr_desk::{Desk, FailingDesk, MemDesk};
 use avr_session::run;
 use std::alloc::Global;
 use std::ops::Range;
@@ -84,7 +84,7 @@ fn status_of<D: Desk, L: Link>(
 /// Runs over a tape that is given in pieces of at most this many bytes.
 fn run_over(alloc: Global, part: &str, items: Vec<Item>, cut: usize) -> Result<Over, Fail> {
     let settings = settings_for(alloc, part)?;
-    let mut desk = MemDesk::new(alloc, Bytes::new(alloc));
+    let mut desk = MemDesk::new(alloc);
     let mut link = TapeLink::new(alloc, items, cut.max(1));
     let status = status_of(alloc, &settings, &mut desk, &mut link);
     Ok(Over { desk, link, status })
@@ -318,7 +318,7 @@ fn a_link_that_fails(rt: HostRuntime) -> Result<(), Fail> {
     let alloc = rt.alloc();
     let items = tape(alloc, M328P)?;
     let settings = settings_for(alloc, "m328p")?;
-    let mut desk = MemDesk::new(alloc, Bytes::new(alloc));
+    let mut desk = MemDesk::new(alloc);
     let mut link = FailingLink::new(TapeLink::new(alloc, items, 281), 1, 281);
     assert!(rt; status_of(alloc, &settings, &mut desk, &mut link) == 1);
     assert!(rt; desk.messages() == b"avrstk: error: link cannot be written\n".as_slice());
@@ -332,7 +332,7 @@ fn a_desk_that_fails(rt: HostRuntime) -> Result<(), Fail> {
     let opening = joined(alloc, &[OPENING])?;
     let items = tape(alloc, M328P)?;
     let settings = settings_for(alloc, "m328p")?;
-    let mut desk = FailingDesk::new(MemDesk::new(alloc, Bytes::new(alloc)), 1);
+    let mut desk = FailingDesk::new(MemDesk::new(alloc), 1);
     let mut link = TapeLink::new(alloc, items, 281);
     assert!(rt; status_of(alloc, &settings, &mut desk, &mut link) == 1);
     assert!(rt; link.sent() == opening.as_slice());

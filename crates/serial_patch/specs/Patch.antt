@@ -1,0 +1,26 @@
+-- A serial number put into an image.
+use Rattle.std.specs.Prelude.{◌≡◌, ◌<◌, ◌≤◌, ◌+◌, ℕ, List, length, Option, Some, Ok, slice_index_or}
+use Rattle.avr_image.specs.Image.{byte_at}
+use Rattle.avr_records.specs.Detect.{kind_of_file, record_kind}
+use Rattle.avr_records.specs.Reading.{image_in_text}
+use Rattle.avr_records.specs.declared.kind.Kind.{Kind}
+use Rattle.avr_records.specs.declared.kind.Kind.TheVariants.{Ihex}
+use Rattle.avr_records.specs.declared.kind.Ending.{Ending}
+use Rattle.avr_records.specs.declared.kind.Ending.TheVariants.{Ended}
+
+-- These bytes stand there, and every other byte is as it was.
+pub record IsPatched (at : ℕ) (serial : List ℕ) (before after : List (Option ℕ)) : Type 0 where
+  pub inside : (place : ℕ) → place < length serial → byte_at after (at + place) ≡ Some (slice_index_or serial place 0)
+  pub below : (other : ℕ) → other < at → byte_at after other ≡ byte_at before other
+  pub above : (other : ℕ) → at + length serial ≤ other → byte_at after other ≡ byte_at before other
+
+-- One file says what is in a memory of this size, and the other, of Intel HEX, says the same but for the serial number.
+pub record IsPatchedFile (size : ℕ) (text : List ℕ) (at : ℕ) (serial : List ℕ) (patched : List ℕ) : Type 0 where
+  pub kind : Kind
+  pub ending : Ending
+  pub before : List (Option ℕ)
+  pub after : List (Option ℕ)
+  pub found : record_kind (kind_of_file text) ≡ Some kind
+  pub reads : image_in_text kind text size ≡ Ok (before, ending)
+  pub reads_back : image_in_text Ihex patched size ≡ Ok (after, Ended)
+  pub is_patched : IsPatched at serial before after

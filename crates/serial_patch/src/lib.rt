@@ -1,0 +1,77 @@
+//! Puts a serial number into the firmware of a record file, and changes nothing else.
+//!
+//! It shows a crate with a contract of its own above avr_image, avr_records and avr_part, and is the one that
+//! tests/vendor.py takes into a repository of its own.
+#![tactic(auto)]
+
+ghost use Rattle.std.specs.Prelude.{◌≡◌, length, IfOk, OnOk, OnErr};
+ghost use Rattle.avr_part.specs.Part.{size_of};
+ghost use Rattle.avr_part.specs.declared.part.Mem.TheVariants.{Flash};
+ghost use Rattle.serial_patch.specs.Patch.{IsPatched, IsPatchedFile};
+
+use avr_image::{Image, ImageFault, Pieces, a_span_is_by_address, bytes_fit_below_the_size};
+use avr_part::{Mem, Part};
+use avr_records::{IhexImageWriter, RecordFault, detect, read_records};
+use std::alloc::Global;
+use thiserror::Error;
+
+#[cfg(test)]
+mod tests;
+
+/// Why a record file was not patched.
+#[derive(Debug, Drop, Error)]
+pub enum PatchFault {
+    /// The text is no record file.
+    #[error("this is no record file")]
+    NoRecords,
+    /// The text has 2 to the power 32 bytes or more.
+    #[error("the file is too long")]
+    TooLong,
+    /// The records have a fault, or don't fit into the part's flash memory.
+    #[error(transparent)]
+    Records(RecordFault),
+    /// The serial number doesn't fit there.
+    #[error(transparent)]
+    Outside(ImageFault),
+    /// Memory was refused.
+    #[error("out of memory")]
+    Memory,
+}
+
+/// Puts a serial number into an image, from this address on.
+///
+/// Fails with [`ImageFault::OutOfRange`] where it doesn't lie inside the image whole, which then is as it was.
+pub fn put_serial_number(image: &mut Image, at: u32, serial: &[u8]) -> Result<(), ImageFault>
+    ensures patched { OnOk result (IsPatched at serial.now image.old image.new) }
+    ensures same { OnErr result (image.new ≡ image.old) }
+    ensures size { length image.new ≡ length image.old }
+{
+    a_span_is_by_address();
+    bytes_fit_below_the_size();
+    match image.put_slice(at, serial) {
+        Ok(_) => Ok(()),
+        Err(fault) => Err(fault),
+    }
+}
+
+/// The record file of a part's flash memory with a serial number in it, from this address on, as Intel HEX with only the
+/// bytes that are there. The first fault is told.
+pub fn patch_serial_number(
+    alloc: Global,
+    part: &Part,
+    text: &[u8],
+    at: u32,
+    serial: &[u8],
+) -> Result<Vec<u8>, PatchFault>
+    ensures { IfOk result (λ out. IsPatchedFile (size_of Flash part.now) text.now at serial.now out.items) }
+{
+    let kind = detect(text).kind().ok_or(PatchFault::NoRecords)?;
+    if text.len() > u32::MAX as usize {
+        return Err(PatchFault::TooLong);
+    }
+    let size = part.size_of(Mem::Flash);
+    let (mut image, _) = read_records(alloc, kind, size, text).map_err(PatchFault::Records)?;
+    put_serial_number(&mut image, at, serial).map_err(PatchFault::Outside)?;
+    let patched = IhexImageWriter::new(&image).to_vec(alloc);
+    patched.map_err(|_| PatchFault::Memory)
+}

@@ -1,0 +1,142 @@
+#!/usr/bin/env python3
+"""Takes crates into other repositories by tools/vendor.sh, and builds a crate there that stands on them; `proof` proves it
+too, which takes minutes where nothing of it was proved on this machine.
+
+    tests/vendor.py [CASE ..]
+
+`proof` is run where it is named, and over the proved program (`tests/all.py proved`).
+"""
+
+import os
+import shutil
+import subprocess
+import sys
+import tempfile
+from contextlib import contextmanager
+from pathlib import Path
+
+from cases import named, run_cases, same, see
+
+TOP = Path(__file__).resolve().parent.parent
+PROVED = TOP / "crates/avrstk/out/avrstk"
+PARTS = ("src", "specs", "proofs", "README.md")
+FOREIGN = "serial_patch"
+
+
+def line_of(name, top=TOP):
+    """The line of a crate in a repository's crates.txt."""
+    lines = (top / "crates.txt").read_text().splitlines()
+    return next((it for it in lines if it.split(":")[0] == name), None)
+
+
+@contextmanager
+def repository():
+    """The top of a repository that has nothing."""
+    with tempfile.TemporaryDirectory() as folder:
+        top = Path(folder) / "another one"
+        top.mkdir()
+        subprocess.run(["git", "init", "-q"], cwd=top, check=True)
+        yield top
+
+
+def vendor(*words):
+    """Runs the script: its status, and what it prints."""
+    ran = subprocess.run([TOP / "tools/vendor.sh", *words], stdout=subprocess.PIPE, stderr=subprocess.STDOUT, text=True)
+    return ran.returncode, ran.stdout
+
+
+def files(top):
+    """Each file of a repository, with its bytes."""
+    paths = [it for it in sorted(top.rglob("*")) if it.is_file() and ".git" not in it.parts]
+    return {str(it.relative_to(top)): it.read_bytes() for it in paths}
+
+
+def copied(top, *crates):
+    """Whether these crates, and no other, are there as they are here, with their lines."""
+    same("crates", sorted(it.name for it in (top / "crates").iterdir()), sorted(crates))
+    for name in crates:
+        here = {it: text for it, text in files(TOP / "crates" / name).items() if it.split("/")[0] in PARTS}
+        see(f"{name} as it is here", files(top / "crates" / name) == here)
+        same(f"line of {name}", line_of(name, top), line_of(name))
+
+
+def all_that_it_stands_on():
+    with repository() as top:
+        status, text = vendor("avr_records", "avr_part", top)
+        same("status", status, 0)
+        copied(top, "avr_image", "avr_records", "avr_part")
+        see("what was made", "made crates.txt" in text and "avr_image: copied, its line added" in text, text)
+        see("what is the kit's", "of the kit: arrayvec thiserror hex memchr toml" in text, text)
+
+
+def what_is_there_stays():
+    with repository() as top:
+        (top / "crates.txt").write_text("own:\navr_image:   arrayvec thiserror # by hand")
+        vendor("avr_image", top)
+        before = files(top)
+        status, text = vendor("avr_records", top)
+        see("the crate below is left", status == 0 and "avr_image: there already\n" in text, text)
+        after = files(top)
+        same("nothing else changed", {it: after[it] for it in before if it != "crates.txt"}, {it: before[it] for it in before if it != "crates.txt"})
+        same("the lines", (top / "crates.txt").read_text(), f"own:\navr_image:   arrayvec thiserror # by hand\n{line_of('avr_records')}\n")
+
+
+def refusals():
+    with repository() as top:
+        vendor("avr_image", top)
+        changed = top / "crates/avr_image/src/image.rt"
+        changed.write_text(changed.read_text() + "// changed\n")
+        before = files(top)
+        refused = [
+            (("avr_records", top), f"{top}/crates/avr_image differs: remove it to have it anew"),
+            (("avrstk", top), "avrstk is a program, which no crate can name"),
+            (("avr_nothing", top), "no crate is named avr_nothing"),
+            (("avr_image", top / "nowhere"), f"{top}/nowhere is no folder"),
+            (("avr_image", TOP), f"{TOP} is this repository"),
+            (("avr_image",), "usage: tools/vendor.sh CRATE.. FOLDER"),
+        ]
+        for words, why in refused:
+            same(why, vendor(*words), (1, f"vendor.sh: error: {why}\n"))
+        same("nothing changed", files(top), before)
+        shutil.rmtree(top / "crates/avr_image")
+        (top / "crates.txt").write_text("avr_image: thiserror\n")
+        line = "the line of avr_image in {0}/crates.txt differs: avr_image: thiserror"
+        same("another line", vendor("avr_image", top), (1, f"vendor.sh: error: {line.format(top)}\n"))
+
+
+@contextmanager
+def foreign():
+    """A crate of another repository over crates of this one."""
+    with repository() as top:
+        below = [it for it in line_of(FOREIGN).split(":")[1].split() if line_of(it)]
+        status, text = vendor(*below, top)
+        same("vendored", (status, text if status else ""), (0, ""))
+        shutil.copytree(TOP / "crates" / FOREIGN, top / "crates" / FOREIGN, ignore=shutil.ignore_patterns("out", "must-fail"))
+        with (top / "crates.txt").open("a") as lines:
+            lines.write(line_of(FOREIGN) + "\n")
+        yield top / "crates" / FOREIGN
+
+
+def rt(words, folder):
+    ran = subprocess.run(["rt", *words], cwd=folder, stdout=subprocess.PIPE, stderr=subprocess.STDOUT, text=True)
+    return ran.returncode, ran.stdout
+
+
+def build():
+    with foreign() as folder:
+        status, text = rt(["try", "--test"], folder)
+        see("its tests pass", status == 0 and "0 failed" in text, text[-600:])
+
+
+def proof():
+    with foreign() as folder:
+        status, text = rt(["check"], folder)
+        see("it is proved", status == 0 and f"crate {FOREIGN}:" in text and "\nlogic=proved" in text, text[-600:])
+
+
+CASES = named(all_that_it_stands_on, what_is_there_stays, refusals, build)
+if "proof" in sys.argv or Path(os.environ.get("AVRSTK", "")) == PROVED:
+    CASES |= named(proof)
+
+if __name__ == "__main__":
+    sys.exit(run_cases(CASES, __doc__))
