@@ -34,4 +34,4 @@ returns g c =
     goes_bad_parts c.args.file.now c.in-Ok.contents.bytes c.in-Ok.contents.ended _ _ _ _ c.in-Err-parse_parts.refused c.in-Ok.ensures.kept
     c.in-Ok.ensures.whole
     c.if-not-contents.false c.in-Ok.ensures.counts.1 (rw c.in-Err-parse_parts.is at gives)
-    c.refuse-in-Err-parse_parts.ensures.status (rw c.part_file_message.ensures at c.refuse-in-Err-parse_parts.ensures.told)
+    c.refuse-in-Err-parse_parts.ensures.status (rw (c.part_file_message.ensures, c.fault.ensures) at c.refuse-in-Err-parse_parts.ensures.told)
