@@ -67,8 +67,16 @@ fn a_part_file_defines_a_part(rt: HostRuntime) -> Result<(), Fail> {
 
 #[test]
 fn faults_are_told_apart(rt: HostRuntime) -> Result<(), Fail> {
-    let fault = parse_parts(rt.alloc(), b"[parts.x1]").err();
-    assert_eq!(rt; fault, Some(PartFault::Missing(Field::Signature)));
+    let refused = parse_parts(rt.alloc(), b"[parts.x1]");
+    assert!(rt; refused.is_err());
+    if let Err(fault) = &refused {
+        assert_eq!(rt; fault.part(), Some("x1"));
+        assert_eq!(rt; fault.fault(), PartFault::Missing(Field::Signature));
+    }
+    if let Err(fault) = parse_parts(rt.alloc(), b"parts = 3") {
+        assert_eq!(rt; fault.part(), None);
+        assert_eq!(rt; fault.fault(), PartFault::BadValue(Field::Parts));
+    }
     assert_eq!(rt; PartFault::Missing(Field::Signature).number(), 2);
     assert_eq!(rt; Field::FlashSize.name(), "flash_size");
     assert_eq!(rt; Field::Id.name(), "id");

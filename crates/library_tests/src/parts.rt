@@ -19,8 +19,11 @@ fn obeys(rt: &impl Abort, chip: &mut Chip, rows: &[([u8; 4], [u8; 4])]) {
 }
 
 /// The fault of a part file.
-fn fault_of(alloc: Global, text: &str) -> Option<PartFault> {
-    parse_parts(alloc, text.as_bytes()).err()
+fn fault_of(alloc: Global, text: &[u8]) -> Option<PartFault> {
+    match parse_parts(alloc, text) {
+        Ok(_) => None,
+        Err(refused) => Some(refused.fault()),
+    }
 }
 
 #[test]
@@ -84,7 +87,11 @@ fn damaged_part_files(rt: HostRuntime) -> Result<(), Fail> {
             PartFault::NotToml,
         ),
     ] {
-        assert_eq!(rt; fault_of(rt.alloc(), text), Some(fault), "at {text}");
+        assert_eq!(rt;
+            fault_of(rt.alloc(), text.as_bytes()),
+            Some(fault),
+            "at {text}"
+        );
     }
     for (value, fault) in [
         ("\"32768\"", PartFault::BadValue(Field::FlashSize)),
@@ -99,7 +106,7 @@ fn damaged_part_files(rt: HostRuntime) -> Result<(), Fail> {
     ] {
         let text = format!(in rt.alloc(); "{HEAD}flash_size = {value}\n{whole}")?;
         assert_eq!(rt;
-            fault_of(rt.alloc(), text.as_str()),
+            fault_of(rt.alloc(), text.as_str().as_bytes()),
             Some(fault),
             "at {value}"
         );
@@ -145,16 +152,13 @@ fn damaged_part_files(rt: HostRuntime) -> Result<(), Fail> {
     ] {
         let text = format!(in rt.alloc(); "{HEAD}{fields}")?;
         assert_eq!(rt;
-            fault_of(rt.alloc(), text.as_str()),
+            fault_of(rt.alloc(), text.as_str().as_bytes()),
             Some(fault),
             "at {fields}"
         );
     }
     let no_text: &[u8] = &[b'a', b'=', b'"', 0xFF, b'"'];
-    assert_eq!(rt;
-        parse_parts(rt.alloc(), no_text).err(),
-        Some(PartFault::NotToml)
-    );
+    assert_eq!(rt; fault_of(rt.alloc(), no_text), Some(PartFault::NotToml));
     Ok(())
 }
 
