@@ -28,7 +28,7 @@ PROVED = TOP / "crates/avrstk/out/avrstk"
 # the scripts beside this one, and one that counts calls of the system
 SCRIPTS = (
     *("avrdude", "build", "chips", "claims", "cuts_and_stalls", "faults", "from_c", "hostile", "lines", "made_frames"),
-    *("manual", "others", "parts", "programmer", "runs", "serial", "why", "calls"),
+    *("manual", "others", "parts", "programmer", "runs", "serial", "vendor", "why", "calls"),
 )
 COMMANDS = {"calls": [TOP / "bench/run.py", "--calls"]}
 

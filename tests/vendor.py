@@ -1,6 +1,6 @@
 #!/usr/bin/env python3
-"""Takes crates into other repositories by tools/vendor.sh, and builds a crate there that stands on them; `proof` proves it
-too, which takes minutes where nothing of it was proved on this machine.
+"""Takes crates into other repositories by tools/vendor.sh, and builds a crate there that stands on them; `proof` proves
+it too, which takes minutes where nothing of it was proved on this machine.
 
     tests/vendor.py [CASE ..]
 
@@ -71,14 +71,16 @@ def all_that_it_stands_on():
 
 def what_is_there_stays():
     with repository() as top:
-        (top / "crates.txt").write_text("own:\navr_image:   arrayvec thiserror # by hand")
+        lines = "own:\navr_image:   arrayvec thiserror # by hand"
+        (top / "crates.txt").write_text(lines)
         vendor("avr_image", top)
         before = files(top)
         status, text = vendor("avr_records", top)
         see("the crate below is left", status == 0 and "avr_image: there already\n" in text, text)
         after = files(top)
-        same("nothing else changed", {it: after[it] for it in before if it != "crates.txt"}, {it: before[it] for it in before if it != "crates.txt"})
-        same("the lines", (top / "crates.txt").read_text(), f"own:\navr_image:   arrayvec thiserror # by hand\n{line_of('avr_records')}\n")
+        before.pop("crates.txt")
+        same("nothing else changed", {it: after[it] for it in before}, before)
+        same("the lines", after["crates.txt"].decode(), f"{lines}\n{line_of('avr_records')}\n")
 
 
 def refusals():
@@ -111,7 +113,8 @@ def foreign():
         below = [it for it in line_of(FOREIGN).split(":")[1].split() if line_of(it)]
         status, text = vendor(*below, top)
         same("vendored", (status, text if status else ""), (0, ""))
-        shutil.copytree(TOP / "crates" / FOREIGN, top / "crates" / FOREIGN, ignore=shutil.ignore_patterns("out", "must-fail"))
+        left = shutil.ignore_patterns("out", "must-fail")
+        shutil.copytree(TOP / "crates" / FOREIGN, top / "crates" / FOREIGN, ignore=left)
         with (top / "crates.txt").open("a") as lines:
             lines.write(line_of(FOREIGN) + "\n")
         yield top / "crates" / FOREIGN

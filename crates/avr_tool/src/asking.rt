@@ -5,15 +5,17 @@ ghost use Rattle.avr_tool.specs.Asked.{Asks};
 use avr_cli::{Settings, read_settings, read_words};
 use avr_desk::Desk;
 use avr_session::refuse;
-use clap::Error;
 use std::alloc::Global;
+use thiserror::Error;
 
 /// Why a command line asks for no run.
-#[derive(Drop)]
+#[derive(Debug, Drop, Error)]
 pub enum NotAsked {
-    /// `clap` doesn't take the words, or they ask for help: its own error, which is not printed yet.
-    Words(Error),
+    /// `clap` doesn't take the words, or they ask for help: its own error, which is not printed yet, and its text.
+    #[error(transparent)]
+    Words(clap::Error),
     /// What they ask for has a fault, whose line was printed as far as the desk takes it: the status, 1.
+    #[error("the command line asks for no run: status {0}")]
     Refused(u8),
 }
 

@@ -45,15 +45,21 @@ pub use laws::{
     whatever_becomes_of_both_some_strokes_were_made,
 };
 // what a run reads and writes beside its line
-pub use avr_desk::{Desk, DeskFault, MemDesk, SystemDesk};
+pub use avr_desk::{
+    Bytes, Desk, DeskFault, FailingDesk, MemDesk, Opening, Piece, Reading, Stream, SystemDesk,
+    Writing, print_error, print_information, print_warning, write_all,
+};
 // from settings to status, over any line
 pub use avr_emulated::drive_wired;
 pub use avr_net::{accept, listen};
-pub use avr_plan::{Plan, plan};
+pub use avr_plan::{Plan, Task, plan};
 pub use avr_session::drive;
 pub use of_port::{run_emu, run_net, serve, serve_net, serve_on};
 pub use program::{run_program, run_words};
 pub use running::{run, run_streams, run_wired};
+// parts, their chips and what is in their memories
+pub use avr_image::Image;
+pub use avr_part::{Chip, Mem, Part, PartFault, Parts};
 // lines
 pub use stk_emu::{Fate, Wired, noise_is_lawful};
-pub use stk_host::{Heard, Item, Link, LinkFault, StreamLink, TapeLink};
+pub use stk_host::{FailingLink, Heard, Item, Link, LinkFault, StreamLink, TapeLink};
