@@ -9,8 +9,9 @@
     proved      runs the scripts over the programs that rt ci leaves
 
 The scripts run one after the other, as some measure times. What fails hides nothing: all that follows is run, and
-the status is 1 at the end. The summary has the status of each, its minutes and its last line, and what was left out
-since a tool isn't installed; with NEED_ALL=1 in the environment that is a failure too.
+the status is 1 at the end. The summary has the status of each, its minutes and its last line, how the wrong bodies of
+rt ci were refused, and what was left out since a tool isn't installed; with NEED_ALL=1 in the environment that is a
+failure too.
 """
 
 import os
@@ -18,6 +19,7 @@ import re
 import subprocess
 import sys
 import time
+from collections import Counter
 from dataclasses import dataclass
 from pathlib import Path
 
@@ -28,26 +30,39 @@ PROVED = TOP / "crates/avrstk/out/avrstk"
 # the scripts beside this one, and one that counts calls of the system
 SCRIPTS = (
     *("avrdude", "build", "chips", "claims", "cuts_and_stalls", "faults", "from_c", "hostile", "lines", "made_frames"),
-    *("manual", "others", "parts", "programmer", "runs", "serial", "vendor", "why", "calls"),
+    *("manual", "mega", "others", "parts", "programmer", "runs", "serial", "vendor", "why", "calls"),
 )
 COMMANDS = {"calls": [TOP / "bench/run.py", "--calls"]}
 
 # those that need what rt ci alone leaves, or take long
-PROVED_ONLY = ("cuts_and_stalls", "faults", "from_c", "others")
+PROVED_ONLY = ("cuts_and_stalls", "faults", "from_c", "mega", "others")
 
 # what a script says of what it leaves out
 LEFT_OUT = re.compile(r"\s*(?:left out|skipped): (.*)")
 
+# what rt says of a wrong body that it refuses, and the kinds of it, the first that fits: rt cuts a line behind its
+# 160th character, so also in the middle of these words
+REFUSED = re.compile(r"(?:rt: )?must-fail \S+: refused, as it must be(.*)")
+REFUSALS = {
+    "contradicted by values": re.compile(r"; the f"),
+    "only by a limit": re.compile(r" \(only by a limit"),
+    "first at a written answer": re.compile(r" \(only because a proof file|: (note: )?(\./)?proofs/"),
+    "where the line of rt is cut before it says how": re.compile(r": .{160}$"),
+    "where a search found nothing or gave up": re.compile(""),
+}
+
 
 @dataclass
 class Done:
-    """What came of one command: what it is, its status, how long it took, its last line, and what it left out."""
+    """What came of one command: what it is, its status, how long it took, its last line, what it left out, and how many
+    wrong bodies were refused in which way."""
 
     what: str
     status: int
     seconds: float
     last: str
     left: list
+    refusals: Counter
 
 
 def run(what, command, **more):
@@ -68,7 +83,14 @@ def run(what, command, **more):
         print(text.decode(), flush=True)
     lines = [it for it in text.decode(errors="replace").splitlines() if it.strip()]
     left = [found[1] for found in map(LEFT_OUT.fullmatch, lines) if found]
-    return Done(what, status, time.monotonic() - begun, lines[-1].strip() if lines else "", left)
+    last = lines[-1].strip() if lines else ""
+    return Done(what, status, time.monotonic() - begun, last, left, refusals_in(lines))
+
+
+def refusals_in(lines):
+    """How many wrong bodies were refused in which way, by rt's lines."""
+    told = [found[1] for found in map(REFUSED.search, lines) if found]
+    return Counter(next(kind for kind, words in REFUSALS.items() if words.search(it)) for it in told)
 
 
 def scripts_over(name, program, scripts):
@@ -101,6 +123,10 @@ def summary(done):
     for it in done:
         how = "ok    " if it.status == 0 else f"FAILED ({it.status})"
         print(f"{how} {it.seconds / 60:5.1f} min  {it.what}: {it.last[:200]}")
+    refusals = sum((it.refusals for it in done), Counter())
+    if refusals:
+        told = ", ".join(f"{refusals[kind]} {kind}" for kind in REFUSALS if refusals[kind])
+        print(f"wrong bodies: {refusals.total()} refused, of these {told}")
     left = [f"{it.what}: {what}" for it in done for what in it.left]
     print(f"left out, since a tool is not installed: {len(left) or 'nothing'}")
     for what in left:

@@ -1,0 +1,250 @@
+#!/usr/bin/env python3
+"""A programmer that is not this project's own: the bootloader of the Arduino Mega 2560, as Debian's package has it, on
+an ATmega2560 of simavr (mega.c), behind `net:`.
+
+    tests/mega.py [CASE ..]    needs crates/avrstk/out/avrstk, as rt ci leaves it; cc, and the Debian packages
+                               libsimavr-dev and arduino-core-avr, or all is left out
+
+Flash is written and verified with -D, read, compared with another image and with the simulated chip's own flash; a
+byte is lost each way; a board whose application runs is reset by the connection; and what this bootloader does not do
+is asked for. A page is written here as it was given: that bits of flash only fall where a page was not erased is not
+simulated. Nor are locks and fuses, and no wire is.
+"""
+
+import random
+import shutil
+import socket
+import subprocess
+import sys
+import threading
+from pathlib import Path
+
+from cases import leave_out, named, run_cases, same, see
+from program import TOP, Room, lines
+
+HEX = Path("/usr/share/arduino/hardware/arduino/avr/bootloaders/stk500v2/stk500boot_v2_mega2560.hex")
+HEADER = Path("/usr/include/simavr/sim_avr.h")
+FLASH, BOOT, PAGE = 262_144, 0x3E000, 256
+SIGNATURE = "device signature = 1E 98 01"
+
+
+def drawn(seed, size):
+    source = random.Random(seed)
+    return bytes(source.randrange(255) for _ in range(size))
+
+
+def updates(*texts):
+    return [word for text in texts for word in ["-U", text]]
+
+
+class Board:
+    """The board, whose flash outside the boot section has this content, at a port of its own."""
+
+    def __init__(self, content=b""):
+        self.room = Room()
+        self.room.put("flash.bin", content + b"\xff" * (FLASH - len(content)))
+        built = self.room.folder / "mega"
+        subprocess.run(["cc", "-O2", "-o", built, TOP / "tests/mega.c", "-lsimavr"], check=True)
+        how = {"stdout": subprocess.PIPE, "stderr": subprocess.DEVNULL, "cwd": self.room.folder}
+        self.started = subprocess.Popen([built, HEX, "flash.bin"], **how)
+        self.port = int(self.started.stdout.readline())
+
+    def __enter__(self):
+        return self
+
+    def __exit__(self, *_):
+        self.started.kill()
+        self.started.communicate()
+
+    def run(self, words, port=None):
+        """The status and messages of a run over the board, once its flash is saved."""
+        words = ["-c", "stk500v2", "-p", "m2560", "-P", f"net:127.0.0.1:{port or self.port}", *words]
+        with self.room.start(words) as started:
+            _, messages = started.communicate(timeout=240)
+        self.started.stdout.readline()
+        return started.returncode, messages
+
+    def flash(self):
+        return self.room.read("flash.bin")
+
+    def holds(self, what, application):
+        """The flash below the boot section is this and erased behind it, and the boot section is the bootloader's."""
+        flash = self.flash()
+        wanted = application + b"\xff" * (BOOT - len(application))
+        differ = [at for at in range(BOOT) if flash[at] != wanted[at]]
+        see(f"{what}: the chip's flash", not differ, f"{len(differ)} bytes differ, at {differ[:8]}")
+        same(f"{what}: the chip's boot section", flash[BOOT:], bootloader())
+
+
+def bootloader():
+    """The boot section as the hex file has it."""
+    section, base = bytearray(b"\xff" * (FLASH - BOOT)), 0
+    for line in HEX.read_text().split():
+        record = bytes.fromhex(line[1:])
+        size, at, kind, data = record[0], int.from_bytes(record[1:3], "big"), record[3], record[4:-1]
+        if kind == 2:
+            base = int.from_bytes(data, "big") * 16
+        if kind == 0:
+            section[base + at - BOOT : base + at - BOOT + size] = data
+    return bytes(section)
+
+
+class LosingLine:
+    """A line to the board that loses one byte, the nth from 0 of those that go up to it, or come down from it."""
+
+    def __init__(self, port, way, place):
+        self.way, self.place, self.lost = way, place, None
+        self.listener = socket.create_server(("127.0.0.1", 0))
+        self.port = self.listener.getsockname()[1]
+        threading.Thread(target=self.meet, args=(port,), daemon=True).start()
+
+    def meet(self, port):
+        caller, _ = self.listener.accept()
+        board = socket.create_connection(("127.0.0.1", port))
+        for it in (caller, board):
+            it.setsockopt(socket.IPPROTO_TCP, socket.TCP_NODELAY, 1)
+        threading.Thread(target=self.pass_on, args=(board, caller, "down"), daemon=True).start()
+        self.pass_on(caller, board, "up")
+
+    def pass_on(self, giver, taker, way):
+        count = 0
+        try:
+            while piece := giver.recv(4096):
+                at = self.place - count
+                count += len(piece)
+                if way == self.way and 0 <= at < len(piece):
+                    self.lost = piece[at]
+                    piece = piece[:at] + piece[at + 1 :]
+                taker.sendall(piece)
+            taker.shutdown(socket.SHUT_WR)
+        except OSError:
+            pass
+
+
+def written_and_read():
+    """Across 64 KiB and 128 KiB: written, verified, and read as the chip has it."""
+    image = drawn("image", 140_000)
+    with Board() as board:
+        board.room.put("image.bin", image)
+        ended = board.run(["-D", *updates("flash:w:image.bin:r")])
+        texts = [SIGNATURE, "flash: 140000 bytes written", "flash: 140000 bytes verified", "done"]
+        same("written", ended, (0, lines(*texts)))
+        board.holds("written", image)
+        ended = board.run(updates("flash:r:back.bin:r"))
+        wanted = board.flash().rstrip(b"\xff")
+        same("read", ended, (0, lines(SIGNATURE, f"flash: {len(wanted)} bytes read", "done")))
+        same("what was read", board.room.read("back.bin"), wanted)
+
+
+def another_image():
+    """A comparison that fails says where, and a run that fails leaves the flash; its application ran before."""
+    image = drawn("small", 1_000)
+    with Board(image) as board:
+        board.room.put("other.bin", image[:700] + bytes([image[700] ^ 1]) + image[701:])
+        text = f"error: flash: address {700:08X}: {image[700] ^ 1:02X} expected, {image[700]:02X} found"
+        ended = board.run(updates("flash:v:other.bin:r"))
+        same("another image", ended, (1, lines(SIGNATURE, text)))
+        board.holds("another image", image)
+
+
+def lost_bytes():
+    """Bytes of an opening, of a page and of its answer, each lost in a run of its own; the run repeats the command."""
+    image = drawn("small", 1_000)
+    for way, place in [("up", 4), ("up", 300), ("down", 3), ("down", 80)]:
+        with Board() as board:
+            board.room.put("image.bin", image)
+            line = LosingLine(board.port, way, place)
+            ended = board.run(["-D", "-V", *updates("flash:w:image.bin:r")], line.port)
+            what = f"byte {place} {way} is lost"
+            same(what, ended, (0, lines(SIGNATURE, "flash: 1000 bytes written", "done")))
+            see(f"{what}: it was", line.lost is not None)
+            board.holds(what, image)
+
+
+def reset_by_the_connection():
+    """The application runs behind each run; the connection of the next one brings the bootloader back."""
+    with Board() as board:
+        for seed in ["first", "second", "third"]:
+            image = drawn(seed, 1_024)
+            board.room.put("image.bin", image)
+            ended = board.run(["-D", "-V", *updates("flash:w:image.bin:r")])
+            same(f"reset, {seed}", ended, (0, lines(SIGNATURE, "flash: 1024 bytes written", "done")))
+            board.holds(f"reset, {seed}", image)
+
+
+def erased_from_the_front():
+    """With each page that is written, the bootloader erases one, from address 0 on, whichever page it is; so an image
+    that begins further behind costs what stands at the front, and a page that is sent again costs the one behind."""
+    image, old = drawn("small", 1_024), bytes(0x2000)
+    with Board(old) as board:
+        board.room.put("behind.hex", records(0x1000, image))
+        ended = board.run(["-D", "-V", *updates("flash:w:behind.hex:i")])
+        same("an image behind", ended, (0, lines(SIGNATURE, "flash: 1024 bytes written", "done")))
+        board.holds("an image behind", b"\xff" * 1_024 + old[1_024:0x1000] + image + old[0x1400:])
+    with Board(old) as board:
+        board.room.put("image.bin", image)
+        line = LosingLine(board.port, "down", 80)
+        ended = board.run(["-D", "-V", *updates("flash:w:image.bin:r")], line.port)
+        same("a page sent again", ended, (0, lines(SIGNATURE, "flash: 1024 bytes written", "done")))
+        board.holds("a page sent again", image + b"\xff" * PAGE + old[1_024 + PAGE :])
+
+
+def records(base, content):
+    """Content at an address below 64 KiB, as Intel HEX."""
+    rows = [(base + at, 0, content[at : at + 16]) for at in range(0, len(content), 16)] + [(0, 1, b"")]
+    texts = []
+    for at, kind, data in rows:
+        record = bytes([len(data), at >> 8, at & 0xFF, kind]) + data
+        texts.append(f":{record.hex().upper()}{-sum(record) & 0xFF:02X}\n")
+    return "".join(texts).encode()
+
+
+def eeprom():
+    """The first 256 bytes of EEPROM are verified; of more, the bootloader reads the wrong ones, as it takes the address
+    of a byte for that of a word."""
+    with Board() as board:
+        board.room.put("short.bin", drawn("short", 256))
+        ended = board.run(["-D", *updates("eeprom:w:short.bin:r")])
+        texts = [SIGNATURE, "eeprom: 256 bytes written", "eeprom: 256 bytes verified", "done"]
+        same("EEPROM of 256 bytes", ended, (0, lines(*texts)))
+        board.room.put("long.bin", drawn("long", 600))
+        status, messages = board.run(["-D", *updates("eeprom:w:long.bin:r")])
+        front = lines(SIGNATURE, "eeprom: 600 bytes written") + b"avrstk: error: eeprom: address 00000100: "
+        same("EEPROM of 600 bytes", (status, messages[: len(front)]), (1, front))
+
+
+def refused():
+    """What this bootloader does not do ends the run, and leaves the flash."""
+    image = drawn("small", 1_000)
+    asked = {
+        "an erase": (["-e"], "12"),
+        "flash without -D": (updates("flash:w:image.bin:r"), "12"),
+        "a fuse": (["-D", *updates("lfuse:w:0xFF:m")], "17"),
+        "the calibration": (updates("calibration:r:-:h"), "1C"),
+    }
+    with Board(image) as board:
+        board.room.put("image.bin", drawn("another", 1_000))
+        for what, (words, command) in asked.items():
+            text = f"error: command {command} refused with status C0"
+            same(what, board.run(words), (1, lines(SIGNATURE, text)))
+            board.holds(what, image)
+
+
+CASES = named(
+    *(written_and_read, another_image, lost_bytes, reset_by_the_connection),
+    *(erased_from_the_front, eeprom, refused),
+)
+
+
+def main():
+    missing = [str(it) for it in (HEX, HEADER) if not it.exists()]
+    if shutil.which("cc") is None:
+        missing.append("cc")
+    if missing:
+        leave_out("the bootloader of a board on simavr", f"{' and '.join(missing)} is not installed")
+        return run_cases({}, __doc__)
+    return run_cases(CASES, __doc__)
+
+
+if __name__ == "__main__":
+    sys.exit(main())
