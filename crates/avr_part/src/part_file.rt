@@ -20,7 +20,9 @@ fn judge_all(alloc: Global, table: &Table) -> Result<Vec<Part>, PartFileFault>
     let mut parts = Vec::new(alloc);
     for (key, value) in table {
         let part = judge_member(key.as_str(), value)?;
-        parts.push(part).map_err(|_| PartFileFault::of_file(PartFault::Memory))?;
+        parts
+            .push(part)
+            .map_err(|_| PartFileFault::of_file(PartFault::Memory))?;
     }
     Ok(parts)
 }

@@ -2,4 +2,3 @@ pub mod Bits
 pub mod Maps
 pub mod RoundTrip
 pub mod Rows
-pub mod Texts

@@ -7,7 +7,6 @@ use crate::bitmap::{image_of, is_bitmap_of};
 use crate::numbers::kind_numbered;
 use crate::outcome::MISFIT;
 use crate::piece::Piece;
-use arrayvec::ArrayVec;
 use avr_image::{Image, Pieces};
 use avr_records::{IhexImageWriter, Kind, RecordFault, SrecImageWriter};
 use std::alloc::{AllocError, Global};
@@ -23,27 +22,13 @@ fn asked_write(kind: u8, size: usize, present: usize) -> Option<Kind>
     }
 }
 
-/// All that a writer has to give.
-#[tactic(auto, using(crate::proofs::Texts::goes_on, crate::proofs::Texts::is_whole))]
-fn joined<P: Pieces + Drop>(alloc: Global, pieces: P) -> Result<Vec<u8>, AllocError>
-    ensures { IfOk result (λ text. text.items ≡ P.rest pieces) }
-{
-    let mut pieces = pieces;
-    let mut text = Vec::new(alloc);
-    let mut piece = ArrayVec::new();
-    'pieces: while pieces.next_piece(&mut piece) {
-        text.extend_from_slice(piece.as_slice())?;
-    }
-    Ok(text)
-}
-
 /// The record file of an image.
 fn image_text(alloc: Global, kind: Kind, image: &Image) -> Result<Vec<u8>, AllocError>
     ensures { IfOk result (λ text. text.items ≡ image_text kind image.now) }
 {
     match kind {
-        Kind::Ihex => joined(alloc, IhexImageWriter::new(image)),
-        Kind::Srec => joined(alloc, SrecImageWriter::new(image)),
+        Kind::Ihex => IhexImageWriter::new(image).to_vec(alloc),
+        Kind::Srec => SrecImageWriter::new(image).to_vec(alloc),
     }
 }
 
