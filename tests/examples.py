@@ -3,9 +3,9 @@
 
     tests/examples.py [CRATE ..]        needs `rt`
 
-The fenced blocks of the comments (`///`) of a crate become one crate of tests in a repository of its own, with the crate
-and all that it stands on: a function each, which has `rt` and `alloc` and may leave by `?`. A block sees what the crate
-exports. Nothing is proved; the proofs of these crates are the gate's.
+The fenced blocks of the comments (`///`) of a crate become one crate of tests in a repository of its own, with the
+crate and all that it stands on: a function each, which has `rt` and `alloc` and may leave by `?`. A block sees what the
+crate exports. Nothing is proved; the proofs of these crates are the gate's.
 """
 
 import re
@@ -77,7 +77,8 @@ def examples_of(crate):
         (folder / "crates/doc_examples/specs/Lib.antt").write_text("")
         source, places = crate_of_tests(crate)
         (folder / "crates/doc_examples/src/lib.rt").write_text(source)
-        ran = subprocess.run(["rt", "try", "--test"], cwd=folder / "crates/doc_examples", capture_output=True, text=True)
+        how = {"cwd": folder / "crates/doc_examples", "capture_output": True, "text": True}
+        ran = subprocess.run(["rt", "try", "--test"], **how)
         text = ran.stdout + ran.stderr
         found = re.search(r"test result: \w+\. (\d+) passed", text)
         see(f"{crate}: has examples", places)
