@@ -84,8 +84,8 @@ uint8_t avr_records_detect(const uint8_t *front, size_t length);
  * and into its bitmap. Start addresses and the headers of S-records (S0) are dropped. After a fault bytes and bitmap
  * are as they were.
  *
- * AVR_RECORDS_MISFIT: a number that no format has; a file or a memory of 2 to the power 32 bytes or more; a bitmap
- * that doesn't have AVR_RECORDS_BITMAP(size) octets. AVR_RECORDS_NO_RECORDS, where all these are right: AVR_RECORDS_RAW or
+ * AVR_RECORDS_MISFIT: a number that no format has; a file or a memory of 2 to the power 32 bytes or more; a bitmap that
+ * doesn't have AVR_RECORDS_BITMAP(size) octets. AVR_RECORDS_NO_RECORDS, where all these are right: AVR_RECORDS_RAW or
  * _ELF, so that what avr_records_detect tells of a file can be handed on as it is.
  */
 struct avr_records_outcome avr_records_read(uint8_t format, const uint8_t *file, size_t length,
