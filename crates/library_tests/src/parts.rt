@@ -20,10 +20,8 @@ fn obeys(rt: &impl Abort, chip: &mut Chip, rows: &[([u8; 4], [u8; 4])]) {
 
 /// The fault of a part file.
 fn fault_of(alloc: Global, text: &[u8]) -> Option<PartFault> {
-    match parse_parts(alloc, text) {
-        Ok(_) => None,
-        Err(refused) => Some(refused.fault()),
-    }
+    let refused = parse_parts(alloc, text).err()?;
+    Some(refused.fault())
 }
 
 #[test]
