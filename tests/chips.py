@@ -238,12 +238,14 @@ def no_regular_file():
     room.clear()
     os.mkfifo(room.folder / "pipe")
     started = room.start(["-p", "m328p", "-P", "emu:pipe", "-U", "lfuse:w:0x62:m"])
-    feeding = threading.Thread(target=(room.folder / "pipe").write_bytes, args=(OLD,))
-    feeding.start()
-    feeding.join(30)
-    see("what it is given back", (room.folder / "pipe").read_bytes() == with_fuse(OLD, 0x62))
+    # (an end to read from is there before the chip is, as the run doesn't wait for one)
+    with open(room.folder / "pipe", "wb") as given:
+        back = os.open(room.folder / "pipe", os.O_RDONLY | os.O_NONBLOCK)
+        given.write(OLD)
     messages = started.communicate(timeout=60)[1]
     same("the run", (started.returncode, messages.splitlines()[-1]), (0, b"avrstk: done"))
+    with open(back, "rb") as it:
+        see("what it is given back", it.read() == with_fuse(OLD, 0x62))
 
 
 def a_full_disk():
