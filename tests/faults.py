@@ -128,7 +128,7 @@ class Sweep:
             lines += [f"{line}\navrstk: error: out of memory" for line in lines]
         # (the line is whole, unless it was a message that couldn't be written)
         is_told = any(is_front_and_line(messages, self.sound[2], line, kind == "write") for line in lines)
-        is_chip = chip in (self.old, self.sound[3])
+        is_chip = chip in (self.old, self.sound[3]) or is_on_its_way(self.old, chip, self.sound[3])
         is_front = read_file is None or (self.sound[4] or b"").startswith(read_file)
         return status == 1 and self.sound[1].startswith(output) and is_told and is_chip and is_front
 
@@ -226,6 +226,14 @@ class Tests:
         environment = os.environ | {"LD_PRELOAD": str(self.shim), "REFUSE": refused, "REFUSED": "refused"}
         how = {"stdin": subprocess.DEVNULL, "capture_output": True, "cwd": self.room.folder, "timeout": 60}
         return subprocess.run([self.program, name], env=environment, **how), self.room.read("refused") is not None
+
+
+def is_on_its_way(old, chip, end):
+    """Whether a chip is whole and as a run leaves it that was broken off: each byte is the old one, an erased one, or
+    that of the run's end."""
+    if old is None or chip is None or len(chip) != len(old):
+        return False
+    return all(now in (was, 0xFF, then) for was, now, then in zip(old, chip, end))
 
 
 ALL = [*FAULTS, *HARMLESS]
