@@ -5,13 +5,14 @@ what it asks of sockets.
     tests/faults.py [CASE ..]        needs crates/avrstk/out/avrstk and the tests of two crates, as rt ci leaves them,
                                      and a C compiler (tests/refuse.c), or all is left out
 
-The runs over the emulator begin with a chip that has something to lose, and its file has to be as it was or as the
-sound run leaves it, whole. For every run below and every kind of call the nth is refused, for n from 1 upwards until a run meets no refusal; of the
-requests for memory also the nth and all after it. What was sent and said has to be a front of what the sound run sends and
-says, and then the line of that fault, with the name of the file that the call was for (a front of it where a message
-couldn't be written), with status 1; or all that the sound run sends and says, with its status, where what was refused
-wasn't needed. A read or a write that a signal breaks off, or that moves one byte alone, and a file that says a failure
-where it is closed, have to change nothing.
+The runs over the emulator begin with a chip that has something to lose, and its file has to be whole, and as it was or
+as the run leaves it: each byte the old one, an erased one, or that of the sound run's end. For every run below and every
+kind of call the nth is refused, for n from 1 upwards until a run meets no refusal; of the requests for memory also the
+nth and all after it. What was sent and said has to be a front of what the sound run sends and says, and then the line of
+that fault, with the name of the file that the call was for (a front of it where a message couldn't be written), with
+status 1; or all that the sound run sends and says, with its status, where what was refused wasn't needed. A read or a
+write that a signal breaks off, or that moves one byte alone, and a file that says a failure where it is closed, have to
+change nothing.
 The crates' own devices in memory meet refused growths in their tests, which may fail there, but have to end.
 """
 
