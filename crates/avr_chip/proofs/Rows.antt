@@ -1,6 +1,6 @@
 -- Worked outcomes of holding and saving that their contracts refuse.
-use Rattle.std.proofs.Common.{◌≡◌, ◌≤◌, refl, ap, ℕ, [], length, Option, Some, None, Ok, Err, inl, inr, arith}
-use Rattle.avr_desk.specs.Fault.{HasRisen}
+use Rattle.std.proofs.Common.{◌≡◌, ◌≤◌, refl, ap, ℕ, [], length, Ok, Err, inl, inr, arith}
+use Rattle.ghosts.specs.Failures.{HasRisen}
 use Rattle.avr_desk.specs.Record.{Bytes, DeskView, Record, Passes, after_err, nothing_kept, showing, with_held, with_replaced}
 use Rattle.avr_chip.specs.Holding as holding
 use Rattle.avr_chip.specs.Holding.{Holds}
@@ -9,22 +9,20 @@ use Rattle.avr_chip.specs.Saving.{Saves}
 
 -- a desk that was asked for nothing and never failed, and one that shows this and has failed so often
 abbrev begun : DeskView
-begun = showing (Some nothing_kept) 0 0
+begun = showing nothing_kept 0 0
 
 abbrev now : Record → ℕ → DeskView
-now r failures = showing (Some r) failures 0
+now r failures = showing r failures 0
 
 no_rise : (n : ℕ) → HasRisen 0 n → n ≤ 0 → ⊥
 no_rise n (inl more) le = omega (arith, more, le)
-no_rise n (inr last) le = omega (arith, last, le)
+no_rise n (inr last) le = omega (arith, last.0)
 
-abbrev denials : Option Record → ℕ
-denials None = 0
-denials (Some r) = length r.denied
+abbrev denials : Record → ℕ
+denials r = length r.denied
 
-abbrev file_count : Option Record → ℕ
-file_count None = 0
-file_count (Some r) = length r.files
+abbrev file_count : Record → ℕ
+file_count r = length r.files
 
 -- that a file is in use, told of a desk that was not asked
 unasked : (file told : Bytes) (trouble : holding.HoldingTrouble) (after : DeskView)

@@ -2,6 +2,7 @@
 ghost use Rattle.std.specs.Prelude.{◌≡◌, IfOk};
 ghost use Rattle.avr_desk.specs.Fault.{Follows};
 ghost use Rattle.avr_chip.specs.Holding.{Holds, HoldsAndLoads};
+ghost use Rattle.ghosts.specs.Stays.{Stays};
 
 use crate::loading::load_chip;
 use crate::messages::in_use_message;
@@ -13,6 +14,7 @@ use std::alloc::Global;
 fn hold_file<D: Desk>(file: &str, desk: &mut D) -> Result<(), u8>
     ensures holds { Holds (D.view desk.old) (D.view desk.new) file.now result }
     ensures rises { Follows (D.view desk.old) (D.view desk.new) }
+    ensures stays { Stays D.comes_of desk.old desk.new }
 {
     match desk.hold(file) {
         Ok(true) => Ok(()),
@@ -31,6 +33,7 @@ pub fn hold_chip<D: Desk>(alloc: Global, part: &Part, file: &str, desk: &mut D) 
     ensures loads { HoldsAndLoads part.now file.now (D.view desk.old) (D.view desk.new) result }
     ensures part { IfOk result (λ c. c.part ≡ part.now) }
     ensures rises { Follows (D.view desk.old) (D.view desk.new) }
+    ensures stays { Stays D.comes_of desk.old desk.new }
 {
     if let Err(status) = hold_file(file, desk) {
         return Err(status);

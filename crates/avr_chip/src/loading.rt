@@ -8,6 +8,7 @@ ghost use Rattle.avr_part.specs.State.{fresh_state};
 ghost use Rattle.avr_desk.specs.Playing.{Goes};
 ghost use Rattle.avr_desk.specs.Stage.{verdict_stage};
 ghost use Rattle.avr_chip.specs.Loading.{chip_or_line, chip_stage};
+ghost use Rattle.ghosts.specs.Stays.{Stays};
 
 use crate::messages::length_message;
 use avr_desk::{
@@ -30,6 +31,7 @@ fn file_size(part: &Part) -> u32
 fn fresh_chip<D: Desk>(alloc: Global, part: &Part, desk: &mut D) -> Result<Chip, u8>
     ensures goes { Goes (verdict_stage (Ok (fresh_state part.now))) (D.view desk.old) (D.view desk.new) result }
     ensures part { IfOk result (λ c. c.part ≡ part.now) }
+    ensures stays { Stays D.comes_of desk.old desk.new }
 {
     match Chip::fresh(alloc, part.copied()) {
         Ok(chip) => Ok(chip),
@@ -49,6 +51,7 @@ fn chip_of<D: Desk>(
     ensures goes { Goes (verdict_stage (chip_or_line part.now file.now bytes.now)) (D.view desk.old) (D.view desk.new)
         result }
     ensures part { IfOk result (λ c. c.part ≡ part.now) }
+    ensures stays { Stays D.comes_of desk.old desk.new }
 {
     match Chip::from_bytes(alloc, part.copied(), bytes) {
         Ok(chip) => Ok(chip),
@@ -74,6 +77,7 @@ fn unread_chip<D: Desk>(
         → IsCounted old (D.view desk.old) fault
         → Goes (chip_stage part.now file.now) old (D.view desk.new) result }
     ensures part { IfOk result (λ c. c.part ≡ part.now) }
+    ensures stays { Stays D.comes_of desk.old desk.new }
 {
     match fault {
         FileFault::Absent => fresh_chip(alloc, part, desk),
@@ -91,6 +95,7 @@ fn unread_chip<D: Desk>(
 pub fn load_chip<D: Desk>(alloc: Global, part: &Part, file: &str, desk: &mut D) -> Result<Chip, u8>
     ensures goes { Goes (chip_stage part.now file.now) (D.view desk.old) (D.view desk.new) result }
     ensures part { IfOk result (λ c. c.part ≡ part.now) }
+    ensures stays { Stays D.comes_of desk.old desk.new }
 {
     let contents = match read_file(alloc, desk, file, LIMIT) {
         Ok(contents) => contents,

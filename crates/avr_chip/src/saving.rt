@@ -2,6 +2,7 @@
 ghost use Rattle.avr_desk.specs.Fault.{Follows};
 ghost use Rattle.avr_part.specs.ChipFile.{chip_file};
 ghost use Rattle.avr_chip.specs.Saving.{Saves};
+ghost use Rattle.ghosts.specs.Stays.{Stays};
 
 use avr_desk::{Desk, memory_message, not_written_message, refuse};
 use avr_part::Chip;
@@ -11,6 +12,7 @@ use std::alloc::Global;
 fn save_bytes<D: Desk>(file: &str, bytes: &[u8], desk: &mut D) -> Result<(), u8>
     ensures saves { Saves (D.view desk.old) (D.view desk.new) file.now bytes.now result }
     ensures rises { Follows (D.view desk.old) (D.view desk.new) }
+    ensures stays { Stays D.comes_of desk.old desk.new }
 {
     match desk.replace(file, bytes) {
         Ok(()) => Ok(()),
@@ -29,6 +31,7 @@ fn save_bytes<D: Desk>(file: &str, bytes: &[u8], desk: &mut D) -> Result<(), u8>
 pub fn save_chip<D: Desk>(alloc: Global, chip: &Chip, file: &str, desk: &mut D) -> Result<(), u8>
     ensures saves { Saves (D.view desk.old) (D.view desk.new) file.now (chip_file chip.now) result }
     ensures rises { Follows (D.view desk.old) (D.view desk.new) }
+    ensures stays { Stays D.comes_of desk.old desk.new }
 {
     match chip.to_bytes(alloc) {
         Ok(bytes) => save_bytes(file, bytes.as_slice(), desk),

@@ -1,7 +1,7 @@
 -- What is told where a stage broke off, by what a desk shows.
-use Rattle.std.proofs.Common.{◌≡◌, ◌∙◌, sym, ap, subst, refl, ℕ, ◌⊎◌, inl, inr, List, [], ◌∷◌, ◌++◌, drop, append-nil, append_assoc, Option, Some, option_map, Result, Ok, Err, true, false}
+use Rattle.std.proofs.Common.{◌≡◌, ◌∙◌, sym, ap, subst, refl, ℕ, ◌⊎◌, inl, inr, List, [], ◌∷◌, ◌++◌, drop, append-nil, append_assoc, Result, Ok, Err, true, false}
 use Rattle.std.proofs.lemmas.List.{append_cancel_left}
-use Rattle.avr_desk.specs.Fault.{HasFailed, HasRisen}
+use Rattle.ghosts.specs.Failures.{HasStood}
 use Rattle.avr_desk.specs.Record.{DeskView, Record, showing, all_openings, opening_of, after_err, written_on, Bytes}
 use Rattle.avr_desk.specs.declared.record.Open.{Open}
 use Rattle.avr_desk.specs.declared.record.Open.TheVariants.{Closed, ToRead, ToWrite}
@@ -9,9 +9,9 @@ use Rattle.avr_desk.specs.declared.record.Opening.{Opening}
 use Rattle.avr_desk.specs.declared.record.Opening.TheVariants.{Absent, Found}
 use Rattle.avr_desk.specs.declared.record.Reading.{Reading}
 use Rattle.avr_desk.specs.Lines.{memory_line, not_opened_line}
-use Rattle.avr_desk.specs.Said.{Saying, Opens, Line, Creates, Writes, Outs, TellsLine, TellsFailure, after, after_all}
+use Rattle.avr_desk.specs.Said.{Saying, Opens, Line, Creates, Writes, Outs, TellsLine, TellsFailure, after, after_all, openings_in}
 use Rattle.avr_desk.proofs.Saying.{after_append}
-use Rattle.avr_desk.proofs.Telling.{failed_before}
+use Rattle.avr_desk.proofs.Telling.{follows_here, not_failed}
 use Rattle.avr_desk.specs.Playing.{Went, Break, InLine, NotOpened, NotRead, NoMemory, NoMemoryFor, last_done, IsBreak, TellsBreak, StageBrokeOff, Goes, part_read}
 use Rattle.avr_desk.specs.Stage.{Stage, Made, Refused, StageResult, ◌>>=◌, content_stage, next_opening, file_stage}
 use Rattle.avr_desk.proofs.Played.{says_more}
@@ -21,7 +21,7 @@ use Rattle.avr_desk.proofs.Played.{says_more}
 -- a line told stands at the end of the messages
 told_last : (before after : Record) (said last : List Saying) (told line : Bytes) → told ≡ line
     → ((r : Record) → (after_all last r).messages ≡ r.messages ++ told)
-    → ◌≡◌ {A = Option Record} (Some after) (Some (after_all (said ++ last) before)) → (front : Bytes) × (after.messages ≡ front ++ line)
+    → after ≡ after_all (said ++ last) before → (front : Bytes) × (after.messages ≡ front ++ line)
 told_last before after said last told line whole ends kept =
     let same : after ≡ after_all (said ++ last) before = cc in (
       (after_all said before).messages,
@@ -30,27 +30,27 @@ told_last before after said last told line whole ends kept =
     )
 
 -- of a desk that did not fail a line was told whole
-whole_line : (line told : Bytes) (old new : DeskView) → (HasFailed old new → ⊥) → TellsLine line told old new → told ≡ line
+whole_line : (line told : Bytes) (old new : DeskView) → HasStood old.failures new.failures → TellsLine line told old new → told ≡ line
 whole_line line told old new sound (inl whole) = whole.0
-whole_line line told old new sound (inr part) = absurd (sound part.1.0)
+whole_line line told old new sound (inr part) = absurd (not_failed old old new new (follows_here old) (follows_here new) sound part.1.0)
 
 -- and of the breaks only the want of memory is left
-broke_lacks : {A : Type 0} (stage : Stage A) (before after : Record) (k l m n : ℕ) → (HasRisen k l → ⊥) → (b : StageBrokeOff stage (showing (Some before) k m) (showing (Some after) l n))
+broke_lacks : {A : Type 0} (stage : Stage A) (before after : Record) (k l m n : ℕ) → HasStood k l → (b : StageBrokeOff stage (showing before k m) (showing after l n))
     → (front : Bytes) × (after.messages ≡ front ++ memory_line)
 broke_lacks stage before after k l m n sound b = by_break b.break b.told b.tells b.kept
   where
     old : DeskView
-    old = showing (Some before) k m
+    old = showing before k m
 
     new : DeskView
-    new = showing (Some after) l n
+    new = showing after l n
 
     by_break : (break : Break) (told : Bytes) → TellsBreak break told old new
-        → ◌≡◌ {A = Option Record} (Some after) (option_map (after_all (b.whole ++ last_done break told)) (Some before))
+        → after ≡ after_all (b.whole ++ last_done break told) before
         → (front : Bytes) × (after.messages ≡ front ++ memory_line)
-    by_break (InLine line) told tells kept = absurd (sound tells.1.0)
-    by_break (NotOpened name) told tells kept = absurd (sound (failed_before old tells.between new tells.since tells.until tells.failed.0))
-    by_break (NotRead name bytes) told tells kept = absurd (sound (failed_before old tells.between new tells.since tells.until tells.failed.0))
+    by_break (InLine line) told tells kept = absurd (not_failed old old new new (follows_here old) (follows_here new) sound tells.1.0)
+    by_break (NotOpened name) told tells kept = absurd (not_failed old old tells.between new (follows_here old) tells.until sound tells.failed.0)
+    by_break (NotRead name bytes) told tells kept = absurd (not_failed old old tells.between new (follows_here old) tells.until sound tells.failed.0)
     by_break NoMemory told tells kept =
         told_last before after b.whole (Line told ∷ []) told memory_line (whole_line memory_line told old new sound tells) (λ r. refl) kept
     by_break (NoMemoryFor reading) told tells kept =
@@ -58,22 +58,14 @@ broke_lacks stage before after k l m n sound b = by_break b.break b.told b.tells
         (λ r. refl) kept
 
 -- So a status other than that of a plan is the refusal that the stage says.
-pub sound_refusal : {A : Type 0} (stage : Stage A) (before after : Record) (k l m n status : ℕ) → (HasRisen k l → ⊥)
-    → ((front : Bytes) → after.messages ≡ front ++ memory_line → ⊥) → Goes stage (showing (Some before) k m) (showing (Some after) l n) (Err status)
-    → Went stage (showing (Some before) k m) (showing (Some after) l n) Refused
+pub sound_refusal : {A : Type 0} (stage : Stage A) (before after : Record) (k l m n status : ℕ) → HasStood k l
+    → ((front : Bytes) → after.messages ≡ front ++ memory_line → ⊥) → Goes stage (showing before k m) (showing after l n) (Err status)
+    → Went stage (showing before k m) (showing after l n) Refused
 sound_refusal stage before after k l m n status sound has_memory (one, inl went) = went
 sound_refusal stage before after k l m n status sound has_memory (one, inr broke) =
     let lacks = broke_lacks stage before after k l m n sound broke in absurd (has_memory lacks.0 lacks.1)
 
 -- ---- where the desk shows no file that was opened
-
-abbrev opened_in : List Saying → List Opening
-opened_in [] = []
-opened_in (Opens opening ∷ sayings) = opening ∷ opened_in sayings
-opened_in (Line bytes ∷ sayings) = opened_in sayings
-opened_in (Creates name ∷ sayings) = opened_in sayings
-opened_in (Writes bytes ∷ sayings) = opened_in sayings
-opened_in (Outs bytes ∷ sayings) = opened_in sayings
 
 written_openings : (bytes : Bytes) (o : Open) → opening_of (written_on bytes o) ≡ opening_of o
 written_openings bytes Closed = refl
@@ -88,30 +80,30 @@ none_more : (shown now more all : List Opening) → now ≡ shown → all ≡ no
 none_more shown now more all same is = is ∙ ap (λ (os : List Opening). os ++ more) same
 
 -- each opening is shown
-openings_shown : (sayings : List Saying) (r : Record) → all_openings (after_all sayings r) ≡ all_openings r ++ opened_in sayings
+pub openings_shown : (sayings : List Saying) (r : Record) → all_openings (after_all sayings r) ≡ all_openings r ++ openings_in sayings
 openings_shown [] r = sym (append-nil (all_openings r))
 openings_shown (Opens (Absent name) ∷ sayings) r =
     let now = after (Opens (Absent name)) r in
-    one_more (all_openings r) (all_openings now) (opened_in sayings) (Absent name) (all_openings (after_all sayings now)) (append-nil _) (openings_shown sayings now)
+    one_more (all_openings r) (all_openings now) (openings_in sayings) (Absent name) (all_openings (after_all sayings now)) (append-nil _) (openings_shown sayings now)
 openings_shown (Opens (Found reading) ∷ sayings) r =
     let now = after (Opens (Found reading)) r in
-    one_more (all_openings r) (all_openings now) (opened_in sayings) (Found reading) (all_openings (after_all sayings now)) refl (openings_shown sayings now)
+    one_more (all_openings r) (all_openings now) (openings_in sayings) (Found reading) (all_openings (after_all sayings now)) refl (openings_shown sayings now)
 openings_shown (Line bytes ∷ sayings) r = openings_shown sayings (after (Line bytes) r)
 openings_shown (Creates name ∷ sayings) r =
     let now = after (Creates name) r in
-    none_more (all_openings r) (all_openings now) (opened_in sayings) (all_openings (after_all sayings now)) (append-nil (all_openings r)) (openings_shown sayings now)
+    none_more (all_openings r) (all_openings now) (openings_in sayings) (all_openings (after_all sayings now)) (append-nil (all_openings r)) (openings_shown sayings now)
 openings_shown (Writes bytes ∷ sayings) r =
     let now = after (Writes bytes) r in
-    none_more (all_openings r) (all_openings now) (opened_in sayings) (all_openings (after_all sayings now))
+    none_more (all_openings r) (all_openings now) (openings_in sayings) (all_openings (after_all sayings now))
     (ap (λ (os : List Opening). r.openings ++ os) (written_openings bytes r.current)) (openings_shown sayings now)
 openings_shown (Outs bytes ∷ sayings) r = openings_shown sayings (after (Outs bytes) r)
 
 -- so the same record shows the same openings
-same_openings : (first second : List Saying) (r : Record) → ◌≡◌ {A = Option Record} (Some (after_all first r)) (Some (after_all second r))
-    → opened_in first ≡ opened_in second
+same_openings : (first second : List Saying) (r : Record) → after_all first r ≡ after_all second r
+    → openings_in first ≡ openings_in second
 same_openings first second r kept =
     let same : after_all first r ≡ after_all second r = cc in
-    append_cancel_left (all_openings r) (opened_in first) (opened_in second)
+    append_cancel_left (all_openings r) (openings_in first) (openings_in second)
     (sym (openings_shown first r) ∙ (ap all_openings same ∙ openings_shown second r))
 
 -- ---- a stage that begins with the opening of a file
@@ -136,7 +128,7 @@ same_name name other (Absent x ∷ passed) is = cc
 same_name name other (Found x ∷ passed) is = cc
 
 -- nothing but this line was told since
-only_told : (r : Record) (told line : Bytes) → ◌≡◌ {A = Option Record} (Some (after_err told r)) (Some (after_all (Line line ∷ []) r)) → told ≡ line
+only_told : (r : Record) (told line : Bytes) → after_err told r ≡ after_all (Line line ∷ []) r → told ≡ line
 only_told r told line kept =
     let same : after_err told r ≡ after_err line r = cc in append_cancel_left r.messages told line (ap (λ (x : Record). x.messages) same)
 
@@ -144,16 +136,16 @@ only_told r told line kept =
 -- was refused, and that was.
 module _ {A : Type 0} (name told : Bytes) (stage : Stage A) (begins : Begins name stage) (r : Record) (k l m n : ℕ) where
   abbrev pub Old : DeskView
-  Old = showing (Some r) k m
+  Old = showing r k m
 
   abbrev pub New : DeskView
-  New = showing (Some (after_err told r)) l n
+  New = showing (after_err told r) l n
 
   abbrev pub Told : Type 0
   Told = TellsFailure (not_opened_line name) told Old New ⊎ TellsLine memory_line told Old New
 
   abbrev Leaves : List Saying → Type 0
-  Leaves sayings = ◌≡◌ {A = Option Record} (Some (after_err told r)) (Some (after_all sayings r))
+  Leaves sayings = after_err told r ≡ after_all sayings r
 
   abbrev Next : List Opening → List Saying
   Next passed = Opens (next_opening name (passed ++ [])) ∷ (begins (passed ++ [])).0
@@ -182,16 +174,16 @@ module _ {A : Type 0} (name told : Bytes) (stage : Stage A) (begins : Begins nam
   by_whole passed (first ∷ whole) later break line says is tells kept =
       let opens : first ≡ Opens (next_opening name (passed ++ [])) = cc in
       let none = same_openings (Line told ∷ []) (first ∷ (whole ++ last_done break line)) r kept in
-      let some : opened_in (first ∷ (whole ++ last_done break line)) ≡ next_opening name (passed ++ []) ∷ opened_in (whole ++ last_done break line) =
-      ap (λ (s : Saying). opened_in (s ∷ (whole ++ last_done break line))) opens in
-      let clash : [] ≡ next_opening name (passed ++ []) ∷ opened_in (whole ++ last_done break line) = none ∙ some in
+      let some : openings_in (first ∷ (whole ++ last_done break line)) ≡ next_opening name (passed ++ []) ∷ openings_in (whole ++ last_done break line) =
+      ap (λ (s : Saying). openings_in (s ∷ (whole ++ last_done break line))) opens in
+      let clash : [] ≡ next_opening name (passed ++ []) ∷ openings_in (whole ++ last_done break line) = none ∙ some in
       absurd (cc)
 
-  pub unopened : (status : ℕ) → Goes stage (showing (Some r) k m) (showing (Some (after_err told r)) l n) (Err status) → Told
+  pub unopened : (status : ℕ) → Goes stage (showing r k m) (showing (after_err told r) l n) (Err status) → Told
   unopened status (one, inl went) =
       let says : went.says ≡ Next went.passed = sym (ap (λ (p : StageResult A). p.says) (went.comes [])) ∙ (begins (went.passed ++ [])).1 in
       let none = same_openings (Line told ∷ []) went.says r went.kept in
-      let clash : [] ≡ next_opening name (went.passed ++ []) ∷ opened_in (begins (went.passed ++ [])).0 = none ∙ ap opened_in says in
+      let clash : [] ≡ next_opening name (went.passed ++ []) ∷ openings_in (begins (went.passed ++ [])).0 = none ∙ ap openings_in says in
       absurd (cc)
   unopened status (one, inr b) =
       let rest = b.rest [] in
@@ -202,10 +194,10 @@ module _ {A : Type 0} (name told : Bytes) (stage : Stage A) (begins : Begins nam
 -- it was read to its end, and this is what it comes to
 module _ {A : Type 0} (name : Bytes) (limit : ℕ) (judge : Bytes → Result A Bytes) (bytes told : Bytes) (good : A) (given : judge bytes ≡ Ok good) (r : Record) (k l m n : ℕ) where
   abbrev Before : DeskView
-  Before = showing (Some r) k m
+  Before = showing r k m
 
   abbrev After : DeskView
-  After = showing (Some (after_all (Opens (Found (record { name = name; bytes = bytes; ended = true })) ∷ Line told ∷ []) r)) l n
+  After = showing (after_all (Opens (Found (record { name = name; bytes = bytes; ended = true })) ∷ Line told ∷ []) r) l n
 
   abbrev reading : Reading
   reading = record { name = name; bytes = bytes; ended = true }
@@ -214,7 +206,7 @@ module _ {A : Type 0} (name : Bytes) (limit : ℕ) (judge : Bytes → Result A B
   done = Opens (Found reading) ∷ Line told ∷ []
 
   abbrev Leaves_it : List Saying → Type 0
-  Leaves_it sayings = ◌≡◌ {A = Option Record} (Some (after_all done r)) (Some (after_all sayings r))
+  Leaves_it sayings = after_all done r ≡ after_all sayings r
 
   abbrev made : List Opening → StageResult A
   made left = record { says = Opens (Found reading) ∷ []; answer = Made good; left = left }
@@ -270,20 +262,20 @@ module _ {A : Type 0} (name : Bytes) (limit : ℕ) (judge : Bytes → Result A B
       let extra = (begins_file name limit judge openings).0 in
       let both : first ∷ (whole ++ later) ≡ Opens (next_opening name openings) ∷ extra = sym says ∙ (begins_file name limit judge openings).1 in
       let first_is : first ≡ Opens (next_opening name openings) = cc in
-      let shown : Found reading ∷ [] ≡ next_opening name openings ∷ opened_in (whole ++ last_done break line) =
-      same_openings done (first ∷ (whole ++ last_done break line)) r kept ∙ ap (λ (s : Saying). opened_in (s ∷ (whole ++ last_done break line))) first_is in
+      let shown : Found reading ∷ [] ≡ next_opening name openings ∷ openings_in (whole ++ last_done break line) =
+      same_openings done (first ∷ (whole ++ last_done break line)) r kept ∙ ap (λ (s : Saying). openings_in (s ∷ (whole ++ last_done break line))) first_is in
       let opening : next_opening name openings ≡ Found reading = cc in
       let all : first ∷ (whole ++ later) ≡ Opens (Found reading) ∷ [] = sym says ∙ ap (λ (p : StageResult A). p.says) (comes_to openings opening) in
       let none : whole ++ later ≡ [] = cc in
       by_end first (next_opening name openings) whole later break line first_is none is tells kept
 
   -- So the desk was shown to open it, to its end, and what was told is the line of memory.
-  pub opened_is_told : (status : ℕ) → Goes (file_stage name limit judge) (showing (Some r) k m) (showing (Some (after_all done r)) l n) (Err status) → TellsLine memory_line told Before After
+  pub opened_is_told : (status : ℕ) → Goes (file_stage name limit judge) (showing r k m) (showing (after_all done r) l n) (Err status) → TellsLine memory_line told Before After
   opened_is_told status (one, inl went) =
       let openings = went.passed ++ [] in
       let begun = begins_file name limit judge openings in
       let says : went.says ≡ Opens (next_opening name openings) ∷ begun.0 = sym (ap (λ (p : StageResult A). p.says) (went.comes [])) ∙ begun.1 in
-      let shown : Found reading ∷ [] ≡ next_opening name openings ∷ opened_in begun.0 = same_openings done went.says r went.kept ∙ ap opened_in says in
+      let shown : Found reading ∷ [] ≡ next_opening name openings ∷ openings_in begun.0 = same_openings done went.says r went.kept ∙ ap openings_in says in
       let opening : next_opening name openings ≡ Found reading = cc in
       let answers : Made good ≡ Refused = sym (ap (λ (p : StageResult A). p.answer) (comes_to openings opening)) ∙ ap (λ (p : StageResult A). p.answer) (went.comes []) in
       absurd (cc)

@@ -12,3 +12,5 @@ pub mod Played
 pub mod Openings
 pub mod FileStages
 pub mod Breaks
+pub mod Truths
+pub mod TrueStreams

@@ -1,9 +1,9 @@
 -- Stages that begin with the opening of a file.
-use Rattle.std.proofs.Common.{◌≡◌, refl, subst, ap, arith, ℕ, inr, List, [], ◌∷◌, Bool, true, false, nat_lt, ◌||◌, length, Option, None, option_map, Result, Err}
+use Rattle.std.proofs.Common.{◌≡◌, refl, subst, ap, arith, ℕ, inr, List, [], ◌∷◌, Bool, true, false, nat_lt, ◌||◌, length, Result, Err}
 use Rattle.std.proofs.lemmas.Bool.Decides.{nat_tests}
 use Rattle.avr_desk.specs.Fault.{Follows, HasFailedAt, HasSameCounts}
 use Rattle.avr_desk.specs.Files.{FaultCounts, IsWhole, ReadsFile, with_read, FileBreaks, IsCounted}
-use Rattle.avr_desk.specs.Record.{DeskView, Record, Passes, after_err, showing, Bytes}
+use Rattle.avr_desk.specs.Record.{DeskView, Record, Passes, after_err, nothing_kept, showing, Bytes}
 use Rattle.avr_desk.specs.declared.files.FileFault.{FileFault}
 use Rattle.avr_desk.specs.declared.files.FileFault.TheVariants as file_fault
 use Rattle.avr_desk.specs.declared.record.Opening.{Opening}
@@ -72,7 +72,7 @@ goes_unopened : {A : Type 0} (name : Bytes) (next : Opening → Stage A) (old mi
 goes_unopened name next old mid new status same rose failed one told =
     broke_opening name next (NotOpened name) told.told old new status one (λ more. ([], refl))
     (failure_told old mid new (not_opened_line name) rose failed told)
-    (subst (λ (kept : Option Record). new.kept ≡ option_map (after_err told.told) kept) same told.kept) (follows_on old mid new rose told.follows)
+    (subst (λ (kept : Record). new.kept ≡ after_err told.told kept) same told.kept) (follows_on old mid new rose told.follows)
 
 -- or not be read on
 goes_unread : {A : Type 0} (name bytes : Bytes) (next : Opening → Stage A) (old mid new : DeskView) (status : ℕ)
@@ -111,7 +111,7 @@ goes_broken name next file_fault.Memory old mid new status there breaks rose cou
 -- ---- a file that is kept whole as it is read
 
 -- (the counts say nothing here)
-pub breaks_as : (name : Bytes) (old mid : Option Record) (fault : FileFault) → ReadsFile name (showing old 0 0) (showing mid 0 0) (Err fault)
+pub breaks_as : (name : Bytes) (old mid : Record) (fault : FileFault) → ReadsFile name (showing old 0 0) (showing mid 0 0) (Err fault)
     → FileBreaks name (showing old 0 0) (showing mid 0 0) fault
 breaks_as name old mid file_fault.Absent reads = reads
 breaks_as name old mid file_fault.NotOpened reads = reads
@@ -119,8 +119,8 @@ breaks_as name old mid file_fault.NotRead reads = reads
 breaks_as name old mid file_fault.Memory reads = (reads.0, false, reads.1)
 
 -- (what is kept says nothing here)
-pub counted_as : (k l m n : ℕ) (fault : FileFault) → FaultCounts (showing None k m) (showing None l n) (Err fault)
-    → IsCounted (showing None k m) (showing None l n) fault
+pub counted_as : (k l m n : ℕ) (fault : FileFault) → FaultCounts (showing nothing_kept k m) (showing nothing_kept l n) (Err fault)
+    → IsCounted (showing nothing_kept k m) (showing nothing_kept l n) fault
 counted_as k l m n file_fault.Absent counts = counts.1
 counted_as k l m n file_fault.NotOpened counts = counts.1
 counted_as k l m n file_fault.NotRead counts = counts.1

@@ -1,5 +1,5 @@
 -- Pieces of a line, written one after the other.
-use Rattle.std.proofs.Common.{◌≡◌, ◌∙◌, ap, sym, refl, subst, ℕ, ◌+◌, List, [], ◌∷◌, ◌++◌, append_assoc, append-nil, take, drop, length, map, get_or, ◌<◌, Option, option_map, OnOk, OnErr, Result, Ok, Err}
+use Rattle.std.proofs.Common.{◌≡◌, ◌∙◌, ap, sym, refl, subst, ℕ, ◌+◌, List, [], ◌∷◌, ◌++◌, append_assoc, append-nil, take, drop, length, map, get_or, ◌<◌, OnOk, OnErr, Result, Ok, Err}
 use Rattle.std.specs.List.{concat}
 use Rattle.std.proofs.lemmas.List.{drop_more, take_more, take-append-drop}
 use Rattle.avr_desk.specs.Record.{Record, after_err, showing}
@@ -31,8 +31,8 @@ all_text_more ps i d l =
     ∙ ap (λ (b : List ℕ). all_text (take i ps) ++ b) (append-nil (text_of (get_or ps i d)))
 
 -- the end of a line behind its mark and its text (the counts say nothing here)
-pub line_ends : (old first then new : Option Record) (mark text : List ℕ) (result : Result (Unit {0}) DeskFault) → first ≡ option_map (after_err mark) old → then ≡ option_map (after_err text) first
-    → OnOk result (new ≡ option_map (after_err (10 ∷ [])) then) → OnErr result (SendsPart Messages (showing then 0 0) (showing new 0 0) (10 ∷ [])) → IsPrinted (showing old 0 0) (showing new 0 0) (mark ++ (text ++ 10 ∷ [])) result
+pub line_ends : (old first then new : Record) (mark text : List ℕ) (result : Result (Unit {0}) DeskFault) → first ≡ after_err mark old → then ≡ after_err text first
+    → OnOk result (new ≡ after_err (10 ∷ []) then) → OnErr result (SendsPart Messages (showing then 0 0) (showing new 0 0) (10 ∷ [])) → IsPrinted (showing old 0 0) (showing new 0 0) (mark ++ (text ++ 10 ∷ [])) result
 line_ends old first then new mark text (Ok done) e f all part = sent_next Messages old first new mark (text ++ 10 ∷ []) e (sent_next Messages first then new text (10 ∷ []) f all)
 line_ends old first then new mark text (Err fault) e f all part =
     subst (SendsPart Messages (showing old 0 0) (showing new 0 0)) (append_assoc mark text (10 ∷ []))

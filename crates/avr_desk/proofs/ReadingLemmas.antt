@@ -1,5 +1,5 @@
 -- Pieces of a file that are read one after the other.
-use Rattle.std.proofs.Common.{◌≡◌, ◌∙◌, ap, ap₂, refl, ℕ, ◌++◌, ◌||◌, Bool, true, false, Option, Some, None, option_map, Result, Ok, Err, append_assoc, take, ◌==◌, ◌&&◌, not, arith}
+use Rattle.std.proofs.Common.{◌≡◌, ◌∙◌, ap, ap₂, refl, ℕ, ◌++◌, ◌||◌, Bool, true, false, Result, Ok, Err, append_assoc, take, ◌==◌, ◌&&◌, not, arith}
 use Rattle.std.proofs.lemmas.Bool.Decides.{nat_tests}
 use Rattle.avr_desk.specs.Record.{Record, Bytes, showing, after_open, after_read, noted, is_nil}
 use Rattle.avr_desk.specs.Files.{ReadsFile, ReadsOpen, after_reading, with_read}
@@ -10,14 +10,13 @@ use Rattle.avr_desk.specs.declared.files.FileFault.{FileFault}
 use Rattle.avr_desk.specs.declared.files.FileFault.TheVariants.{Absent, NotOpened, NotRead, Memory}
 
 -- a file that was opened, and then read
-opened_read : (name : Bytes) (old now new : Option Record) (bytes : Bytes) (ended : Bool) → now ≡ option_map (after_open name (Ok tt)) old
-    → new ≡ option_map (after_reading bytes ended) now → new ≡ option_map (with_read name bytes ended) old
-opened_read name None now new bytes ended opened read = read ∙ ap (option_map (after_reading bytes ended)) opened
-opened_read name (Some k) now new bytes ended opened read = read ∙ ap (option_map (after_reading bytes ended)) opened
+opened_read : (name : Bytes) (old now new : Record) (bytes : Bytes) (ended : Bool) → now ≡ after_open name (Ok tt) old
+    → new ≡ after_reading bytes ended now → new ≡ with_read name bytes ended old
+opened_read name old now new bytes ended opened read = read ∙ ap (after_reading bytes ended) opened
 
 -- (the counts say nothing here)
-pub reads_opened : (name : Bytes) (old now new : Option Record) (r : Result Contents FileFault)
-    → now ≡ option_map (after_open name (Ok tt)) old → ReadsOpen (showing now 0 0) (showing new 0 0) r → ReadsFile name (showing old 0 0) (showing new 0 0) r
+pub reads_opened : (name : Bytes) (old now new : Record) (r : Result Contents FileFault)
+    → now ≡ after_open name (Ok tt) old → ReadsOpen (showing now 0 0) (showing new 0 0) r → ReadsFile name (showing old 0 0) (showing new 0 0) r
 reads_opened name old now new (Ok c) opened read = opened_read name old now new c.bytes c.ended opened read
 reads_opened name old now new (Err Absent) opened read = absurd read
 reads_opened name old now new (Err NotOpened) opened read = absurd read
@@ -35,17 +34,16 @@ noted-noted (ToRead x) a b ends =
     or-false false = refl
 noted-noted (ToWrite x) a b ends = refl
 
-pub read_next : (old now new : Option Record) (a b : Bytes) (ends : Bool) → now ≡ option_map (after_reading a false) old
-    → new ≡ option_map (after_reading b ends) now → new ≡ option_map (after_reading (a ++ b) ends) old
-read_next None now new a b ends first then = then ∙ ap (option_map (after_reading b ends)) first
-read_next (Some r) now new a b ends first then =
-    then ∙ ap (option_map (after_reading b ends)) first ∙ ap (λ (o : Open). Some (record r { current = o })) (noted-noted r.current a b ends)
+pub read_next : (old now new : Record) (a b : Bytes) (ends : Bool) → now ≡ after_reading a false old
+    → new ≡ after_reading b ends now → new ≡ after_reading (a ++ b) ends old
+read_next old now new a b ends first then =
+    then ∙ ap (after_reading b ends) first ∙ ap (λ (o : Open). record old { current = o }) (noted-noted old.current a b ends)
 
 -- a call of `read` that gave bytes
-pub read_piece : (old now new : Option Record) (a buf : Bytes) (n : ℕ) → now ≡ option_map (after_reading a false) old
-    → new ≡ option_map (after_read buf (Ok n)) now → (n ≡ 0 → ⊥) → new ≡ option_map (after_reading (a ++ take n buf) false) old
+pub read_piece : (old now new : Record) (a buf : Bytes) (n : ℕ) → now ≡ after_reading a false old
+    → new ≡ after_read buf (Ok n) now → (n ≡ 0 → ⊥) → new ≡ after_reading (a ++ take n buf) false old
 read_piece old now new a buf n first then some =
-    read_next old now new a (take n buf) false first (then ∙ ap (λ (b : Bool). option_map (after_reading (take n buf) b) now) not_ended)
+    read_next old now new a (take n buf) false first (then ∙ ap (λ (b : Bool). after_reading (take n buf) b now) not_ended)
   where
     not_zero : (n == 0) ≡ false
     not_zero = grind (arith, nat_tests)

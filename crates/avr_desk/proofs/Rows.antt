@@ -1,5 +1,5 @@
 -- Worked calls with an outcome that the contracts refuse.
-use Rattle.std.proofs.Common.{◌≡◌, ap, ℕ, zero, suc, List, [], ◌∷◌, ◌++◌, inl, inr, take, Option, Some, None, Result, Ok, Err, arith}
+use Rattle.std.proofs.Common.{◌≡◌, ap, ℕ, zero, suc, List, [], ◌∷◌, ◌++◌, inl, inr, take, Some, Result, Ok, Err, arith}
 use Rattle.avr_desk.specs.Failing.{Failing, FailsWhenDue}
 use Rattle.avr_desk.specs.Fault.{Counts}
 use Rattle.avr_desk.specs.Files.{FaultCounts}
@@ -14,9 +14,9 @@ use Rattle.avr_desk.specs.declared.files.FileFault.{FileFault}
 use Rattle.avr_desk.specs.declared.files.FileFault.TheVariants.{Memory}
 use Rattle.avr_desk.specs.declared.stream.Stream.TheVariants.{File, Output, Messages}
 
--- a desk that keeps nothing, and has failed so often, never at the messages
+-- a desk of which nothing was asked, and that has failed so often, never at the messages
 abbrev silent : ℕ → DeskView
-silent failures = showing None failures 0
+silent failures = showing nothing_kept failures 0
 
 abbrev done : Result (Unit {0}) DeskFault
 done = Ok tt
@@ -44,21 +44,26 @@ failed = Err Failed
 
 pub no_silent_failure : Counts File (silent 0) (silent 0) failed → ⊥
 no_silent_failure (rises, (inl more, same)) = omega (arith, more)
-no_silent_failure (rises, (inr last, same)) = omega (arith, last)
+no_silent_failure (rises, (inr last, same)) = omega (arith, last.0)
+
+-- one failure that is counted twice
+pub no_failure_twice : Counts File (silent 0) (silent 2) failed → ⊥
+no_failure_twice (rises, (inl more, same)) = omega (arith, more)
+no_failure_twice (rises, (inr last, same)) = omega (arith, last.0)
 
 -- a failure at the messages that only one count shows, one at a file and one at the output that both show, and what is
 -- unsaid behind a success
 pub no_message_unsaid_uncounted : Counts Messages (silent 0) (silent 1) failed → ⊥
 no_message_unsaid_uncounted (rises, (failures, inl more)) = omega (arith, more)
-no_message_unsaid_uncounted (rises, (failures, inr last)) = omega (arith, last)
+no_message_unsaid_uncounted (rises, (failures, inr last)) = omega (arith, last.0)
 
-pub no_file_is_unsaid : Counts File (silent 0) (showing None 1 1) failed → ⊥
+pub no_file_is_unsaid : Counts File (silent 0) (showing nothing_kept 1 1) failed → ⊥
 no_file_is_unsaid counts = let e : 1 ≡ 0 = counts.1.1 in omega (arith, e)
 
-pub no_output_is_unsaid : Counts Output (silent 0) (showing None 1 1) failed → ⊥
+pub no_output_is_unsaid : Counts Output (silent 0) (showing nothing_kept 1 1) failed → ⊥
 no_output_is_unsaid counts = let e : 1 ≡ 0 = counts.1.1 in omega (arith, e)
 
-pub nothing_is_unsaid_behind_success : Counts Messages (silent 0) (showing None 0 1) done → ⊥
+pub nothing_is_unsaid_behind_success : Counts Messages (silent 0) (showing nothing_kept 0 1) done → ⊥
 nothing_is_unsaid_behind_success counts = let e : 1 ≡ 0 = counts.1.1 in omega (arith, e)
 
 -- a front of the bytes may have gone out before a fault, but not their end
@@ -72,24 +77,23 @@ front_or_end : (n : ℕ) → end ≡ take n whole → ⊥
 front_or_end zero e = absurd (cc)
 front_or_end (suc n) e = absurd (cc)
 
-abbrev output_of : Option Record → Bytes
-output_of (Some r) = r.output
-output_of _ = []
+abbrev output_of : Record → Bytes
+output_of r = r.output
 
-pub no_end_before_a_fault : SendsTaken Output whole (showing (Some nothing_kept) 0 0) (showing (Some (after_out end nothing_kept)) 1 0) (Err Failed) → ⊥
+pub no_end_before_a_fault : SendsTaken Output whole (showing nothing_kept 0 0) (showing (after_out end nothing_kept) 1 0) (Err Failed) → ⊥
 no_end_before_a_fault sent = front_or_end sent.0 (ap output_of sent.2)
 
 -- a line cut short where only a file failed
 pub no_line_cut_by_a_file : TellsLine whole [] (silent 0) (silent 1) → ⊥
 no_line_cut_by_a_file (inl told) = let e : [] ≡ whole = told.0 in absurd (cc)
 no_line_cut_by_a_file (inr (part, (failures, inl more))) = omega (arith, more)
-no_line_cut_by_a_file (inr (part, (failures, inr last))) = omega (arith, last)
+no_line_cut_by_a_file (inr (part, (failures, inr last))) = omega (arith, last.0)
 
 -- a message in the output
 abbrev byte : List ℕ
 byte = 1 ∷ []
 
-pub no_message_in_the_output : SendsTaken Messages byte (showing (Some nothing_kept) 0 0) (showing (Some (after_out byte nothing_kept)) 0 0) (Ok 1) → ⊥
+pub no_message_in_the_output : SendsTaken Messages byte (showing nothing_kept 0 0) (showing (after_out byte nothing_kept) 0 0) (Ok 1) → ⊥
 no_message_in_the_output sent = let e : byte ≡ [] = ap output_of sent in absurd (cc)
 
 -- a writer that took other bytes

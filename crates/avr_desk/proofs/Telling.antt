@@ -1,24 +1,15 @@
 -- Lines that were told, whole or in part.
-use Rattle.std.proofs.Common.{◌≡◌, ℕ, ◌≤◌, arith, List, take, drop, refl, ◌∙◌, subst, Result, Ok, Err, IfErr, inl, inr}
-use Rattle.std.proofs.lemmas.Bool.{cases_lt}
+use Rattle.std.proofs.Common.{◌≡◌, ℕ, arith, List, take, drop, refl, ◌∙◌, subst, Result, Ok, Err, IfErr, inl, inr}
 use Rattle.std.proofs.lemmas.List.{take-append-drop}
-use Rattle.avr_desk.specs.Fault.{Counts, Follows, HasFailed, HasFailedAt, HasFailedToSay, HasRisen, HasSameCounts}
+use Rattle.ghosts.proofs.Failures.{stood_has_not_risen}
+use Rattle.ghosts.specs.Failures.{HasRisen, HasStood}
+use Rattle.avr_desk.specs.Fault.{Counts, Follows, HasFailed, HasFailedAt, HasFailedToSay, HasSameCounts}
 use Rattle.avr_desk.specs.Record.{DeskView}
 use Rattle.avr_desk.specs.declared.desk.DeskFault.{DeskFault}
 use Rattle.avr_desk.specs.declared.desk.DeskFault.TheVariants.{NotFound, Failed}
 use Rattle.avr_desk.specs.declared.stream.Stream.{Stream}
 use Rattle.avr_desk.specs.declared.stream.Stream.TheVariants.{File, Messages}
 use Rattle.avr_desk.specs.Said.{IsPrinted, TellsLine, Tells, TellsFailure}
-
--- a count that rises later has risen
-pub risen_later : (a b c : ℕ) → a ≤ b → HasRisen b c → HasRisen a c
-risen_later a b c le (inl lt) = inl (omega arith)
-risen_later a b c le (inr end) = inr end
-
--- and so has one that rose before
-pub risen_before : (a b c : ℕ) → a ≤ b → b ≤ c → HasRisen a b → HasRisen a c
-risen_before a b c first then (inl lt) = inl (omega arith)
-risen_before a b c first then (inr end) = elim (cases_lt a c) [ inl lt ↦ inl lt | inr le ↦ inr (omega arith) ]
 
 -- a desk follows itself
 pub follows_here : (a : DeskView) → Follows a a
@@ -46,20 +37,9 @@ failed_since a b c same failed = (subst (λ n. HasRisen n c.failures) same.0 fai
 pub unsaid_since : (a b c : DeskView) → HasSameCounts a b → HasFailedToSay b c → HasFailedToSay a c
 unsaid_since a b c same failed = (subst (λ n. HasRisen n c.failures) same.0 failed.0, subst (λ n. HasRisen n c.unsaid) same.1 failed.1)
 
--- a failure later is a failure
-pub failed_later : (a b c : DeskView) → Follows a b → HasFailed b c → HasFailed a c
-failed_later a b c first = risen_later a.failures b.failures c.failures first.0
-
--- and a failure before is one
-pub failed_before : (a b c : DeskView) → Follows a b → Follows b c → HasFailed a b → HasFailed a c
-failed_before a b c first then = risen_before a.failures b.failures c.failures first.0 then.0
-
--- the same of failures at the messages
-pub unsaid_later : (a b c : DeskView) → Follows a b → HasFailedToSay b c → HasFailedToSay a c
-unsaid_later a b c first failed = (failed_later a b c first failed.0, risen_later a.unsaid b.unsaid c.unsaid first.1 failed.1)
-
-pub unsaid_before : (a b c : DeskView) → Follows a b → Follows b c → HasFailedToSay a b → HasFailedToSay a c
-unsaid_before a b c first then failed = (failed_before a b c first then failed.0, risen_before a.unsaid b.unsaid c.unsaid first.1 then.1 failed.1)
+-- a desk whose count stood has not failed in between
+pub not_failed : (a b c d : DeskView) → Follows a b → Follows c d → HasStood a.failures d.failures → HasFailed b c → ⊥
+not_failed a b c d first last = stood_has_not_risen a.failures b.failures c.failures d.failures first.0 last.0
 
 -- a failed call is counted
 pub failed_by : (stream : Stream) (old new : DeskView) (result : Result (Unit {0}) DeskFault) (fault : DeskFault) → result ≡ Err fault → IfErr result (λ e. e ≡ Failed)

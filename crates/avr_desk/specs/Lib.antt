@@ -5,6 +5,7 @@ pub mod Stream
 pub mod Files
 pub mod Named
 pub mod Memory
+pub mod Truth
 pub mod Failing
 pub mod Shown
 pub mod Calls

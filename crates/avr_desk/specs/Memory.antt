@@ -17,7 +17,7 @@ pub record Memory : Type 0 where
 
 -- what it shows as any desk does
 abbrev pub memory_view : Memory → DeskView
-memory_view m = showing (Some m.kept) m.failures m.unsaid
+memory_view m = showing m.kept m.failures m.unsaid
 
 -- the file of this name: the one that was created last, else the one that was put there last
 abbrev pub file_named : Bytes → Memory → Option Bytes

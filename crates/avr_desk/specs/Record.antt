@@ -1,5 +1,5 @@
 -- What a desk was asked, and what it gave.
-use Rattle.std.specs.Prelude.{◌≡◌, ◌==◌, ◌&&◌, ◌||◌, ℕ, Bool, true, false, not, List, [], ◌∷◌, ◌++◌, take, length, Option, Some, None, option_map, Result, Ok, Err, IfSome, OnOk, ⊤}
+use Rattle.std.specs.Prelude.{◌≡◌, ◌==◌, ◌&&◌, ◌||◌, ℕ, Bool, true, false, not, List, [], ◌∷◌, ◌++◌, take, length, Option, Some, None, Result, Ok, Err, OnOk, ⊤}
 use Rattle.avr_desk.specs.declared.desk.DeskFault.{DeskFault}
 use Rattle.avr_desk.specs.declared.desk.DeskFault.TheVariants.{NotFound, Failed}
 use Rattle.avr_desk.specs.declared.record.Writing.{Writing}
@@ -22,20 +22,19 @@ pub record Record : Type 0 where
   pub output : Bytes
   pub messages : Bytes
 
--- what a desk shows of itself: its record, if it keeps one, how often a call has failed, and how often of these a write
--- to its messages
+-- what a desk shows of itself: its record, how often a call has failed, and how often of these a write to its messages
 pub record DeskView : Type 0 where
-  pub kept : Option Record
+  pub kept : Record
   pub failures : ℕ
   pub unsaid : ℕ
 
 -- what a desk shows that keeps this and has failed so often
-abbrev pub showing : Option Record → ℕ → ℕ → DeskView
+abbrev pub showing : Record → ℕ → ℕ → DeskView
 showing kept failures unsaid = record { kept = kept; failures = failures; unsaid = unsaid }
 
--- what a desk keeps, if it keeps anything, has become this
+-- what a desk keeps has become this
 abbrev pub Passes : (Record → Record) → DeskView → DeskView → Type 0
-Passes change old new = new.kept ≡ option_map change old.kept
+Passes change old new = new.kept ≡ change old.kept
 
 abbrev pub opening_of : Open → List Opening
 opening_of (ToRead x) = Found x ∷ []
@@ -87,7 +86,7 @@ with_none_held r = record r { held = None }
 
 -- what a desk shows once it holds nothing
 abbrev pub released : DeskView → DeskView
-released view = record view { kept = option_map with_none_held view.kept }
+released view = record view { kept = with_none_held view.kept }
 
 -- the open file is put by, a file of this name has these bytes, whole, and nothing is held
 abbrev pub with_replaced : Bytes → Bytes → Record → Record
@@ -147,7 +146,7 @@ is_to_write o = false
 
 -- a call that is answered has its file
 abbrev pub HasOpen : {T : Type 0} → (Open → Bool) → DeskView → Result T DeskFault → Type 0
-HasOpen test old r = OnOk r (IfSome old.kept (λ k. test k.current ≡ true))
+HasOpen test old r = OnOk r (test old.kept.current ≡ true)
 
 abbrev pub nothing_kept : Record
 nothing_kept =

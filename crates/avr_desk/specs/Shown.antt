@@ -1,9 +1,10 @@
 -- What the desk of a program shows: its two writers, and what they take.
-use Rattle.std.specs.Prelude.{◌≡◌, ◌++◌, ℕ, Bool, false, ◌≤◌, codes, length, Option, Some, Result, Ok, Err, take}
+use Rattle.std.specs.Prelude.{◌≡◌, ◌++◌, ◌||◌, ℕ, Bool, false, ◌≤◌, codes, length, List, [], ◌∷◌, Option, Result, Ok, Err, take}
 use Rattle.std.specs.Io.KnownBytes.{Appends}
 use Rattle.std.specs.Str.{bytes_eq}
-use Rattle.avr_desk.specs.Record.{Bytes, Record, DeskView, showing}
+use Rattle.avr_desk.specs.Record.{Bytes, Record, DeskView, all_files, showing}
 use Rattle.avr_desk.specs.Stream.{after_sent}
+use Rattle.avr_desk.specs.declared.record.Writing.{Writing}
 use Rattle.avr_desk.specs.declared.stream.Stream.{Stream}
 use Rattle.avr_desk.specs.declared.desk.DeskFault.{DeskFault}
 use Rattle.avr_desk.specs.declared.desk.DeskFault.TheVariants.{Failed}
@@ -20,7 +21,7 @@ pub record Shown (O E : Type 0) : Type 0 where
 
 -- what it shows as any desk does
 abbrev pub shown_view : {O E : Type 0} → Shown O E → DeskView
-shown_view d = showing (Some d.kept) d.failures d.unsaid
+shown_view d = showing d.kept d.failures d.unsaid
 
 -- a writer whose bytes are known took a front of these
 abbrev pub AppendsFront : Option Bytes → Option Bytes → Bytes → Type 0
@@ -60,3 +61,21 @@ to_output_replaced (Err fault) before = before
 abbrev pub to_output_created : Bytes → Result (Unit {0}) DeskFault → Bool → Bool
 to_output_created name (Ok done) before = is_dash name
 to_output_created name (Err fault) before = before
+
+-- one of these files is the output
+abbrev pub has_dash : List Writing → Bool
+has_dash [] = false
+has_dash (file ∷ files) = is_dash file.name || has_dash files
+
+-- What a desk keeps of its writers since it was `old` is true: their bytes, where they are known, have grown by what
+-- was sent to them. For the output that is so as long as no file is the output too.
+pub record IsTrueSince {O E : Type 0} (output_of : O → Option Bytes) (messages_of : E → Option Bytes)
+    (old new : Shown O E) : Type 0 where
+  pub said : Bytes
+  pub messages : new.kept.messages ≡ old.kept.messages ++ said
+  pub told : Appends (messages_of old.messages) (messages_of new.messages) said
+  pub put : Bytes
+  pub output : new.kept.output ≡ old.kept.output ++ put
+  pub dashes : has_dash (all_files new.kept) ≡ false → has_dash (all_files old.kept) ≡ false
+  pub out : has_dash (all_files new.kept) ≡ false → old.to_output ≡ false
+      → (new.to_output ≡ false) × Appends (output_of old.output) (output_of new.output) put

@@ -1,7 +1,8 @@
 //! A desk that fails by plan, for tests of its callers.
 ghost use Rattle.std.specs.Prelude.{◌≡◌, ◌≤◌, ◌-◌, ◌==◌, length, IfOk, IfErr, MatchBool};
 ghost use Rattle.avr_desk.specs.Failing.{count_after};
-ghost use Rattle.avr_desk.specs.Fault.{HasRisen};
+ghost use Rattle.ghosts.specs.Failures.{HasRisen};
+ghost use Rattle.ghosts.specs.Stays.{Stays};
 
 use crate::desk::{Desk, DeskFault};
 use std::marker::Model;
@@ -72,12 +73,17 @@ impl<D: Desk> Desk for FailingDesk<D> {
 
     ghost view = { λ d. failing_view (D.view d.inner) d };
 
+    ghost Start = { D.Start };
+
+    ghost comes_of = { λ start d. D.comes_of start d.inner };
+
     fn open(&mut self, name: &str) -> Result<(), DeskFault>
         ensures kept { Passes (after_open name.now result) (D.view self.old.inner) (D.view self.new.inner) }
         ensures counts { Counts File (failing_view (D.view self.old.inner) self.old)
             (failing_view (D.view self.new.inner) self.new) result }
         ensures when_due { FailsWhenDue File (Counts File (D.view self.old.inner) (D.view self.new.inner) result)
             self.old self.new result }
+        ensures stays { Stays D.comes_of self.old.inner self.new.inner }
     {
         if self.is_due() {
             return Err(DeskFault::Failed);
@@ -92,6 +98,7 @@ impl<D: Desk> Desk for FailingDesk<D> {
         ensures fault { IfErr result (λ e. e ≡ DeskFault.Failed) }
         ensures when_due { FailsWhenDue File (Counts File (D.view self.old.inner) (D.view self.new.inner) result)
             self.old self.new result }
+        ensures stays { Stays D.comes_of self.old.inner self.new.inner }
     {
         if self.is_due() {
             return Err(DeskFault::Failed);
@@ -106,6 +113,7 @@ impl<D: Desk> Desk for FailingDesk<D> {
         ensures fault { IfErr result (λ e. e ≡ DeskFault.Failed) }
         ensures when_due { FailsWhenDue File (Counts File (D.view self.old.inner) (D.view self.new.inner) result)
             self.old self.new result }
+        ensures stays { Stays D.comes_of self.old.inner self.new.inner }
     {
         if self.is_due() {
             return Err(DeskFault::Failed);
@@ -116,6 +124,7 @@ impl<D: Desk> Desk for FailingDesk<D> {
     fn release(&mut self)
         ensures released { D.view self.new.inner ≡ released (D.view self.old.inner) }
         ensures quiet { self.new ≡ record self.old { inner = self.new.inner } }
+        ensures stays { Stays D.comes_of self.old.inner self.new.inner }
     {
         self.inner.release();
     }
@@ -127,6 +136,7 @@ impl<D: Desk> Desk for FailingDesk<D> {
         ensures fault { IfErr result (λ e. e ≡ DeskFault.Failed) }
         ensures when_due { FailsWhenDue File (Counts File (D.view self.old.inner) (D.view self.new.inner) result)
             self.old self.new result }
+        ensures stays { Stays D.comes_of self.old.inner self.new.inner }
     {
         if self.is_due() {
             return Err(DeskFault::Failed);
@@ -143,6 +153,7 @@ impl<D: Desk> Desk for FailingDesk<D> {
         ensures fault { IfErr result (λ e. e ≡ DeskFault.Failed) }
         ensures when_due { FailsWhenDue File (Counts File (D.view self.old.inner) (D.view self.new.inner) result)
             self.old self.new result }
+        ensures stays { Stays D.comes_of self.old.inner self.new.inner }
     {
         if self.is_due() {
             return Err(DeskFault::Failed);
@@ -159,6 +170,7 @@ impl<D: Desk> Desk for FailingDesk<D> {
         ensures fault { IfErr result (λ e. e ≡ DeskFault.Failed) }
         ensures when_due { FailsWhenDue File (WriteCounts File bytes.now (D.view self.old.inner)
             (D.view self.new.inner) result) self.old self.new result }
+        ensures stays { Stays D.comes_of self.old.inner self.new.inner }
     {
         if self.is_due() {
             return Err(DeskFault::Failed);
@@ -174,6 +186,7 @@ impl<D: Desk> Desk for FailingDesk<D> {
         ensures fault { IfErr result (λ e. e ≡ DeskFault.Failed) }
         ensures when_due { FailsWhenDue Output (WriteCounts Output bytes.now (D.view self.old.inner)
             (D.view self.new.inner) result) self.old self.new result }
+        ensures stays { Stays D.comes_of self.old.inner self.new.inner }
     {
         if self.is_due() {
             return Err(DeskFault::Failed);
@@ -189,6 +202,7 @@ impl<D: Desk> Desk for FailingDesk<D> {
         ensures fault { IfErr result (λ e. e ≡ DeskFault.Failed) }
         ensures when_due { FailsWhenDue Messages (WriteCounts Messages bytes.now (D.view self.old.inner)
             (D.view self.new.inner) result) self.old self.new result }
+        ensures stays { Stays D.comes_of self.old.inner self.new.inner }
     {
         if self.is_due() {
             self.unsaid = self.unsaid.saturating_add(1);

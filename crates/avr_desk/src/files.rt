@@ -1,6 +1,7 @@
 //! A whole file over a desk.
 ghost use Rattle.std.specs.Prelude.{◌≡◌, IfOk};
 ghost use Rattle.avr_desk.specs.Files.{file_fault_number, FaultCounts, IsWhole, ReadsOpen, ReadsFile};
+ghost use Rattle.ghosts.specs.Stays.{Stays};
 
 use crate::bytes::Bytes;
 use crate::desk::{Desk, DeskFault};
@@ -59,6 +60,7 @@ pub fn read_file<D: Desk>(
     ensures kept { ReadsFile name.now (D.view desk.old) (D.view desk.new) result }
     ensures whole { IfOk result (IsWhole limit) }
     ensures counts { FaultCounts (D.view desk.old) (D.view desk.new) result }
+    ensures stays { Stays D.comes_of desk.old desk.new }
 {
     match desk.open(name) {
         Ok(()) => read_open(alloc, desk, limit),
@@ -72,6 +74,7 @@ fn read_open<D: Desk>(alloc: Global, desk: &mut D, limit: usize) -> Result<Conte
     ensures kept { ReadsOpen (D.view desk.old) (D.view desk.new) result }
     ensures whole { IfOk result (IsWhole limit) }
     ensures counts { FaultCounts (D.view desk.old) (D.view desk.new) result }
+    ensures stays { Stays D.comes_of desk.old desk.new }
 {
     let mut bytes = Bytes::new(alloc);
     let mut piece = [0u8; PIECE];

@@ -29,10 +29,14 @@ mod mem_desk;
 mod replacing;
 mod system;
 
+// What they keep.
+mod laws;
+
 pub use bytes::Bytes;
 pub use desk::{Desk, DeskFault};
 pub use failing::FailingDesk;
 pub use files::{Contents, FileFault, read_file};
+pub use laws::{what_a_desk_in_memory_gives_is_true, what_a_desk_keeps_of_its_writers_is_true};
 pub use line::{Piece, print_error, print_information, print_warning};
 pub use mem_desk::MemDesk;
 pub use message::{

@@ -7,6 +7,7 @@ ghost use Rattle.avr_desk.specs.Stream.{SendsPart};
 ghost use Rattle.avr_desk.specs.Lines.{digits, spaced_digits, text_of, line, information, warning, error};
 ghost use Rattle.std.specs.List.{concat};
 ghost use Rattle.avr_desk.specs.Said.{IsPrinted};
+ghost use Rattle.ghosts.specs.Stays.{Stays};
 
 use crate::desk::{Desk, DeskFault};
 use crate::stream::{Stream, write_all};
@@ -69,6 +70,7 @@ fn write_number<D: Desk>(desk: &mut D, number: u32) -> Result<(), DeskFault>
     ensures part { OnErr result (SendsPart Stream.Messages (D.view desk.old) (D.view desk.new) (decimal number)) }
     ensures counts { Counts Stream.Messages (D.view desk.old) (D.view desk.new) result }
     ensures fault { IfErr result (λ e. e ≡ DeskFault.Failed) }
+    ensures stays { Stays D.comes_of desk.old desk.new }
 {
     let mut buffer = itoa::Buffer::new();
     write_all(desk, Stream::Messages, buffer.format(number).as_bytes())
@@ -80,6 +82,7 @@ pub(crate) fn write_piece<D: Desk>(desk: &mut D, piece: &Piece<'_>) -> Result<()
     ensures part { OnErr result (SendsPart Stream.Messages (D.view desk.old) (D.view desk.new) (text_of piece.now)) }
     ensures counts { Counts Stream.Messages (D.view desk.old) (D.view desk.new) result }
     ensures fault { IfErr result (λ e. e ≡ DeskFault.Failed) }
+    ensures stays { Stays D.comes_of desk.old desk.new }
 {
     match piece {
         Piece::Text(text) => write_all(desk, Stream::Messages, text.as_bytes()),
@@ -98,6 +101,7 @@ fn write_pieces<D: Desk>(desk: &mut D, pieces: &[Piece<'_>]) -> Result<(), DeskF
         (concat (map text_of pieces.now))) }
     ensures counts { Counts Stream.Messages (D.view desk.old) (D.view desk.new) result }
     ensures fault { IfErr result (λ e. e ≡ DeskFault.Failed) }
+    ensures stays { Stays D.comes_of desk.old desk.new }
 {
     for piece in pieces {
         match write_piece(desk, piece) {
@@ -114,6 +118,7 @@ fn end_line<D: Desk>(desk: &mut D) -> Result<(), DeskFault>
     ensures part { OnErr result (SendsPart Stream.Messages (D.view desk.old) (D.view desk.new) (10 ∷ [])) }
     ensures counts { Counts Stream.Messages (D.view desk.old) (D.view desk.new) result }
     ensures fault { IfErr result (λ e. e ≡ DeskFault.Failed) }
+    ensures stays { Stays D.comes_of desk.old desk.new }
 {
     write_all(desk, Stream::Messages, b"\n")
 }
@@ -123,6 +128,7 @@ fn print_line<D: Desk>(desk: &mut D, mark: &str, pieces: &[Piece<'_>]) -> Result
     ensures printed { IsPrinted (D.view desk.old) (D.view desk.new) (line mark.now (map text_of pieces.now)) result }
     ensures counts { Counts Stream.Messages (D.view desk.old) (D.view desk.new) result }
     ensures fault { IfErr result (λ e. e ≡ DeskFault.Failed) }
+    ensures stays { Stays D.comes_of desk.old desk.new }
 {
     match write_all(desk, Stream::Messages, mark.as_bytes()) {
         Ok(()) => {}
@@ -147,6 +153,7 @@ pub fn print_information<D: Desk>(desk: &mut D, pieces: &[Piece<'_>]) -> Result<
     ensures printed { IsPrinted (D.view desk.old) (D.view desk.new) (information (map text_of pieces.now)) result }
     ensures counts { Counts Stream.Messages (D.view desk.old) (D.view desk.new) result }
     ensures fault { IfErr result (λ e. e ≡ DeskFault.Failed) }
+    ensures stays { Stays D.comes_of desk.old desk.new }
 {
     print_line(desk, "avrstk: ", pieces)
 }
@@ -161,6 +168,7 @@ pub fn print_warning<D: Desk>(desk: &mut D, pieces: &[Piece<'_>]) -> Result<(), 
     ensures printed { IsPrinted (D.view desk.old) (D.view desk.new) (warning (map text_of pieces.now)) result }
     ensures counts { Counts Stream.Messages (D.view desk.old) (D.view desk.new) result }
     ensures fault { IfErr result (λ e. e ≡ DeskFault.Failed) }
+    ensures stays { Stays D.comes_of desk.old desk.new }
 {
     print_line(desk, "avrstk: warning: ", pieces)
 }
@@ -176,6 +184,7 @@ pub fn print_error<D: Desk>(desk: &mut D, pieces: &[Piece<'_>]) -> Result<(), De
     ensures printed { IsPrinted (D.view desk.old) (D.view desk.new) (error (map text_of pieces.now)) result }
     ensures counts { Counts Stream.Messages (D.view desk.old) (D.view desk.new) result }
     ensures fault { IfErr result (λ e. e ≡ DeskFault.Failed) }
+    ensures stays { Stays D.comes_of desk.old desk.new }
 {
     print_line(desk, "avrstk: error: ", pieces)
 }

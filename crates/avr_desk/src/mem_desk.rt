@@ -1,5 +1,5 @@
 //! A desk in memory.
-ghost use Rattle.std.specs.Prelude.{◌≡◌, ◌≤◌, ◌++◌, ◌∷◌, [], min, take, drop, length, Some, None, IfOk, IfErr, OnOk, OnErr, is_ok, not, true, if◌then◌else◌};
+ghost use Rattle.std.specs.Prelude.{◌≡◌, ◌≤◌, ◌++◌, ◌∷◌, ◌==◌, ◌&&◌, [], min, take, drop, length, Some, None, IfOk, IfErr, OnOk, OnErr, is_ok, not, true, if◌then◌else◌};
 ghost use Rattle.std.specs.Option.{option_copied};
 
 use crate::bytes::Bytes;
@@ -63,9 +63,17 @@ fn copy_front(bytes: &[u8], buf: &mut [u8]) -> usize
     bytes.len()
 }
 
+/// Whether nothing was read though there was room for it.
+fn is_end(count: usize, room: usize) -> bool
+    ensures { result ≡ (count == 0 && not (room == 0)) }
+{
+    count == 0 && room > 0
+}
+
 impl MemDesk {
     ghost use Rattle.avr_desk.specs.Record.{nothing_kept};
-    ghost use Rattle.avr_desk.specs.Fault.{Follows, HasFailedToSay, HasRisen};
+    ghost use Rattle.ghosts.specs.Failures.{HasRisen};
+    ghost use Rattle.avr_desk.specs.Fault.{Follows, HasFailedToSay};
     ghost use Rattle.avr_desk.specs.Memory.{contents, file_named, memory_view};
 
     /// A desk with no files, whose standard input is empty.
@@ -193,10 +201,17 @@ impl Desk for MemDesk {
     ghost use Rattle.avr_desk.specs.Fault.{Counts, WriteCounts};
     ghost use Rattle.avr_desk.specs.Memory.{contents, memory_view, unread_bytes};
     ghost use Rattle.avr_desk.specs.Named.{holds};
+    ghost use Rattle.avr_desk.specs.Truth.{HoldsTrue, Stock};
+    ghost use Rattle.ghosts.specs.Stays.{Stays};
     ghost use Rattle.avr_desk.specs.declared.stream.Stream.TheVariants.{File, Output, Messages};
 
     ghost view = { memory_view };
 
+    ghost Start = { Stock };
+
+    ghost comes_of = { HoldsTrue };
+
+    #[tactic(auto, using(crate::proofs::Truths::same_true))]
     fn open(&mut self, name: &str) -> Result<(), DeskFault>
         ensures kept { self.new ≡ record self.old {
           kept = after_open name.now result self.old.kept;
@@ -207,6 +222,7 @@ impl Desk for MemDesk {
         ensures absent { result ≡ Err DeskFault.NotFound → contents name.now self.old ≡ None }
         ensures leaves { OnErr result (self.new.opened ≡ self.old.opened) }
         ensures counts { Counts File (memory_view self.old) (memory_view self.new) result }
+        ensures stays { Stays HoldsTrue self.old self.new }
     {
         let Ok(kept_name) = Bytes::copied(self.alloc, name.as_bytes()) else {
             return Err(self.fail());
@@ -232,6 +248,7 @@ impl Desk for MemDesk {
         Ok(())
     }
 
+    #[tactic(auto, using(crate::proofs::Truths::same_true))]
     fn create(&mut self, name: &str) -> Result<(), DeskFault>
         ensures kept { self.new ≡ record self.old {
           kept = after_create name.now result self.old.kept;
@@ -239,6 +256,7 @@ impl Desk for MemDesk {
         } }
         ensures counts { Counts File (memory_view self.old) (memory_view self.new) result }
         ensures fault { IfErr result (λ e. e ≡ DeskFault.Failed) }
+        ensures stays { Stays HoldsTrue self.old self.new }
     {
         let Ok(name) = Bytes::copied(self.alloc, name.as_bytes()) else {
             return Err(self.fail());
@@ -254,6 +272,7 @@ impl Desk for MemDesk {
         Ok(())
     }
 
+    #[tactic(auto, using(crate::proofs::Truths::same_true))]
     fn hold(&mut self, name: &str) -> Result<bool, DeskFault>
         ensures free { IfOk result (λ b. b ≡ not (holds name.now self.old.kept)) }
         ensures kept { self.new ≡ record self.old {
@@ -262,6 +281,7 @@ impl Desk for MemDesk {
         } }
         ensures counts { Counts File (memory_view self.old) (memory_view self.new) result }
         ensures fault { IfErr result (λ e. e ≡ DeskFault.Failed) }
+        ensures stays { Stays HoldsTrue self.old self.new }
     {
         let Ok(own_name) = Bytes::copied(self.alloc, name.as_bytes()) else {
             return Err(self.fail());
@@ -276,12 +296,15 @@ impl Desk for MemDesk {
         Ok(false)
     }
 
+    #[tactic(auto, using(crate::proofs::Truths::same_true))]
     fn release(&mut self)
         ensures kept { self.new ≡ record self.old { kept = with_none_held self.old.kept } }
+        ensures stays { Stays HoldsTrue self.old self.new }
     {
         self.kept.release();
     }
 
+    #[tactic(auto, using(crate::proofs::Truths::same_true))]
     fn replace(&mut self, name: &str, bytes: &[u8]) -> Result<(), DeskFault>
         ensures kept { self.new ≡ record self.old {
           kept = after_replace name.now bytes.now result self.old.kept;
@@ -289,6 +312,7 @@ impl Desk for MemDesk {
         } }
         ensures counts { Counts File (memory_view self.old) (memory_view self.new) result }
         ensures fault { IfErr result (λ e. e ≡ DeskFault.Failed) }
+        ensures stays { Stays HoldsTrue self.old self.new }
     {
         let Ok(name) = Bytes::copied(self.alloc, name.as_bytes()) else {
             return Err(self.fail());
@@ -302,6 +326,7 @@ impl Desk for MemDesk {
         Ok(())
     }
 
+    #[tactic(auto, using(crate::proofs::Truths::same_true))]
     fn read(&mut self, buf: &mut [u8]) -> Result<usize, DeskFault>
         ensures count { IfOk result (λ n. n ≡ min (length buf.old) (length (unread_bytes self.old))) }
         ensures gives { IfOk result (λ n. take n buf.new ≡ take n (unread_bytes self.old)) }
@@ -312,6 +337,7 @@ impl Desk for MemDesk {
         ensures has_file { OnOk result (is_to_read self.old.kept.current ≡ true) }
         ensures counts { Counts File (memory_view self.old) (memory_view self.new) result }
         ensures fault { IfErr result (λ e. e ≡ DeskFault.Failed) }
+        ensures stays { Stays HoldsTrue self.old self.new }
     {
         if !self.kept.is_reading() {
             return Err(self.fail());
@@ -319,13 +345,14 @@ impl Desk for MemDesk {
         let room = buf.len();
         let next = next_bytes(self.opened.as_slice(), self.kept.given().len(), room);
         let count = copy_front(next, buf);
-        let ends = count == 0 && room > 0;
+        let ends = is_end(count, room);
         if self.kept.read_on(&buf[..count], ends).is_err() {
             return Err(self.fail());
         }
         Ok(count)
     }
 
+    #[tactic(auto, using(crate::proofs::Truths::same_true, crate::proofs::Truths::written_true))]
     fn write(&mut self, bytes: &[u8]) -> Result<usize, DeskFault>
         ensures all { IfOk result (λ n. n ≡ length bytes.now) }
         ensures kept { self.new ≡ record self.old {
@@ -335,6 +362,7 @@ impl Desk for MemDesk {
         ensures has_file { OnOk result (is_to_write self.old.kept.current ≡ true) }
         ensures counts { WriteCounts File bytes.now (memory_view self.old) (memory_view self.new) result }
         ensures fault { IfErr result (λ e. e ≡ DeskFault.Failed) }
+        ensures stays { Stays HoldsTrue self.old self.new }
     {
         if !self.kept.is_writing() {
             return Err(self.fail());
@@ -345,6 +373,7 @@ impl Desk for MemDesk {
         Ok(bytes.len())
     }
 
+    #[tactic(auto, using(crate::proofs::Truths::same_true))]
     fn out(&mut self, bytes: &[u8]) -> Result<usize, DeskFault>
         ensures all { IfOk result (λ n. n ≡ length bytes.now) }
         ensures kept { self.new ≡ record self.old {
@@ -353,6 +382,7 @@ impl Desk for MemDesk {
         } }
         ensures counts { WriteCounts Output bytes.now (memory_view self.old) (memory_view self.new) result }
         ensures fault { IfErr result (λ e. e ≡ DeskFault.Failed) }
+        ensures stays { Stays HoldsTrue self.old self.new }
     {
         if self.kept.print(bytes).is_err() {
             return Err(self.fail());
@@ -360,6 +390,7 @@ impl Desk for MemDesk {
         Ok(bytes.len())
     }
 
+    #[tactic(auto, using(crate::proofs::Truths::same_true))]
     fn err(&mut self, bytes: &[u8]) -> Result<usize, DeskFault>
         ensures all { IfOk result (λ n. n ≡ length bytes.now) }
         ensures kept { self.new ≡ record self.old {
@@ -369,6 +400,7 @@ impl Desk for MemDesk {
         } }
         ensures counts { WriteCounts Messages bytes.now (memory_view self.old) (memory_view self.new) result }
         ensures fault { IfErr result (λ e. e ≡ DeskFault.Failed) }
+        ensures stays { Stays HoldsTrue self.old self.new }
     {
         if self.kept.report(bytes).is_err() {
             return Err(self.fail_to_say());

@@ -2,6 +2,7 @@
 ghost use Rattle.std.specs.Prelude.{◌≡◌, ◌≤◌, ◌∷◌, [], length, map};
 ghost use Rattle.avr_desk.specs.Lines.{text_of, error, file_pieces, memory_pieces, not_created_pieces, not_written_pieces, too_long_pieces};
 ghost use Rattle.avr_desk.specs.Said.{Tells};
+ghost use Rattle.ghosts.specs.Stays.{Stays};
 
 use crate::desk::Desk;
 use crate::files::FileFault;
@@ -74,6 +75,7 @@ impl<'a> Message<'a> {
 pub fn refuse<D: Desk>(desk: &mut D, message: &Message<'_>) -> u8
     ensures status { result ≡ 1 }
     ensures told { Tells (D.view desk.old) (D.view desk.new) (error message.now) }
+    ensures stays { Stays D.comes_of desk.old desk.new }
 {
     let _ = print_error(desk, message.pieces());
     1

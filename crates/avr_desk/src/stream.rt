@@ -3,6 +3,7 @@ ghost use Rattle.std.specs.Prelude.{◌≡◌, ◌≤◌, length, IfOk, IfErr, O
 ghost use Rattle.avr_desk.specs.Fault.{Counts, WriteCounts};
 ghost use Rattle.avr_desk.specs.Record.{Passes};
 ghost use Rattle.avr_desk.specs.Stream.{SendsPart, SendsTaken, after_sent};
+ghost use Rattle.ghosts.specs.Stays.{Stays};
 
 use crate::desk::{Desk, DeskFault};
 
@@ -23,6 +24,7 @@ fn write_some<D: Desk>(desk: &mut D, stream: Stream, bytes: &[u8]) -> Result<usi
     ensures kept { SendsTaken stream bytes.now (D.view desk.old) (D.view desk.new) result }
     ensures counts { WriteCounts stream bytes.now (D.view desk.old) (D.view desk.new) result }
     ensures fault { IfErr result (λ e. e ≡ DeskFault.Failed) }
+    ensures stays { Stays D.comes_of desk.old desk.new }
 {
     match stream {
         Stream::File => desk.write(bytes),
@@ -37,6 +39,7 @@ pub fn write_all<D: Desk>(desk: &mut D, stream: Stream, bytes: &[u8]) -> Result<
     ensures part { OnErr result (SendsPart stream (D.view desk.old) (D.view desk.new) bytes.now) }
     ensures counts { Counts stream (D.view desk.old) (D.view desk.new) result }
     ensures fault { IfErr result (λ e. e ≡ DeskFault.Failed) }
+    ensures stays { Stays D.comes_of desk.old desk.new }
 {
     let mut at = 0;
     while at < bytes.len() {

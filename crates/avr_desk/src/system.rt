@@ -1,9 +1,11 @@
 //! The desk of a program: files and standard streams.
 ghost use Rattle.std.specs.Prelude.{◌≡◌, ◌≤◌, length, take, IfOk, IfErr, OnErr, true, false, []};
 ghost use Rattle.std.specs.Io.KnownBytes.{Keeps, Appends};
-ghost use Rattle.avr_desk.specs.Fault.{Counts, HasRisen, WriteCounts};
+ghost use Rattle.ghosts.specs.Failures.{HasRisen};
+ghost use Rattle.ghosts.specs.Stays.{Stays};
+ghost use Rattle.avr_desk.specs.Fault.{Counts, WriteCounts};
 ghost use Rattle.avr_desk.specs.Record.{HasOpen, Passes, after_open, after_create, after_hold, after_read, after_replace, released, is_to_read, is_to_write, nothing_kept};
-ghost use Rattle.avr_desk.specs.Shown.{AppendsTaken, TakesTruly, shown_view, to_output_opened, to_output_created, to_output_replaced};
+ghost use Rattle.avr_desk.specs.Shown.{AppendsTaken, IsTrueSince, Shown, TakesTruly, shown_view, to_output_opened, to_output_created, to_output_replaced};
 ghost use Rattle.avr_desk.specs.Stream.{SendsTaken};
 ghost use Rattle.avr_desk.specs.declared.desk.DeskFault.TheVariants.{Failed};
 ghost use Rattle.avr_desk.specs.declared.stream.Stream.TheVariants.{File, Output, Messages};
@@ -206,6 +208,11 @@ impl<
 > Desk for SystemDesk<'a, R, O, E> {
     ghost view = { shown_view };
 
+    ghost Start = { Shown O E };
+
+    ghost comes_of = { IsTrueSince O.contents E.contents };
+
+    #[tactic(auto, using(crate::proofs::TrueStreams::open_true))]
     fn open(&mut self, name: &str) -> Result<(), DeskFault>
         ensures kept { Passes (after_open name.now result) (shown_view self.old) (shown_view self.new) }
         ensures counts { Counts File (shown_view self.old) (shown_view self.new) result }
@@ -214,6 +221,7 @@ impl<
           to_output = to_output_opened result self.old.to_output;
           kept = self.new.kept;
         } }
+        ensures stays { Stays (IsTrueSince O.contents E.contents) self.old self.new }
     {
         if name == "-" {
             self.held = Held::Input(self.rt.reader());
@@ -235,6 +243,7 @@ impl<
         }
     }
 
+    #[tactic(auto, using(crate::proofs::TrueStreams::kept_true))]
     fn create(&mut self, name: &str) -> Result<(), DeskFault>
         ensures kept { Passes (after_create name.now result) (shown_view self.old) (shown_view self.new) }
         ensures counts { Counts File (shown_view self.old) (shown_view self.new) result }
@@ -244,6 +253,7 @@ impl<
           to_output = to_output_created name.now result self.old.to_output;
           kept = self.new.kept;
         } }
+        ensures stays { Stays (IsTrueSince O.contents E.contents) self.old self.new }
     {
         if name == "-" {
             self.held = Held::Output;
@@ -260,11 +270,13 @@ impl<
         }
     }
 
+    #[tactic(auto, using(crate::proofs::TrueStreams::kept_true))]
     fn hold(&mut self, name: &str) -> Result<bool, DeskFault>
         ensures kept { Passes (after_hold name.now result) (shown_view self.old) (shown_view self.new) }
         ensures counts { Counts File (shown_view self.old) (shown_view self.new) result }
         ensures fault { IfErr result (λ e. e ≡ Failed) }
         ensures quiet { self.new ≡ record self.old { failures = self.new.failures; kept = self.new.kept } }
+        ensures stays { Stays (IsTrueSince O.contents E.contents) self.old self.new }
     {
         match Replacement::begin(self.rt, name) {
             Ok(Some(replacement)) => {
@@ -281,14 +293,17 @@ impl<
         }
     }
 
+    #[tactic(auto, using(crate::proofs::TrueStreams::kept_true))]
     fn release(&mut self)
         ensures released { shown_view self.new ≡ released (shown_view self.old) }
         ensures quiet { self.new ≡ record self.old { kept = self.new.kept } }
+        ensures stays { Stays (IsTrueSince O.contents E.contents) self.old self.new }
     {
         self.leave_replacement();
         self.journal = self.journal.then(&Call::Released);
     }
 
+    #[tactic(auto, using(crate::proofs::TrueStreams::kept_true, crate::proofs::TrueStreams::replace_true))]
     fn replace(&mut self, name: &str, bytes: &[u8]) -> Result<(), DeskFault>
         ensures kept { Passes (after_replace name.now bytes.now result) (shown_view self.old) (shown_view self.new) }
         ensures counts { Counts File (shown_view self.old) (shown_view self.new) result }
@@ -298,6 +313,7 @@ impl<
           to_output = to_output_replaced result self.old.to_output;
           kept = self.new.kept;
         } }
+        ensures stays { Stays (IsTrueSince O.contents E.contents) self.old self.new }
     {
         let replaced = match &mut self.replacement {
             Some(replacement) if replacement.is_of(name) => replacement.put(self.rt, bytes),
@@ -314,6 +330,7 @@ impl<
         }
     }
 
+    #[tactic(auto, using(crate::proofs::TrueStreams::read_true))]
     fn read(&mut self, buf: &mut [u8]) -> Result<usize, DeskFault>
         ensures bound { IfOk result (λ n. n ≤ length buf.new) }
         ensures kept { Passes (after_read buf.new result) (shown_view self.old) (shown_view self.new) }
@@ -321,6 +338,7 @@ impl<
         ensures counts { Counts File (shown_view self.old) (shown_view self.new) result }
         ensures fault { IfErr result (λ e. e ≡ Failed) }
         ensures quiet { self.new ≡ record self.old { failures = self.new.failures; kept = self.new.kept } }
+        ensures stays { Stays (IsTrueSince O.contents E.contents) self.old self.new }
     {
         let result = match &mut self.held {
             Held::Input(input) => read_some(input, buf),
@@ -336,6 +354,7 @@ impl<
         }
     }
 
+    #[tactic(auto, using(crate::proofs::TrueStreams::kept_true, crate::proofs::TrueStreams::write_true))]
     fn write(&mut self, bytes: &[u8]) -> Result<usize, DeskFault>
         ensures bound { IfOk result (λ n. n ≤ length bytes.now) }
         ensures shown { SendsTaken File bytes.now (shown_view self.old) (shown_view self.new) result }
@@ -352,6 +371,7 @@ impl<
           failures = self.new.failures;
           kept = self.new.kept;
         } }
+        ensures stays { Stays (IsTrueSince O.contents E.contents) self.old self.new }
     {
         match &mut self.held {
             Held::ToWrite(file) => match write_some(file, bytes) {
@@ -374,6 +394,7 @@ impl<
         }
     }
 
+    #[tactic(auto, using(crate::proofs::TrueStreams::out_true))]
     fn out(&mut self, bytes: &[u8]) -> Result<usize, DeskFault>
         ensures bound { IfOk result (λ n. n ≤ length bytes.now) }
         ensures shown { SendsTaken Output bytes.now (shown_view self.old) (shown_view self.new) result }
@@ -387,6 +408,7 @@ impl<
           failures = self.new.failures;
           kept = self.new.kept;
         } }
+        ensures stays { Stays (IsTrueSince O.contents E.contents) self.old self.new }
     {
         match write_through(&mut self.output, Stream::Output, bytes, &mut self.journal) {
             Ok(count) => Ok(count),
@@ -394,6 +416,7 @@ impl<
         }
     }
 
+    #[tactic(auto, using(crate::proofs::TrueStreams::err_true))]
     fn err(&mut self, bytes: &[u8]) -> Result<usize, DeskFault>
         ensures bound { IfOk result (λ n. n ≤ length bytes.now) }
         ensures shown { SendsTaken Messages bytes.now (shown_view self.old) (shown_view self.new) result }
@@ -408,6 +431,7 @@ impl<
           unsaid = self.new.unsaid;
           kept = self.new.kept;
         } }
+        ensures stays { Stays (IsTrueSince O.contents E.contents) self.old self.new }
     {
         match write_through(
             &mut self.messages,

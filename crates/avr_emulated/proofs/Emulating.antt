@@ -11,7 +11,8 @@ use Rattle.avr_plan.specs.Plan.{Plan, IsFitted}
 use Rattle.avr_plan.specs.Planning.{planned}
 use Rattle.avr_desk.specs.Playing.{Went}
 use Rattle.avr_desk.specs.Stage.{Made}
-use Rattle.stk_host.specs.Talk.{Stays, sent}
+use Rattle.ghosts.specs.Stays.{Stays}
+use Rattle.stk_host.specs.Talk.{sent}
 use Rattle.stk_emu.specs.Programmer.{fresh_programmer}
 use Rattle.stk_emu.specs.Wire.{fresh_wire}
 use Rattle.stk_emu.specs.Wired.{WiredState, ComesOf, wired_view}

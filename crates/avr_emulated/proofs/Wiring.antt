@@ -1,5 +1,5 @@
 -- A session that was played over a wire, as it went along the line of its fates.
-use Rattle.std.proofs.Common.{◌≡◌, ◌*◌, ◌⊎◌, ℕ, [], ◌++◌, All, length, sym, ap, ◌∙◌, subst, inl, inr, true, option_map}
+use Rattle.std.proofs.Common.{◌≡◌, ◌*◌, ◌⊎◌, ℕ, [], ◌++◌, All, length, sym, ap, ◌∙◌, subst, inl, inr, true}
 use Rattle.std.proofs.lemmas.List.{append-nil}
 use Rattle.avr_desk.specs.Said.{Saying, SaidPart, after_all}
 use Rattle.avr_part.specs.Part.{IsPart}
@@ -9,7 +9,8 @@ use Rattle.avr_desk.specs.Record.{DeskView}
 use Rattle.stk_frame.specs.Cut.{frames}
 use Rattle.stk_host.specs.Dialog.{played, bytes_sent, sayings}
 use Rattle.stk_host.specs.Play.{Plays, Breaks, InTurn, IsPrefixOf}
-use Rattle.stk_host.specs.Talk.{Talk, Stays, sent, heard}
+use Rattle.ghosts.specs.Stays.{Stays}
+use Rattle.stk_host.specs.Talk.{Talk, sent, heard}
 use Rattle.avr_session.specs.Run.{RunsSession}
 use Rattle.avr_session.specs.Runs.{start, devices}
 use Rattle.avr_session.specs.Session.{session}
@@ -112,7 +113,7 @@ module _ (plan : Plan) (w v : WiredState) (fresh : IsFresh w) (stays : Stays Com
     has_course : Came status (course plan before).status (said_along device count (session plan) begun (turns_of w.wire.fates)) (course plan before).says
         (memories_of (along device count (session plan) begun (turns_of w.wire.fates)).programmer.chip ≡ (course plan before).memories) → IsCourse plan before after old now status
     has_course c = record {
-      said = whole.1.kept ∙ ap (λ said. option_map (after_all said) old.kept) (says ∙ c.sayings);
+      said = whole.1.kept ∙ ap (λ said. after_all said old.kept) (says ∙ c.sayings);
       status_is = c.result;
       memories = ap (λ (q : Programmer). memories_of q.chip) goes.programmer ∙ c.after;
     }

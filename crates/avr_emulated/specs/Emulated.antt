@@ -12,7 +12,8 @@ use Rattle.avr_plan.specs.Plan.{Plan, IsFitted}
 use Rattle.avr_plan.specs.Planning.{LacksPart, planned}
 use Rattle.avr_desk.specs.Playing.{Goes, Went}
 use Rattle.avr_desk.specs.Stage.{Made}
-use Rattle.stk_host.specs.Talk.{Stays, sent}
+use Rattle.ghosts.specs.Stays.{Stays}
+use Rattle.stk_host.specs.Talk.{sent}
 use Rattle.stk_emu.specs.Programmer.{fresh_programmer}
 use Rattle.stk_emu.specs.Wire.{fresh_wire}
 use Rattle.stk_emu.specs.Wired.{WiredState, ComesOf, wired_view}

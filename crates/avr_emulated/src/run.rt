@@ -5,7 +5,8 @@ ghost use Rattle.avr_emulated.specs.AnyLine.{OverAnyLine};
 ghost use Rattle.avr_session.specs.Run.{RunsSession};
 ghost use Rattle.avr_session.specs.Runs.{devices};
 ghost use Rattle.stk_emu.specs.Wired.{ComesOf, IsFresh, wired_view};
-ghost use Rattle.stk_host.specs.Talk.{Stays, sent};
+ghost use Rattle.ghosts.specs.Stays.{Stays};
+ghost use Rattle.stk_host.specs.Talk.{sent};
 ghost use Rattle.avr_part.specs.ChipFile.{chip_file};
 ghost use Rattle.avr_emulated.specs.Emulated.{IsSaved, RunsEmulator};
 
@@ -32,6 +33,7 @@ pub fn drive_wired<D: Desk>(alloc: Global, plan: &Plan, desk: &mut D, wire: &mut
     // With a chip of the plan's part this is what became of it, whatever the line loses, delays and spoils.
     ensures line { wire.old.wire.programmer.chip.part ≡ plan.now.part
         → OverAnyLine plan.now wire.old wire.new (D.view desk.old) (D.view desk.new) result }
+    ensures stays { Stays D.comes_of desk.old desk.new }
 {
     // What the clauses rest on: each image has the size of its memory, and the chip's memories those of its part.
     let _tasks = plan.tasks();
@@ -45,6 +47,7 @@ fn save_if_sent<D: Desk>(alloc: Global, wire: &Wired, file: &str, desk: &mut D, 
     ensures saved { IsSaved (sent wire.now.talk) (D.view desk.old) (D.view desk.new) file.now
         (chip_file wire.now.wire.programmer.chip) status result }
     ensures follows { Follows (D.view desk.old) (D.view desk.new) }
+    ensures stays { Stays D.comes_of desk.old desk.new }
 {
     if wire.sent().is_empty() {
         desk.release();
@@ -64,6 +67,7 @@ fn save_if_sent<D: Desk>(alloc: Global, wire: &Wired, file: &str, desk: &mut D, 
 /// sent.
 pub fn run_emulated<D: Desk>(alloc: Global, settings: &Settings, file: &str, desk: &mut D) -> u8
     ensures runs { RunsEmulator settings.now file.now (D.view desk.old) (D.view desk.new) result }
+    ensures stays { Stays D.comes_of desk.old desk.new }
 {
     let plan = match plan(alloc, settings, desk) {
         Ok(plan) => plan,

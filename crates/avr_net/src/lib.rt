@@ -17,6 +17,10 @@ mod messages;
 mod run;
 mod serving;
 
+// laws
+mod laws;
+
+pub use laws::a_connection_fails_once_at_most;
 pub use ports::{accept, listen};
 pub use run::run_net;
 pub use serving::{serve_net, serve_on};

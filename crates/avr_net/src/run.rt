@@ -1,5 +1,6 @@
 //! A run over a port of the network, from settings to status.
 ghost use Rattle.avr_net.specs.OverNet.{RunsOverNet};
+ghost use Rattle.ghosts.specs.Stays.{Stays};
 
 use crate::messages::unopened_message;
 use crate::ports::connect;
@@ -22,6 +23,7 @@ pub fn run_net<R: Net, D: Desk>(
     desk: &mut D,
 ) -> u8
     ensures runs { RunsOverNet settings.now address.now (D.view desk.old) (D.view desk.new) result }
+    ensures stays { Stays D.comes_of desk.old desk.new }
 {
     let plan = match plan(alloc, settings, desk) {
         Ok(plan) => plan,

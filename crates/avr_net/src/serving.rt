@@ -1,6 +1,7 @@
 //! Serving an emulated programmer at a port of this machine, from settings to status.
 ghost use Rattle.avr_cli.specs.Port.{port_number as number_of};
 ghost use Rattle.avr_net.specs.ServedNet.{ServesNet, ServesOn, ServesAt};
+ghost use Rattle.ghosts.specs.Stays.{Stays};
 
 use crate::messages::unopened_message;
 use crate::ports::{accept, listen};
@@ -29,6 +30,7 @@ pub fn serve_on<L: OpenListener, D: Desk>(
 where
     L::Stream: Read + Write + OpenStream,
     ensures serves { ServesOn part.now port.now file.now (D.view desk.old) (D.view desk.new) result }
+    ensures stays { Stays D.comes_of desk.old desk.new }
 {
     let mut link = match accept(listener) {
         Ok(link) => link,
@@ -48,6 +50,7 @@ fn serve_at<R: Net, D: Desk>(
 ) -> u8
     ensures serves { ServesAt (number_of port.now) part.now port.now file.now
         (D.view desk.old) (D.view desk.new) result }
+    ensures stays { Stays D.comes_of desk.old desk.new }
 {
     let Some(number) = port_number(port) else {
         return refuse(desk, &unopened_message("", port));
@@ -75,6 +78,7 @@ pub fn serve_net<R: Net, D: Desk>(
     desk: &mut D,
 ) -> u8
     ensures serves { ServesNet settings.now port.now file.now (D.view desk.old) (D.view desk.new) result }
+    ensures stays { Stays D.comes_of desk.old desk.new }
 {
     let part = match judge_part(alloc, settings, file, desk) {
         Ok(part) => part,

@@ -1,18 +1,18 @@
 -- Wrong ends of a plan that writes the file `x.hex` to flash, where the desk shows that no file was opened: its contract
 -- admits none of them.
-use Rattle.std.proofs.Common.{◌≡◌, ◌∙◌, sym, ap, subst, arith, ℕ, ◌+◌, ◌<◌, ◌≤◌, ◌-◌, ◌^◌, ◌⊎◌, inl, inr, List, [], ◌∷◌, ◌++◌, take, get_or, append-nil, true, Option, Some, None, Ok, Err}
+use Rattle.std.proofs.Common.{◌≡◌, ◌∙◌, sym, ap, subst, arith, ℕ, ◌+◌, ◌<◌, ◌≤◌, ◌-◌, ◌^◌, ◌⊎◌, inl, inr, List, [], ◌∷◌, ◌++◌, take, get_or, append-nil, true, Option, None, Ok, Err}
 use Rattle.std.specs.Prelude.{codes}
 use Rattle.avr_cli.specs.Settings.{no_switches}
 use Rattle.avr_cli.specs.declared.settings.Port.TheVariants.{Stdio}
 use Rattle.avr_cli.specs.declared.settings.Settings.{Settings}
 use Rattle.avr_cli.specs.declared.update.Format.TheVariants.{Ihex}
 use Rattle.avr_cli.specs.declared.update.Op.TheVariants as op
-use Rattle.avr_desk.specs.Fault.{HasRisen}
+use Rattle.ghosts.specs.Failures.{HasRisen, HasStood}
 use Rattle.avr_desk.specs.Record.{DeskView, Record, after_err, showing, Bytes}
 use Rattle.avr_desk.specs.declared.record.Opening.TheVariants.{Found}
 use Rattle.avr_desk.specs.Lines.{memory_line, not_opened_line}
 use Rattle.avr_desk.specs.Said.{Opens, Line, TellsLine, TellsFailure, after_all}
-use Rattle.avr_desk.proofs.Telling.{risen_before, risen_later}
+use Rattle.ghosts.proofs.Failures.{stood_has_not_risen}
 use Rattle.avr_part.specs.BuiltIn.{m328p}
 use Rattle.avr_part.specs.declared.part.Mem.TheVariants.{Flash}
 use Rattle.avr_records.specs.declared.kind.Ending.{Ending}
@@ -70,10 +70,10 @@ differs place line told old new apart (inr part) = apart part.0.0 (ap (λ (bytes
 module _ (r : Record) (k l m n status : ℕ) where
   -- the messages grew by this, and the status is that of a refusal
   abbrev Ends : Bytes → Type 0
-  Ends told = Goes (planned wanted) (showing (Some r) k m) (showing (Some (after_err told r)) l n) (Err status)
+  Ends told = Goes (planned wanted) (showing r k m) (showing (after_err told r) l n) (Err status)
 
   abbrev Told : Bytes → Type 0
-  Told told = TellsFailure (not_opened_line file) told (showing (Some r) k m) (showing (Some (after_err told r)) l n) ⊎ TellsLine memory_line told (showing (Some r) k m) (showing (Some (after_err told r)) l n)
+  Told told = TellsFailure (not_opened_line file) told (showing r k m) (showing (after_err told r) l n) ⊎ TellsLine memory_line told (showing r k m) (showing (after_err told r) l n)
 
   told_by : (told : Bytes) → Ends told → Told told
   told_by told ends = unopened file told (planned wanted) begins r k l m n status ends
@@ -81,8 +81,8 @@ module _ (r : Record) (k l m n status : ℕ) where
   -- the line of another file, whatever failed
   other_line : Told (not_opened_line other) → ⊥
   other_line (inl failure) =
-      differs 15 (not_opened_line file) (not_opened_line other) failure.between (showing None l n) (λ back is. let e : ◌≡◌ {A = ℕ} 121 120 = is in omega (arith, e)) failure.tells
-  other_line (inr memory) = differs 15 memory_line (not_opened_line other) (showing None k m) (showing None l n) (λ back is. let e : ◌≡◌ {A = ℕ} 121 111 = is in omega (arith, e)) memory
+      differs 15 (not_opened_line file) (not_opened_line other) failure.between (showing r l n) (λ back is. let e : ◌≡◌ {A = ℕ} 121 120 = is in omega (arith, e)) failure.tells
+  other_line (inr memory) = differs 15 memory_line (not_opened_line other) (showing r k m) (showing r l n) (λ back is. let e : ◌≡◌ {A = ℕ} 121 111 = is in omega (arith, e)) memory
 
   another_file : Ends (not_opened_line other) → ⊥
   another_file ends = other_line (told_by (not_opened_line other) ends)
@@ -90,71 +90,71 @@ module _ (r : Record) (k l m n status : ℕ) where
   -- a second line behind its own
   two_lines : Told (not_opened_line file ++ memory_line) → ⊥
   two_lines (inl failure) =
-      differs 39 (not_opened_line file) (not_opened_line file ++ memory_line) failure.between (showing None l n) (λ back is. let e : ◌≡◌ {A = ℕ} 97 0 = is in omega (arith, e)) failure.tells
+      differs 39 (not_opened_line file) (not_opened_line file ++ memory_line) failure.between (showing r l n) (λ back is. let e : ◌≡◌ {A = ℕ} 97 0 = is in omega (arith, e)) failure.tells
   two_lines (inr memory) =
-      differs 15 memory_line (not_opened_line file ++ memory_line) (showing None k m) (showing None l n) (λ back is. let e : ◌≡◌ {A = ℕ} 120 111 = is in omega (arith, e)) memory
+      differs 15 memory_line (not_opened_line file ++ memory_line) (showing r k m) (showing r l n) (λ back is. let e : ◌≡◌ {A = ℕ} 120 111 = is in omega (arith, e)) memory
 
   second_line : Ends (not_opened_line file ++ memory_line) → ⊥
   second_line ends = two_lines (told_by (not_opened_line file ++ memory_line) ends)
 
   -- half of its line, though the desk failed once, and so at the file
-  half_told : (count unsaid : ℕ) → l ≡ k + 1 → l < 2 ^ 64 - 1 → k ≤ count → count ≤ l → HasRisen k count → TellsLine (not_opened_line file) half (showing None count unsaid) (showing None l n)
+  half_told : (count unsaid : ℕ) → l ≡ k + 1 → l < 2 ^ 64 - 1 → k ≤ count → count ≤ l → HasRisen k count → TellsLine (not_opened_line file) half (showing r count unsaid) (showing r l n)
       → ⊥
   half_told count unsaid one few since until failed (inl whole) = let e : ◌≡◌ {A = ℕ} 0 101 = ap (λ (bytes : Bytes). get_or bytes 30 0) whole.0 in omega (arith, e)
   half_told count unsaid one few since until (inl rose) (inr (part, (inl again, quiet))) = omega (arith, one, rose, again)
-  half_told count unsaid one few since until (inl rose) (inr (part, (inr end, quiet))) = omega (arith, few, end)
-  half_told count unsaid one few since until (inr end) (inr part) = omega (arith, few, end, until)
+  half_told count unsaid one few since until (inl rose) (inr (part, (inr end, quiet))) = omega (arith, few, end.1)
+  half_told count unsaid one few since until (inr end) (inr part) = omega (arith, few, end.1, until)
 
   half_of_it : l ≡ k + 1 → l < 2 ^ 64 - 1 → Told half → ⊥
   half_of_it one few (inl failure) =
       half_told failure.between.failures failure.between.unsaid one few failure.since.0 failure.until.0 failure.failed.0 failure.tells
-  half_of_it one few (inr memory) = differs 15 memory_line half (showing None k m) (showing None l n) (λ back is. let e : ◌≡◌ {A = ℕ} 120 111 = is in omega (arith, e)) memory
+  half_of_it one few (inr memory) = differs 15 memory_line half (showing r k m) (showing r l n) (λ back is. let e : ◌≡◌ {A = ℕ} 120 111 = is in omega (arith, e)) memory
 
   half_a_line : l ≡ k + 1 → l < 2 ^ 64 - 1 → Ends half → ⊥
   half_a_line one few ends = half_of_it one few (told_by half ends)
 
   -- silence, where the desk has not failed
-  nothing_told : (HasRisen k l → ⊥) → Told [] → ⊥
-  nothing_told sound (inl failure) = sound (risen_before k failure.between.failures l failure.since.0 failure.until.0 failure.failed.0)
+  nothing_told : HasStood k l → Told [] → ⊥
+  nothing_told sound (inl failure) = stood_has_not_risen k k failure.between.failures l (omega arith) failure.until.0 sound failure.failed.0
   nothing_told sound (inr (inl whole)) = let e : ◌≡◌ {A = ℕ} 0 97 = ap (λ (bytes : Bytes). get_or bytes 0 0) whole.0 in omega (arith, e)
-  nothing_told sound (inr (inr part)) = sound part.1.0
+  nothing_told sound (inr (inr part)) = stood_has_not_risen k k l l (omega arith) (omega arith) sound part.1.0
 
-  silence : (HasRisen k l → ⊥) → Goes (planned wanted) (showing (Some r) k m) (showing (Some r) l n) (Err status) → ⊥
+  silence : HasStood k l → Goes (planned wanted) (showing r k m) (showing r l n) (Err status) → ⊥
   silence sound ends =
       let same : after_err [] r ≡ r = ap (λ bytes. record r { messages = bytes }) (append-nil r.messages) in
-      nothing_told sound (told_by [] (subst (λ x. Goes (planned wanted) (showing (Some r) k m) (showing (Some x) l n) (Err status)) (sym same) ends))
+      nothing_told sound (told_by [] (subst (λ x. Goes (planned wanted) (showing r k m) (showing x l n) (Err status)) (sym same) ends))
 
   -- silence, or half of its line, where no write to the messages has failed, however often files have
-  told_whole : (told : Bytes) → (HasRisen m n → ⊥) → Told told → (told ≡ not_opened_line file) ⊎ (told ≡ memory_line)
+  told_whole : (told : Bytes) → HasStood m n → Told told → (told ≡ not_opened_line file) ⊎ (told ≡ memory_line)
   told_whole told sound (inl failure) = of_file failure.tells
     where
-      of_file : TellsLine (not_opened_line file) told failure.between (showing None l n) → (told ≡ not_opened_line file) ⊎ (told ≡ memory_line)
+      of_file : TellsLine (not_opened_line file) told failure.between (showing r l n) → (told ≡ not_opened_line file) ⊎ (told ≡ memory_line)
       of_file (inl whole) = inl whole.0
-      of_file (inr part) = absurd (sound (risen_later m failure.between.unsaid n failure.since.1 part.1.1))
+      of_file (inr part) = absurd (stood_has_not_risen m failure.between.unsaid n n failure.since.1 (omega arith) sound part.1.1)
   told_whole told sound (inr (inl whole)) = inr whole.0
-  told_whole told sound (inr (inr part)) = absurd (sound part.1.1)
+  told_whole told sound (inr (inr part)) = absurd (stood_has_not_risen m m n n (omega arith) (omega arith) sound part.1.1)
 
   nothing_of_either : ([] ≡ not_opened_line file) ⊎ ([] ≡ memory_line) → ⊥
   nothing_of_either (inl whole) = let e : ◌≡◌ {A = ℕ} 0 97 = ap (λ (bytes : Bytes). get_or bytes 0 0) whole in omega (arith, e)
   nothing_of_either (inr whole) = let e : ◌≡◌ {A = ℕ} 0 97 = ap (λ (bytes : Bytes). get_or bytes 0 0) whole in omega (arith, e)
 
-  silence_behind_a_file : (HasRisen m n → ⊥) → Goes (planned wanted) (showing (Some r) k m) (showing (Some r) l n) (Err status) → ⊥
+  silence_behind_a_file : HasStood m n → Goes (planned wanted) (showing r k m) (showing r l n) (Err status) → ⊥
   silence_behind_a_file sound ends =
       let same : after_err [] r ≡ r = ap (λ bytes. record r { messages = bytes }) (append-nil r.messages) in
-      nothing_of_either (told_whole [] sound (told_by [] (subst (λ x. Goes (planned wanted) (showing (Some r) k m) (showing (Some x) l n) (Err status)) (sym same) ends)))
+      nothing_of_either (told_whole [] sound (told_by [] (subst (λ x. Goes (planned wanted) (showing r k m) (showing x l n) (Err status)) (sym same) ends)))
 
   half_of_either : (half ≡ not_opened_line file) ⊎ (half ≡ memory_line) → ⊥
   half_of_either (inl whole) = let e : ◌≡◌ {A = ℕ} 0 101 = ap (λ (bytes : Bytes). get_or bytes 30 0) whole in omega (arith, e)
   half_of_either (inr whole) = let e : ◌≡◌ {A = ℕ} 120 111 = ap (λ (bytes : Bytes). get_or bytes 15 0) whole in omega (arith, e)
 
-  half_behind_a_file : (HasRisen m n → ⊥) → Ends half → ⊥
+  half_behind_a_file : HasStood m n → Ends half → ⊥
   half_behind_a_file sound ends = half_of_either (told_whole half sound (told_by half ends))
 
   -- the line of a file that was opened, read to its end and good
   opened_well : (bytes : Bytes) (good : List (Option ℕ) × Ending) → judged_image file Ihex 32768 bytes ≡ Ok good
-      → Goes (file_stage file 4194304 (judged_image file Ihex 32768)) (showing (Some r) k m)
-      (showing (Some (after_all (Opens (Found (record { name = file; bytes = bytes; ended = true })) ∷ Line (not_opened_line file) ∷ []) r)) l n) (Err status)
+      → Goes (file_stage file 4194304 (judged_image file Ihex 32768)) (showing r k m)
+      (showing (after_all (Opens (Found (record { name = file; bytes = bytes; ended = true })) ∷ Line (not_opened_line file) ∷ []) r) l n) (Err status)
       → ⊥
   opened_well bytes good given ends =
-      differs 15 memory_line (not_opened_line file) (showing None k m) (showing None l n) (λ back is. let e : ◌≡◌ {A = ℕ} 120 111 = is in omega (arith, e))
+      differs 15 memory_line (not_opened_line file) (showing r k m) (showing r l n) (λ back is. let e : ◌≡◌ {A = ℕ} 120 111 = is in omega (arith, e))
       (opened_is_told file 4194304 (judged_image file Ihex 32768) bytes (not_opened_line file) good given r k l m n status ends)

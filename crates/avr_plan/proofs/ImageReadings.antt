@@ -1,5 +1,5 @@
 -- An image file that is read in pieces.
-use Rattle.std.proofs.Common.{◌≡◌, ◌∙◌, sym, ap, ap₂, refl, arith, ℕ, ◌+◌, ◌≤◌, ◌<◌, [], ◌++◌, length, take, Bool, true, false, nat_le, not, ◌==◌, ◌&&◌, ◌||◌, Option, Some, None, option_map, Ok, Err, append_assoc, append-nil, subst, length-append}
+use Rattle.std.proofs.Common.{◌≡◌, ◌∙◌, sym, ap, ap₂, refl, arith, ℕ, ◌+◌, ◌≤◌, ◌<◌, [], ◌++◌, length, take, Bool, true, false, nat_le, not, ◌==◌, ◌&&◌, ◌||◌, Ok, Err, append_assoc, append-nil, subst, length-append}
 use Rattle.std.proofs.Math.Seq.{take-append-add}
 use Rattle.std.proofs.lemmas.Bool.Decides.{nat_tests}
 use Rattle.std.proofs.lemmas.List.{take-take, length-take-le, take-append-le}
@@ -32,18 +32,17 @@ noted-none (ToRead x) = ap₂ (λ (bytes : Bytes) (ended : Bool). ToRead (record
     (or-false x.ended)
 noted-none (ToWrite x) = refl
 
-pub read_nothing : (d : Option Record) → d ≡ option_map (after_reading [] false) d
-read_nothing None = refl
-read_nothing (Some r) = ap (λ (o : Open). Some (record r { current = o })) (noted-none r.current)
+pub read_nothing : (d : Record) → d ≡ after_reading [] false d
+read_nothing d = ap (λ (o : Open). record d { current = o }) (noted-none d.current)
 
-pub read_end : (old now new : Option Record) (a buf : Bytes) (n : ℕ) → now ≡ option_map (after_reading a false) old
-    → new ≡ option_map (after_read buf (Ok n)) now
-    → n ≡ 0 → 0 < length buf → new ≡ option_map (after_reading a true) old
+pub read_end : (old now new : Record) (a buf : Bytes) (n : ℕ) → now ≡ after_reading a false old
+    → new ≡ after_read buf (Ok n) now
+    → n ≡ 0 → 0 < length buf → new ≡ after_reading a true old
 read_end old now new a buf n first then zero some =
     let ends : (n == 0 && not (is_nil buf)) ≡ true = grind (arith, nat_tests) in
     let none : take n buf ≡ [] = rw zero refl in
-    let last : new ≡ option_map (after_reading [] true) now = then ∙ ap₂ (λ (b : Bytes) (e : Bool). option_map (after_reading b e) now) none ends in
-    subst (λ (b : Bytes). new ≡ option_map (after_reading b true) old) (append-nil a) (read_next old now new a [] true first last)
+    let last : new ≡ after_reading [] true now = then ∙ ap₂ (λ (b : Bytes) (e : Bool). after_reading b e now) none ends in
+    subst (λ (b : Bytes). new ≡ after_reading b true old) (append-nil a) (read_next old now new a [] true first last)
 
 -- ---- the rest of a file
 
@@ -191,10 +190,9 @@ open_is_front limit format size front old new (Err (Image bad)) read len is = re
 open_is_front limit format size front old new (Err (File fault)) read len is = absurd is
 
 -- a file that was opened, and then read
-opened_read : (name : Bytes) (old now new : Option Record) (bytes : Bytes) (ended : Bool) → now ≡ option_map (after_open name (Ok tt)) old
-    → new ≡ option_map (after_reading bytes ended) now → new ≡ option_map (with_read name bytes ended) old
-opened_read name None now new bytes ended opened read = read ∙ ap (option_map (after_reading bytes ended)) opened
-opened_read name (Some k) now new bytes ended opened read = read ∙ ap (option_map (after_reading bytes ended)) opened
+opened_read : (name : Bytes) (old now new : Record) (bytes : Bytes) (ended : Bool) → now ≡ after_open name (Ok tt) old
+    → new ≡ after_reading bytes ended now → new ≡ with_read name bytes ended old
+opened_read name old now new bytes ended opened read = read ∙ ap (after_reading bytes ended) opened
 
 opened_image : (limit : ℕ) (format : Format) (size : ℕ) (name : Bytes) (old now new : DeskView) (given : Given)
     → Passes (after_open name (Ok tt)) old now

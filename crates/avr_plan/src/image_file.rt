@@ -8,6 +8,7 @@ ghost use Rattle.avr_plan.specs.ImageFile.{kind_of, whole_file};
 ghost use Rattle.avr_desk.specs.Files.{IsCounted};
 ghost use Rattle.avr_plan.specs.ImageReading.{IsGiven, FrontIsRead, RestIsRead, OpenIsRead, ImageIsRead, IsCountedRead};
 ghost use Rattle.avr_plan.specs.Intake.{Takes, fed_count};
+ghost use Rattle.ghosts.specs.Stays.{Stays};
 
 use crate::intake::{BadFile, Intake};
 use arrayvec::ArrayVec;
@@ -75,6 +76,7 @@ fn read_front<D: Desk>(desk: &mut D) -> Result<Front, FileFault>
     ensures rises { Follows (D.view desk.old) (D.view desk.new) }
     ensures counted { IfErr result (IsCounted (D.view desk.old) (D.view desk.new)) }
     ensures sound { OnOk result (HasSameCounts (D.view desk.old) (D.view desk.new)) }
+    ensures stays { Stays D.comes_of desk.old desk.new }
 {
     let mut bytes: ArrayVec<u8, FRONT> = ArrayVec::new();
     let mut piece = [0u8; FRONT];
@@ -120,6 +122,7 @@ fn read_rest<D: Desk>(
     ensures rises { Follows (D.view desk.old) (D.view desk.new) }
     ensures counted { IfErr result (IsCountedRead (D.view desk.old) (D.view desk.new)) }
     ensures sound { OnOk result (HasSameCounts (D.view desk.old) (D.view desk.new)) }
+    ensures stays { Stays D.comes_of desk.old desk.new }
 {
     let mut piece = [0u8; PIECE];
     'pieces: loop {
@@ -151,6 +154,7 @@ fn read_open<D: Desk>(
     ensures rises { Follows (D.view desk.old) (D.view desk.new) }
     ensures counted { IfErr result (IsCountedRead (D.view desk.old) (D.view desk.new)) }
     ensures sound { OnOk result (HasSameCounts (D.view desk.old) (D.view desk.new)) }
+    ensures stays { Stays D.comes_of desk.old desk.new }
 {
     let front = match read_front(desk) {
         Ok(front) => front,
@@ -193,6 +197,7 @@ pub fn read_image<D: Desk>(
     ensures rises { Follows (D.view desk.old) (D.view desk.new) }
     ensures counted { IfErr result (IsCountedRead (D.view desk.old) (D.view desk.new)) }
     ensures sound { OnOk result (HasSameCounts (D.view desk.old) (D.view desk.new)) }
+    ensures stays { Stays D.comes_of desk.old desk.new }
 {
     match desk.open(name) {
         Ok(()) => read_open(alloc, desk, format, size, LIMIT),

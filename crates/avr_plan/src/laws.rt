@@ -1,7 +1,7 @@
 //! Laws of planning, over the definitions alone. No code.
 ghost use Rattle.std.specs.Prelude.{◌≡◌, ◌++◌, ℕ, List, Some, Err};
 ghost use Rattle.avr_cli.specs.declared.settings.Settings.{Settings};
-ghost use Rattle.avr_desk.specs.Fault.{HasRisen};
+ghost use Rattle.ghosts.specs.Failures.{HasStood};
 ghost use Rattle.avr_desk.specs.Record.{Record, showing, Bytes};
 ghost use Rattle.avr_desk.specs.declared.record.Opening.{Opening};
 ghost use Rattle.avr_desk.specs.Lines.{memory_line};
@@ -19,8 +19,8 @@ pub fn a_plan_only_reads_and_warns()
 /// Where the desk did not fail, by its count of all failures, a plan that is not made is refused as planning says, with
 /// its line, or the messages end with the line of memory.
 pub fn a_sound_plan_is_refused_aloud()
-    ensures { (s : Settings) (before after : Record) (k l m n status : ℕ) → (HasRisen k l → ⊥)
+    ensures { (s : Settings) (before after : Record) (k l m n status : ℕ) → HasStood k l
         → ((front : Bytes) → after.messages ≡ front ++ memory_line → ⊥)
-        → Goes (planned s) (showing (Some before) k m) (showing (Some after) l n) (Err status)
-        → Went (planned s) (showing (Some before) k m) (showing (Some after) l n) Refused }
+        → Goes (planned s) (showing before k m) (showing after l n) (Err status)
+        → Went (planned s) (showing before k m) (showing after l n) Refused }
 {}

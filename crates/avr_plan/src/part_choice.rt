@@ -2,6 +2,7 @@
 ghost use Rattle.std.specs.Prelude.{◌≡◌, [], Some, None, Ok, IfErr};
 ghost use Rattle.avr_plan.specs.Planning.{LacksPart, parts_stage, part_stage};
 ghost use Rattle.avr_desk.specs.Playing.{Goes};
+ghost use Rattle.ghosts.specs.Stays.{Stays};
 
 use crate::messages::{no_part_message, part_file_message};
 use avr_cli::Text;
@@ -14,7 +15,8 @@ const LIMIT: usize = 65_536;
 
 /// The parts of a part file.
 fn file_parts<D: Desk>(alloc: Global, desk: &mut D, file: &str) -> Result<Parts, u8>
-    ensures { Goes (parts_stage (Some file.now)) (D.view desk.old) (D.view desk.new) result }
+    ensures goes { Goes (parts_stage (Some file.now)) (D.view desk.old) (D.view desk.new) result }
+    ensures stays { Stays D.comes_of desk.old desk.new }
 {
     let contents = match read_file(alloc, desk, file, LIMIT) {
         Ok(contents) => contents,
@@ -36,6 +38,7 @@ fn file_parts<D: Desk>(alloc: Global, desk: &mut D, file: &str) -> Result<Parts,
 pub fn given_parts<D: Desk>(alloc: Global, desk: &mut D, file: &Option<Text>) -> Result<Parts, u8>
     ensures goes { Goes (parts_stage file.now) (D.view desk.old) (D.view desk.new) result }
     ensures none { file.now ≡ None → (result ≡ Ok []) × (D.view desk.new ≡ D.view desk.old) }
+    ensures stays { Stays D.comes_of desk.old desk.new }
 {
     match file {
         Some(file) => file_parts(alloc, desk, file.as_str()),
@@ -55,6 +58,7 @@ pub fn given_parts<D: Desk>(alloc: Global, desk: &mut D, file: &Option<Text>) ->
 pub fn chosen_part<D: Desk>(desk: &mut D, parts: &Parts, id: &str) -> Result<Part, u8>
     ensures goes { Goes (part_stage id.now parts.now) (D.view desk.old) (D.view desk.new) result }
     ensures refused { IfErr result (λ status. LacksPart id.now parts.now (D.view desk.old) (D.view desk.new)) }
+    ensures stays { Stays D.comes_of desk.old desk.new }
 {
     match parts.find(id) {
         Ok(part) => Ok(part),

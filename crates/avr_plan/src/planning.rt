@@ -5,6 +5,7 @@ ghost use Rattle.avr_part.specs.Part.{Part as PartData};
 ghost use Rattle.avr_plan.specs.Plan.{IsFitted};
 ghost use Rattle.avr_plan.specs.Planning.{LacksPart, task_stage, op_stage, write_stage, tasks_stage, planned};
 ghost use Rattle.avr_desk.specs.Playing.{Goes};
+ghost use Rattle.ghosts.specs.Stays.{Stays};
 
 use crate::messages::read_only_message;
 use crate::part_choice::{chosen_part, given_parts};
@@ -26,6 +27,7 @@ fn write_task<D: Desk>(
     ensures goes { Goes (write_stage switches part.now update.now)
         (D.view desk.old) (D.view desk.new) result }
     ensures fitted { IfOk result (IsFitted part.now) }
+    ensures stays { Stays D.comes_of desk.old desk.new }
 {
     if !update.memory.writable() {
         return Err(refuse(desk, &read_only_message(update.memory)));
@@ -47,6 +49,7 @@ fn verify_task<D: Desk>(
     ensures goes { Goes (op_stage switches part.now update.now Op.Verify)
         (D.view desk.old) (D.view desk.new) result }
     ensures fitted { IfOk result (IsFitted part.now) }
+    ensures stays { Stays D.comes_of desk.old desk.new }
 {
     match update_image(alloc, desk, switches, part, update) {
         Ok(image) => Ok(Task::Verify(update.memory, image)),
@@ -59,6 +62,7 @@ fn read_task<D: Desk>(alloc: Global, desk: &mut D, update: &Update) -> Result<Ta
     ensures goes { (switches : AnySwitches) (part : PartData) → Goes (op_stage switches part update.now Op.Read)
         (D.view desk.old) (D.view desk.new) result }
     ensures fitted { IfOk result (λ task. (part : PartData) → IsFitted part task) }
+    ensures stays { Stays D.comes_of desk.old desk.new }
 {
     match Text::new(alloc, update.file.as_str()) {
         Ok(file) => Ok(Task::Read {
@@ -81,6 +85,7 @@ fn update_task<D: Desk>(
     ensures goes { Goes (task_stage switches part.now update.now)
         (D.view desk.old) (D.view desk.new) result }
     ensures fitted { IfOk result (IsFitted part.now) }
+    ensures stays { Stays D.comes_of desk.old desk.new }
 {
     match update.op {
         Op::Write => write_task(alloc, desk, switches, part, update),
@@ -102,6 +107,7 @@ fn update_tasks<D: Desk>(
     ensures fitted { IfOk result (All (IsFitted part.now)) }
     // Without updates no memory is taken.
     ensures none { updates.now ≡ [] → IsOk result }
+    ensures stays { Stays D.comes_of desk.old desk.new }
 {
     let mut tasks = Tasks::new(alloc);
     for update in updates {
@@ -125,6 +131,7 @@ pub fn plan<D: Desk>(alloc: Global, settings: &Settings, desk: &mut D) -> Result
     // Without a part file and updates nothing is read and no memory is taken: only the part can be wanting.
     ensures bare { settings.now.parts ≡ None → settings.now.updates ≡ []
         → IfErr result (λ status. LacksPart settings.now.part [] (D.view desk.old) (D.view desk.new)) }
+    ensures stays { Stays D.comes_of desk.old desk.new }
 {
     let parts = given_parts(alloc, desk, &settings.parts)?;
     let part = chosen_part(desk, &parts, settings.part.as_str())?;

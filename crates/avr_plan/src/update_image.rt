@@ -5,6 +5,7 @@ ghost use Rattle.avr_part.specs.Part.{size_of};
 ghost use Rattle.avr_plan.specs.Planning.{is_warned, warning_says, file_image_stage, image_stage, update_image as update_image_stage};
 ghost use Rattle.avr_desk.specs.Playing.{Goes};
 ghost use Rattle.avr_desk.specs.Stage.{saying_stage};
+ghost use Rattle.ghosts.specs.Stays.{Stays};
 
 use crate::image_file::{ReadFault, read_image};
 use crate::messages::{image_message, values_message};
@@ -32,8 +33,9 @@ fn warn_of_ending<D: Desk>(
     file: &str,
     ending: Ending,
 ) -> Result<(), u8>
-    ensures { Goes (saying_stage (warning_says switches file.now ending))
+    ensures goes { Goes (saying_stage (warning_says switches file.now ending))
         (D.view desk.old) (D.view desk.new) result }
+    ensures stays { Stays D.comes_of desk.old desk.new }
 {
     let warns = is_warned(switches, ending);
     if !warns {
@@ -57,6 +59,7 @@ fn file_image<D: Desk>(
     ensures goes { Goes (file_image_stage switches file.now format size)
         (D.view desk.old) (D.view desk.new) result }
     ensures sized { IfOk result (λ image. length image ≡ size) }
+    ensures stays { Stays D.comes_of desk.old desk.new }
 {
     match read_image(alloc, desk, file, format, size) {
         Ok((image, ending)) => match warn_of_ending(desk, switches, file, ending) {
@@ -78,6 +81,7 @@ fn values_image<D: Desk>(
     ensures goes { (switches : AnySwitches) → Goes (image_stage switches memory size text.now Format.Immediate)
         (D.view desk.old) (D.view desk.new) result }
     ensures sized { IfOk result (λ image. length image ≡ size) }
+    ensures stays { Stays D.comes_of desk.old desk.new }
 {
     match parse_immediate(alloc, text, size) {
         Ok(image) => Ok(image),
@@ -96,6 +100,7 @@ pub(crate) fn update_image<D: Desk>(
     ensures goes { Goes (update_image_stage switches part.now update.now)
         (D.view desk.old) (D.view desk.new) result }
     ensures sized { IfOk result (λ image. length image ≡ size_of update.now.memory part.now) }
+    ensures stays { Stays D.comes_of desk.old desk.new }
 {
     let size = part.size_of(update.memory);
     let text = update.file.as_str();

@@ -4,3 +4,4 @@ pub mod Answering
 pub mod Replying
 pub mod Turns
 pub mod Rows
+pub mod Sound

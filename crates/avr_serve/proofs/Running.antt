@@ -1,5 +1,5 @@
 -- A fresh emulator that served, from settings to status.
-use Rattle.std.proofs.Common.{◌≡◌, ℕ, List, [], ap₂, subst, Result, Ok, Err}
+use Rattle.std.proofs.Common.{◌≡◌, ℕ, List, [], ap₂, subst, Result, Err}
 use Rattle.avr_cli.specs.declared.settings.Settings.{Settings}
 use Rattle.avr_desk.specs.Fault.{Follows}
 use Rattle.avr_desk.specs.Record.{DeskView, Bytes}

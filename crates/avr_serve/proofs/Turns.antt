@@ -4,7 +4,8 @@ use Rattle.std.specs.Prelude.{◌≢◌}
 use Rattle.std.proofs.lemmas.List.{append-nil}
 use Rattle.stk_host.specs.declared.link.Item.TheVariants.{Silence, End}
 use Rattle.stk_host.specs.Tape.{on_tape, bytes_of}
-use Rattle.stk_host.specs.Talk.{Talk, Got, sent, heard as heard_in, Grows, LinkView, HasRisen}
+use Rattle.ghosts.specs.Failures.{HasRisen}
+use Rattle.stk_host.specs.Talk.{Talk, Got, sent, heard as heard_in, Grows, LinkView}
 use Rattle.stk_host.specs.Reach.{IsQuiet}
 use Rattle.stk_host.proofs.Talks.{sent_append, heard_append, heard_quiet, grows_none, grows_on}
 use Rattle.stk_host.proofs.Tapes.{bytes_of_append, bytes_of_on_tape}

@@ -3,7 +3,7 @@ use Rattle.std.specs.Prelude.{◌≡◌, ◌⊎◌, ℕ, List, [], ◌∷◌, Op
 use Rattle.avr_chip.specs.Holding.{HoldsAndLoads, Loaded}
 use Rattle.avr_chip.specs.Saving.{Saves}
 use Rattle.avr_cli.specs.declared.settings.Settings.{Settings}
-use Rattle.avr_desk.specs.Fault.{Follows}
+use Rattle.avr_desk.specs.Fault.{Follows, HasSameCounts}
 use Rattle.avr_desk.specs.Record.{DeskView, Bytes, released}
 use Rattle.avr_desk.specs.Lines.{error}
 use Rattle.avr_desk.specs.Said.{Tells}
@@ -89,6 +89,10 @@ pub record Sides : Type 0 where
 
 abbrev pub sides : LinkView → DeskView → Sides
 sides link desk = record { link = link; desk = desk }
+
+-- no call of the link or of the desk failed
+abbrev pub NoneFailed : Sides → Sides → Type 0
+NoneFailed old new = (new.link.failures ≡ old.link.failures) × HasSameCounts old.desk new.desk
 
 -- A fresh emulator with this chip served a link in at most so many reads: what was sent are its answers to what was
 -- heard, all of them before the next read, unless a send failed. How that ended was told, and whatever it was, the chip

@@ -3,6 +3,7 @@ ghost use Rattle.std.specs.Prelude.{◌≡◌};
 ghost use Rattle.avr_desk.specs.Fault.{Follows};
 ghost use Rattle.avr_part.specs.ChipFile.{chip_file};
 ghost use Rattle.avr_serve.specs.ServedRun.{TellsEnd, SavesAfterServing, end_pieces, status_of_end};
+ghost use Rattle.ghosts.specs.Stays.{Stays};
 
 use crate::serving::Served;
 use avr_chip::save_chip;
@@ -26,6 +27,7 @@ fn end_message(served: Served) -> Option<Message<'static>>
 pub(crate) fn tell_end<D: Desk>(desk: &mut D, served: Served)
     ensures told { TellsEnd served (D.view desk.old) (D.view desk.new) }
     ensures follows { Follows (D.view desk.old) (D.view desk.new) }
+    ensures stays { Stays D.comes_of desk.old desk.new }
 {
     if let Some(message) = end_message(served) {
         refuse(desk, &message);
@@ -52,6 +54,7 @@ pub(crate) fn save_served<D: Desk>(
 ) -> u8
     ensures saved { SavesAfterServing served (D.view desk.old) (D.view desk.new) file.now (chip_file chip.now) result }
     ensures follows { Follows (D.view desk.old) (D.view desk.new) }
+    ensures stays { Stays D.comes_of desk.old desk.new }
 {
     match save_chip(alloc, chip, file, desk) {
         Ok(()) => status_of(served),

@@ -16,6 +16,9 @@ mod serving;
 // from settings to status
 mod ending;
 mod run;
+// laws
+mod laws;
 
+pub use laws::serving_to_status_0_is_sound;
 pub use run::{READS, judge_part, serve, serve_chip, serve_for, serve_part};
 pub use serving::{Served, answer_all};

@@ -4,7 +4,7 @@ ghost use Rattle.avr_desk.specs.Fault.{Follows};
 ghost use Rattle.avr_desk.specs.Playing.{Goes};
 ghost use Rattle.avr_serve.specs.ServedRun.{JudgesChip, JudgesPart, settings_part};
 ghost use Rattle.avr_serve.specs.ServedRun.{RunsServed, ServesChip, ServesPart, sides};
-ghost use Rattle.stk_host.specs.Talk.{Stays};
+ghost use Rattle.ghosts.specs.Stays.{Stays};
 
 use crate::ending::{save_served, tell_end};
 use crate::serving::answer_all;
@@ -22,7 +22,8 @@ pub const READS: u32 = 16_777_216;
 
 /// The part of the settings: looked up in their part file, where they have one, before the built-in parts.
 fn find_part<D: Desk>(alloc: Global, desk: &mut D, settings: &Settings) -> Result<Part, u8>
-    ensures { Goes (settings_part settings.now) (D.view desk.old) (D.view desk.new) result }
+    ensures goes { Goes (settings_part settings.now) (D.view desk.old) (D.view desk.new) result }
+    ensures stays { Stays D.comes_of desk.old desk.new }
 {
     let parts = match given_parts(alloc, desk, &settings.parts) {
         Ok(parts) => parts,
@@ -33,7 +34,8 @@ fn find_part<D: Desk>(alloc: Global, desk: &mut D, settings: &Settings) -> Resul
 
 /// The part, once the file of this name was judged as that of a chip of it.
 fn judge_chip<D: Desk>(alloc: Global, part: Part, file: &str, desk: &mut D) -> Result<Part, u8>
-    ensures { JudgesChip part file.now (D.view desk.old) (D.view desk.new) result }
+    ensures judges { JudgesChip part file.now (D.view desk.old) (D.view desk.new) result }
+    ensures stays { Stays D.comes_of desk.old desk.new }
 {
     let _judged = match hold_chip(alloc, &part, file, desk) {
         Ok(judged) => judged,
@@ -55,7 +57,8 @@ pub fn judge_part<D: Desk>(
     file: &str,
     desk: &mut D,
 ) -> Result<Part, u8>
-    ensures { JudgesPart settings.now file.now (D.view desk.old) (D.view desk.new) result }
+    ensures judges { JudgesPart settings.now file.now (D.view desk.old) (D.view desk.new) result }
+    ensures stays { Stays D.comes_of desk.old desk.new }
 {
     match find_part(alloc, desk, settings) {
         Ok(part) => judge_chip(alloc, part, file, desk),
@@ -84,6 +87,7 @@ pub fn serve_chip<D: Desk, L: Link>(
     ensures follows { Follows (D.view desk.old) (D.view desk.new) }
     ensures counted { (L.view link.old).failures ≤ (L.view link.new).failures }
     ensures comes { Stays L.comes_of link.old link.new }
+    ensures stays { Stays D.comes_of desk.old desk.new }
 {
     let mut emulator = Emulator::new(chip);
     let served = answer_all(&mut emulator, link, turns);
@@ -109,6 +113,7 @@ pub fn serve_part<D: Desk, L: Link>(
     ensures follows { Follows (D.view desk.old) (D.view desk.new) }
     ensures counted { (L.view link.old).failures ≤ (L.view link.new).failures }
     ensures comes { Stays L.comes_of link.old link.new }
+    ensures stays { Stays D.comes_of desk.old desk.new }
 {
     match hold_chip(alloc, part, file, desk) {
         Ok(chip) => serve_chip(alloc, chip, file, desk, link, turns),
@@ -138,6 +143,7 @@ pub fn serve_for<D: Desk, L: Link>(
     ensures follows { Follows (D.view desk.old) (D.view desk.new) }
     ensures counted { (L.view link.old).failures ≤ (L.view link.new).failures }
     ensures comes { Stays L.comes_of link.old link.new }
+    ensures stays { Stays D.comes_of desk.old desk.new }
 {
     match find_part(alloc, desk, settings) {
         Ok(part) => serve_part(alloc, &part, file, desk, link, turns),
@@ -158,6 +164,7 @@ pub fn serve<D: Desk, L: Link>(
     ensures follows { Follows (D.view desk.old) (D.view desk.new) }
     ensures counted { (L.view link.old).failures ≤ (L.view link.new).failures }
     ensures comes { Stays L.comes_of link.old link.new }
+    ensures stays { Stays D.comes_of desk.old desk.new }
 {
     serve_for(alloc, settings, file, desk, link, READS)
 }

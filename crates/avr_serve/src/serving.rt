@@ -1,6 +1,7 @@
 //! Serving a link.
 ghost use Rattle.std.specs.Prelude.{◌≡◌, ◌<◌, ◌≤◌, ℕ, length, OnOk, OnErr};
-ghost use Rattle.stk_host.specs.Talk.{HasFailed, Stays};
+ghost use Rattle.ghosts.specs.Stays.{Stays};
+ghost use Rattle.stk_host.specs.Talk.{HasFailed};
 ghost use Rattle.avr_serve.specs.Serving.{Serves, FailsBy};
 ghost use Rattle.avr_serve.specs.Replying.{Replies, RepliesPart};
 

@@ -1,5 +1,5 @@
 -- What is reported, one thing after another.
-use Rattle.std.proofs.Common.{◌≡◌, ◌≤◌, ℕ, arith, List, [], ◌∷◌, ◌++◌, Option, option_map, Result, Ok, Err, refl, sym, ap, ◌∙◌, subst, inl, inr, IfErr, append-nil, Some, None, nat_lt, false}
+use Rattle.std.proofs.Common.{◌≡◌, ◌≤◌, ℕ, arith, List, [], ◌∷◌, ◌++◌, Result, Ok, Err, refl, sym, ap, ◌∙◌, subst, inl, inr, IfErr, append-nil, nat_lt, false}
 use Rattle.std.proofs.lemmas.Bool.Decides.{nat_tests}
 use Rattle.avr_desk.specs.Record.{Record, DeskView, Passes, after_err}
 use Rattle.avr_desk.specs.Fault.{Counts, Follows, HasFailedAt, HasFailedToSay, HasSameCounts}
@@ -36,9 +36,8 @@ file_stops_in a b c file trouble told same stops = failure_since (cause_line (Of
 pub nothing_printed : (r : Record) → after_err [] r ≡ r
 nothing_printed r = ap (λ bytes. record r { messages = bytes }) (append-nil r.messages)
 
-pub kept_nothing : (d : Option Record) → d ≡ option_map (after_err []) d
-kept_nothing None = refl
-kept_nothing (Some r) = ap Some (sym (nothing_printed r))
+pub kept_nothing : (d : Record) → d ≡ after_err [] d
+kept_nothing d = sym (nothing_printed d)
 
 -- nothing more is printed where printing failed
 said_until : (old new : DeskView) (sayings : List Saying) → SaysFront OfPrinting old new sayings → HasFailedToSay old new → SaidSome PrintStops old new sayings
@@ -129,7 +128,7 @@ one_line {d = d} {e = e} l front =
 
 told_line : (cause : Cause) (told l : List ℕ) (old new between : DeskView) → Follows old new → SaysFront cause old between (Line l ∷ []) → PrintStops old new cause told → Passes (after_err told) between new → Tells old new l
 told_line OfPrinting told l old new between follows front stops kept =
-    let same : new.kept ≡ between.kept = kept ∙ (ap (λ told. option_map (after_err told) between.kept) stops.1 ∙ sym (kept_nothing between.kept)) in
+    let same : new.kept ≡ between.kept = kept ∙ (ap (λ told. after_err told between.kept) stops.1 ∙ sym (kept_nothing between.kept)) in
     let some = one_line l front in
     record { told = some.0; tells = inr (some.1, stops.0); kept = same ∙ some.2; follows = follows }
 told_line OfSending told l old new between follows front stops kept = absurd stops

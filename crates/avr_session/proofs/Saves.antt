@@ -1,7 +1,7 @@
 -- Files that are created and written.
-use Rattle.std.proofs.Common.{◌≡◌, ℕ, true, List, [], ◌∷◌, map, bytes_eq, codes, Option, option_map, Result, Ok, Err, ◌∙◌, refl, Some, None}
+use Rattle.std.proofs.Common.{◌≡◌, ℕ, true, List, [], ◌∷◌, map, bytes_eq, codes, Result, Ok, Err, ◌∙◌, refl}
 use Rattle.std.proofs.lemmas.Slice.Eq.{bytes_eq-Decides}
-use Rattle.avr_desk.specs.Record.{Record, DeskView, Passes, after_create}
+use Rattle.avr_desk.specs.Record.{DeskView, Passes, after_create}
 use Rattle.avr_desk.specs.Fault.{Counts, Follows, HasFailedAt, HasSameCounts}
 use Rattle.avr_desk.specs.Stream.{SendsPart}
 use Rattle.avr_desk.specs.declared.stream.Stream.{Stream}
@@ -18,10 +18,6 @@ use Rattle.avr_session.specs.declared.standing.Stopped.{Stopped}
 use Rattle.avr_session.proofs.Places.{file_part, output_part}
 use Rattle.avr_session.proofs.Reporting.{file_stops_in}
 
-same_record : (r : Option Record) (file : List ℕ) (fault : DeskFault) → option_map (after_create file (Err fault)) r ≡ r
-same_record None file fault = refl
-same_record (Some r) file fault = refl
-
 pub not_created : (old new : DeskView) (file : List ℕ) (result : Result (Unit {0}) DeskFault) (fault : DeskFault) (more : List Saying) → result ≡ Err fault → Passes (after_create file result) old new
     → SaysFront (OfFile file NotCreated) old new (Creates file ∷ more)
 not_created old new file (Ok done) fault more is kept = cc
@@ -32,7 +28,7 @@ not_created old new file (Err other) fault more is kept = record {
   sayings_are = refl;
   place = record { more = map Said more; due = refl; none = refl };
   by_desk = tt;
-  kept = kept ∙ (same_record old.kept file other ∙ kept_none old.kept);
+  kept = kept ∙ kept_none old.kept;
 }
 
 -- where a file can't be saved the desk has failed

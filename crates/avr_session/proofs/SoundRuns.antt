@@ -1,7 +1,10 @@
 -- Where no device failed, a run was played whole, or its messages say that memory was refused.
-use Rattle.std.proofs.Common.{◌≡◌, ℕ, Bool, true, false, List, [], ◌∷◌, ◌++◌, refl, sym, ap, ◌∙◌, subst, append-nil, Option, Some, None, inl, inr}
+use Rattle.std.proofs.Common.{◌≡◌, arith, ℕ, Bool, true, false, List, [], ◌∷◌, ◌++◌, refl, sym, ap, ◌∙◌, subst, append-nil, Option, Some, None, inl, inr}
 use Rattle.std.proofs.lemmas.List.{append_cancel_left}
-use Rattle.avr_desk.specs.Fault.{Follows, HasFailed, HasRisen}
+use Rattle.ghosts.proofs.Failures.{stood_has_not_risen}
+use Rattle.ghosts.specs.Failures.{HasStood}
+use Rattle.avr_desk.specs.Fault.{Follows}
+use Rattle.stk_host.specs.Talk as link
 use Rattle.avr_desk.specs.Record.{Record, DeskView, after_err, Bytes}
 use Rattle.avr_plan.specs.Plan.{Plan}
 use Rattle.stk_host.specs.Operations as operations
@@ -18,23 +21,27 @@ use Rattle.avr_session.specs.Run.{RunsSession}
 use Rattle.avr_session.specs.Taking.{AtTaking}
 use Rattle.avr_session.specs.Session.{session}
 use Rattle.avr_session.specs.Stopping.{keeping, talking, IsSound, LacksMemory, IsPlayed}
-use Rattle.avr_desk.proofs.Telling.{failed_later, failed_before, risen_later}
+use Rattle.avr_desk.proofs.Telling.{follows_here, not_failed}
 
 -- of sound devices only memory is left, and its line was told whole
-told_of_memory : (flag : Bool) (told : Bytes) (a between b : DeskView) → Follows a between → (HasFailed a b → ⊥) → TellsCause flag OfMemory told between b → told ≡ cause_line OfMemory
+told_of_memory : (flag : Bool) (told : Bytes) (a between b : DeskView) → Follows a between → HasStood a.failures b.failures → TellsCause flag OfMemory told between b → told ≡ cause_line OfMemory
 told_of_memory false told a between b since sound (inl whole) = whole.0
-told_of_memory false told a between b since sound (inr part) = absurd (sound (failed_later a between b since part.1.0))
+told_of_memory false told a between b since sound (inr part) = absurd (not_failed a between b b since (follows_here b) sound part.1.0)
 told_of_memory true told a between b since sound tells = absurd tells
 
+link_stood : {old new : Devices} → IsSound old new → link.HasFailed old.link new.link → ⊥
+link_stood {old = old} {new = new} sound =
+    stood_has_not_risen old.link.failures old.link.failures new.link.failures new.link.failures (omega arith) (omega arith) sound.link
+
 lacks : {takes : Bool} {old new : Devices} {said : List Saying} {told : Bytes} (cause : Cause) → IsSound old new → StopsBehind (untold takes) old new said cause told → told ≡ cause_line OfMemory
-lacks OfSending sound stops = absurd (sound.link stops.has_come.0)
-lacks OfListening sound stops = absurd (sound.link stops.has_come.0)
-lacks {old = old} {new = new} (OfFile file trouble) sound stops = absurd (sound.desk (failed_before old.desk stops.between new.desk stops.since stops.until stops.has_come.0.0))
-lacks {old = old} {new = new} OfPrinting sound stops = absurd (sound.desk (failed_before old.desk stops.between new.desk stops.since stops.until stops.has_come.0.0))
+lacks OfSending sound stops = absurd (link_stood sound stops.has_come.0)
+lacks OfListening sound stops = absurd (link_stood sound stops.has_come.0)
+lacks {old = old} {new = new} (OfFile file trouble) sound stops = absurd (not_failed old.desk old.desk stops.between new.desk (follows_here old.desk) stops.until sound.desk stops.has_come.0.0)
+lacks {old = old} {new = new} OfPrinting sound stops = absurd (not_failed old.desk old.desk stops.between new.desk (follows_here old.desk) stops.until sound.desk stops.has_come.0.0)
 lacks {old = old} {new = new} {said = said} {told = told} OfMemory sound stops = told_of_memory (tells_fault said) told old.desk stops.between new.desk stops.since sound.desk stops.tells
 
 -- a line told stands at the end of the messages
-told_last : (before after : Record) (said : List Saying) (told line : Bytes) → told ≡ line → ◌≡◌ {A = Option Record} (Some after) (Some (after_err told (after_all said before))) → (front : Bytes) × (after.messages ≡ front ++ line)
+told_last : (before after : Record) (said : List Saying) (told line : Bytes) → told ≡ line → after ≡ after_err told (after_all said before) → (front : Bytes) × (after.messages ≡ front ++ line)
 told_last before after said told line whole kept =
     let r : Record = after_all said before in
     let same : after ≡ after_err told r = cc in
@@ -57,10 +64,10 @@ sound_run plan o p before after a b status = sound_ends (session plan) o p befor
 
 -- Where no memory is taken it is played whole, whatever the messages are.
 never_lacks : {old new : Devices} {said : List Saying} {told : Bytes} (cause : Cause) → IsSound old new → StopsBehind (untold false) old new said cause told → ⊥
-never_lacks OfSending sound stops = sound.link stops.has_come.0
-never_lacks OfListening sound stops = sound.link stops.has_come.0
-never_lacks {old = old} {new = new} (OfFile file trouble) sound stops = absurd (sound.desk (failed_before old.desk stops.between new.desk stops.since stops.until stops.has_come.0.0))
-never_lacks {old = old} {new = new} OfPrinting sound stops = absurd (sound.desk (failed_before old.desk stops.between new.desk stops.since stops.until stops.has_come.0.0))
+never_lacks OfSending sound stops = link_stood sound stops.has_come.0
+never_lacks OfListening sound stops = link_stood sound stops.has_come.0
+never_lacks {old = old} {new = new} (OfFile file trouble) sound stops = absurd (not_failed old.desk old.desk stops.between new.desk (follows_here old.desk) stops.until sound.desk stops.has_come.0.0)
+never_lacks {old = old} {new = new} OfPrinting sound stops = absurd (not_failed old.desk old.desk stops.between new.desk (follows_here old.desk) stops.until sound.desk stops.has_come.0.0)
 never_lacks OfMemory sound stops = let e = stops.has_come.0 in absurd (cc)
 
 abbrev pub Exact : Bool → Plan → Devices → Devices → ℕ → Type 0
@@ -140,12 +147,12 @@ pub told_once : (takes : Bool) (old new : Devices) (said : List Saying) (cause :
 told_once takes old new said cause told stops is = silent cause told stops.between new.desk (subst (λ flag. TellsCause flag cause told stops.between new.desk) is stops.tells)
 
 -- where nothing was told before, a line is cut short only as messages fail
-told_whole : (cause : Cause) (told : Bytes) (old between new : DeskView) → Follows old between → (HasRisen old.unsaid new.unsaid → ⊥) → TellsCause false cause told between new → told ≡ cause_line cause
+told_whole : (cause : Cause) (told : Bytes) (old between new : DeskView) → Follows old between → HasStood old.unsaid new.unsaid → TellsCause false cause told between new → told ≡ cause_line cause
 told_whole cause told old between new since sound (inl whole) = whole.0
-told_whole cause told old between new since sound (inr part) = absurd (sound (risen_later old.unsaid between.unsaid new.unsaid since.1 part.1.1))
+told_whole cause told old between new since sound (inr part) = absurd (stood_has_not_risen old.unsaid between.unsaid new.unsaid new.unsaid since.1 (omega arith) sound part.1.1)
 
 pub told_aloud : (takes : Bool) (old new : Devices) (said : List Saying) (cause : Cause) (told : Bytes) → StopsBehind (untold takes) old new said cause told → tells_fault said ≡ false
-    → (HasRisen old.desk.unsaid new.desk.unsaid → ⊥) → told ≡ cause_line cause
+    → HasStood old.desk.unsaid new.desk.unsaid → told ≡ cause_line cause
 told_aloud takes old new said cause told stops none sound =
     told_whole cause told old.desk stops.between new.desk stops.since sound (subst (λ flag. TellsCause flag cause told stops.between new.desk) none stops.tells)
 

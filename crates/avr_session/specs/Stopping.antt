@@ -1,8 +1,7 @@
 -- What the contract of a run says where no device failed.
-use Rattle.std.specs.Prelude.{ℕ, ◌++◌, ◌≡◌, Some}
-use Rattle.avr_desk.specs.Fault as desk
+use Rattle.std.specs.Prelude.{ℕ, ◌++◌, ◌≡◌}
+use Rattle.ghosts.specs.Failures.{HasStood}
 use Rattle.avr_desk.specs.Record.{Record, DeskView, showing, Bytes}
-use Rattle.stk_host.specs.Talk as link
 use Rattle.stk_host.specs.Talk.{Talk, LinkView}
 use Rattle.stk_host.specs.Dialog.{Dialog}
 use Rattle.stk_host.specs.Play.{Position}
@@ -11,16 +10,16 @@ use Rattle.avr_session.specs.Runs.{Devices, OfMemory, cause_line, start, Ran}
 
 -- what a desk shows that keeps this, and has failed so often, by its two counts
 abbrev pub keeping : Record → ℕ × ℕ → DeskView
-keeping kept counts = showing (Some kept) counts.0 counts.1
+keeping kept counts = showing kept counts.0 counts.1
 
 -- what a link shows over which this passed, and which has failed so often
 abbrev pub talking : Talk → ℕ → LinkView
 talking talk failures = record { talk = talk; failures = failures }
 
--- no device failed, by the counts of failures before and now
+-- no device failed, by the counts of failures before and now, which have not come to their end
 pub record IsSound (old new : Devices) : Type 0 where
-  pub link : link.HasFailed old.link new.link → ⊥
-  pub desk : desk.HasFailed old.desk new.desk → ⊥
+  pub link : HasStood old.link.failures new.link.failures
+  pub desk : HasStood old.desk.failures new.desk.failures
 
 -- the messages end with the line that memory was refused
 abbrev pub LacksMemory : Bytes → Type 0

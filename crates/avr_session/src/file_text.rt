@@ -5,6 +5,7 @@ ghost use Rattle.avr_desk.specs.Record.{Passes};
 ghost use Rattle.avr_desk.specs.Stream.{SendsPart, after_sent};
 ghost use Rattle.avr_session.specs.FileText.{file_text, used_length, trimmed};
 ghost use Rattle.avr_session.specs.Saving.{SendsFront};
+ghost use Rattle.ghosts.specs.Stays.{Stays};
 
 use arrayvec::ArrayVec;
 use avr_cli::Format;
@@ -26,6 +27,7 @@ fn make_room<D: Desk>(
     ensures part { OnErr result (SendsPart stream (D.view desk.old) (D.view desk.new) waiting.old.items) }
     ensures counts { Counts stream (D.view desk.old) (D.view desk.new) result }
     ensures fault { IfErr result (λ e. e ≡ DeskFault.Failed) }
+    ensures stays { Stays D.comes_of desk.old desk.new }
 {
     let room = waiting.remaining_capacity();
     if count <= room {
@@ -46,6 +48,7 @@ fn write_pieces<D: Desk, P: Pieces + Drop>(
     ensures part { OnErr result (SendsPart stream (D.view desk.old) (D.view desk.new) (P.rest text)) }
     ensures counts { Counts stream (D.view desk.old) (D.view desk.new) result }
     ensures fault { IfErr result (λ e. e ≡ DeskFault.Failed) }
+    ensures stays { Stays D.comes_of desk.old desk.new }
 {
     let mut text = text;
     let mut piece = ArrayVec::new();
@@ -72,6 +75,7 @@ pub(crate) fn write_text<D: Desk>(
     ensures part { OnErr result (SendsPart stream (D.view desk.old) (D.view desk.new) (file_text format bytes.now)) }
     ensures counts { Counts stream (D.view desk.old) (D.view desk.new) result }
     ensures fault { IfErr result (λ e. e ≡ DeskFault.Failed) }
+    ensures stays { Stays D.comes_of desk.old desk.new }
 {
     match format {
         Format::Ihex => write_pieces(desk, stream, IhexWriter::new(0, bytes)),

@@ -3,6 +3,7 @@ ghost use Rattle.std.specs.Prelude.{◌≡◌};
 ghost use Rattle.avr_desk.specs.Said.{Tells};
 ghost use Rattle.avr_session.specs.Lines.{bad_answer_pieces, differs_pieces, fault_pieces, other_signature, refused_pieces};
 ghost use Rattle.avr_session.specs.Refusal.{in_update_pieces, port_pieces, refusal_line, refusal_pieces, unknown_pieces, update_pieces};
+ghost use Rattle.ghosts.specs.Stays.{Stays};
 
 use avr_cli::{SettingsFault, Text, UpdateFault};
 use avr_desk::{Desk, Message, Piece, memory_message};
@@ -149,6 +150,7 @@ fn settings_message<'a>(fault: &'a SettingsFault) -> Message<'a>
 pub fn refuse<D: Desk>(fault: &SettingsFault, desk: &mut D) -> u8
     ensures status { result ≡ 1 }
     ensures told { Tells (D.view desk.old) (D.view desk.new) (refusal_line fault.now) }
+    ensures stays { Stays D.comes_of desk.old desk.new }
 {
     avr_desk::refuse(desk, &settings_message(fault))
 }

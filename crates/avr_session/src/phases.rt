@@ -7,7 +7,7 @@ ghost use Rattle.avr_session.specs.Actions.{OpenSession, EraseChip, WriteImage, 
 ghost use Rattle.avr_session.specs.Phases.{Does, LeavesOut};
 ghost use Rattle.avr_session.specs.Runs.{devices};
 ghost use Rattle.avr_session.specs.Session.{left_out_erase, left_out_write};
-ghost use Rattle.stk_host.specs.Talk.{Stays};
+ghost use Rattle.ghosts.specs.Stays.{Stays};
 
 use crate::reports::{report_bytes, report_done, report_erased, report_opening, warn};
 use crate::saving::{Target, report_read};
@@ -32,6 +32,7 @@ pub(crate) fn open_session<D: Desk, L: Link>(
     ensures performs { Does plan.now (OpenSession ∷ []) host.old host.new
         (devices (L.view link.old) (D.view desk.old)) (devices (L.view link.new) (D.view desk.new)) result }
     ensures comes { Stays L.comes_of link.old link.new }
+    ensures stays { Stays D.comes_of desk.old desk.new }
 {
     let switches = plan.switches();
     let opened = host.open(link, switches.force);
@@ -50,6 +51,7 @@ fn erase_chip<D: Desk, L: Link>(
     ensures performs { Does plan.now (EraseChip ∷ []) host.old host.new
         (devices (L.view link.old) (D.view desk.old)) (devices (L.view link.new) (D.view desk.new)) result }
     ensures comes { Stays L.comes_of link.old link.new }
+    ensures stays { Stays D.comes_of desk.old desk.new }
 {
     let erased = host.erase(link);
     let reported = report_erased(desk, plan.switches().quiet, plan.part(), &erased);
@@ -58,7 +60,8 @@ fn erase_chip<D: Desk, L: Link>(
 
 /// Leaves out an erase that was asked for, with a warning.
 fn leave_out_erase<D: Desk>(desk: &mut D, quiet: u8) -> Result<Standing, Stopped>
-    ensures { LeavesOut (left_out_erase quiet) (D.view desk.old) (D.view desk.new) result }
+    ensures leaves_out { LeavesOut (left_out_erase quiet) (D.view desk.old) (D.view desk.new) result }
+    ensures stays { Stays D.comes_of desk.old desk.new }
 {
     let warned = warn(desk, quiet, &[Piece::Text("chip not erased because of -n")]);
     fine_if_said(warned)
@@ -96,6 +99,7 @@ pub(crate) fn erase_if_due<D: Desk, L: Link>(
     ensures performs { Does plan.now (erase_actions plan.now.switches plan.now.tasks) host.old host.new
         (devices (L.view link.old) (D.view desk.old)) (devices (L.view link.new) (D.view desk.new)) result }
     ensures comes { Stays L.comes_of link.old link.new }
+    ensures stays { Stays D.comes_of desk.old desk.new }
 {
     let switches = plan.switches();
     if switches.dry {
@@ -126,6 +130,7 @@ fn verify<D: Desk, L: Link>(
     ensures performs { Does plan.now (CompareImage mem image.now ∷ []) host.old host.new
         (devices (L.view link.old) (D.view desk.old)) (devices (L.view link.new) (D.view desk.new)) result }
     ensures comes { Stays L.comes_of link.old link.new }
+    ensures stays { Stays D.comes_of desk.old desk.new }
 {
     let verified = host.verify(alloc, link, mem, image);
     let count = image.len();
@@ -156,6 +161,7 @@ fn write<D: Desk, L: Link>(
     ensures performs { Does plan.now (WriteImage mem image.now ∷ []) host.old host.new
         (devices (L.view link.old) (D.view desk.old)) (devices (L.view link.new) (D.view desk.new)) result }
     ensures comes { Stays L.comes_of link.old link.new }
+    ensures stays { Stays D.comes_of desk.old desk.new }
 {
     let written = host.write(link, mem, image);
     let count = image.len();
@@ -187,6 +193,7 @@ fn read_back<D: Desk, L: Link>(
     ensures performs { Does plan.now (read_back_actions plan.now.switches mem image.now) host.old host.new
         (devices (L.view link.old) (D.view desk.old)) (devices (L.view link.new) (D.view desk.new)) result }
     ensures comes { Stays L.comes_of link.old link.new }
+    ensures stays { Stays D.comes_of desk.old desk.new }
 {
     if plan.switches().no_verify {
         return Ok(Standing::Fine);
@@ -201,8 +208,9 @@ fn leave_out_write<D: Desk>(
     mem: Mem,
     image: &Image,
 ) -> Result<Standing, Stopped>
-    ensures { LeavesOut (left_out_write plan.now.switches.quiet mem image.now)
+    ensures leaves_out { LeavesOut (left_out_write plan.now.switches.quiet mem image.now)
         (D.view desk.old) (D.view desk.new) result }
+    ensures stays { Stays D.comes_of desk.old desk.new }
 {
     let said = report_bytes(
         desk,
@@ -230,6 +238,7 @@ fn write_and_verify<D: Desk, L: Link>(
     ensures performs { Does plan.now (write_actions plan.now.switches mem image.now) host.old host.new
         (devices (L.view link.old) (D.view desk.old)) (devices (L.view link.new) (D.view desk.new)) result }
     ensures comes { Stays L.comes_of link.old link.new }
+    ensures stays { Stays D.comes_of desk.old desk.new }
 {
     if plan.switches().dry {
         return leave_out_write(desk, plan, mem, image);
@@ -255,6 +264,7 @@ fn read<D: Desk, L: Link>(
     ensures performs { Does plan.now (SaveMemory mem target.entry.format target.entry.file.now ∷ []) host.old host.new
         (devices (L.view link.old) (D.view desk.old)) (devices (L.view link.new) (D.view desk.new)) result }
     ensures comes { Stays L.comes_of link.old link.new }
+    ensures stays { Stays D.comes_of desk.old desk.new }
 {
     let mut bytes = Vec::new(alloc);
     let outcome = host.read(link, mem, &mut bytes);
@@ -277,6 +287,7 @@ fn perform<D: Desk, L: Link>(
     ensures performs { Does plan.now (task_actions plan.now.switches task.now) host.old host.new
         (devices (L.view link.old) (D.view desk.old)) (devices (L.view link.new) (D.view desk.new)) result }
     ensures comes { Stays L.comes_of link.old link.new }
+    ensures stays { Stays D.comes_of desk.old desk.new }
 {
     match task {
         Task::Write(mem, image) => write_and_verify(alloc, host, desk, link, plan, *mem, image),
@@ -310,6 +321,7 @@ pub(crate) fn perform_all<D: Desk, L: Link>(
     ensures performs { Does plan.now (tasks_actions plan.now.switches tasks.now) host.old host.new
         (devices (L.view link.old) (D.view desk.old)) (devices (L.view link.new) (D.view desk.new)) result }
     ensures comes { Stays L.comes_of link.old link.new }
+    ensures stays { Stays D.comes_of desk.old desk.new }
 {
     match tasks {
         [] => Ok(Standing::Fine),

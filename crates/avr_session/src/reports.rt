@@ -6,6 +6,7 @@ ghost use Rattle.avr_session.specs.Lines.{informs, warns, fault_line};
 ghost use Rattle.avr_session.specs.Concluding.{stopped_of};
 ghost use Rattle.avr_session.specs.Runs.{Reports, PrintStops};
 ghost use Rattle.avr_session.specs.Session.{fault_or, bytes_say, signature_says, warns_of_signature, opening_says};
+ghost use Rattle.ghosts.specs.Stays.{Stays};
 
 use crate::messages::{fault_message, other_signature_message};
 use crate::standing::Stopped;
@@ -25,7 +26,8 @@ fn stopped_if_failed(printed: Result<(), DeskFault>) -> Result<(), Stopped>
 
 /// Prints a line of information, unless the run is quiet.
 pub(crate) fn inform<D: Desk>(desk: &mut D, quiet: u8, pieces: &[Piece<'_>]) -> Result<(), Stopped>
-    ensures { Reports PrintStops (D.view desk.old) (D.view desk.new) (informs quiet (map text_of pieces.now)) result }
+    ensures reports { Reports PrintStops (D.view desk.old) (D.view desk.new) (informs quiet (map text_of pieces.now)) result }
+    ensures stays { Stays D.comes_of desk.old desk.new }
 {
     if quiet > 0 {
         return Ok(());
@@ -35,7 +37,8 @@ pub(crate) fn inform<D: Desk>(desk: &mut D, quiet: u8, pieces: &[Piece<'_>]) -> 
 
 /// Prints a warning, unless the run is quiet twice.
 pub(crate) fn warn<D: Desk>(desk: &mut D, quiet: u8, pieces: &[Piece<'_>]) -> Result<(), Stopped>
-    ensures { Reports PrintStops (D.view desk.old) (D.view desk.new) (warns quiet (map text_of pieces.now)) result }
+    ensures reports { Reports PrintStops (D.view desk.old) (D.view desk.new) (warns quiet (map text_of pieces.now)) result }
+    ensures stays { Stays D.comes_of desk.old desk.new }
 {
     if quiet > 1 {
         return Ok(());
@@ -45,7 +48,8 @@ pub(crate) fn warn<D: Desk>(desk: &mut D, quiet: u8, pieces: &[Piece<'_>]) -> Re
 
 /// Prints an error.
 pub(crate) fn tell<D: Desk>(desk: &mut D, message: &Message<'_>) -> Result<(), Stopped>
-    ensures { Reports PrintStops (D.view desk.old) (D.view desk.new) (Line (error message.now) ∷ []) result }
+    ensures reports { Reports PrintStops (D.view desk.old) (D.view desk.new) (Line (error message.now) ∷ []) result }
+    ensures stays { Stays D.comes_of desk.old desk.new }
 {
     stopped_if_failed(print_error(desk, message.pieces()))
 }
@@ -58,7 +62,8 @@ pub(crate) fn report_bytes<D: Desk>(
     count: u32,
     done: &str,
 ) -> Result<(), Stopped>
-    ensures { Reports PrintStops (D.view desk.old) (D.view desk.new) (bytes_say quiet mem count done.now) result }
+    ensures reports { Reports PrintStops (D.view desk.old) (D.view desk.new) (bytes_say quiet mem count done.now) result }
+    ensures stays { Stays D.comes_of desk.old desk.new }
 {
     let pieces = [
         Piece::Text(mem.name()),
@@ -76,14 +81,16 @@ pub(crate) fn tell_fault<D: Desk>(
     part: &Part,
     fault: HostFault,
 ) -> Result<(), Stopped>
-    ensures { Reports PrintStops (D.view desk.old) (D.view desk.new) (Line (fault_line part.now fault) ∷ []) result }
+    ensures reports { Reports PrintStops (D.view desk.old) (D.view desk.new) (Line (fault_line part.now fault) ∷ []) result }
+    ensures stays { Stays D.comes_of desk.old desk.new }
 {
     tell(desk, &fault_message(part, fault))
 }
 
 /// Prints the signature that was found.
 fn report_found<D: Desk>(desk: &mut D, quiet: u8, found: [u8; 3]) -> Result<(), Stopped>
-    ensures { Reports PrintStops (D.view desk.old) (D.view desk.new) (signature_says quiet found) result }
+    ensures reports { Reports PrintStops (D.view desk.old) (D.view desk.new) (signature_says quiet found) result }
+    ensures stays { Stays D.comes_of desk.old desk.new }
 {
     let pieces = [Piece::Text("device signature = "), Piece::Signature(found)];
     inform(desk, quiet, &pieces)
@@ -96,7 +103,8 @@ fn warn_of_signature<D: Desk>(
     part: &Part,
     found: [u8; 3],
 ) -> Result<(), Stopped>
-    ensures { Reports PrintStops (D.view desk.old) (D.view desk.new) (warns_of_signature quiet part.now found) result }
+    ensures reports { Reports PrintStops (D.view desk.old) (D.view desk.new) (warns_of_signature quiet part.now found) result }
+    ensures stays { Stays D.comes_of desk.old desk.new }
 {
     if found == part.signature() {
         Ok(())
@@ -113,7 +121,8 @@ fn report_taken<D: Desk>(
     part: &Part,
     found: [u8; 3],
 ) -> Result<(), Stopped>
-    ensures { Reports PrintStops (D.view desk.old) (D.view desk.new) (opening_says quiet part.now (Ok found)) result }
+    ensures reports { Reports PrintStops (D.view desk.old) (D.view desk.new) (opening_says quiet part.now (Ok found)) result }
+    ensures stays { Stays D.comes_of desk.old desk.new }
 {
     report_found(desk, quiet, found)?;
     warn_of_signature(desk, quiet, part, found)
@@ -126,8 +135,9 @@ fn report_refused<D: Desk>(
     part: &Part,
     found: [u8; 3],
 ) -> Result<(), Stopped>
-    ensures { Reports PrintStops (D.view desk.old) (D.view desk.new)
+    ensures reports { Reports PrintStops (D.view desk.old) (D.view desk.new)
         (opening_says quiet part.now (Err (HostFault.WrongSignature found))) result }
+    ensures stays { Stays D.comes_of desk.old desk.new }
 {
     report_found(desk, quiet, found)?;
     tell_fault(desk, part, HostFault::WrongSignature(found))
@@ -140,7 +150,8 @@ pub(crate) fn report_opening<D: Desk>(
     part: &Part,
     opened: &Result<[u8; 3], HostFault>,
 ) -> Result<(), Stopped>
-    ensures { Reports PrintStops (D.view desk.old) (D.view desk.new) (opening_says quiet part.now opened.now) result }
+    ensures reports { Reports PrintStops (D.view desk.old) (D.view desk.new) (opening_says quiet part.now opened.now) result }
+    ensures stays { Stays D.comes_of desk.old desk.new }
 {
     match opened {
         Ok(found) => report_taken(desk, quiet, part, *found),
@@ -156,8 +167,9 @@ pub(crate) fn report_erased<D: Desk>(
     part: &Part,
     erased: &Result<(), HostFault>,
 ) -> Result<(), Stopped>
-    ensures { Reports PrintStops (D.view desk.old) (D.view desk.new)
+    ensures reports { Reports PrintStops (D.view desk.old) (D.view desk.new)
         (fault_or part.now (λ _. informs quiet (codes "chip erased" ∷ [])) erased.now) result }
+    ensures stays { Stays D.comes_of desk.old desk.new }
 {
     match erased {
         Ok(()) => inform(desk, quiet, &[Piece::Text("chip erased")]),
@@ -175,8 +187,9 @@ pub(crate) fn report_done<D: Desk>(
     done: &str,
     outcome: &Result<(), HostFault>,
 ) -> Result<(), Stopped>
-    ensures { Reports PrintStops (D.view desk.old) (D.view desk.new)
+    ensures reports { Reports PrintStops (D.view desk.old) (D.view desk.new)
         (fault_or part.now (λ _. bytes_say quiet mem count done.now) outcome.now) result }
+    ensures stays { Stays D.comes_of desk.old desk.new }
 {
     match outcome {
         Ok(()) => report_bytes(desk, quiet, mem, count, done),
@@ -191,8 +204,9 @@ pub(crate) fn report_closing<D: Desk>(
     part: &Part,
     closed: &Result<(), HostFault>,
 ) -> Result<(), Stopped>
-    ensures { Reports PrintStops (D.view desk.old) (D.view desk.new)
+    ensures reports { Reports PrintStops (D.view desk.old) (D.view desk.new)
         (fault_or part.now (λ _. informs quiet (codes "done" ∷ [])) closed.now) result }
+    ensures stays { Stays D.comes_of desk.old desk.new }
 {
     match closed {
         Ok(()) => inform(desk, quiet, &[Piece::Text("done")]),

@@ -7,6 +7,7 @@ ghost use Rattle.avr_session.specs.Runs.{Reports, DeskStops, ReadStops};
 ghost use Rattle.avr_session.specs.Saving.{IsWritten, SaveStops, WritesAll};
 ghost use Rattle.avr_session.specs.Session.{saving_says, kept_of, read_says, fault_or};
 ghost use Rattle.stk_host.specs.Calls.{given_or_fault};
+ghost use Rattle.ghosts.specs.Stays.{Stays};
 
 use crate::file_text::{trimmed, write_text};
 use crate::reports::{report_bytes, tell_fault};
@@ -36,6 +37,7 @@ fn write_file<D: Desk>(
     ensures writes { WritesAll stream target.entry.file.now (D.view desk.old) (D.view desk.new)
         (file_text target.entry.format bytes.now) result }
     ensures follows { Follows (D.view desk.old) (D.view desk.new) }
+    ensures stays { Stays D.comes_of desk.old desk.new }
 {
     match write_text(desk, stream, target.format, bytes) {
         Ok(()) => Ok(()),
@@ -49,8 +51,9 @@ fn write_file<D: Desk>(
 /// Creates the file of this name and writes it.
 fn create_file<D: Desk>(desk: &mut D, target: Target<'_>, bytes: &[u8]) -> Result<(), Stopped>
     requires { length bytes.now ≤ 2 ^ 32 }
-    ensures { Reports (SaveStops target.entry.file.now) (D.view desk.old) (D.view desk.new)
+    ensures reports { Reports (SaveStops target.entry.file.now) (D.view desk.old) (D.view desk.new)
         (Creates target.entry.file.now ∷ Writes (file_text target.entry.format bytes.now) ∷ []) result }
+    ensures stays { Stays D.comes_of desk.old desk.new }
 {
     match desk.create(target.file) {
         Ok(()) => write_file(desk, Stream::File, target, bytes),
@@ -64,8 +67,9 @@ fn create_file<D: Desk>(desk: &mut D, target: Target<'_>, bytes: &[u8]) -> Resul
 /// Saves bytes in a format: in the file of the target's name, or on standard output.
 pub(crate) fn save<D: Desk>(desk: &mut D, target: Target<'_>, bytes: &[u8]) -> Result<(), Stopped>
     requires { length bytes.now ≤ 2 ^ 32 }
-    ensures { Reports (SaveStops target.entry.file.now) (D.view desk.old) (D.view desk.new)
+    ensures reports { Reports (SaveStops target.entry.file.now) (D.view desk.old) (D.view desk.new)
         (saving_says target.entry.file.now (file_text target.entry.format bytes.now)) result }
+    ensures stays { Stays D.comes_of desk.old desk.new }
 {
     if target.file == "-" {
         write_file(desk, Stream::Output, target, bytes)
@@ -93,8 +97,9 @@ fn report_bytes_read<D: Desk>(
     bytes: &[u8],
 ) -> Result<(), Stopped>
     requires { length bytes.now < 2 ^ 32 }
-    ensures { Reports DeskStops (D.view desk.old) (D.view desk.new)
+    ensures reports { Reports DeskStops (D.view desk.old) (D.view desk.new)
         (read_says switches mem target.entry.format target.entry.file.now bytes.now) result }
+    ensures stays { Stays D.comes_of desk.old desk.new }
 {
     let kept = kept_of(mem, switches.all, bytes);
     save(desk, target, kept)?;
@@ -111,9 +116,10 @@ pub(crate) fn report_read<D: Desk>(
     outcome: &Result<(), HostFault>,
 ) -> Result<(), Stopped>
     requires { length bytes.now < 2 ^ 32 }
-    ensures { Reports (ReadStops outcome.now) (D.view desk.old) (D.view desk.new)
+    ensures reports { Reports (ReadStops outcome.now) (D.view desk.old) (D.view desk.new)
         (fault_or plan.now.part (read_says plan.now.switches mem target.entry.format target.entry.file.now)
         (given_or_fault bytes.now outcome.now)) result }
+    ensures stays { Stays D.comes_of desk.old desk.new }
 {
     match outcome {
         Ok(()) => report_bytes_read(desk, plan.switches(), mem, target, bytes),

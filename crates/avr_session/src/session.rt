@@ -7,7 +7,7 @@ ghost use Rattle.avr_session.specs.Concluding.{HostServes};
 ghost use Rattle.avr_session.specs.Phases.{is_told, Performs, PerformsBehind, Does};
 ghost use Rattle.avr_session.specs.Runs.{devices, untold};
 ghost use Rattle.avr_session.specs.Session.{ending, playing};
-ghost use Rattle.stk_host.specs.Talk.{Stays};
+ghost use Rattle.ghosts.specs.Stays.{Stays};
 ghost use Rattle.avr_session.specs.Run.{RunsSession, RunsSettings};
 ghost use Rattle.avr_session.specs.Taking.{AtOnce, AtTaking};
 
@@ -33,6 +33,7 @@ fn work<D: Desk, L: Link>(
     ensures performs { Does plan.now (actions plan.now) host.old host.new
         (devices (L.view link.old) (D.view desk.old)) (devices (L.view link.new) (D.view desk.new)) result }
     ensures comes { Stays L.comes_of link.old link.new }
+    ensures stays { Stays D.comes_of desk.old desk.new }
 {
     match open_session(host, desk, link, plan)? {
         Standing::Fine => match erase_if_due(host, desk, link, plan)? {
@@ -54,6 +55,7 @@ fn close<D: Desk, L: Link>(
     ensures performs { Performs false (ending plan.now.part plan.now.switches Fine) host.old host.new
         (devices (L.view link.old) (D.view desk.old)) (devices (L.view link.new) (D.view desk.new)) result }
     ensures comes { Stays L.comes_of link.old link.new }
+    ensures stays { Stays D.comes_of desk.old desk.new }
 {
     let closed = host.close(link);
     let reported = report_closing(desk, plan.switches().quiet, plan.part(), &closed);
@@ -72,6 +74,7 @@ fn close_after_fault<D: Desk, L: Link>(
         (ending plan.now.part plan.now.switches Faulty) host.old host.new
         (devices (L.view link.old) (D.view desk.old)) (devices (L.view link.new) (D.view desk.new)) result }
     ensures comes { Stays L.comes_of link.old link.new }
+    ensures stays { Stays D.comes_of desk.old desk.new }
 {
     let closed = host.close(link);
     conclude(&closed, Ok(()))?;
@@ -91,6 +94,7 @@ fn end<D: Desk, L: Link>(
         (ending plan.now.part plan.now.switches standing) host.old host.new
         (devices (L.view link.old) (D.view desk.old)) (devices (L.view link.new) (D.view desk.new)) result }
     ensures comes { Stays L.comes_of link.old link.new }
+    ensures stays { Stays D.comes_of desk.old desk.new }
 {
     match standing {
         Standing::Fine => close(host, desk, link, plan),
@@ -113,6 +117,7 @@ fn play<D: Desk, L: Link>(
         (AtTaking plan.now.part plan.now.switches (actions plan.now)) (playing plan.now) host.old host.new
         (devices (L.view link.old) (D.view desk.old)) (devices (L.view link.new) (D.view desk.new)) result }
     ensures comes { Stays L.comes_of link.old link.new }
+    ensures stays { Stays D.comes_of desk.old desk.new }
 {
     let standing = work(alloc, host, desk, link, plan)?;
     end(host, desk, link, plan, standing)
@@ -129,6 +134,7 @@ pub fn drive<D: Desk, L: Link>(alloc: Global, plan: &Plan, desk: &mut D, link: &
         (devices (L.view link.new) (D.view desk.new)) result }
     ensures follows { Follows (D.view desk.old) (D.view desk.new) }
     ensures comes { Stays L.comes_of link.old link.new }
+    ensures stays { Stays D.comes_of desk.old desk.new }
 {
     let mut host = Host::new(plan.part());
     match play(alloc, &mut host, desk, link, plan) {
@@ -142,7 +148,9 @@ pub fn drive<D: Desk, L: Link>(alloc: Global, plan: &Plan, desk: &mut D, link: &
 pub fn run<D: Desk, L: Link>(alloc: Global, settings: &Settings, desk: &mut D, link: &mut L) -> u8
     ensures runs { RunsSettings settings.now (devices (L.view link.old) (D.view desk.old))
         (devices (L.view link.new) (D.view desk.new)) result }
+    ensures follows { Follows (D.view desk.old) (D.view desk.new) }
     ensures comes { Stays L.comes_of link.old link.new }
+    ensures stays { Stays D.comes_of desk.old desk.new }
 {
     match plan(alloc, settings, desk) {
         Ok(plan) => drive(alloc, &plan, desk, link),

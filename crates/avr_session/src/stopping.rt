@@ -1,6 +1,6 @@
 //! What the contract of a run says where no device failed, and wrong ends that it refuses: laws of the contract alone.
-ghost use Rattle.std.specs.Prelude.{◌≡◌, ◌∷◌, ◌++◌, [], ℕ, Bool, List, None, true, false};
-ghost use Rattle.avr_desk.specs.Fault.{HasRisen};
+ghost use Rattle.std.specs.Prelude.{◌≡◌, ◌⊎◌, ◌∷◌, ◌++◌, [], ℕ, Bool, List, None, true, false};
+ghost use Rattle.ghosts.specs.Failures.{HasRisen, HasStood};
 ghost use Rattle.avr_desk.specs.Record.{Record, Bytes};
 ghost use Rattle.avr_desk.specs.Said.{Saying, Line, Creates, Writes};
 ghost use Rattle.stk_host.specs.Dialog.{Event, Said, played};
@@ -22,6 +22,12 @@ pub fn a_sound_run_is_played()
         → IsPlayed (session plan) (devices o (keeping before a)) (devices p (keeping after b)) status }
     ensures exact { (plan : Plan) (old new : Devices) (status : ℕ) → IsSound old new → takes_memory plan ≡ false
         → RunsSession plan old new status → IsPlayed (session plan) old new status }
+{}
+
+/// Over a whole session the link fails once at most, since what fails stops it.
+pub fn a_link_fails_once_at_most()
+    ensures { (plan : Plan) (old new : Devices) (status : ℕ) → RunsSession plan old new status
+        → (new.link.failures ≡ old.link.failures) ⊎ HasRisen old.link.failures new.link.failures }
 {}
 
 /// Wrong ends. Where no device failed and no message tells of memory: status 1 after a session that was played to 0; an
@@ -57,7 +63,7 @@ pub fn a_stop_tells_its_cause()
         → StopsBehind (untold takes) old new said cause told → tells_fault said ≡ true → told ≡ [] }
     ensures aloud { (takes : Bool) (old new : Devices) (said : List Saying) (cause : Cause) (told : Bytes)
         → StopsBehind (untold takes) old new said cause told → tells_fault said ≡ false
-        → (HasRisen old.desk.unsaid new.desk.unsaid → ⊥) → told ≡ cause_line cause }
+        → HasStood old.desk.unsaid new.desk.unsaid → told ≡ cause_line cause }
     ensures memory { (plan : Plan) (old new : Devices) (said : List Saying) (told : Bytes)
         → takes_memory plan ≡ false → StopsBehind (untold (takes_memory plan)) old new said OfMemory told → ⊥ }
     ensures file { (file named : Bytes) (whole begun later : List (Event Saying))

@@ -1,5 +1,5 @@
 -- Planning and playing as one run.
-use Rattle.std.proofs.Common.{◌≡◌, ℕ, ◌⊎◌, inl, inr, List, [], ◌∷◌, ◌++◌, map, option_map, Some, refl, sym, ap, ◌∙◌, subst, arith, append_assoc}
+use Rattle.std.proofs.Common.{◌≡◌, ℕ, ◌⊎◌, inl, inr, List, [], ◌∷◌, ◌++◌, map, Some, refl, sym, ap, ◌∙◌, subst, arith, append_assoc}
 use Rattle.std.proofs.lemmas.List.{append-nil}
 use Rattle.avr_cli.specs.declared.settings.Settings.{Settings}
 use Rattle.avr_desk.specs.Record.{DeskView}
@@ -56,7 +56,7 @@ ran_whole settings plan x y between status went whole =
       in_turn = λ later. turns settings (went.passed ++ later) went.says later plan (went.comes later) [] [] ran.during ran.plays.in_turn;
       all_sent = said_bytes went.says ran.events ∙ ran.plays.all_sent;
       grows = ran.grows;
-      kept = kept_append went.says (sayings ran.events) x.desk.kept between.kept y.desk.kept went.kept ran.kept ∙ ap (λ says. option_map (after_all says) x.desk.kept) (sym (said_sayings went.says ran.events));
+      kept = kept_append went.says (sayings ran.events) x.desk.kept between.kept y.desk.kept went.kept ran.kept ∙ ap (λ says. after_all says x.desk.kept) (sym (said_sayings went.says ran.events));
       few = ran.few (omega arith);
       sound = (ran.sound.0, same_on x.desk between y.desk went.sound ran.sound.1);
     }
@@ -77,7 +77,7 @@ refused_whole settings x y same went = record {
   in_turn = λ later. tt;
   all_sent = said_bytes went.says [];
   grows = subst (λ (l : LinkView). Grows x.link.talk [] l.talk) (sym same) (grows_none x.link.talk);
-  kept = went.kept ∙ ap (λ says. option_map (after_all says) x.desk.kept) (sym (said_sayings went.says [] ∙ append-nil went.says));
+  kept = went.kept ∙ ap (λ says. after_all says x.desk.kept) (sym (said_sayings went.says [] ∙ append-nil went.says));
   few = omega arith;
   sound = (ap (λ (l : LinkView). l.failures) same, went.sound);
 }

@@ -1,5 +1,5 @@
 -- Outcomes that the page refuses.
-use Rattle.std.proofs.Common.{◌≡◌, ◌<◌, ◌*◌, ℕ, List, [], ◌++◌, map, ap, sym, ◌∙◌, subst, refl, arith, Option, option_map, Some}
+use Rattle.std.proofs.Common.{◌≡◌, ◌<◌, ◌*◌, ℕ, List, [], ◌++◌, map, ap, sym, ◌∙◌, subst, refl, arith, Option, Some}
 use Rattle.avr_desk.specs.Record.{DeskView, Passes}
 use Rattle.avr_desk.specs.declared.record.Opening.{Opening}
 use Rattle.avr_desk.specs.Said.{after_all}
@@ -79,4 +79,4 @@ another_frame talk a b d e status all other x = other (worked_sent talk a b d e 
 
 pub another_line : (talk : Talk) (a b : ℕ) (d e : DeskView) (status : ℕ) → heard talk ≡ worked_answers → (Passes (after_all lines_due) d e → ⊥)
     → IsRun worked_settings (devices (talking [] a) d) (devices (talking talk b) e) status → ⊥
-another_line talk a b d e status all other x = other (x.kept ∙ ap (λ said. option_map (after_all said) d.kept) (worked_said talk a b d e status all x))
+another_line talk a b d e status all other x = other (x.kept ∙ ap (λ said. after_all said d.kept) (worked_said talk a b d e status all x))

@@ -1,6 +1,7 @@
 //! From the words of a command line to settings.
 ghost use Rattle.std.specs.Prelude.{map, string_bytes};
 ghost use Rattle.avr_tool.specs.Asked.{Asks};
+ghost use Rattle.ghosts.specs.Stays.{Stays};
 
 use avr_cli::{Settings, read_settings, read_words};
 use avr_desk::Desk;
@@ -22,6 +23,7 @@ pub enum NotAsked {
 /// The settings that the words of a command line ask for, the program's name first.
 pub fn asked<D: Desk>(alloc: Global, words: &[String], desk: &mut D) -> Result<Settings, NotAsked>
     ensures asks { Asks (map string_bytes words.now) (D.view desk.old) (D.view desk.new) result }
+    ensures stays { Stays D.comes_of desk.old desk.new }
 {
     let matches = match read_words(alloc, words) {
         Ok(matches) => matches,

@@ -3,7 +3,7 @@ ghost use Rattle.avr_net.specs.OverNet.{RunsOverNet};
 ghost use Rattle.avr_net.specs.ServedNet.{ServesNet};
 ghost use Rattle.avr_serve.specs.ServedRun.{RunsServed, sides};
 ghost use Rattle.avr_emulated.specs.Emulated.{RunsEmulator};
-ghost use Rattle.stk_host.specs.Talk.{Stays};
+ghost use Rattle.ghosts.specs.Stays.{Stays};
 ghost use Rattle.avr_tool.specs.Ports.{IsEmulated, IsNetwork, IsServed, port_place, chip_file_of};
 ghost use Rattle.avr_tool.specs.ServedOn.{ServesListener};
 
@@ -24,6 +24,7 @@ pub fn run_emu<D: Desk>(alloc: Global, settings: &Settings, desk: &mut D) -> u8
     requires port { IsEmulated settings.now.port }
     ensures runs { RunsEmulator settings.now (chip_file_of settings.now.port)
         (D.view desk.old) (D.view desk.new) result }
+    ensures stays { Stays D.comes_of desk.old desk.new }
 {
     let Port::Emulated(file) = &settings.port else {
         unreachable!()
@@ -35,6 +36,7 @@ pub fn run_emu<D: Desk>(alloc: Global, settings: &Settings, desk: &mut D) -> u8
 pub fn run_net<R: Net, D: Desk>(rt: &R, alloc: Global, settings: &Settings, desk: &mut D) -> u8
     requires port { IsNetwork settings.now.port }
     ensures runs { RunsOverNet settings.now (port_place settings.now.port) (D.view desk.old) (D.view desk.new) result }
+    ensures stays { Stays D.comes_of desk.old desk.new }
 {
     let Port::Network(address) = &settings.port else {
         unreachable!()
@@ -48,6 +50,7 @@ pub fn serve<D: Desk, L: Link>(alloc: Global, settings: &Settings, desk: &mut D,
     ensures runs { RunsServed settings.now (chip_file_of settings.now.port) 16777216
         (sides (L.view link.old) (D.view desk.old)) (sides (L.view link.new) (D.view desk.new)) result }
     ensures comes { Stays L.comes_of link.old link.new }
+    ensures stays { Stays D.comes_of desk.old desk.new }
 {
     let Port::Served { chip, .. } = &settings.port else {
         unreachable!()
@@ -67,6 +70,7 @@ fn serve_first<L: OpenListener, D: Desk>(
 where
     L::Stream: Read + Write + OpenStream,
     ensures serves { ServesListener settings.now port.now file.now (D.view desk.old) (D.view desk.new) result }
+    ensures stays { Stays D.comes_of desk.old desk.new }
 {
     let part = match judge_part(alloc, settings, file, desk) {
         Ok(part) => part,
@@ -93,6 +97,7 @@ where
     requires port { IsServed settings.now.port }
     ensures serves { ServesListener settings.now (port_place settings.now.port) (chip_file_of settings.now.port)
         (D.view desk.old) (D.view desk.new) result }
+    ensures stays { Stays D.comes_of desk.old desk.new }
 {
     let Port::Served { port, chip } = &settings.port else {
         unreachable!()
@@ -113,6 +118,7 @@ pub fn serve_net<R: Net, D: Desk>(rt: &R, alloc: Global, settings: &Settings, de
     requires port { IsServed settings.now.port }
     ensures serves { ServesNet settings.now (port_place settings.now.port) (chip_file_of settings.now.port)
         (D.view desk.old) (D.view desk.new) result }
+    ensures stays { Stays D.comes_of desk.old desk.new }
 {
     let Port::Served { port, chip } = &settings.port else {
         unreachable!()

@@ -3,6 +3,7 @@ ghost use Rattle.std.specs.Prelude.{◌≡◌, map, string_bytes};
 ghost use Rattle.clap.specs.Words.{kind_of};
 ghost use Rattle.avr_tool.specs.Program.{LeavesWords, RunsPort, RunsProgram, RunsWords, usage_status};
 ghost use Rattle.stk_host.specs.Links.{IsTrueSince, stream_view};
+ghost use Rattle.ghosts.specs.Stays.{Stays};
 
 use crate::asking::{NotAsked, asked};
 use crate::of_port::{run_emu, run_net, serve_net};
@@ -29,6 +30,7 @@ fn run_port<N: Net, D: Desk, R: Read + Drop, W: Write + Drop>(
     ensures runs { RunsPort settings.now.port settings.now (stream_view link.old) (stream_view link.new)
         (D.view desk.old) (D.view desk.new) result }
     ensures tells { IsTrueSince R.remaining W.contents link.old link.new }
+    ensures stays { Stays D.comes_of desk.old desk.new }
 {
     match &settings.port {
         Port::Stdio => run_streams(alloc, settings, desk, link),
@@ -40,7 +42,8 @@ fn run_port<N: Net, D: Desk, R: Read + Drop, W: Write + Drop>(
 
 /// Tells that memory was refused to `clap`, and leaves any other error as it is.
 fn words_untaken<D: Desk>(error: Error, desk: &mut D) -> Result<u8, Error>
-    ensures { LeavesWords error (D.view desk.old) (D.view desk.new) result }
+    ensures leaves { LeavesWords error (D.view desk.old) (D.view desk.new) result }
+    ensures stays { Stays D.comes_of desk.old desk.new }
 {
     if error.kind() == ErrorKind::OutOfMemory {
         return Ok(refuse(&SettingsFault::Memory, desk));
@@ -65,6 +68,7 @@ pub fn run_words<N: Net, D: Desk, R: Read + Drop, W: Write + Drop>(
     ensures runs { RunsWords (map string_bytes words.now) (stream_view link.old) (stream_view link.new)
         (D.view desk.old) (D.view desk.new) result }
     ensures tells { IsTrueSince R.remaining W.contents link.old link.new }
+    ensures stays { Stays D.comes_of desk.old desk.new }
 {
     match asked(alloc, words, desk) {
         Ok(settings) => Ok(run_port(rt, alloc, &settings, desk, link)),
@@ -96,6 +100,7 @@ pub fn run_program<N: Net + Print + Eprint, D: Desk, R: Read + Drop, W: Write + 
     ensures runs { RunsProgram (map string_bytes words.now) (stream_view link.old) (stream_view link.new)
         (D.view desk.old) (D.view desk.new) result }
     ensures tells { IsTrueSince R.remaining W.contents link.old link.new }
+    ensures stays { Stays D.comes_of desk.old desk.new }
 {
     match run_words(rt, alloc, words, desk, link) {
         Ok(status) => status,

@@ -1,9 +1,10 @@
 //! Runs by the words of the headline: over any line, and over the emulated programmer behind a line of any fates.
 ghost use Rattle.std.specs.Prelude.{◌⊎◌};
+ghost use Rattle.avr_desk.specs.Fault.{Follows};
 ghost use Rattle.avr_session.specs.Runs.{devices};
 ghost use Rattle.avr_tool.specs.Headline.{IsNew, IsRun, IsStopped, RunsWired};
 ghost use Rattle.stk_host.specs.Links.{IsTrueSince, stream_view};
-ghost use Rattle.stk_host.specs.Talk.{Stays};
+ghost use Rattle.ghosts.specs.Stays.{Stays};
 
 use avr_cli::Settings;
 use avr_desk::Desk;
@@ -23,7 +24,9 @@ pub fn run<D: Desk, L: Link>(alloc: Global, settings: &Settings, desk: &mut D, l
         (devices (L.view link.new) (D.view desk.new)) result
         ⊎ IsStopped settings.now (devices (L.view link.old) (D.view desk.old))
         (devices (L.view link.new) (D.view desk.new)) result }
+    ensures follows { Follows (D.view desk.old) (D.view desk.new) }
     ensures comes { Stays L.comes_of link.old link.new }
+    ensures stays { Stays D.comes_of desk.old desk.new }
 {
     run_over(alloc, settings, desk, link)
 }
@@ -40,7 +43,9 @@ pub fn run_streams<D: Desk, R: Read + Drop, W: Write + Drop>(
         (devices (stream_view link.new) (D.view desk.new)) result
         ⊎ IsStopped settings.now (devices (stream_view link.old) (D.view desk.old))
         (devices (stream_view link.new) (D.view desk.new)) result }
+    ensures follows { Follows (D.view desk.old) (D.view desk.new) }
     ensures tells { IsTrueSince R.remaining W.contents link.old link.new }
+    ensures stays { Stays D.comes_of desk.old desk.new }
 {
     run(alloc, settings, desk, link)
 }
@@ -52,6 +57,7 @@ pub fn run_streams<D: Desk, R: Read + Drop, W: Write + Drop>(
 pub fn run_wired<D: Desk>(alloc: Global, settings: &Settings, desk: &mut D, wire: &mut Wired) -> u8
     requires new { IsNew wire.old }
     ensures runs { RunsWired settings.now wire.old wire.new (D.view desk.old) (D.view desk.new) result }
+    ensures stays { Stays D.comes_of desk.old desk.new }
 {
     let plan = match plan(alloc, settings, desk) {
         Ok(plan) => plan,

@@ -162,6 +162,13 @@ impl Programmer {
         &self.chip
     }
 
+    pub fn into_chip(self) -> Chip
+        ensures { result ≡ self.chip }
+    {
+        let Programmer { chip, .. } = self;
+        chip
+    }
+
     /// Begins anew: the memories of its part stay, and all else is lost, the page buffers too.
     pub fn restart(&mut self)
         ensures { self.new ≡ restarted_programmer self.old }

@@ -146,6 +146,13 @@ impl Wire {
         self.programmer.chip()
     }
 
+    pub fn into_chip(self) -> Chip
+        ensures { result ≡ self.programmer.chip }
+    {
+        let Wire { programmer, .. } = self;
+        programmer.into_chip()
+    }
+
     /// Passes the frame that the reader holds: `out` becomes what it brings.
     fn pass(&mut self, reader: &FrameReader, good: bool, out: &mut Segment)
         requires empty { out.old.items ≡ [] }

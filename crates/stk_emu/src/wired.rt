@@ -4,7 +4,9 @@ ghost use Rattle.std.specs.Prelude.{◌≡◌, ◌+◌, ◌<◌, ◌≤◌, ◌+
 ghost use Rattle.stk_host.specs.declared.link.Item.TheVariants as item;
 ghost use Rattle.stk_host.specs.Tape.{Tape, on_tape};
 ghost use Rattle.stk_host.specs.Talk as talk;
-ghost use Rattle.stk_host.specs.Talk.{HasRisen, Sends, Receives, Stays, FitsBuffer, items_of};
+ghost use Rattle.ghosts.specs.Failures.{HasRisen};
+ghost use Rattle.ghosts.specs.Stays.{Stays};
+ghost use Rattle.stk_host.specs.Talk.{Sends, Receives, FitsBuffer, items_of};
 ghost use Rattle.stk_emu.specs.Programmer.{fresh_programmer};
 ghost use Rattle.stk_emu.specs.Wire.{AreLawful, fresh_wire};
 ghost use Rattle.stk_emu.specs.Wired.{Start, wired_view, ComesOf, IsFresh, PassesBytes, PassesSome, IsNext, after_hearing};
@@ -112,6 +114,21 @@ impl Wired {
         ensures { result.now ≡ self.now.wire.programmer.chip }
     {
         self.wire.chip()
+    }
+
+    /// The chip, as all whole frames that were sent have left it.
+    pub fn into_chip(self) -> Chip
+        ensures { result ≡ self.wire.programmer.chip }
+    {
+        let Wired { wire, .. } = self;
+        wire.into_chip()
+    }
+
+    /// How many calls have failed so far.
+    pub fn failures(&self) -> u64
+        ensures { result ≡ self.now.failures }
+    {
+        self.failures
     }
 
     /// The bytes sent.

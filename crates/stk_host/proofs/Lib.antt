@@ -18,3 +18,4 @@ pub mod Streams
 pub mod Rows
 pub mod OperationRows
 pub mod EndRows
+pub mod OfTape

@@ -3,7 +3,8 @@ use Rattle.std.proofs.Common.{◌≡◌, ℕ, ◌+◌, ◌-◌, ◌<◌, ◌≤�
 use Rattle.std.proofs.lemmas.List.{append-nil, drop-take, drop-drop, take-append-drop, length-take, length-drop, take_all}
 use Rattle.std.proofs.Math.Seq.{take-add}
 use Rattle.std.specs.Prelude.{slice_range}
-use Rattle.stk_host.specs.Talk.{Talk, LinkView, Sent, sent, Grows, HasRisen, LinkCounts}
+use Rattle.ghosts.specs.Failures.{HasRisen}
+use Rattle.stk_host.specs.Talk.{Talk, LinkView, Sent, sent, Grows, LinkCounts}
 use Rattle.stk_host.specs.Reach.{Says, SaysPart}
 use Rattle.stk_host.proofs.Talks.{sent_append, grows_on, quiet_append}
 

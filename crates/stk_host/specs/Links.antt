@@ -1,5 +1,5 @@
 -- What the links of this crate hold, and what one call takes of it.
-use Rattle.std.specs.Prelude.{ℕ, Bool, List, [], ◌∷◌, ◌++◌, ◌≡◌, ◌≢◌, ◌==◌, ◌≤◌, ◌+◌, ◌-◌, ◌^◌, take, min, Option, Some, None, Result, Err, OnErr}
+use Rattle.std.specs.Prelude.{ℕ, Bool, List, [], ◌∷◌, ◌++◌, ◌≡◌, ◌≢◌, ◌==◌, ◌≤◌, ◌<◌, ◌+◌, ◌-◌, ◌^◌, replicate, take, min, Option, Some, None, Result, Err, OnErr}
 use Rattle.std.specs.Io.KnownBytes.{Keeps, Appends, Consumes, IsAtEnd}
 use Rattle.stk_host.specs.declared.link.Heard.{Heard}
 use Rattle.stk_host.specs.declared.link.Heard.TheVariants as hears
@@ -8,7 +8,8 @@ use Rattle.stk_host.specs.declared.link.Item.TheVariants.{Byte, Silence, End}
 use Rattle.stk_host.specs.declared.link.LinkFault.{LinkFault}
 use Rattle.stk_host.specs.declared.link.LinkFault.TheVariants.{Failed}
 use Rattle.stk_host.specs.Tape.{Tape, on_tape, bytes_in, bytes_of}
-use Rattle.stk_host.specs.Talk.{Talk, LinkView, HasRisen, HasFailed, heard, sent}
+use Rattle.ghosts.specs.Failures.{HasRisen}
+use Rattle.stk_host.specs.Talk.{Talk, LinkView, HasFailed, heard, sent}
 use Rattle.stk_host.specs.Play.{IsPrefixOf}
 
 -- a log: what passed, and the room that is left in it, for so many pieces and for so many bytes that are sent
@@ -23,6 +24,15 @@ pub record TapeState : Type 0 where
   pub cut : ℕ
   pub talk : Talk
   pub failures : ℕ
+
+-- What was heard over a link over a tape since it was `old`, and then what is left of it, are the items that it had, and
+-- behind the last of them ends.
+pub record IsOfTape (old new : TapeState) : Type 0 where
+  pub during : Talk
+  pub grows : new.talk ≡ old.talk ++ during
+  pub ends : ℕ
+  pub gave : heard during ++ new.left ≡ old.left ++ replicate ends End
+  pub over : 0 < ends → new.left ≡ []
 
 -- it keeps all that passed
 abbrev pub tape_view : TapeState → LinkView

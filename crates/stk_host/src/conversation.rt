@@ -2,7 +2,7 @@
 ghost use Rattle.std.specs.Prelude.{◌≡◌, ◌<◌, ◌≤◌, ◌++◌, ◌∷◌, [], length, IsOkAnd, OnOk, All, ◌+◌, vec_capacity};
 ghost use Rattle.stk_frame.specs.Frame.{frame};
 ghost use Rattle.stk_frame.specs.Commands.{body, judge, shape, SizedBy};
-ghost use Rattle.stk_host.specs.Talk.{Stays};
+ghost use Rattle.ghosts.specs.Stays.{Stays};
 ghost use Rattle.stk_host.specs.Reach.{SendsAll};
 ghost use Rattle.stk_host.specs.Steps.{exchange, attempt, step, answer_reply, reading_reply};
 ghost use Rattle.stk_host.specs.State.{data_in, data_held};

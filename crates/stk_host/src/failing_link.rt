@@ -1,7 +1,8 @@
 //! A link that fails once, at a call that is chosen: for tests of what stands on links.
 ghost use Rattle.std.specs.Prelude.{◌≡◌, ◌==◌, ◌<◌, ◌≤◌, ◌+◌, ◌-◌, ◌^◌, ◌∷◌, [], ℕ, length, take, min, Err, IfOk, OnOk};
 ghost use Rattle.stk_host.specs.Links.{failing_link_view, CountsCall, FailsAsPlanned};
-ghost use Rattle.stk_host.specs.Talk.{Sends, Receives, Stays, FitsBuffer};
+ghost use Rattle.ghosts.specs.Stays.{Stays};
+ghost use Rattle.stk_host.specs.Talk.{Sends, Receives, FitsBuffer};
 
 use crate::link::{Heard, Link, LinkFault};
 use std::marker::Model;

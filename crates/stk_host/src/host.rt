@@ -2,7 +2,7 @@
 ghost use Rattle.std.specs.Prelude.{◌≡◌, ◌<◌, ◌≤◌, ◌^◌, [], length, Some, None, OnOk, OnErr};
 ghost use Rattle.avr_part.specs.Part.{size_of};
 ghost use Rattle.stk_host.specs.declared.fault.HostFault.{HostFault};
-ghost use Rattle.stk_host.specs.Talk.{Stays};
+ghost use Rattle.ghosts.specs.Stays.{Stays};
 ghost use Rattle.stk_host.specs.Operations.{opening, closing, erasing, writing, reading, verifying};
 ghost use Rattle.stk_host.specs.State.{lasting_fault};
 ghost use Rattle.stk_host.specs.Calls.{Calls, CallsOrLacks, fault_of_stop, opening_result, closing_result, given_or_fault, vector_after, verifying_result};

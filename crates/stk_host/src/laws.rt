@@ -8,10 +8,11 @@ ghost use Rattle.stk_host.specs.WriteSteps.{write_steps};
 ghost use Rattle.stk_host.specs.ReadSteps.{read_steps};
 ghost use Rattle.stk_host.specs.Operations.{opening, erasing, writing, reading, verifying, closing};
 ghost use Rattle.stk_host.specs.Bound.{IsBoundedBy, opening_steps, erasing_steps, closing_steps};
-ghost use Rattle.stk_host.specs.Links.{IsTrueSince};
-ghost use Rattle.stk_host.specs.Talk.{Stays};
+ghost use Rattle.stk_host.specs.Links.{IsOfTape, IsTrueSince};
+ghost use Rattle.ghosts.specs.Stays.{Stays};
 
 use crate::stream_link::StreamLink;
+use crate::tape_link::TapeLink;
 use std::io::{Read, Write};
 
 /// Whatever a programmer answers, and however its answers come, a play of steps, and so a call of a [`crate::Host`],
@@ -39,4 +40,13 @@ pub fn a_record_of_streams_is_true<R: Read, W: Write>(
 )
     requires { Stays (IsTrueSince R.remaining W.contents) before.now after.now }
     ensures { IsTrueSince R.remaining W.contents before.now after.now }
+{}
+
+/// Whatever was done with a link over a tape, what was heard over it and then what is left are the items that it had,
+/// and behind the last of them ends.
+///
+/// What it asks for is what each call over a [`crate::Link`] promises, and so all that is made of such calls.
+pub fn a_tape_gives_its_own_items(before: &TapeLink, after: &TapeLink)
+    requires { Stays IsOfTape before.now after.now }
+    ensures { IsOfTape before.now after.now }
 {}

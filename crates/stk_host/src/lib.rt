@@ -37,7 +37,10 @@ pub use failing_link::FailingLink;
 pub use fault::{Broken, HostFault, StepFault};
 pub use history::History;
 pub use host::Host;
-pub use laws::{a_call_sends_at_most_four_times_its_commands, a_record_of_streams_is_true};
+pub use laws::{
+    a_call_sends_at_most_four_times_its_commands, a_record_of_streams_is_true,
+    a_tape_gives_its_own_items,
+};
 pub use link::{Heard, Item, Link, LinkFault, send_all};
 pub use log::Log;
 pub use stream_link::StreamLink;

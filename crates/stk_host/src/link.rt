@@ -1,6 +1,7 @@
 //! The line between the host and a programmer.
 ghost use Rattle.std.specs.Prelude.{◌≡◌, ◌<◌, length, ◌≤◌, ℕ, OnOk, OnErr};
-ghost use Rattle.stk_host.specs.Talk.{LinkView, Sends, Receives, Stays};
+ghost use Rattle.ghosts.specs.Stays.{Stays};
+ghost use Rattle.stk_host.specs.Talk.{LinkView, Sends, Receives};
 ghost use Rattle.stk_host.specs.Reach.{SendsAll};
 
 use thiserror::Error;

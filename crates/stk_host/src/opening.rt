@@ -4,7 +4,7 @@ ghost use Rattle.stk_frame.specs.HostCommands.{leave, read_signature};
 ghost use Rattle.stk_host.specs.Steps.{step};
 ghost use Rattle.stk_host.specs.Operations.{handshake};
 ghost use Rattle.stk_host.specs.Calls.{EndsSteps, AsksLink};
-ghost use Rattle.stk_host.specs.Talk.{Stays};
+ghost use Rattle.ghosts.specs.Stays.{Stays};
 
 use crate::conversation::Conversation;
 use crate::fault::Stop;

@@ -5,7 +5,7 @@ ghost use Rattle.stk_host.specs.Places.{each_from};
 ghost use Rattle.stk_host.specs.ReadSteps.{block_count, block_size, load_block_address, read_block, block_steps, signature_steps, read_steps};
 ghost use Rattle.stk_host.specs.Steps.{play};
 ghost use Rattle.stk_host.specs.Calls.{EndsSteps, AsksLink, MayAsk, StepBrings, FitsFrame, BringsNoData, IsSizedShape, data_count};
-ghost use Rattle.stk_host.specs.Talk.{Stays};
+ghost use Rattle.ghosts.specs.Stays.{Stays};
 ghost use Rattle.avr_part.specs.Part as parts;
 
 use crate::conversation::{Conversation, read_step};

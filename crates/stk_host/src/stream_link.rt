@@ -3,7 +3,8 @@ ghost use Rattle.std.specs.Prelude.{◌≡◌, ◌≢◌, ◌<◌, ◌≤◌, �
 ghost use Rattle.std.specs.IoError.{error_kind};
 ghost use Rattle.std.specs.Io.{ReadsAtMost, WritesAtMost};
 ghost use Rattle.std.specs.Io.KnownBytes.{Keeps, Appends, Consumes, IsAtEnd};
-ghost use Rattle.stk_host.specs.Talk.{Sends, Receives, Stays, FitsBuffer};
+ghost use Rattle.ghosts.specs.Stays.{Stays};
+ghost use Rattle.stk_host.specs.Talk.{Sends, Receives, FitsBuffer};
 ghost use Rattle.stk_host.specs.Links.{StreamState, IsTrueSince, stream_view, HearsKnown, AppendsFront};
 
 use crate::history::History;

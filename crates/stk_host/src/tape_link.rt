@@ -3,7 +3,8 @@ ghost use Rattle.std.specs.Prelude.{◌≡◌, ◌<◌, ◌≤◌, ◌++◌, ◌
 ghost use Rattle.stk_host.specs.Tape.{bytes_in};
 ghost use Rattle.stk_host.specs.Talk.{Sends, Receives, FitsBuffer, items_of};
 ghost use Rattle.stk_host.specs.Talk as talk;
-ghost use Rattle.stk_host.specs.Links.{tape_view, next_piece, byte_of};
+ghost use Rattle.stk_host.specs.Links.{IsOfTape, TapeState, tape_view, next_piece, byte_of};
+ghost use Rattle.ghosts.specs.Stays.{Stays};
 
 use crate::link::{Heard, Item, Link, LinkFault};
 use crate::log::Log;
@@ -109,15 +110,39 @@ impl TapeLink {
     {
         self.log.sent()
     }
+
+    /// Gives the next piece of the tape.
+    fn give(&mut self, buffer: &mut [u8]) -> Result<Heard, LinkFault>
+        requires { 0 < length buffer.old }
+        ensures receives { Receives buffer.new (tape_view self.old) (tape_view self.new) result }
+        ensures piece { IfOk result (λ heard. items_of heard buffer.new
+            ≡ next_piece (min self.old.cut (length buffer.new)) self.old.left) }
+        ensures left { IfOk result (λ heard. self.new.left ≡ drop (length (items_of heard buffer.new)) self.old.left) }
+        ensures kept { OnErr result (self.new.left ≡ self.old.left) }
+        ensures cut { self.new.cut ≡ self.old.cut }
+    {
+        let most = self.cut.min(buffer.len());
+        let heard = give_piece(&self.items[self.at..], &mut buffer[..most]);
+        let Ok(()) = self.log.hear(heard, buffer) else {
+            self.failures = self.failures.saturating_add(1);
+            return Err(LinkFault::Failed);
+        };
+        self.at = self
+            .items
+            .len()
+            .min(self.at.saturating_add(item_count(heard)));
+        Ok(heard)
+    }
 }
 
 impl Link for TapeLink {
     ghost view = { tape_view };
 
-    ghost Start = { Unit {0} };
+    ghost Start = { TapeState };
 
-    ghost comes_of = { λ start link. Unit {0} };
+    ghost comes_of = { IsOfTape };
 
+    #[tactic(auto, using(crate::proofs::OfTape::sent_of_tape, crate::proofs::OfTape::same_of_tape))]
     fn send(&mut self, bytes: &[u8]) -> Result<usize, LinkFault>
         ensures sends { Sends bytes.now (tape_view self.old) (tape_view self.new) result }
         ensures sound { OnOk result (self.new.failures ≡ self.old.failures) }
@@ -125,6 +150,7 @@ impl Link for TapeLink {
         ensures count { IfOk result (λ n. n ≡ min self.old.cut (length bytes.now)) }
         ensures left { self.new.left ≡ self.old.left }
         ensures cut { self.new.cut ≡ self.old.cut }
+        ensures comes { Stays IsOfTape self.old self.new }
     {
         let count = self.cut.min(bytes.len());
         let Ok(()) = self.log.reserve(count) else {
@@ -144,17 +170,8 @@ impl Link for TapeLink {
         ensures left { IfOk result (λ heard. self.new.left ≡ drop (length (items_of heard buffer.new)) self.old.left) }
         ensures kept { OnErr result (self.new.left ≡ self.old.left) }
         ensures cut { self.new.cut ≡ self.old.cut }
+        ensures comes { Stays IsOfTape self.old self.new }
     {
-        let most = self.cut.min(buffer.len());
-        let heard = give_piece(&self.items[self.at..], &mut buffer[..most]);
-        let Ok(()) = self.log.hear(heard, buffer) else {
-            self.failures = self.failures.saturating_add(1);
-            return Err(LinkFault::Failed);
-        };
-        self.at = self
-            .items
-            .len()
-            .min(self.at.saturating_add(item_count(heard)));
-        Ok(heard)
+        self.give(buffer)
     }
 }

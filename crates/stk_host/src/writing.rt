@@ -3,7 +3,7 @@ ghost use Rattle.std.specs.Prelude.{◌≡◌, ◌≤◌, ◌∷◌, [], length,
 ghost use Rattle.stk_frame.specs.HostCommands.{erase};
 ghost use Rattle.stk_host.specs.Steps.{play};
 ghost use Rattle.stk_host.specs.Calls.{EndsSteps, AsksLink, with_step, without_step, EndsInnerStep, MayAsk};
-ghost use Rattle.stk_host.specs.Talk.{Stays};
+ghost use Rattle.ghosts.specs.Stays.{Stays};
 ghost use Rattle.avr_image.specs.Image.{byte_at, filled_bytes};
 ghost use Rattle.avr_part.specs.Part.{size_of};
 ghost use Rattle.stk_host.specs.WriteSteps.{page_step, byte_steps, write_steps};

@@ -23,4 +23,5 @@ pub returns-in-Err : goal.returns-in-Err
 returns-in-Err g c = record {
   goes = goes_without_memory (verdict_stage (chip_or_line c.args.part.now c.args.file.now c.args.bytes.now)) _ _ _ c.refuse-in-Err.ensures.status (rw c.memory_message.ensures at c.refuse-in-Err.ensures.told);
   part = tt;
+  stays = c.refuse-in-Err.ensures.stays;
 }

@@ -1,4 +1,4 @@
-use Rattle.std.proofs.Common.{◌∙◌, ap, sym, subst, [], take, drop, get_or, ◌+◌, option_map, ℕ, List}
+use Rattle.std.proofs.Common.{◌∙◌, ap, sym, subst, [], take, drop, get_or, ◌+◌, ℕ, List}
 use Rattle.avr_desk.specs.Record.{after_err}
 use Rattle.avr_desk.specs.Stream.{SendsPart}
 use Rattle.avr_desk.specs.declared.stream.Stream.TheVariants.{Messages}
@@ -16,8 +16,9 @@ loop-piece-preserved g c =
     let d : Piece = Text (record { ref_ptr = (0, 0); now = [] }) in
     record {
       sent = sent_next Messages _ _ _ (all_text (take i ps)) (text_of (get_or ps i d)) c.loop-piece.invariant.sent c.in-Ok.ensures.all
-          ∙ ap (λ (b : List ℕ). option_map (after_err b) (g.D.Desk.view c.args.desk.now).kept) (sym (all_text_more ps i d c.loop-piece-test.true));
+          ∙ ap (λ (b : List ℕ). after_err b (g.D.Desk.view c.args.desk.now).kept) (sym (all_text_more ps i d c.loop-piece-test.true));
       counted = (c.in-Ok.ensures.counts.1.0 ∙ c.loop-piece.invariant.counted.0, c.in-Ok.ensures.counts.1.1 ∙ c.loop-piece.invariant.counted.1);
+      stays = λ start of. c.in-Ok.ensures.stays start (c.loop-piece.invariant.stays start of);
     }
 
 pub returns-in-Err-clause-part : goal.returns-in-Err-clause-part

@@ -11,6 +11,7 @@ loop-at-preserved g c =
       within = grind arith;
       sent = sent_on _ _ _ _ _ _ _ c.loop-at.invariant.sent c.in_ok-count.ensures.kept;
       counted = (taken.0 ∙ c.loop-at.invariant.counted.0, taken.1 ∙ c.loop-at.invariant.counted.1);
+      stays = λ start of. c.in_ok-count.ensures.stays start (c.loop-at.invariant.stays start of);
     }
 
 pub returns-in_err-count-clause-part : goal.returns-in_err-count-clause-part

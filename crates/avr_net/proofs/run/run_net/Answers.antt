@@ -1,17 +1,15 @@
 use Rattle.std.proofs.Common.{inl, inr}
 use Rattle.avr_net.proofs.run.run_net.Goals as goal
 
-pub returns-in-Err : goal.returns-in-Err
-returns-in-Err g c = record { runs = inr (inr (rw c.in-Err.is at c.plan.ensures.goes, rw c.in-Err.is at c.plan.ensures.bare)) }
+pub returns-in-Err-clause-runs : goal.returns-in-Err-clause-runs
+returns-in-Err-clause-runs g c = inr (inr (rw c.in-Err.is at c.plan.ensures.goes, rw c.in-Err.is at c.plan.ensures.bare))
 
-pub returns : goal.returns
-returns g c = record {
-  runs = inl (record {
-    plan = c.in-Ok.plan;
-    planned_desk = g.D.Desk.view c.plan.new.desk;
-    talk = c.drive.new.link.talk;
-    link_failures = c.drive.new.link.failures;
-    made = rw c.in-Ok.is at c.plan.ensures.goes;
-    runs = rw c.in-Ok-connect.ensures.fresh at (rw c.in-Ok-connect.ensures.quiet at c.drive.ensures.runs);
-  });
-}
+pub returns-clause-runs : goal.returns-clause-runs
+returns-clause-runs g c = inl (record {
+  plan = c.in-Ok.plan;
+  planned_desk = g.D.Desk.view c.plan.new.desk;
+  talk = c.drive.new.link.talk;
+  link_failures = c.drive.new.link.failures;
+  made = rw c.in-Ok.is at c.plan.ensures.goes;
+  runs = rw c.in-Ok-connect.ensures.fresh at (rw c.in-Ok-connect.ensures.quiet at c.drive.ensures.runs);
+})

@@ -1,13 +1,15 @@
-use Rattle.std.proofs.Common.{◌≡◌, ◌≤◌, ◌-◌, length, option_map, false}
+use Rattle.std.proofs.Common.{◌≡◌, ◌≤◌, ◌-◌, length, false}
 use Rattle.avr_desk.specs.Fault.{HasSameCounts}
 use Rattle.avr_desk.specs.Files.{after_reading}
+use Rattle.ghosts.specs.Stays.{Stays}
 use Rattle.avr_plan.proofs.image_file.read_front.Given as goal
 
 abbrev pub invariant-front : goal.invariant-front
 invariant-front g l = record {
-  read : (g.D.Desk.view l.desk).kept ≡ option_map (after_reading l.bytes.items false) (g.D.Desk.view l.initial.desk).kept;
+  read : (g.D.Desk.view l.desk).kept ≡ after_reading l.bytes.items false (g.D.Desk.view l.initial.desk).kept;
   same : HasSameCounts (g.D.Desk.view l.initial.desk) (g.D.Desk.view l.desk);
   bound : length l.bytes.items ≤ 1024;
+  stays : Stays g.D.Desk.comes_of l.initial.desk l.desk;
 }
 
 abbrev pub decreases-front : goal.decreases-front

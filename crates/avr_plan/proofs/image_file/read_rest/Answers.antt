@@ -5,7 +5,7 @@ use Rattle.avr_plan.proofs.ImageReadings.{going_begins, going_on, rest_ends, res
 use Rattle.avr_plan.proofs.image_file.read_rest.Goals as goal
 
 pub pieces-init : goal.pieces-init
-pieces-init g c = record { going = going_begins _ _ _; same = same_here (g.D.Desk.view c.args.desk.now); room = omega arith }
+pieces-init g c = record { going = going_begins _ _ _; same = same_here (g.D.Desk.view c.args.desk.now); room = omega arith; stays = λ start of. of }
 
 pub pieces-preserved : goal.pieces-preserved
 pieces-preserved g c =
@@ -15,6 +15,7 @@ pieces-preserved g c =
           (omega (arith, len)) c.fed-intake.ensures.takes;
       same = same_on (g.D.Desk.view c.args.desk.now) (g.D.Desk.view c.pieces.desk) (g.D.Desk.view c.read.new.self) c.pieces.invariant.same c.in-Ok.ensures.counts.1;
       room = omega (arith, len, c.fed-intake.ensures.count);
+      stays = λ start of. c.in-Ok.ensures.stays start (c.pieces.invariant.stays start of);
     }
 
 pub returns-then-count-eq0-clause-read : goal.returns-then-count-eq0-clause-read

@@ -7,29 +7,29 @@ use Rattle.avr_desk.proofs.Openings.{breaks_as, counted_as}
 use Rattle.avr_plan.specs.Planning.{judged_parts}
 use Rattle.avr_plan.proofs.part_choice.file_parts.Goals as goal
 
-pub returns-in-Err : goal.returns-in-Err
-returns-in-Err g c =
+pub returns-in-Err-clause-goes : goal.returns-in-Err-clause-goes
+returns-in-Err-clause-goes g c =
     goes_file_fault c.args.file.now 65536 (judged_parts c.args.file.now) c.in-Err.fault _ _ _ _
     (breaks_as _ _ _ c.in-Err.fault c.in-Err.ensures.kept)
     c.in-Err.ensures.counts.0 (counted_as _ _ _ _ c.in-Err.fault c.in-Err.ensures.counts) c.refuse.ensures.status
     (rw c.file_message.ensures at c.refuse.ensures.told)
 
-pub returns-then-not-contents : goal.returns-then-not-contents
-returns-then-not-contents g c =
+pub returns-then-not-contents-clause-goes : goal.returns-then-not-contents-clause-goes
+returns-then-not-contents-clause-goes g c =
     goes_long_parts c.args.file.now c.in-Ok.contents.bytes c.in-Ok.contents.ended _ _ _ _ c.in-Ok.ensures.kept c.in-Ok.ensures.whole
     c.if-not-contents.true
     c.in-Ok.ensures.counts.1 c.refuse-then-not-contents.ensures.status
     (rw c.too_long_message.ensures at c.refuse-then-not-contents.ensures.told)
 
-pub returns-in-Ok-parse_parts : goal.returns-in-Ok-parse_parts
-returns-in-Ok-parse_parts g c =
+pub returns-in-Ok-parse_parts-clause-goes : goal.returns-in-Ok-parse_parts-clause-goes
+returns-in-Ok-parse_parts-clause-goes g c =
     let gives = subst (λ (b : Bytes). ReadsOrMemory (parts_of b) c.parse_parts.result) c.as_slice.ensures c.parse_parts.ensures in
     went_parts c.args.file.now c.in-Ok.contents.bytes c.in-Ok.contents.ended _ _ c.in-Ok-parse_parts.parts c.in-Ok.ensures.kept
     c.in-Ok.ensures.whole c.if-not-contents.false c.in-Ok.ensures.counts.1
     (rw c.in-Ok-parse_parts.is at gives)
 
-pub returns : goal.returns
-returns g c =
+pub returns-clause-goes : goal.returns-clause-goes
+returns-clause-goes g c =
     let gives = subst (λ (b : Bytes). ReadsOrMemory (parts_of b) c.parse_parts.result) c.as_slice.ensures c.parse_parts.ensures in
     goes_bad_parts c.args.file.now c.in-Ok.contents.bytes c.in-Ok.contents.ended _ _ _ _ c.in-Err-parse_parts.refused c.in-Ok.ensures.kept
     c.in-Ok.ensures.whole

@@ -27,6 +27,7 @@ loop-update-preserved g c =
       fitted = subst (λ (ts : List Task). All (IsFitted part) ts) (sym same)
           (All-append (IsFitted part) c.loop-update.tasks (c.in_ok-task.task ∷ []) c.loop-update.invariant.fitted
           (all_one (IsFitted part) c.in_ok-task.task c.in_ok-task.ensures.fitted));
+      stays = λ start of. c.in_ok-task.ensures.stays start (c.loop-update.invariant.stays start of);
     }
 
 pub returns-in_err-task-clause-goes : goal.returns-in_err-task-clause-goes

@@ -4,6 +4,7 @@ use Rattle.avr_plan.specs.Plan.{IsFitted}
 use Rattle.avr_plan.specs.Planning.{tasks_stage}
 use Rattle.avr_desk.specs.Playing.{Goes}
 use Rattle.avr_plan.specs.declared.planned.Task.{Task}
+use Rattle.ghosts.specs.Stays.{Stays}
 use Rattle.avr_plan.proofs.planning.update_tasks.Given as goal
 
 -- however the updates that are left go, so go all of them
@@ -13,4 +14,5 @@ invariant-loop-update g l = record {
       → Goes (tasks_stage l.switches l.part l.tasks (drop l.update-index l.updates)) (g.D.Desk.view l.desk) new result
       → Goes (tasks_stage l.switches l.part [] l.updates) (g.D.Desk.view l.initial.desk) new result;
   fitted : All (IsFitted l.part) l.tasks;
+  stays : Stays g.D.Desk.comes_of l.initial.desk l.desk;
 }

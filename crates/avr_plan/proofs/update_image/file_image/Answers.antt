@@ -5,7 +5,7 @@ use Rattle.avr_plan.proofs.update_image.file_image.Goals as goal
 pub returns-in-Ok-warn_of_ending-clause-goes : goal.returns-in-Ok-warn_of_ending-clause-goes
 returns-in-Ok-warn_of_ending-clause-goes g c =
     went_image c.args.switches c.args.file.now c.args.format c.args.size _ _ _ c.in-Ok.image c.in-Ok.ending c.in-Ok.ensures.read c.in-Ok.ensures.sound
-    c.in-Ok-warn_of_ending.ensures
+    c.in-Ok-warn_of_ending.ensures.goes
 
 pub returns-in-Ok-warn_of_ending-clause-sized : goal.returns-in-Ok-warn_of_ending-clause-sized
 returns-in-Ok-warn_of_ending-clause-sized g c =
@@ -16,7 +16,7 @@ pub returns-in-Err-warn_of_ending-clause-goes : goal.returns-in-Err-warn_of_endi
 returns-in-Err-warn_of_ending-clause-goes g c =
     goes_unwarned c.args.switches c.args.file.now c.args.format c.args.size _ _ _ c.in-Ok.image c.in-Ok.ending _ c.in-Ok.ensures.read
     c.in-Ok.ensures.sound
-    c.in-Err-warn_of_ending.ensures
+    c.in-Err-warn_of_ending.ensures.goes
 
 pub returns-in-Err-clause-goes : goal.returns-in-Err-clause-goes
 returns-in-Err-clause-goes g c =

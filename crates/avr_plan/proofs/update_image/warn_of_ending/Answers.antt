@@ -2,12 +2,12 @@ use Rattle.avr_desk.proofs.Played.{went_silent, went_saying, goes_saying_part}
 use Rattle.avr_plan.specs.Lines.{no_end_line}
 use Rattle.avr_plan.proofs.update_image.warn_of_ending.Goals as goal
 
-pub returns-then-not-warns : goal.returns-then-not-warns
-returns-then-not-warns g c = rw (← c.if-not-warns.ensures) (went_silent _)
+pub returns-then-not-warns-clause-goes : goal.returns-then-not-warns-clause-goes
+returns-then-not-warns-clause-goes g c = rw (← c.if-not-warns.ensures) (went_silent _)
 
-pub returns-in-Ok : goal.returns-in-Ok
-returns-in-Ok g c = rw (← c.if-not-warns.ensures) (went_saying _ _ (no_end_line c.args.file.now) c.in-Ok.ensures.printed c.in-Ok.ensures.counts.1)
+pub returns-in-Ok-clause-goes : goal.returns-in-Ok-clause-goes
+returns-in-Ok-clause-goes g c = rw (← c.if-not-warns.ensures) (went_saying _ _ (no_end_line c.args.file.now) c.in-Ok.ensures.printed c.in-Ok.ensures.counts.1)
 
-pub returns-in-Err : goal.returns-in-Err
-returns-in-Err g c = rw (← c.if-not-warns.ensures) (goes_saying_part _ _ (no_end_line c.args.file.now) c.in-Err.field-0 c.in-Err.ensures.printed
+pub returns-in-Err-clause-goes : goal.returns-in-Err-clause-goes
+returns-in-Err-clause-goes g c = rw (← c.if-not-warns.ensures) (goes_saying_part _ _ (no_end_line c.args.file.now) c.in-Err.field-0 c.in-Err.ensures.printed
     c.in-Err.ensures.fault c.in-Err.ensures.counts)

@@ -1,5 +1,5 @@
 use Rattle.std.proofs.Common.{◌≡◌}
-use Rattle.stk_host.specs.Talk.{Stays}
+use Rattle.ghosts.specs.Stays.{Stays}
 use Rattle.avr_serve.specs.declared.serving.Served.TheVariants.{TooManyReads}
 use Rattle.avr_serve.specs.Serving.{Serves}
 use Rattle.avr_serve.proofs.serving.answer_all.Given as goal

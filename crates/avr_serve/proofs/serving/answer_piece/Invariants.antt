@@ -1,5 +1,5 @@
 use Rattle.std.proofs.Common.{length, take, ◌-◌, ◌≤◌, ◌≡◌}
-use Rattle.stk_host.specs.Talk.{Stays}
+use Rattle.ghosts.specs.Stays.{Stays}
 use Rattle.avr_serve.specs.Replying.{Replies}
 use Rattle.avr_serve.proofs.serving.answer_piece.Given as goal
 

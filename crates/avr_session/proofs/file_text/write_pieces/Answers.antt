@@ -1,4 +1,4 @@
-use Rattle.std.proofs.Common.{◌∙◌, ap, sym, subst, refl, arith, ◌≡◌, ◌<◌, ℕ, List, [], ◌∷◌, ◌++◌, length, append_assoc, append-nil, Option, None, option_map, Result, Ok, Err, IsOk, OnOk, OnErr, IsTrue, Bool, true, false}
+use Rattle.std.proofs.Common.{◌∙◌, ap, sym, subst, refl, arith, ◌≡◌, ◌<◌, ℕ, List, [], ◌∷◌, ◌++◌, length, append_assoc, append-nil, Result, Ok, Err, IsOk, OnOk, OnErr, IsTrue, Bool, true, false}
 use Rattle.std.proofs.lemmas.Result.{err_from_is_err_and}
 use Rattle.avr_desk.specs.Fault.{Counts}
 use Rattle.avr_desk.specs.Record.{Record, showing}
@@ -24,12 +24,12 @@ behind all done waiting piece rest sent waits next more first second third fourt
     first ∙ (ap (λ (xs : List ℕ). done ++ xs) inner ∙ sym (append_assoc done sent (next ++ more)))
 
 -- what waits is the last
-all_sent : (s : Stream) (old now new : Option Record) (done waiting text : List ℕ) (r : Result (Unit {0}) DeskFault) → text ≡ done ++ waiting → now ≡ option_map (after_sent s done) old → OnOk r (new ≡ option_map (after_sent s waiting) now)
-    → OnOk r (new ≡ option_map (after_sent s text) old)
-all_sent s old now new done waiting text (Ok ok) is before sent = sent_next s old now new done waiting before sent ∙ ap (λ (xs : List ℕ). option_map (after_sent s xs) old) (sym is)
+all_sent : (s : Stream) (old now new : Record) (done waiting text : List ℕ) (r : Result (Unit {0}) DeskFault) → text ≡ done ++ waiting → now ≡ after_sent s done old → OnOk r (new ≡ after_sent s waiting now)
+    → OnOk r (new ≡ after_sent s text old)
+all_sent s old now new done waiting text (Ok ok) is before sent = sent_next s old now new done waiting before sent ∙ ap (λ (xs : List ℕ). after_sent s xs old) (sym is)
 all_sent s old now new done waiting text (Err fault) is before sent = tt
 
-part_sent : (s : Stream) (old now new : Option Record) (done waiting text : List ℕ) (r : Result (Unit {0}) DeskFault) → text ≡ done ++ waiting → now ≡ option_map (after_sent s done) old → OnErr r (SendsPart s (showing now 0 0) (showing new 0 0) waiting)
+part_sent : (s : Stream) (old now new : Record) (done waiting text : List ℕ) (r : Result (Unit {0}) DeskFault) → text ≡ done ++ waiting → now ≡ after_sent s done old → OnErr r (SendsPart s (showing now 0 0) (showing new 0 0) waiting)
     → OnErr r (SendsPart s (showing old 0 0) (showing new 0 0) text)
 part_sent s old now new done waiting text (Ok ok) is before part = tt
 part_sent s old now new done waiting text (Err fault) is before part = subst (SendsPart s (showing old 0 0) (showing new 0 0)) (sym (is ∙ ap (λ (xs : List ℕ). done ++ xs) (sym (append-nil waiting)))) (sent_next_part s old now new done waiting [] before part)
@@ -38,6 +38,7 @@ pub pieces-init : goal.pieces-init
 pieces-init g c = record {
   sent = ([], ap (λ (xs : List ℕ). xs ++ g.P.Pieces.rest c.args.text) (sym c.new-waiting.ensures), sent_none c.args.stream (g.D.Desk.view c.args.desk.now).kept);
   counted = (refl, refl);
+  stays = λ start of. of;
 }
 
 pub pieces-preserved : goal.pieces-preserved
@@ -52,6 +53,7 @@ pieces-preserved g c =
         sent_next c.args.stream _ _ _ i.0 w.0 i.2 w.2,
       );
       counted = (c.in_ok-make_room.ensures.counts.1.0 ∙ c.pieces.invariant.counted.0, c.in_ok-make_room.ensures.counts.1.1 ∙ c.pieces.invariant.counted.1);
+      stays = λ start of. c.in_ok-make_room.ensures.stays start (c.pieces.invariant.stays start of);
     }
 
 pub returns-in_err-make_room-clause-part : goal.returns-in_err-make_room-clause-part
@@ -80,5 +82,5 @@ returns-clause-counts g c =
     let first = g.D.Desk.view c.args.desk.now in
     let last = g.D.Desk.view c.write_all.new.desk in
     let same = c.pieces.invariant.counted in
-    subst (λ n. Counts c.args.stream (showing None first.failures n) last c.write_all.result) same.1
-    (subst (λ n. Counts c.args.stream (showing None n (g.D.Desk.view c.pieces.desk).unsaid) last c.write_all.result) same.0 c.write_all.ensures.counts)
+    subst (λ n. Counts c.args.stream (showing first.kept first.failures n) last c.write_all.result) same.1
+    (subst (λ n. Counts c.args.stream (showing first.kept n (g.D.Desk.view c.pieces.desk).unsaid) last c.write_all.result) same.0 c.write_all.ensures.counts)

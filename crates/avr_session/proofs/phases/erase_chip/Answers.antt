@@ -11,7 +11,7 @@ pub returns-clause-performs : goal.returns-clause-performs
 returns-clause-performs g c =
     let part = c.args.plan.now.part in
     let s = c.args.plan.now.switches in
-    let reports = rw (c.part.ensures, c.switches.ensures) at c.report_erased-reported.ensures in
+    let reports = rw (c.part.ensures, c.switches.ensures) at c.report_erased-reported.ensures.reports in
     does_one c.args.plan.now EraseChip (operation_performs false erasing (erased_says s.quiet part) c.erase-erased.result c.report_erased-reported.result c.conclude.result PrintStops (print_stops_report _ _ reports)
     c.requires.sound c.erase-erased.ensures.calls (call_ended erasing _ _ _ c.erase-erased.result _ erasing_lacks_none) reports
     (told_of _ _ part _ c.erase-erased.result c.report_erased-reported.result reports) c.conclude.ensures)

@@ -8,7 +8,7 @@ pub returns-then-switches-2-clause-performs : goal.returns-then-switches-2-claus
 returns-then-switches-2-clause-performs g c =
     let is_dry = rw c.switches-switches.ensures at c.if-switches.true in
     let is_asked = rw c.switches-switches.ensures at c.if-switches-2.true in
-    let leaves = rw c.switches-switches.ensures at c.leave_out_erase.ensures in
+    let leaves = rw c.switches-switches.ensures at c.leave_out_erase.ensures.leaves_out in
     let due : LeaveErase ∷ [] ≡ erase_actions c.args.plan.now.switches c.args.plan.now.tasks = rw (is_dry, is_asked) refl in
     does_same c.args.plan.now _ _ due (does_one c.args.plan.now LeaveErase (left_out_performs false (left_out_erase c.args.plan.now.switches.quiet) c.leave_out_erase.result c.requires.sound leaves))
 

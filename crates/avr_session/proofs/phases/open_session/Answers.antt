@@ -12,7 +12,7 @@ returns-clause-performs g c =
     let part = c.args.plan.now.part in
     let s = c.args.plan.now.switches in
     let operation = opening part.signature s.force in
-    let reports = rw (c.part.ensures, c.switches-switches.ensures) at c.report_opening-reported.ensures in
+    let reports = rw (c.part.ensures, c.switches-switches.ensures) at c.report_opening-reported.ensures.reports in
     does_one c.args.plan.now OpenSession (operation_performs false operation (opening_says s.quiet part) c.open-opened.result c.report_opening-reported.result c.conclude.result PrintStops (print_stops_report _ _ reports)
     c.requires.sound c.open-opened.ensures.calls (λ ends. call_ended operation _ _ _ c.open-opened.result _ (opening_lacks_none part.signature s.force) (rw (c.requires.part, c.switches-switches.ensures) at ends)) reports
     (opening_told _ _ s.quiet part c.open-opened.result c.report_opening-reported.result reports) c.conclude.ensures)

@@ -22,7 +22,7 @@ returns-clause-performs g c =
     let told = c.report_read-reported.result in
     let operation = reading part c.args.mem in
     let good = read_says s c.args.mem format file in
-    let reports = rw c.as_slice.ensures.value at c.report_read-reported.ensures in
+    let reports = rw c.as_slice.ensures.value at c.report_read-reported.ensures.reports in
     does_one c.args.plan.now (SaveMemory c.args.mem format file)
     (operation_performs true operation (fault_or part good) outcome told c.conclude.result (ReadStops c.read-outcome.result) (read_stops_report part s c.args.mem format file items c.read-outcome.result _ _ reports)
     c.requires.sound c.read-outcome.ensures.calls (λ ends. lack_ended operation _ _ _ outcome _ (rw c.requires.part at ends)) reports

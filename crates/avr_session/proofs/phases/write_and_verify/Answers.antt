@@ -11,7 +11,7 @@ returns-then-switches-clause-performs g c =
     let is_dry = rw c.switches.ensures at c.if-switches.true in
     let due : LeaveWrite c.args.mem c.args.image.now ∷ [] ≡ write_actions s c.args.mem c.args.image.now = rw is_dry refl in
     does_same c.args.plan.now _ _ due (does_one c.args.plan.now (LeaveWrite c.args.mem c.args.image.now)
-    (left_out_performs false (left_out_write s.quiet c.args.mem c.args.image.now) c.leave_out_write.result c.requires.sound c.leave_out_write.ensures))
+    (left_out_performs false (left_out_write s.quiet c.args.mem c.args.image.now) c.leave_out_write.result c.requires.sound c.leave_out_write.ensures.leaves_out))
 
 pub returns-in_err-fault-clause-performs : goal.returns-in_err-fault-clause-performs
 returns-in_err-fault-clause-performs g c =

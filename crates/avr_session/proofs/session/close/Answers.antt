@@ -10,7 +10,7 @@ pub returns-clause-performs : goal.returns-clause-performs
 returns-clause-performs g c =
     let part = c.args.plan.now.part in
     let s = c.args.plan.now.switches in
-    let reports = rw (c.part.ensures, c.switches.ensures) at c.report_closing-reported.ensures in
+    let reports = rw (c.part.ensures, c.switches.ensures) at c.report_closing-reported.ensures.reports in
     operation_performs false closing (closed_says s.quiet part) c.close-closed.result c.report_closing-reported.result c.conclude.result PrintStops (print_stops_report _ _ reports)
     c.requires c.close-closed.ensures.calls (call_ended closing _ _ _ c.close-closed.result _ closing_lacks_none) reports
     (told_of _ _ part _ c.close-closed.result c.report_closing-reported.result reports) c.conclude.ensures

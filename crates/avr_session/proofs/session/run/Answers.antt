@@ -1,4 +1,7 @@
 use Rattle.std.proofs.Common.{inl, inr, refl}
+use Rattle.avr_desk.proofs.Played.{goes_follows}
+use Rattle.avr_desk.proofs.Telling.{follows_on}
+use Rattle.avr_plan.specs.Planning.{planned}
 use Rattle.avr_session.proofs.session.run.Goals as goal
 
 pub returns-in-Ok-clause-runs : goal.returns-in-Ok-clause-runs
@@ -13,3 +16,12 @@ pub returns-in-Err-clause-runs : goal.returns-in-Err-clause-runs
 returns-in-Err-clause-runs g c =
     let goes = rw c.in-Err.is at c.plan.ensures.goes in
     inr (record { refused = goes.1; bare = rw c.in-Err.is at c.plan.ensures.bare; same = refl; status_is = goes.0 })
+
+pub returns-in-Ok-clause-follows : goal.returns-in-Ok-clause-follows
+returns-in-Ok-clause-follows g c =
+    follows_on (g.D.Desk.view c.args.desk.now) (g.D.Desk.view c.plan.new.desk) (g.D.Desk.view c.drive.new.desk)
+    (goes_follows (planned c.args.settings.now) (g.D.Desk.view c.args.desk.now) (g.D.Desk.view c.plan.new.desk) c.plan.result c.plan.ensures.goes) c.drive.ensures.follows
+
+pub returns-in-Err-clause-follows : goal.returns-in-Err-clause-follows
+returns-in-Err-clause-follows g c =
+    goes_follows (planned c.args.settings.now) (g.D.Desk.view c.args.desk.now) (g.D.Desk.view c.plan.new.desk) c.plan.result c.plan.ensures.goes

@@ -1,6 +1,6 @@
 use Rattle.std.proofs.Common.{◌≡◌, length, take, ◌-◌, ◌≤◌}
 use Rattle.stk_host.specs.Reach.{Says}
-use Rattle.stk_host.specs.Talk.{Stays}
+use Rattle.ghosts.specs.Stays.{Stays}
 use Rattle.stk_host.proofs.link.send_all.Given as goal
 
 abbrev pub invariant-loop-done : goal.invariant-loop-done

@@ -5,7 +5,7 @@ use Rattle.stk_host.specs.Places.{each_from}
 use Rattle.stk_host.specs.WriteSteps.{run_steps_at, write_steps}
 use Rattle.stk_host.specs.Reach.{Reaches}
 use Rattle.stk_host.specs.Steps.{play}
-use Rattle.stk_host.specs.Talk.{Stays}
+use Rattle.ghosts.specs.Stays.{Stays}
 use Rattle.stk_host.proofs.writing.write_eeprom.Given as goal
 
 abbrev pub invariant-loop-start : goal.invariant-loop-start

@@ -4,7 +4,7 @@ use Rattle.stk_host.specs.Places.{each_from}
 use Rattle.stk_host.specs.WriteSteps.{page_steps, write_steps}
 use Rattle.stk_host.specs.Reach.{Reaches}
 use Rattle.stk_host.specs.Steps.{play}
-use Rattle.stk_host.specs.Talk.{Stays}
+use Rattle.ghosts.specs.Stays.{Stays}
 use Rattle.stk_host.proofs.writing.write_flash.Given as goal
 
 abbrev pub invariant-loop-addr : goal.invariant-loop-addr

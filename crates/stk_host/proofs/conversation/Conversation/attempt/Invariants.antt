@@ -1,7 +1,7 @@
 use Rattle.std.proofs.Common.{◌≡◌, drop, [], ◌∷◌, ◌++◌}
 use Rattle.stk_host.specs.Reach.{Reaches}
 use Rattle.stk_host.specs.Steps.{attempt}
-use Rattle.stk_host.specs.Talk.{Stays}
+use Rattle.ghosts.specs.Stays.{Stays}
 use Rattle.stk_host.proofs.conversation.Conversation.attempt.Given as goal
 
 abbrev pub invariant-loop-command : goal.invariant-loop-command

@@ -1,7 +1,7 @@
 use Rattle.std.proofs.Common.{◌≡◌, ◌≤◌, ◌<◌, length, ◌-◌, ◌∷◌, ◌++◌, []}
 use Rattle.stk_host.specs.Reach.{Reaches}
 use Rattle.stk_host.specs.Steps.{step, tries}
-use Rattle.stk_host.specs.Talk.{Stays}
+use Rattle.ghosts.specs.Stays.{Stays}
 use Rattle.stk_host.proofs.conversation.Conversation.step.Given as goal
 
 abbrev pub invariant-loop-tried : goal.invariant-loop-tried

@@ -1,0 +1,18 @@
+-- A connection that fails once at most.
+use Rattle.std.proofs.Common.{◌≡◌, ◌⊎◌, ◌≤◌, ℕ, [], arith, inl, inr}
+use Rattle.ghosts.specs.Failures.{HasRisen}
+use Rattle.avr_cli.specs.declared.settings.Settings.{Settings}
+use Rattle.avr_desk.specs.Record.{DeskView}
+use Rattle.avr_session.specs.Runs.{devices}
+use Rattle.avr_session.proofs.Once as session
+use Rattle.avr_net.specs.OverNet.{PlaysOverNet, connection}
+
+once : (n : ℕ) → (n ≡ 0) ⊎ HasRisen 0 n → n ≤ 1
+once n (inl none) = omega (arith, none)
+once n (inr (inl one)) = omega (arith, one)
+once n (inr (inr end)) = omega (arith, end.0)
+
+pub fails_once : (settings : Settings) (old new : DeskView) (status : ℕ) → (plays : PlaysOverNet settings old new status) → plays.link_failures ≤ 1
+fails_once settings old new status plays =
+    once plays.link_failures (session.fails_once plays.plan (devices (connection [] 0) plays.planned_desk)
+    (devices (connection plays.talk plays.link_failures) new) status plays.runs)

@@ -1,0 +1,5 @@
+use Rattle.avr_session.proofs.Once.{fails_once}
+use Rattle.avr_session.proofs.stopping.a_link_fails_once_at_most.Goals as goal
+
+pub returns : goal.returns
+returns c = fails_once
