@@ -1,6 +1,9 @@
 //! A caller of the headline's calls: that its conditions can be met.
-use crate::support::{OPENING, desk_with, fates, run_wired_on, settings_for};
-use avr_tool::{Fate, Settings, StreamLink, SystemDesk, run_streams};
+use crate::support::{OPENING, Over, desk_with, fates, run_wired_on, settings_for};
+use avr_tool::{
+    Fate, Item, MemDesk, Settings, StreamLink, SystemDesk, TapeLink, run_in_memory, run_streams,
+};
+use std::alloc::Global;
 use std::test::Fail;
 
 /// The answers to a session that opens and ends, in hexadecimal digits.
@@ -83,6 +86,53 @@ fn a_reader_that_ends(rt: HostRuntime) -> Result<(), Fail> {
     let frames = hex::decode(alloc, OPENING)?;
     assert!(rt; passed.sent.as_slice() == frames.get(..37).unwrap_or(&[]));
     assert!(rt; passed.messages.as_slice() == b"avrstk: error: link ended\n".as_slice());
+    Ok(())
+}
+
+/// The answers to a session that opens, reads the low fuse twice, which is 62, and ends.
+const FUSE_ANSWERS: &str =
+    "1B01000B0E01000853544B3530305F32021B0200020E1000051B0300040E1B001E00171B0400040E1B0095009B1B0500040E1B000F00001B0600040E180062006D1B0700040E180062006C1B0800020E11000E";
+
+/// The frames behind its opening.
+const FUSE_FRAMES: &str = "1B0600060E180450000000591B0700060E180450000000581B0800030E1101010F";
+
+/// Runs over one file and a tape of these bytes.
+fn run_over_bytes(
+    alloc: Global,
+    words: &[&str],
+    name: &str,
+    bytes: &[u8],
+    answers: &[u8],
+) -> Result<Over<MemDesk, TapeLink>, Fail> {
+    let settings = settings_for(alloc, words)?;
+    let mut items = Vec::new(alloc);
+    for byte in answers {
+        items.push(Item::Byte(*byte))?;
+    }
+    let mut desk = MemDesk::new(alloc);
+    desk.put(name, bytes)?;
+    let mut link = TapeLink::new(alloc, items, 281);
+    let status = run_in_memory(alloc, &settings, &mut desk, &mut link);
+    Ok(Over { desk, link, status })
+}
+
+/// A file that is compared with a fuse, and made anew by the same run: it is read as it was before.
+#[test]
+fn from_bytes_to_bytes(rt: HostRuntime) -> Result<(), Fail> {
+    let alloc = rt.alloc();
+    let words = ["-p", "m328p", "-U", "lfuse:v:low:r", "-U", "lfuse:r:low:h"];
+    let answers = hex::decode(alloc, FUSE_ANSWERS)?;
+    let over = run_over_bytes(alloc, &words, "low", b"\x62".as_slice(), answers.as_slice())?;
+    assert_eq!(rt; over.status, 0);
+    let mut frames = hex::decode(alloc, OPENING)?;
+    frames.extend_from_slice(hex::decode(alloc, FUSE_FRAMES)?.as_slice())?;
+    assert!(rt; over.link.sent() == frames.as_slice());
+    assert!(rt; over.desk.file("low") == Some(b"0x62\n".as_slice()));
+    assert!(rt; over.desk.output().is_empty());
+    assert!(rt;
+        over.desk.messages()
+            == b"avrstk: device signature = 1E 95 0F\navrstk: lfuse: 1 bytes verified\navrstk: lfuse: 1 bytes read\navrstk: done\n".as_slice()
+    );
     Ok(())
 }
 

@@ -1,5 +1,5 @@
 -- Worked outcomes of holding and saving that their contracts refuse.
-use Rattle.std.proofs.Common.{◌≡◌, ◌≤◌, refl, ap, ℕ, [], length, Ok, Err, inl, inr, arith}
+use Rattle.std.proofs.Common.{◌≡◌, ◌≤◌, refl, ap, ℕ, [], length, Ok, Err, arith}
 use Rattle.ghosts.specs.Failures.{HasRisen}
 use Rattle.avr_desk.specs.Record.{Bytes, DeskView, Record, Passes, after_err, nothing_kept, showing, with_held, with_replaced}
 use Rattle.avr_chip.specs.Holding as holding
@@ -15,8 +15,7 @@ abbrev now : Record → ℕ → DeskView
 now r failures = showing r failures 0
 
 no_rise : (n : ℕ) → HasRisen 0 n → n ≤ 0 → ⊥
-no_rise n (inl more) le = omega (arith, more, le)
-no_rise n (inr last) le = omega (arith, last.0)
+no_rise n rises le = omega (arith, rises, le)
 
 abbrev denials : Record → ℕ
 denials r = length r.denied

@@ -9,7 +9,7 @@ use Rattle.avr_desk.specs.declared.record.Opening.{Opening}
 use Rattle.avr_desk.specs.declared.record.Opening.TheVariants.{Absent, Found}
 use Rattle.avr_desk.specs.declared.record.Reading.{Reading}
 use Rattle.avr_desk.specs.Lines.{memory_line, not_opened_line}
-use Rattle.avr_desk.specs.Said.{Saying, Opens, Line, Creates, Writes, Outs, TellsLine, TellsFailure, after, after_all, openings_in}
+use Rattle.avr_desk.specs.Said.{Saying, Opens, Line, Creates, Writes, Outs, TellsLine, TellsFailure, after, after_all}
 use Rattle.avr_desk.proofs.Saying.{after_append}
 use Rattle.avr_desk.proofs.Telling.{follows_here, not_failed}
 use Rattle.avr_desk.specs.Playing.{Went, Break, InLine, NotOpened, NotRead, NoMemory, NoMemoryFor, last_done, IsBreak, TellsBreak, StageBrokeOff, Goes, part_read}
@@ -66,6 +66,14 @@ sound_refusal stage before after k l m n status sound has_memory (one, inr broke
     let lacks = broke_lacks stage before after k l m n sound broke in absurd (has_memory lacks.0 lacks.1)
 
 -- ---- where the desk shows no file that was opened
+
+abbrev pub openings_in : List Saying → List Opening
+openings_in [] = []
+openings_in (Opens opening ∷ sayings) = opening ∷ openings_in sayings
+openings_in (Line bytes ∷ sayings) = openings_in sayings
+openings_in (Creates name ∷ sayings) = openings_in sayings
+openings_in (Writes bytes ∷ sayings) = openings_in sayings
+openings_in (Outs bytes ∷ sayings) = openings_in sayings
 
 written_openings : (bytes : Bytes) (o : Open) → opening_of (written_on bytes o) ≡ opening_of o
 written_openings bytes Closed = refl

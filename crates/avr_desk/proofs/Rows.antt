@@ -1,17 +1,22 @@
 -- Worked calls with an outcome that the contracts refuse.
-use Rattle.std.proofs.Common.{◌≡◌, ap, ℕ, zero, suc, List, [], ◌∷◌, ◌++◌, inl, inr, take, Some, Result, Ok, Err, arith}
+use Rattle.std.proofs.Common.{◌≡◌, ◌∙◌, ◌⊎◌, ap, refl, subst, ℕ, zero, suc, true, List, [], ◌∷◌, ◌++◌, inl, inr, take, Some, None, Result, Ok, Err, arith}
 use Rattle.avr_desk.specs.Failing.{Failing, FailsWhenDue}
 use Rattle.avr_desk.specs.Fault.{Counts}
 use Rattle.avr_desk.specs.Files.{FaultCounts}
+use Rattle.avr_desk.specs.Memory.{Stock}
 use Rattle.avr_desk.specs.Record.{Bytes, DeskView, Record, showing, nothing_kept, after_out}
 use Rattle.avr_desk.specs.Said.{TellsLine}
 use Rattle.avr_desk.specs.Shown.{AppendsFront}
 use Rattle.avr_desk.specs.Stream.{SendsTaken}
+use Rattle.avr_desk.specs.Truth.{AreTrue, IsTrueOpening}
 use Rattle.avr_desk.specs.declared.desk.DeskFault.{DeskFault}
 use Rattle.avr_desk.specs.declared.desk.DeskFault.TheVariants.{NotFound, Failed}
 use Rattle.avr_desk.specs.declared.files.Contents.{Contents}
 use Rattle.avr_desk.specs.declared.files.FileFault.{FileFault}
 use Rattle.avr_desk.specs.declared.files.FileFault.TheVariants.{Memory}
+use Rattle.avr_desk.specs.declared.record.Opening.{Opening}
+use Rattle.avr_desk.specs.declared.record.Opening.TheVariants.{Absent, Found}
+use Rattle.avr_desk.specs.declared.record.Writing.{Writing}
 use Rattle.avr_desk.specs.declared.stream.Stream.TheVariants.{File, Output, Messages}
 
 -- a desk of which nothing was asked, and that has failed so often, never at the messages
@@ -43,19 +48,16 @@ abbrev failed : Result (Unit {0}) DeskFault
 failed = Err Failed
 
 pub no_silent_failure : Counts File (silent 0) (silent 0) failed → ⊥
-no_silent_failure (rises, (inl more, same)) = omega (arith, more)
-no_silent_failure (rises, (inr last, same)) = omega (arith, last.0)
+no_silent_failure counts = let e : 0 ≡ 1 = counts.1.0 in omega (arith, e)
 
 -- one failure that is counted twice
 pub no_failure_twice : Counts File (silent 0) (silent 2) failed → ⊥
-no_failure_twice (rises, (inl more, same)) = omega (arith, more)
-no_failure_twice (rises, (inr last, same)) = omega (arith, last.0)
+no_failure_twice counts = let e : 2 ≡ 1 = counts.1.0 in omega (arith, e)
 
 -- a failure at the messages that only one count shows, one at a file and one at the output that both show, and what is
 -- unsaid behind a success
 pub no_message_unsaid_uncounted : Counts Messages (silent 0) (silent 1) failed → ⊥
-no_message_unsaid_uncounted (rises, (failures, inl more)) = omega (arith, more)
-no_message_unsaid_uncounted (rises, (failures, inr last)) = omega (arith, last.0)
+no_message_unsaid_uncounted counts = let e : 0 ≡ 1 = counts.1.1 in omega (arith, e)
 
 pub no_file_is_unsaid : Counts File (silent 0) (showing nothing_kept 1 1) failed → ⊥
 no_file_is_unsaid counts = let e : 1 ≡ 0 = counts.1.1 in omega (arith, e)
@@ -86,8 +88,7 @@ no_end_before_a_fault sent = front_or_end sent.0 (ap output_of sent.2)
 -- a line cut short where only a file failed
 pub no_line_cut_by_a_file : TellsLine whole [] (silent 0) (silent 1) → ⊥
 no_line_cut_by_a_file (inl told) = let e : [] ≡ whole = told.0 in absurd (cc)
-no_line_cut_by_a_file (inr (part, (failures, inl more))) = omega (arith, more)
-no_line_cut_by_a_file (inr (part, (failures, inr last))) = omega (arith, last.0)
+no_line_cut_by_a_file (inr (part, (failures, unsaid))) = let e : 0 ≡ 1 = unsaid in omega (arith, e)
 
 -- a message in the output
 abbrev byte : List ℕ
@@ -123,3 +124,64 @@ failed_unsaid = record { inner = 0; due = 0; planned = 1; unsaid = 1 }
 
 pub no_file_is_unsaid_by_plan : FailsWhenDue File (Unit {0}) failing failed_unsaid failed → ⊥
 no_file_is_unsaid_by_plan fails = let e : 1 ≡ 0 = fails.unsaid in omega (arith, e)
+
+-- ---- openings of a desk in memory that no file gives
+
+abbrev name : Bytes
+name = 97 ∷ []
+
+abbrev file : Writing
+file = record { name = name; bytes = byte }
+
+abbrev nothing_there : Stock
+nothing_there = record { input = []; files = [] }
+
+abbrev one_there : Stock
+one_there = record { input = []; files = file ∷ [] }
+
+abbrev found_as : Bytes → Opening
+found_as bytes = Found (record { name = name; bytes = bytes; ended = true })
+
+none_made : (more rest : List Writing) → more ++ rest ≡ [] → more ≡ []
+none_made [] rest none = refl
+none_made (x ∷ more) rest none = absurd (cc)
+
+-- bytes that the file doesn't have, and one that is there and isn't found
+pub no_other_contents : AreTrue one_there (found_as end ∷ []) [] [] → ⊥
+no_other_contents are =
+    let gave = subst (λ made. IsTrueOpening one_there made (found_as end)) (none_made are.more are.rest are.order) are.gave in
+    let e : Some byte ≡ Some (end ++ gave.unread) = gave.whole in
+    absurd (cc)
+
+pub no_file_overlooked : AreTrue one_there (Absent name ∷ []) [] [] → ⊥
+no_file_overlooked are =
+    let gave : Some byte ≡ None = subst (λ made. IsTrueOpening one_there made (Absent name)) (none_made are.more are.rest are.order) are.gave in
+    absurd (cc)
+
+-- a file whose end was seen too early
+pub no_end_before_the_end : IsTrueOpening one_there [] (Found (record { name = name; bytes = []; ended = true })) → ⊥
+no_end_before_the_end gave =
+    let none : gave.unread ≡ [] = gave.ends refl in
+    let e : Some byte ≡ Some gave.unread = gave.whole in
+    absurd (cc)
+
+-- one that was made later and found before, so that it was gone again
+same_made : (more rest : List Writing) → more ++ rest ≡ file ∷ [] → (more ≡ []) ⊎ ((more ≡ file ∷ []) × (rest ≡ []))
+same_made [] rest is = inl refl
+same_made (x ∷ []) rest is = inr (cc, cc)
+same_made (x ∷ y ∷ more) rest is = absurd (cc)
+
+found_then_gone : (more rest : List Writing) → (more ≡ []) ⊎ ((more ≡ file ∷ []) × (rest ≡ [])) → IsTrueOpening nothing_there more (found_as byte)
+    → AreTrue nothing_there (Absent name ∷ []) more rest → ⊥
+found_then_gone more rest (inl none) gave are =
+    let found = subst (λ made. IsTrueOpening nothing_there made (found_as byte)) none gave in
+    let e : None ≡ Some (byte ++ found.unread) = found.whole in
+    absurd (cc)
+found_then_gone more rest (inr all) gave are =
+    let last : are.more ≡ [] = none_made are.more are.rest (are.order ∙ all.1) in
+    let absent : Some byte ≡ None = subst (λ made. IsTrueOpening nothing_there (made ++ []) (Absent name)) all.0
+    (subst (λ later. IsTrueOpening nothing_there (more ++ later) (Absent name)) last are.gave) in
+    absurd (cc)
+
+pub no_file_gone_again : AreTrue nothing_there (found_as byte ∷ Absent name ∷ []) [] (file ∷ []) → ⊥
+no_file_gone_again are = found_then_gone are.more are.rest (same_made are.more are.rest are.order) are.gave are.behind

@@ -4,7 +4,8 @@ use Rattle.std.proofs.KnownBytes.{Appends-nil, Appends-trans}
 use Rattle.std.specs.Io.KnownBytes.{Appends}
 use Rattle.ghosts.specs.Stays.{Stays}
 use Rattle.avr_desk.specs.Record.{Bytes, Record, all_files, file_of, noted, written_on, with_open, with_replaced, after_open, after_read, after_write}
-use Rattle.avr_desk.specs.Shown.{Shown, IsTrueSince, TakesTruly, has_dash, is_dash, to_output_opened}
+use Rattle.avr_desk.specs.Named.{is_dash}
+use Rattle.avr_desk.specs.Shown.{Shown, IsTrueSince, TakesTruly, has_dash, to_output_opened}
 use Rattle.avr_desk.specs.declared.desk.DeskFault.{DeskFault}
 use Rattle.avr_desk.specs.declared.desk.DeskFault.TheVariants.{NotFound, Failed}
 use Rattle.avr_desk.specs.declared.record.Open.{Open}

@@ -1,5 +1,6 @@
 -- A desk one of whose calls fails by plan.
-use Rattle.std.specs.Prelude.{◌≡◌, ◌≢◌, ◌==◌, ◌+◌, ◌-◌, ◌^◌, ℕ, min, Result, Err, if◌then◌else◌}
+use Rattle.std.specs.Prelude.{◌≡◌, ◌≢◌, ◌==◌, ◌+◌, ◌-◌, ℕ, Result, Err, if◌then◌else◌}
+use Rattle.ghosts.specs.Failures.{counted}
 use Rattle.avr_desk.specs.Record.{DeskView}
 use Rattle.avr_desk.specs.declared.desk.DeskFault.{DeskFault}
 use Rattle.avr_desk.specs.declared.desk.DeskFault.TheVariants.{Failed}
@@ -18,13 +19,13 @@ pub record Failing (D : Type 0) : Type 0 where
 abbrev pub failing_view : {D : Type 0} → DeskView → Failing D → DeskView
 failing_view inner d = record {
   kept = inner.kept;
-  failures = min (inner.failures + d.planned) (2 ^ 64 - 1);
-  unsaid = min (inner.unsaid + d.unsaid) (2 ^ 64 - 1);
+  failures = counted (inner.failures + d.planned);
+  unsaid = counted (inner.unsaid + d.unsaid);
 }
 
 -- a count of failures by plan after the next call, which raises it where it is due
 abbrev pub count_after : {D : Type 0} → Failing D → ℕ → ℕ
-count_after d count = if d.due == 1 then min (count + 1) (2 ^ 64 - 1) else count
+count_after d count = if d.due == 1 then counted (count + 1) else count
 
 -- the writes to the messages that failed by plan, after a call for this stream
 abbrev pub unsaid_after : {D : Type 0} → Stream → Failing D → ℕ

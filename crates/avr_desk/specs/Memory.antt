@@ -1,8 +1,7 @@
 -- A desk in memory: what contracts see of it, and the bytes that a name stands for.
-use Rattle.std.specs.Prelude.{ℕ, List, ◌++◌, drop, length, codes, Option, Some, None, if◌then◌else◌}
-use Rattle.std.specs.Str.{bytes_eq}
+use Rattle.std.specs.Prelude.{ℕ, List, ◌++◌, drop, length, Option, Some, None, if◌then◌else◌}
 use Rattle.avr_desk.specs.Record.{DeskView, Record, Bytes, all_files, showing}
-use Rattle.avr_desk.specs.Named.{newest, bytes_given}
+use Rattle.avr_desk.specs.Named.{bytes_given, is_dash, newest}
 use Rattle.avr_desk.specs.declared.record.Writing.{Writing}
 
 -- what passed, the failures and how many were at the messages, the standard input, the files that were put there, and
@@ -19,13 +18,26 @@ pub record Memory : Type 0 where
 abbrev pub memory_view : Memory → DeskView
 memory_view m = showing m.kept m.failures m.unsaid
 
--- the file of this name: the one that was created last, else the one that was put there last
-abbrev pub file_named : Bytes → Memory → Option Bytes
-file_named name m = newest name None (m.stored ++ all_files m.kept)
+-- what was there to begin with: the standard input, and files
+pub record Stock : Type 0 where
+  pub input : Bytes
+  pub files : List Writing
 
--- what a name stands for when it is opened
+abbrev pub stock_of : Memory → Stock
+stock_of m = record { input = m.input; files = m.stored }
+
+-- the file of this name, where these have been made since: the one that was made last, else the one that was put there
+-- last
+abbrev pub file_named : Bytes → Stock → List Writing → Option Bytes
+file_named name stock made = newest name None (stock.files ++ made)
+
+-- what a name stands for then
+abbrev pub stood_for : Stock → List Writing → Bytes → Option Bytes
+stood_for stock made name = if is_dash name then Some stock.input else file_named name stock made
+
+-- what it stands for when it is opened
 abbrev pub contents : Bytes → Memory → Option Bytes
-contents name m = if bytes_eq name (codes "-") then Some m.input else file_named name m
+contents name m = stood_for (stock_of m) (all_files m.kept) name
 
 -- what the open file has not given yet
 abbrev pub unread_bytes : Memory → Bytes

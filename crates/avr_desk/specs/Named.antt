@@ -1,10 +1,14 @@
 -- Files by their names, and the place where the open one stands.
-use Rattle.std.specs.Prelude.{Bool, false, List, [], ◌∷◌, Option, Some, None, if◌then◌else◌}
+use Rattle.std.specs.Prelude.{Bool, false, List, [], ◌∷◌, codes, Option, Some, None, if◌then◌else◌}
 use Rattle.std.specs.Str.{bytes_eq}
 use Rattle.avr_desk.specs.Record.{Bytes, Record}
 use Rattle.avr_desk.specs.declared.record.Open.{Open}
 use Rattle.avr_desk.specs.declared.record.Open.TheVariants.{ToRead}
 use Rattle.avr_desk.specs.declared.record.Writing.{Writing}
+
+-- the name of the standard streams
+abbrev pub is_dash : Bytes → Bool
+is_dash name = bytes_eq name (codes "-")
 
 -- the bytes of a file that has this name, else `older`
 abbrev pub or_older : Bytes → Option Bytes → Writing → Option Bytes

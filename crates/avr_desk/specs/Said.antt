@@ -34,15 +34,6 @@ abbrev pub after_all : List Saying → Record → Record
 after_all [] r = r
 after_all (saying ∷ sayings) r = after_all sayings (after saying r)
 
--- the openings among them
-abbrev pub openings_in : List Saying → List Opening
-openings_in [] = []
-openings_in (Opens opening ∷ sayings) = opening ∷ openings_in sayings
-openings_in (Line bytes ∷ sayings) = openings_in sayings
-openings_in (Creates name ∷ sayings) = openings_in sayings
-openings_in (Writes bytes ∷ sayings) = openings_in sayings
-openings_in (Outs bytes ∷ sayings) = openings_in sayings
-
 -- these bytes are a front of those
 abbrev pub IsPrefixOf : Bytes → Bytes → Type 0
 IsPrefixOf front bytes = (back : Bytes) × (front ++ back ≡ bytes)

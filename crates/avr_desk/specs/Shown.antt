@@ -1,7 +1,8 @@
 -- What the desk of a program shows: its two writers, and what they take.
-use Rattle.std.specs.Prelude.{◌≡◌, ◌++◌, ◌||◌, ℕ, Bool, false, ◌≤◌, codes, length, List, [], ◌∷◌, Option, Result, Ok, Err, take}
+use Rattle.std.specs.Prelude.{◌≡◌, ◌++◌, ℕ, Bool, false, ◌≤◌, length, List, Option, Result, Ok, Err, take}
 use Rattle.std.specs.Io.KnownBytes.{Appends}
-use Rattle.std.specs.Str.{bytes_eq}
+use Rattle.std.specs.List.{list_any}
+use Rattle.avr_desk.specs.Named.{is_dash}
 use Rattle.avr_desk.specs.Record.{Bytes, Record, DeskView, all_files, showing}
 use Rattle.avr_desk.specs.Stream.{after_sent}
 use Rattle.avr_desk.specs.declared.record.Writing.{Writing}
@@ -44,10 +45,6 @@ TakesTruly stream bytes old new before now (Ok n) = RecordsTaken stream bytes ol
 TakesTruly stream bytes old new before now (Err fault) =
     (n : ℕ) × (n ≤ length bytes) × RecordsTaken stream bytes old new before now n
 
--- the name of the standard streams
-abbrev pub is_dash : Bytes → Bool
-is_dash name = bytes_eq name (codes "-")
-
 -- where what is written goes behind an opening, and behind a creation: a call that failed changes nothing
 abbrev pub to_output_opened : Result (Unit {0}) DeskFault → Bool → Bool
 to_output_opened (Err Failed) before = before
@@ -64,11 +61,11 @@ to_output_created name (Err fault) before = before
 
 -- one of these files is the output
 abbrev pub has_dash : List Writing → Bool
-has_dash [] = false
-has_dash (file ∷ files) = is_dash file.name || has_dash files
+has_dash = list_any (λ file. is_dash file.name)
 
 -- What a desk keeps of its writers since it was `old` is true: their bytes, where they are known, have grown by what
--- was sent to them. For the output that is so as long as no file is the output too.
+-- was sent to them. For the output that is so as long as no file is the output too, then and since; one that was stays
+-- among the files.
 pub record IsTrueSince {O E : Type 0} (output_of : O → Option Bytes) (messages_of : E → Option Bytes)
     (old new : Shown O E) : Type 0 where
   pub said : Bytes

@@ -1,8 +1,6 @@
 -- What a desk in memory began with, and what its record says of that.
-use Rattle.std.specs.Prelude.{◌≡◌, Bool, true, List, [], ◌∷◌, ◌++◌, codes, Option, Some, None, if◌then◌else◌}
-use Rattle.std.specs.Str.{bytes_eq}
-use Rattle.avr_desk.specs.Memory.{Memory}
-use Rattle.avr_desk.specs.Named.{newest}
+use Rattle.std.specs.Prelude.{◌≡◌, Bool, true, List, [], ◌∷◌, ◌++◌, Option, Some, None}
+use Rattle.avr_desk.specs.Memory.{Memory, Stock, stock_of, stood_for}
 use Rattle.avr_desk.specs.Record.{Bytes}
 use Rattle.avr_desk.specs.declared.record.Open.{Open}
 use Rattle.avr_desk.specs.declared.record.Open.TheVariants.{Closed, ToRead, ToWrite}
@@ -10,51 +8,40 @@ use Rattle.avr_desk.specs.declared.record.Opening.{Opening}
 use Rattle.avr_desk.specs.declared.record.Opening.TheVariants.{Absent, Found}
 use Rattle.avr_desk.specs.declared.record.Writing.{Writing}
 
--- the standard input, and the files that were put there
-pub record Stock : Type 0 where
-  pub input : Bytes
-  pub files : List Writing
+-- these were read of what a name stood for: a front of its bytes, all of them where their end was seen
+pub record IsRead (stood : Option Bytes) (bytes : Bytes) (ended : Bool) : Type 0 where
+  pub unread : Bytes
+  pub whole : stood ≡ Some (bytes ++ unread)
+  pub ends : ended ≡ true → unread ≡ []
 
--- what a name stood for when these files had been made: `-` is the standard input
-abbrev pub stood_for : Stock → List Writing → Bytes → Option Bytes
-stood_for stock made name = if bytes_eq name (codes "-") then Some stock.input else newest name None (stock.files ++ made)
+-- an opening that was true when these files had been made: there was nothing of that name, or that was read of it
+abbrev pub IsTrueOpening : Stock → List Writing → Opening → Type 0
+IsTrueOpening stock made (Absent name) = stood_for stock made name ≡ None
+IsTrueOpening stock made (Found reading) = IsRead (stood_for stock made reading.name) reading.bytes reading.ended
 
--- a front of the bytes that a name stood for, all of them where their end was seen
-pub record IsFront (stood : Option Bytes) (bytes : Bytes) (ended : Bool) : Type 0 where
-  pub behind : Bytes
-  pub whole : stood ≡ Some (bytes ++ behind)
-  pub ends : ended ≡ true → behind ≡ []
+-- It was true when some of the files that were still to come had been made too, and so were those behind it later on.
+pub record TrueThen (stock : Stock) (made later : List Writing) (opening : Opening)
+    (Behind : List Writing → List Writing → Type 0) : Type 0 where
+  pub more : List Writing
+  pub rest : List Writing
+  pub order : more ++ rest ≡ later
+  pub gave : IsTrueOpening stock (made ++ more) opening
+  pub behind : Behind (made ++ more) rest
 
-abbrev pub name_of : Opening → Bytes
-name_of (Absent name) = name
-name_of (Found reading) = reading.name
+-- Each opening was true when it was made: one after the other, while these files were made one after the other.
+abbrev pub AreTrue : Stock → List Opening → List Writing → List Writing → Type 0
+AreTrue stock [] made later = Unit {0}
+AreTrue stock (opening ∷ openings) made later = TrueThen stock made later opening (AreTrue stock openings)
 
--- an opening of what a name stood for: it was absent where that was nothing
-abbrev pub IsOpeningOf : Option Bytes → Opening → Type 0
-IsOpeningOf stood (Absent name) = stood ≡ None
-IsOpeningOf stood (Found reading) = IsFront stood reading.bytes reading.ended
-
--- it was opened when the first of these files had been made, and the others had not
-pub record IsTrue (stock : Stock) (files : List Writing) (opening : Opening) : Type 0 where
-  pub made : List Writing
-  pub later : List Writing
-  pub order : made ++ later ≡ files
-  pub gave : IsOpeningOf (stood_for stock made (name_of opening)) opening
-
-abbrev pub AreTrue : Stock → List Writing → List Opening → Type 0
-AreTrue stock files [] = Unit {0}
-AreTrue stock files (opening ∷ openings) = IsTrue stock files opening × AreTrue stock files openings
-
--- a file that is read gave a front of what its name stands for, which the desk holds
+-- of a file that is read the desk holds what its name stands for
 abbrev pub IsOpenTrue : Stock → Memory → Open → Type 0
 IsOpenTrue stock m (ToRead reading) =
-    (stood_for stock m.kept.files reading.name ≡ Some m.opened) × IsFront (Some m.opened) reading.bytes reading.ended
+    (stood_for stock m.kept.files reading.name ≡ Some m.opened) × IsRead (Some m.opened) reading.bytes reading.ended
 IsOpenTrue stock m Closed = Unit {0}
 IsOpenTrue stock m (ToWrite writing) = Unit {0}
 
 -- the desk began with this, and all that it keeps is true of it
 pub record HoldsTrue (stock : Stock) (m : Memory) : Type 0 where
-  pub input : m.input ≡ stock.input
-  pub stored : m.stored ≡ stock.files
-  pub openings : AreTrue stock m.kept.files m.kept.openings
+  pub began : stock_of m ≡ stock
+  pub openings : AreTrue stock m.kept.openings [] m.kept.files
   pub current : IsOpenTrue stock m m.kept.current

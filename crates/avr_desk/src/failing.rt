@@ -130,7 +130,8 @@ impl<D: Desk> Desk for FailingDesk<D> {
     }
 
     fn replace(&mut self, name: &str, bytes: &[u8]) -> Result<(), DeskFault>
-        ensures kept { Passes (after_replace name.now bytes.now result) (D.view self.old.inner) (D.view self.new.inner) }
+        ensures kept { Passes (after_replace name.now bytes.now result)
+            (D.view self.old.inner) (D.view self.new.inner) }
         ensures counts { Counts File (failing_view (D.view self.old.inner) self.old)
             (failing_view (D.view self.new.inner) self.new) result }
         ensures fault { IfErr result (λ e. e ≡ DeskFault.Failed) }

@@ -1,10 +1,10 @@
 //! Laws of what desks keep, over their definitions alone.
-ghost use Rattle.std.specs.Prelude.{◌≡◌};
+ghost use Rattle.std.specs.Prelude.{◌≡◌, []};
 ghost use Rattle.ghosts.specs.Stays.{Stays};
-ghost use Rattle.avr_desk.specs.Memory.{Memory};
+ghost use Rattle.avr_desk.specs.Memory.{Memory, Stock, stock_of};
 ghost use Rattle.avr_desk.specs.Record.{all_files, all_openings, nothing_kept};
 ghost use Rattle.avr_desk.specs.Shown.{IsTrueSince};
-ghost use Rattle.avr_desk.specs.Truth.{AreTrue, HoldsTrue, Stock};
+ghost use Rattle.avr_desk.specs.Truth.{AreTrue, HoldsTrue};
 
 use crate::mem_desk::MemDesk;
 use crate::system::SystemDesk;
@@ -13,20 +13,21 @@ use std::fs;
 use std::io::Write;
 use std::rt::Files;
 
-/// Whatever was done with a desk in memory, each opening that it shows gave what its name stood for then: a front of the
-/// bytes of its newest file, all of them where the end was seen, and nothing where there was no file.
+/// Whatever was done with a desk in memory, each opening that it shows gave what its name stood for then, one opening
+/// after the other: a front of the bytes of its newest file, all of them where the end was seen, and nothing where
+/// there was no file.
 ///
 /// What it asks for is what each call over a [`crate::Desk`] promises, and so all that is made of such calls.
 pub fn what_a_desk_in_memory_gives_is_true(before: &MemDesk, after: &MemDesk)
     requires { Stays HoldsTrue before.now after.now }
     ensures begins { (fresh : Memory) → fresh.kept ≡ nothing_kept
-        → HoldsTrue (record { input = fresh.input; files = fresh.stored }) fresh }
+        → HoldsTrue (stock_of fresh) fresh }
     ensures gives { (stock : Stock) → HoldsTrue stock before.now
-        → AreTrue stock (all_files after.now.kept) (all_openings after.now.kept) }
+        → AreTrue stock (all_openings after.now.kept) [] (all_files after.now.kept) }
 {}
 
-/// Whatever was done with a desk over writers, its record of them is true: their bytes, where they are known, have grown
-/// by what was sent to the messages, and to the output as long as no file is the output too.
+/// Whatever was done with a desk over writers, its record of them is true: their bytes, where they are known, have
+/// grown by what was sent to the messages, and to the output as long as no file is the output too.
 pub fn what_a_desk_keeps_of_its_writers_is_true<
     'a,
     R: Files<File = fs::File> + Input + Alloc<A = Global>,

@@ -74,7 +74,8 @@ impl MemDesk {
     ghost use Rattle.avr_desk.specs.Record.{nothing_kept};
     ghost use Rattle.ghosts.specs.Failures.{HasRisen};
     ghost use Rattle.avr_desk.specs.Fault.{Follows, HasFailedToSay};
-    ghost use Rattle.avr_desk.specs.Memory.{contents, file_named, memory_view};
+    ghost use Rattle.avr_desk.specs.Memory.{contents, file_named, memory_view, stock_of};
+    ghost use Rattle.avr_desk.specs.Record.{all_files};
 
     /// A desk with no files, whose standard input is empty.
     ///
@@ -134,7 +135,8 @@ impl MemDesk {
     /// there last.
     #[tactic(auto, using(crate::proofs::NamedLemmas::newest_append))]
     pub fn file(&self, name: &str) -> Option<&[u8]>
-        ensures { option_copied result ≡ file_named name.now self.now }
+        ensures { option_copied result
+            ≡ file_named name.now (stock_of self.now) (all_files self.now.kept) }
     {
         let name = name.as_bytes();
         self.kept
@@ -199,9 +201,9 @@ impl MemDesk {
 impl Desk for MemDesk {
     ghost use Rattle.avr_desk.specs.Record.{after_open, after_create, after_hold, after_read, after_replace, released, with_none_held, after_write, after_out, after_err, bytes_taken, is_to_read, is_to_write};
     ghost use Rattle.avr_desk.specs.Fault.{Counts, WriteCounts};
-    ghost use Rattle.avr_desk.specs.Memory.{contents, memory_view, unread_bytes};
+    ghost use Rattle.avr_desk.specs.Memory.{contents, memory_view, Stock, unread_bytes};
     ghost use Rattle.avr_desk.specs.Named.{holds};
-    ghost use Rattle.avr_desk.specs.Truth.{HoldsTrue, Stock};
+    ghost use Rattle.avr_desk.specs.Truth.{HoldsTrue};
     ghost use Rattle.ghosts.specs.Stays.{Stays};
     ghost use Rattle.avr_desk.specs.declared.stream.Stream.TheVariants.{File, Output, Messages};
 

@@ -60,8 +60,8 @@ fn save_if_sent<D: Desk>(alloc: Global, wire: &Wired, file: &str, desk: &mut D, 
 }
 
 /// Plans what the settings ask for and runs it over the emulated programmer, whose part is loaded from the file of this
-/// name (a fresh one, where there is no such file) and saved to it again if a frame was sent. From then to then the file
-/// is held: another run that wants it is refused.
+/// name (a fresh one, where there is no such file) and saved to it again if a frame was sent. From then to then the
+/// file is held: another run that wants it is refused.
 ///
 /// The status is 0 where no fault came, else 1. Every fault has its line; what is refused is told before any frame is
 /// sent.

@@ -9,8 +9,7 @@ use Rattle.avr_net.specs.OverNet.{PlaysOverNet, connection}
 
 once : (n : ℕ) → (n ≡ 0) ⊎ HasRisen 0 n → n ≤ 1
 once n (inl none) = omega (arith, none)
-once n (inr (inl one)) = omega (arith, one)
-once n (inr (inr end)) = omega (arith, end.0)
+once n (inr rises) = omega (arith, rises)
 
 pub fails_once : (settings : Settings) (old new : DeskView) (status : ℕ) → (plays : PlaysOverNet settings old new status) → plays.link_failures ≤ 1
 fails_once settings old new status plays =

@@ -101,9 +101,7 @@ module _ (r : Record) (k l m n status : ℕ) where
   half_told : (count unsaid : ℕ) → l ≡ k + 1 → l < 2 ^ 64 - 1 → k ≤ count → count ≤ l → HasRisen k count → TellsLine (not_opened_line file) half (showing r count unsaid) (showing r l n)
       → ⊥
   half_told count unsaid one few since until failed (inl whole) = let e : ◌≡◌ {A = ℕ} 0 101 = ap (λ (bytes : Bytes). get_or bytes 30 0) whole.0 in omega (arith, e)
-  half_told count unsaid one few since until (inl rose) (inr (part, (inl again, quiet))) = omega (arith, one, rose, again)
-  half_told count unsaid one few since until (inl rose) (inr (part, (inr end, quiet))) = omega (arith, few, end.1)
-  half_told count unsaid one few since until (inr end) (inr part) = omega (arith, few, end.1, until)
+  half_told count unsaid one few since until rose (inr (part, (again, quiet))) = omega (arith, one, few, until, rose, again)
 
   half_of_it : l ≡ k + 1 → l < 2 ^ 64 - 1 → Told half → ⊥
   half_of_it one few (inl failure) =

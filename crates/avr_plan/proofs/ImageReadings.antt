@@ -134,7 +134,7 @@ detected-front : (front more : Bytes) → length front ≡ 1024 → kind_of_file
 detected-front front more len =
     rw (take-append-le 4 front more (omega (arith, len)), take-append-le 1024 front more (omega (arith, len))) refl
 
-kind-front : (format : Format) (front more : Bytes) → length front ≡ 1024 → kind_of format (front ++ more) ≡ kind_of format front
+pub kind-front : (format : Format) (front more : Bytes) → length front ≡ 1024 → kind_of format (front ++ more) ≡ kind_of format front
 kind-front letter.Ihex front more len = refl
 kind-front letter.Srec front more len = refl
 kind-front letter.Raw front more len = refl

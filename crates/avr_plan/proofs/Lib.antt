@@ -8,4 +8,5 @@ pub mod ValueStages
 pub mod TaskStages
 pub mod Plans
 pub mod OnlyReading
+pub mod FilesRead
 pub mod BreakRows

@@ -6,5 +6,6 @@ pub mod ImageReading
 pub mod Plan
 pub mod Planning
 pub mod OnlyReading
+pub mod FilesRead
 -- inside: how things are kept, and what inner functions promise one another
 pub mod Intake

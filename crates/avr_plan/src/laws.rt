@@ -5,10 +5,12 @@ ghost use Rattle.ghosts.specs.Failures.{HasStood};
 ghost use Rattle.avr_desk.specs.Record.{Record, showing, Bytes};
 ghost use Rattle.avr_desk.specs.declared.record.Opening.{Opening};
 ghost use Rattle.avr_desk.specs.Lines.{memory_line};
+ghost use Rattle.avr_desk.specs.Memory.{Stock};
+ghost use Rattle.avr_plan.specs.FilesRead.{AreSeen, lines_in, planned_of};
 ghost use Rattle.avr_plan.specs.OnlyReading.{OnlyReads};
 ghost use Rattle.avr_plan.specs.Planning.{planned};
 ghost use Rattle.avr_desk.specs.Playing.{Goes, Went};
-ghost use Rattle.avr_desk.specs.Stage.{Refused};
+ghost use Rattle.avr_desk.specs.Stage.{Refused, Unread};
 
 /// Whatever files give, planning opens files to be read and prints lines: nothing is created, written or put out. (That
 /// it sends nothing is so by its type: a stage knows of no line.)
@@ -23,4 +25,13 @@ pub fn a_sound_plan_is_refused_aloud()
         → ((front : Bytes) → after.messages ≡ front ++ memory_line → ⊥)
         → Goes (planned s) (showing before k m) (showing after l n) (Err status)
         → Went (planned s) (showing before k m) (showing after l n) Refused }
+{}
+
+/// Planning is a function of the files: where each opening was true of them, and none was left before its end or its
+/// limit, what came of it, and each line that was told, are those of planning over the files whole.
+pub fn a_plan_is_of_whole_files()
+    ensures { (s : Settings) (stock : Stock) (openings : List Opening) → AreSeen stock (planned s openings).says
+        → ((planned s openings).answer ≡ Unread → ⊥)
+        → ((planned_of s stock).answer ≡ (planned s openings).answer)
+        × (lines_in (planned_of s stock).says ≡ lines_in (planned s openings).says) }
 {}

@@ -45,7 +45,8 @@ pub record WithPart (settings : Settings) (old : DeskView) (Then : Part → Desk
 
 -- The part of the settings was found, and this file judged as that of a chip of it; or the one or the other is refused.
 abbrev pub JudgesPart : Settings → Bytes → DeskView → DeskView → Result Part ℕ → Type 0
-JudgesPart settings file old new (Ok judged) = WithPart settings old (λ part desk. JudgesChip part file desk new (Ok judged))
+JudgesPart settings file old new (Ok judged) =
+    WithPart settings old (λ part desk. JudgesChip part file desk new (Ok judged))
 JudgesPart settings file old new (Err status) =
     Goes (settings_part settings) old new (Err status)
     ⊎ WithPart settings old (λ part desk. JudgesChip part file desk new (Err status))

@@ -11,6 +11,8 @@ use Rattle.avr_session.specs.Actions.{actions, takes_memory}
 use Rattle.avr_session.specs.Runs.{Devices, devices, start, untold, BrokeOff, RunsTo}
 use Rattle.avr_session.specs.Session.{session}
 use Rattle.avr_session.specs.Taking.{AtTaking}
+use Rattle.ghosts.specs.Stays.{Stays}
+use Rattle.stk_host.specs.Talk.{LinkView}
 
 -- The session of a plan was run: it was played to its status, or it broke off, and want of memory stopped it only where
 -- an action takes memory.
@@ -24,10 +26,10 @@ StopsSession plan old new =
     BrokeOff (session plan) start old new (untold (takes_memory plan))
     (AtTaking plan.part plan.switches (actions plan))
 
--- the plan was made, of what the files gave, and its session was run from there
-pub record RunsPlan (settings : Settings) (old new : Devices) (status : ℕ) : Type 0 where
+-- the plan was made, of what the files gave, up to where the desk stood so, and its session was run from there
+pub record RunsPlan (settings : Settings) (old : Devices) (between : DeskView) (new : Devices)
+    (status : ℕ) : Type 0 where
   pub plan : Plan
-  pub between : DeskView
   pub made : Went (planned settings) old.desk between (Made plan)
   pub runs : RunsSession plan (devices old.link between) new status
 
@@ -40,5 +42,13 @@ pub record RunsNone (settings : Settings) (old new : Devices) (status : ℕ) : T
   pub same : new.link ≡ old.link
   pub status_is : status ≡ 1
 
-abbrev pub RunsSettings : Settings → Devices → Devices → ℕ → Type 0
-RunsSettings settings old new status = RunsPlan settings old new status ⊎ RunsNone settings old new status
+abbrev pub RunsSettings : Settings → Devices → DeskView → Devices → ℕ → Type 0
+RunsSettings settings old between new status =
+    RunsPlan settings old between new status ⊎ RunsNone settings old new status
+
+-- The same of a link and a desk: the desk stood so in between, and stays what it came of.
+pub record RunsBetween {D Start : Type 0} (view : D → DeskView) (ComesOf : Start → D → Type 0) (settings : Settings)
+    (link_old link_new : LinkView) (old new : D) (status : ℕ) : Type 0 where
+  pub between : D
+  pub stays : Stays ComesOf old between
+  pub runs : RunsSettings settings (devices link_old (view old)) (view between) (devices link_new (view new)) status

@@ -26,7 +26,8 @@ fn stopped_if_failed(printed: Result<(), DeskFault>) -> Result<(), Stopped>
 
 /// Prints a line of information, unless the run is quiet.
 pub(crate) fn inform<D: Desk>(desk: &mut D, quiet: u8, pieces: &[Piece<'_>]) -> Result<(), Stopped>
-    ensures reports { Reports PrintStops (D.view desk.old) (D.view desk.new) (informs quiet (map text_of pieces.now)) result }
+    ensures reports { Reports PrintStops (D.view desk.old) (D.view desk.new)
+        (informs quiet (map text_of pieces.now)) result }
     ensures stays { Stays D.comes_of desk.old desk.new }
 {
     if quiet > 0 {
@@ -37,7 +38,8 @@ pub(crate) fn inform<D: Desk>(desk: &mut D, quiet: u8, pieces: &[Piece<'_>]) -> 
 
 /// Prints a warning, unless the run is quiet twice.
 pub(crate) fn warn<D: Desk>(desk: &mut D, quiet: u8, pieces: &[Piece<'_>]) -> Result<(), Stopped>
-    ensures reports { Reports PrintStops (D.view desk.old) (D.view desk.new) (warns quiet (map text_of pieces.now)) result }
+    ensures reports { Reports PrintStops (D.view desk.old) (D.view desk.new)
+        (warns quiet (map text_of pieces.now)) result }
     ensures stays { Stays D.comes_of desk.old desk.new }
 {
     if quiet > 1 {
@@ -62,7 +64,8 @@ pub(crate) fn report_bytes<D: Desk>(
     count: u32,
     done: &str,
 ) -> Result<(), Stopped>
-    ensures reports { Reports PrintStops (D.view desk.old) (D.view desk.new) (bytes_say quiet mem count done.now) result }
+    ensures reports { Reports PrintStops (D.view desk.old) (D.view desk.new)
+        (bytes_say quiet mem count done.now) result }
     ensures stays { Stays D.comes_of desk.old desk.new }
 {
     let pieces = [
@@ -81,7 +84,8 @@ pub(crate) fn tell_fault<D: Desk>(
     part: &Part,
     fault: HostFault,
 ) -> Result<(), Stopped>
-    ensures reports { Reports PrintStops (D.view desk.old) (D.view desk.new) (Line (fault_line part.now fault) ∷ []) result }
+    ensures reports { Reports PrintStops (D.view desk.old) (D.view desk.new)
+        (Line (fault_line part.now fault) ∷ []) result }
     ensures stays { Stays D.comes_of desk.old desk.new }
 {
     tell(desk, &fault_message(part, fault))
@@ -103,7 +107,8 @@ fn warn_of_signature<D: Desk>(
     part: &Part,
     found: [u8; 3],
 ) -> Result<(), Stopped>
-    ensures reports { Reports PrintStops (D.view desk.old) (D.view desk.new) (warns_of_signature quiet part.now found) result }
+    ensures reports { Reports PrintStops (D.view desk.old) (D.view desk.new)
+        (warns_of_signature quiet part.now found) result }
     ensures stays { Stays D.comes_of desk.old desk.new }
 {
     if found == part.signature() {
@@ -121,7 +126,8 @@ fn report_taken<D: Desk>(
     part: &Part,
     found: [u8; 3],
 ) -> Result<(), Stopped>
-    ensures reports { Reports PrintStops (D.view desk.old) (D.view desk.new) (opening_says quiet part.now (Ok found)) result }
+    ensures reports { Reports PrintStops (D.view desk.old) (D.view desk.new)
+        (opening_says quiet part.now (Ok found)) result }
     ensures stays { Stays D.comes_of desk.old desk.new }
 {
     report_found(desk, quiet, found)?;
@@ -150,7 +156,8 @@ pub(crate) fn report_opening<D: Desk>(
     part: &Part,
     opened: &Result<[u8; 3], HostFault>,
 ) -> Result<(), Stopped>
-    ensures reports { Reports PrintStops (D.view desk.old) (D.view desk.new) (opening_says quiet part.now opened.now) result }
+    ensures reports { Reports PrintStops (D.view desk.old) (D.view desk.new)
+        (opening_says quiet part.now opened.now) result }
     ensures stays { Stays D.comes_of desk.old desk.new }
 {
     match opened {

@@ -8,7 +8,7 @@ ghost use Rattle.avr_session.specs.Phases.{is_told, Performs, PerformsBehind, Do
 ghost use Rattle.avr_session.specs.Runs.{devices, untold};
 ghost use Rattle.avr_session.specs.Session.{ending, playing};
 ghost use Rattle.ghosts.specs.Stays.{Stays};
-ghost use Rattle.avr_session.specs.Run.{RunsSession, RunsSettings};
+ghost use Rattle.avr_session.specs.Run.{RunsBetween, RunsSession};
 ghost use Rattle.avr_session.specs.Taking.{AtOnce, AtTaking};
 
 use crate::phases::{erase_if_due, open_session, perform_all};
@@ -146,8 +146,8 @@ pub fn drive<D: Desk, L: Link>(alloc: Global, plan: &Plan, desk: &mut D, link: &
 /// Plans what the settings ask for, runs it over a link, reports it at the desk, and answers the status: 0 where no
 /// fault came, else 1. What is refused is told before any frame is sent or file created.
 pub fn run<D: Desk, L: Link>(alloc: Global, settings: &Settings, desk: &mut D, link: &mut L) -> u8
-    ensures runs { RunsSettings settings.now (devices (L.view link.old) (D.view desk.old))
-        (devices (L.view link.new) (D.view desk.new)) result }
+    ensures runs { RunsBetween D.view D.comes_of settings.now (L.view link.old) (L.view link.new)
+        desk.old desk.new result }
     ensures follows { Follows (D.view desk.old) (D.view desk.new) }
     ensures comes { Stays L.comes_of link.old link.new }
     ensures stays { Stays D.comes_of desk.old desk.new }

@@ -22,11 +22,11 @@ use Rattle.avr_session.specs.Session.{session}
 use Rattle.avr_session.specs.Stopping.{IsPlayed}
 use Rattle.avr_tool.specs.Headline.{run, after_planning, IsInTurn, IsRun, IsFrontOfRun, StoppedPlaying, IsStopped}
 
-said_sayings : (says : List Saying) (events : List (Event Saying)) → sayings (map Said says ++ events) ≡ says ++ sayings events
+pub said_sayings : (says : List Saying) (events : List (Event Saying)) → sayings (map Said says ++ events) ≡ says ++ sayings events
 said_sayings [] events = refl
 said_sayings (saying ∷ says) events = ap (λ rest. saying ∷ rest) (said_sayings says events)
 
-said_bytes : (says : List Saying) (events : List (Event Saying)) → bytes_sent (map Said says ++ events) ≡ bytes_sent events
+pub said_bytes : (says : List Saying) (events : List (Event Saying)) → bytes_sent (map Said says ++ events) ≡ bytes_sent events
 said_bytes [] events = refl
 said_bytes (saying ∷ says) events = said_bytes says events
 
@@ -82,12 +82,13 @@ refused_whole settings x y same went = record {
   sound = (ap (λ (l : LinkView). l.failures) same, went.sound);
 }
 
-pub is_run : (settings : Settings) (x y : Devices) (status : ℕ) → RunsSettings settings x y status → IsRun settings x y status ⊎ IsStopped settings x y status
-is_run settings x y status (inl runs) = elim runs.runs [
-  | inl whole ↦ inl (ran_whole settings runs.plan x y runs.between status runs.made whole)
-  | inr broke ↦ inr (inl (record { plan = runs.plan; between = runs.between; made = runs.made; broke = broke.0; status_is = broke.1 }))
+pub is_run : (settings : Settings) (x : Devices) (between : DeskView) (y : Devices) (status : ℕ) → RunsSettings settings x between y status
+    → IsRun settings x y status ⊎ IsStopped settings x y status
+is_run settings x between y status (inl runs) = elim runs.runs [
+  | inl whole ↦ inl (ran_whole settings runs.plan x y between status runs.made whole)
+  | inr broke ↦ inr (inl (record { plan = runs.plan; between = between; made = runs.made; broke = broke.0; status_is = broke.1 }))
 ]
-is_run settings x y status (inr none) = elim none.refused [
+is_run settings x between y status (inr none) = elim none.refused [
   | inl went ↦ inl (subst (IsRun settings x y) (sym none.status_is) (refused_whole settings x y none.same went))
   | inr broke ↦ inr (inr (record { broke = broke; bare = none.bare; same = none.same; status_is = none.status_is }))
 ]

@@ -1,4 +1,6 @@
 pub mod Joining
+pub mod InMemory
+pub mod OneOutcome
 pub mod OverWire
 pub mod Refusing
 pub mod Untaken

@@ -40,15 +40,15 @@ touched_in_silence plan w v d e status none other over = other (over.untouched n
 
 -- ---- the worked run
 
-answered_due : (openings : List Opening) → (run worked_settings openings worked_answers).outcome ≡ Some (0, 7, [])
+pub answered_due : (openings : List Opening) → (run worked_settings openings worked_answers).outcome ≡ Some (0, 7, [])
 unfolding session opening handshake operation closing play tries attempt exchange answer
 answered_due openings = refl
 
-sent_due : (openings : List Opening) → bytes_sent (run worked_settings openings worked_answers).events ≡ frames_due
+pub sent_due : (openings : List Opening) → bytes_sent (run worked_settings openings worked_answers).events ≡ frames_due
 unfolding session opening handshake operation closing play tries attempt exchange answer
 sent_due openings = refl
 
-said_due : (openings : List Opening) → sayings (run worked_settings openings worked_answers).events ≡ lines_due
+pub said_due : (openings : List Opening) → sayings (run worked_settings openings worked_answers).events ≡ lines_due
 unfolding session opening handshake operation closing play tries attempt exchange answer
 said_due openings = refl
 

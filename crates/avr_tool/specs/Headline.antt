@@ -4,14 +4,14 @@
 -- specs/AnyLine, and 6 its specs/Emulated.
 --
 -- What it does not say. Every desk and every link keeps a record, the real ones for proofs alone: what passed there is
--- what their calls answered, and what a reader gave and a writer took (stk_host's Links, avr_desk's Shown), and nothing
--- says what a file or a socket made of it. A talk and a desk's record are two, so no clause orders a line and a frame,
--- but as events of the run. That a run succeeds is said only of a line on which few frames go wrong. Whether memory was
--- refused nothing counts; but its line is told whole, unless a write to the messages failed, which is counted apart. Of
--- a line that makes a frame, which the programmer obeys or the host takes for an answer, nothing is said: noise can make
--- one, and a pause inside an answer, out of the bytes that it carries. That bytes are told as written says that their
--- commands were obeyed: what a locked chip made of them the memories tell. Nothing is said of time, nor of a chip that
--- loses its power in the middle of a write.
+-- what their calls answered, and what a reader gave and a writer took (stk_host's Links, avr_desk's Shown), and
+-- nothing says what a file or a socket made of it. A talk and a desk's record are two, so no clause orders a line and
+-- a frame, but as events of the run. That a run succeeds is said only of a line on which few frames go wrong. Whether
+-- memory was refused nothing counts; but its line is told whole, unless a write to the messages failed, which is
+-- counted apart. Of a line that makes a frame, which the programmer obeys or the host takes for an answer, nothing is
+-- said: noise can make one, and a pause inside an answer, out of the bytes that it carries. That bytes are told as
+-- written says that their commands were obeyed: what a locked chip made of them the memories tell. Nothing is said of
+-- time, nor of a chip that loses its power in the middle of a write.
 use Rattle.std.specs.Prelude.{ℕ, ◌*◌, ◌≡◌, ◌≤◌, ◌⊎◌, false, List, [], ◌∷◌, ◌++◌, map, length, Some, None}
 use Rattle.avr_cli.specs.declared.settings.Settings.{Settings}
 use Rattle.avr_desk.specs.Fault.{Follows}
@@ -196,3 +196,8 @@ pub record OverAnyLink (plan : Plan) (p q : Programmer) (turns : List Turn) (byt
   pub strokes : MakesStrokes plan p turns (length (frames bytes)) (memories_of p.chip) (memories_of q.chip)
   pub four : (weight : Weight) → weighed weight (map body_of (frames bytes))
       ≤ 4 * weighed weight (bodies_in (run_steps plan))
+
+-- ---- 8. From bytes to bytes: specs/InMemory
+--
+-- `Leaves`: over files, a standard input and a tape that are known, the status, the bytes sent, the messages, the output
+-- and the files made are a function of the settings and these; no device is in it.

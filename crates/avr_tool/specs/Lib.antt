@@ -14,6 +14,7 @@ pub use Rattle.stk_host.specs.Talk
 pub mod Ports
 pub mod ServedOn
 pub mod Headline
+pub mod InMemory
 pub mod Worked
 pub mod Asked
 pub mod Program

@@ -1,11 +1,13 @@
--- A worked run: `-p m328p` over a programmer that answers each frame at once.
-use Rattle.std.specs.Prelude.{ℕ, List, [], ◌∷◌, ◌++◌, None, false, codes}
+-- Worked runs: `-p m328p` over a programmer that answers each frame at once; and with a part file that isn't there.
+use Rattle.std.specs.Prelude.{ℕ, List, [], ◌∷◌, ◌++◌, Some, None, false, codes}
 use Rattle.avr_cli.specs.declared.settings.Settings.{Settings}
 use Rattle.avr_cli.specs.declared.settings.Port.TheVariants.{Stdio}
-use Rattle.avr_desk.specs.Lines.{spaced_digits}
+use Rattle.avr_desk.specs.Lines.{information, not_opened_line, spaced_digits}
+use Rattle.avr_desk.specs.Memory.{Stock}
 use Rattle.avr_desk.specs.Said.{Saying}
 use Rattle.avr_session.specs.Lines.{informs}
 use Rattle.stk_host.specs.Tape.{Tape, on_tape}
+use Rattle.avr_tool.specs.InMemory.{Outcome}
 
 abbrev pub worked_settings : Settings
 worked_settings = record {
@@ -51,3 +53,30 @@ abbrev pub lines_due : List Saying
 lines_due =
     informs 0 (codes "device signature = " ∷ spaced_digits (0x1E ∷ 0x95 ∷ 0x0F ∷ []) ∷ [])
     ++ informs 0 (codes "done" ∷ [])
+
+-- what the run leaves, whatever files are there
+abbrev pub worked_outcome : Outcome
+worked_outcome = record {
+  status = 0;
+  sent = frames_due;
+  messages = information (codes "device signature = " ∷ spaced_digits (0x1E ∷ 0x95 ∷ 0x0F ∷ []) ∷ [])
+      ++ information (codes "done" ∷ []);
+  output = [];
+  files = [];
+}
+
+-- the same words with a part file in front, and nothing there that it could be
+abbrev pub absent_settings : Settings
+absent_settings = record worked_settings { parts = Some (codes "parts.toml") }
+
+abbrev pub no_stock : Stock
+no_stock = record { input = []; files = [] }
+
+abbrev pub absent_outcome : Outcome
+absent_outcome = record {
+  status = 1;
+  sent = [];
+  messages = not_opened_line (codes "parts.toml");
+  output = [];
+  files = [];
+}

@@ -2,6 +2,7 @@
 
 ghost use Rattle.std.specs.Prelude.{◌≡◌, ◌++◌, replicate, ◌<◌, ◌*◌, ◌⊎◌, ℕ, Bool, length, true, false, List, [], All, Some, map, ◌∷◌, Ok};
 ghost use Rattle.avr_cli.specs.declared.settings.Settings.{Settings as AnySettings};
+ghost use Rattle.avr_desk.specs.Memory.{Stock};
 ghost use Rattle.avr_desk.specs.Record.{DeskView, Passes, Record, Bytes};
 ghost use Rattle.avr_emulated.specs.Again.{AgreesAnyway, AreKeeping};
 ghost use Rattle.avr_emulated.specs.AnyLine.{Stopped, OverAnyLine, Weight, weighed, bodies_in, memories, frames_over};
@@ -20,7 +21,8 @@ ghost use Rattle.avr_session.specs.Runs.{Devices, devices, start, Ran};
 ghost use Rattle.avr_session.specs.Session.{session};
 ghost use Rattle.avr_session.specs.Stopping.{IsSound, LacksMemory, keeping, talking};
 ghost use Rattle.avr_tool.specs.Headline.{IsRun, IsStopped, StoppedPlaying, IsFrontOfRun, OverAnyLink, wire_and_desk};
-ghost use Rattle.avr_tool.specs.Worked.{worked_settings, worked_answers, frames_due, lines_due};
+ghost use Rattle.avr_tool.specs.InMemory.{Leaves, Outcome};
+ghost use Rattle.avr_tool.specs.Worked.{absent_outcome, absent_settings, frames_due, lines_due, no_stock, worked_answers, worked_outcome, worked_settings};
 ghost use Rattle.stk_emu.specs.Along.{along, said_along};
 ghost use Rattle.stk_emu.specs.Device.{device, after_frames, answers};
 ghost use Rattle.avr_chip.specs.Saving.{Saves};
@@ -66,8 +68,8 @@ pub fn a_run_of_status_0_is_its_course()
 /// What runs as the settings say is the one function, or it stopped.
 #[tactic(auto, using(crate::proofs::Joining::is_run))]
 pub fn a_run_is_one_function()
-    ensures { (s : AnySettings) (x y : Devices) (status : ℕ)
-        → RunsSettings s x y status → IsRun s x y status ⊎ IsStopped s x y status }
+    ensures { (s : AnySettings) (x : Devices) (between : DeskView) (y : Devices) (status : ℕ)
+        → RunsSettings s x between y status → IsRun s x y status ⊎ IsStopped s x y status }
 {}
 
 /// What stopped as it was played did a front of the run; and a run comes to one status.
@@ -135,6 +137,15 @@ pub fn a_worked_run_has_one_outcome()
     ensures lines { (talk : Talk) (a b : ℕ) (d e : DeskView) (status : ℕ)
         → heard talk ≡ worked_answers → (Passes (after_all lines_due) d e → ⊥)
         → IsRun worked_settings (devices (talking [] a) d) (devices (talking talk b) e) status → ⊥ }
+{}
+
+/// From bytes to bytes: what a run leaves over some files and a tape is one outcome. Of `-p m328p`, to which all
+/// answers came, it is this one; and where the part file isn't there, that this is told and nothing sent.
+pub fn a_run_in_memory_has_one_outcome()
+    ensures one { (s : AnySettings) (stock : Stock) (tape : Tape) (a b : Outcome)
+        → Leaves s stock tape a → Leaves s stock tape b → a ≡ b }
+    ensures worked { (stock : Stock) → Leaves worked_settings stock worked_answers worked_outcome }
+    ensures absent { (tape : Tape) → Leaves absent_settings no_stock tape absent_outcome }
 {}
 
 /// Over any link that behaves as the definition of a line with fates has it, a session that was played whole did what

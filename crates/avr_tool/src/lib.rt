@@ -36,13 +36,13 @@ pub use avr_cli::{
 };
 pub use avr_session::refuse;
 pub use laws::{
-    a_further_run_heals, a_prompt_line_brings_the_course, a_run_is_one_function,
-    a_run_of_status_0_is_its_course, a_server_sends_the_answers_to_what_it_heard,
-    a_session_and_a_server_are_one_run, a_session_over_any_line,
-    a_session_over_any_link_that_behaves_so, a_sound_run_is_its_course, a_stop_is_a_front,
-    a_worked_run_has_one_outcome, a_wrong_outcome_is_refused, an_ordered_line_cuts_and_stalls,
-    two_processes_never_both_wait, what_a_host_hears_of_a_server_is_honest,
-    whatever_becomes_of_both_some_strokes_were_made,
+    a_further_run_heals, a_prompt_line_brings_the_course, a_run_in_memory_has_one_outcome,
+    a_run_is_one_function, a_run_of_status_0_is_its_course,
+    a_server_sends_the_answers_to_what_it_heard, a_session_and_a_server_are_one_run,
+    a_session_over_any_line, a_session_over_any_link_that_behaves_so, a_sound_run_is_its_course,
+    a_stop_is_a_front, a_worked_run_has_one_outcome, a_wrong_outcome_is_refused,
+    an_ordered_line_cuts_and_stalls, two_processes_never_both_wait,
+    what_a_host_hears_of_a_server_is_honest, whatever_becomes_of_both_some_strokes_were_made,
 };
 // what a run reads and writes beside its line
 pub use avr_desk::{
@@ -56,7 +56,7 @@ pub use avr_plan::{Plan, Task, plan};
 pub use avr_session::drive;
 pub use of_port::{run_emu, run_net, serve, serve_net, serve_on};
 pub use program::{run_program, run_words};
-pub use running::{run, run_streams, run_wired};
+pub use running::{run, run_in_memory, run_streams, run_wired};
 // parts, their chips and what is in their memories
 pub use avr_image::Image;
 pub use avr_part::{Chip, Mem, Part, PartFault, Parts};

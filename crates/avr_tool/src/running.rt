@@ -1,20 +1,24 @@
-//! Runs by the words of the headline: over any line, and over the emulated programmer behind a line of any fates.
+//! Runs by the words of the headline: over any line, over files and a tape in memory, and over the emulated programmer
+//! behind a line of any fates.
 ghost use Rattle.std.specs.Prelude.{◌⊎◌};
 ghost use Rattle.avr_desk.specs.Fault.{Follows};
+ghost use Rattle.avr_desk.specs.Memory.{memory_view, stock_of};
+ghost use Rattle.avr_desk.specs.Truth.{HoldsTrue};
 ghost use Rattle.avr_session.specs.Runs.{devices};
 ghost use Rattle.avr_tool.specs.Headline.{IsNew, IsRun, IsStopped, RunsWired};
-ghost use Rattle.stk_host.specs.Links.{IsTrueSince, stream_view};
+ghost use Rattle.avr_tool.specs.InMemory.{AreUnused, Leaves, shown_by};
+ghost use Rattle.stk_host.specs.Links.{IsOfTape, IsTrueSince, stream_view, tape_view};
 ghost use Rattle.ghosts.specs.Stays.{Stays};
 
 use avr_cli::Settings;
-use avr_desk::Desk;
+use avr_desk::{Desk, MemDesk};
 use avr_emulated::drive_wired;
 use avr_plan::plan;
 use avr_session::run as run_over;
 use std::alloc::Global;
 use std::io::{Read, Write};
 use stk_emu::Wired;
-use stk_host::{Link, StreamLink};
+use stk_host::{Link, StreamLink, TapeLink};
 
 /// Plans what the settings ask for, runs it over a link, reports it at the desk, and answers the status: 0 where no
 /// fault came, else 1. What is refused is told before any frame is sent or file created.
@@ -48,6 +52,28 @@ pub fn run_streams<D: Desk, R: Read + Drop, W: Write + Drop>(
     ensures stays { Stays D.comes_of desk.old desk.new }
 {
     run(alloc, settings, desk, link)
+}
+
+/// [`run`] over files, standard input and a tape that are known, from bytes to bytes: where it is played to its status,
+/// that, the bytes sent, the messages, the output and the files made are a function of the settings, the files and the
+/// tape. Or it stopped, as any run may: devices in memory fail where memory is refused.
+///
+/// Nothing has passed over the desk and the link yet. Each file is read as it was before the run, also one that the run
+/// makes anew.
+pub fn run_in_memory(
+    alloc: Global,
+    settings: &Settings,
+    desk: &mut MemDesk,
+    tape: &mut TapeLink,
+) -> u8
+    requires unused { AreUnused desk.old tape.old }
+    ensures leaves { Leaves settings.now (stock_of desk.old) tape.old.left (shown_by result desk.new tape.new)
+        ⊎ IsStopped settings.now (devices (tape_view tape.old) (memory_view desk.old))
+        (devices (tape_view tape.new) (memory_view desk.new)) result }
+    ensures comes { Stays IsOfTape tape.old tape.new }
+    ensures stays { Stays HoldsTrue desk.old desk.new }
+{
+    run_over(alloc, settings, desk, tape)
 }
 
 /// Runs what the settings ask for over a wire to the emulated programmer, whatever its line loses, delays and spoils.

@@ -1,8 +1,11 @@
 -- Counts of failures, one after another.
-use Rattle.std.proofs.Common.{ℕ, ◌≤◌, arith, inl, inr}
+use Rattle.std.proofs.Common.{◌≡◌, ◌≤◌, ◌<◌, ◌+◌, ◌-◌, ◌^◌, ℕ, arith}
 use Rattle.ghosts.specs.Failures.{HasRisen, HasStood}
 
 -- a count that stood has not risen in between
 pub stood_has_not_risen : (a b c d : ℕ) → a ≤ b → c ≤ d → HasStood a d → HasRisen b c → ⊥
-stood_has_not_risen a b c d first last stood (inl more) = omega (arith, first, last, stood.0, stood.1, more)
-stood_has_not_risen a b c d first last stood (inr end) = omega (arith, first, last, stood.0, stood.1, end.0, end.1)
+stood_has_not_risen a b c d first last stood rises = omega (arith, first, last, stood.0, stood.1, rises)
+
+-- a count below its end rises by one
+pub rises_by_one : (a b : ℕ) → a < 2 ^ 64 - 1 → HasRisen a b → b ≡ a + 1
+rises_by_one a b below rises = omega (arith, below, rises)

@@ -1,2 +1,4 @@
 pub mod Failures
+pub mod Rows
+pub mod Staying
 pub mod Walks

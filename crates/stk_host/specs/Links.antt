@@ -25,8 +25,8 @@ pub record TapeState : Type 0 where
   pub talk : Talk
   pub failures : ℕ
 
--- What was heard over a link over a tape since it was `old`, and then what is left of it, are the items that it had, and
--- behind the last of them ends.
+-- What was heard over a link over a tape since it was `old`, and then what is left of it, are the items that it had,
+-- and behind the last of them ends.
 pub record IsOfTape (old new : TapeState) : Type 0 where
   pub during : Talk
   pub grows : new.talk ≡ old.talk ++ during

@@ -5,17 +5,20 @@ use Rattle.avr_plan.specs.Planning.{planned}
 use Rattle.avr_session.proofs.session.run.Goals as goal
 
 pub returns-in-Ok-clause-runs : goal.returns-in-Ok-clause-runs
-returns-in-Ok-clause-runs g c = inl (record {
-  plan = c.in-Ok.plan;
-  between = g.D.Desk.view c.plan.new.desk;
-  made = rw c.in-Ok.is at c.plan.ensures.goes;
-  runs = c.drive.ensures.runs;
-})
+returns-in-Ok-clause-runs g c = record {
+  between = c.plan.new.desk;
+  stays = c.plan.ensures.stays;
+  runs = inl (record { plan = c.in-Ok.plan; made = rw c.in-Ok.is at c.plan.ensures.goes; runs = c.drive.ensures.runs });
+}
 
 pub returns-in-Err-clause-runs : goal.returns-in-Err-clause-runs
 returns-in-Err-clause-runs g c =
     let goes = rw c.in-Err.is at c.plan.ensures.goes in
-    inr (record { refused = goes.1; bare = rw c.in-Err.is at c.plan.ensures.bare; same = refl; status_is = goes.0 })
+    record {
+      between = c.plan.new.desk;
+      stays = c.plan.ensures.stays;
+      runs = inr (record { refused = goes.1; bare = rw c.in-Err.is at c.plan.ensures.bare; same = refl; status_is = goes.0 });
+    }
 
 pub returns-in-Ok-clause-follows : goal.returns-in-Ok-clause-follows
 returns-in-Ok-clause-follows g c =

@@ -1,0 +1,256 @@
+-- A run over a desk in memory and a tape is the function of its files and that tape.
+use Rattle.std.proofs.Common.{◌≡◌, ◌∙◌, ◌⊎◌, inl, inr, ℕ, sym, ap, subst, refl, List, [], ◌∷◌, ◌++◌, append_assoc, append-nil, map, replicate, Some}
+use Rattle.ghosts.specs.Stays.{Stays}
+use Rattle.avr_cli.specs.declared.settings.Settings.{Settings}
+use Rattle.avr_desk.proofs.Breaks.{openings_in, openings_shown}
+use Rattle.avr_desk.proofs.Saying.{after_append}
+use Rattle.avr_desk.proofs.Truths.{all_true, begins_true}
+use Rattle.avr_desk.specs.Memory.{Memory, Stock, memory_view, stock_of}
+use Rattle.avr_desk.specs.Playing.{Went}
+use Rattle.avr_desk.specs.Record.{Bytes, Record, all_files, all_openings, file_of, nothing_kept, written_on}
+use Rattle.avr_desk.specs.Said.{Saying, Opens, Line, Creates, Writes, Outs, after, after_all}
+use Rattle.avr_desk.specs.Stage.{Answer, Made, Refused, Unread, StageResult}
+use Rattle.avr_desk.specs.Truth.{AreTrue, HoldsTrue, IsTrueOpening}
+use Rattle.avr_desk.specs.declared.record.Open.{Open}
+use Rattle.avr_desk.specs.declared.record.Open.TheVariants.{Closed, ToRead, ToWrite}
+use Rattle.avr_desk.specs.declared.record.Opening.TheVariants.{Absent, Found}
+use Rattle.avr_desk.specs.declared.record.Writing.{Writing}
+use Rattle.avr_plan.proofs.FilesRead.{seen_is_planned}
+use Rattle.avr_plan.proofs.OnlyReading.{only_reads}
+use Rattle.avr_plan.specs.FilesRead.{AreSeen, files_give, files_read, lines_in, planned_of}
+use Rattle.avr_plan.specs.OnlyReading.{OnlyReads}
+use Rattle.avr_plan.specs.Plan.{Plan}
+use Rattle.avr_plan.specs.Planning.{planned}
+use Rattle.avr_session.specs.Run.{RunsSettings}
+use Rattle.avr_session.specs.Runs.{devices}
+use Rattle.avr_session.specs.Session.{session}
+use Rattle.avr_session.specs.Stopping.{IsPlayed}
+use Rattle.stk_host.specs.Dialog.{Event, Said, behind, bytes_sent, sayings}
+use Rattle.stk_host.specs.Links.{IsOfTape, TapeState, tape_view}
+use Rattle.stk_host.specs.Talk.{LinkView, heard, sent}
+use Rattle.stk_host.specs.Tape.{Tape}
+use Rattle.stk_host.specs.declared.link.Item.TheVariants.{End}
+use Rattle.avr_tool.proofs.Joining.{said_sayings, said_bytes}
+use Rattle.avr_tool.specs.Headline.{after_answer, IsStopped}
+use Rattle.avr_tool.specs.InMemory.{Outcome, left_by, outcome_of, run_of, shown_by, AreUnused, Leaves}
+
+-- ---- the files were seen as they were before the run
+
+none_before : (first second : List Writing) → first ++ second ≡ [] → first ≡ []
+none_before [] second none = refl
+none_before (file ∷ first) second none = absurd (cc)
+
+none_behind : (first second : List Writing) → first ++ second ≡ [] → second ≡ []
+none_behind [] second none = none
+none_behind (file ∷ first) second none = absurd (cc)
+
+-- what was opened among these sayings, where no file was made
+seen_sayings : (stock : Stock) (says : List Saying) (files : List Writing) → files ≡ [] → AreTrue stock (openings_in says) [] files → AreSeen stock says
+seen_sayings stock [] files none are = tt
+seen_sayings stock (Opens opening ∷ says) files none are =
+    let more : are.more ≡ [] = none_before are.more are.rest (are.order ∙ none) in (
+      subst (λ fs. IsTrueOpening stock fs opening) more are.gave,
+      seen_sayings stock says are.rest (none_behind are.more are.rest (are.order ∙ none)) (subst (λ fs. AreTrue stock (openings_in says) fs are.rest) more are.behind),
+    )
+seen_sayings stock (Line bytes ∷ says) files none are = seen_sayings stock says files none are
+seen_sayings stock (Creates name ∷ says) files none are = seen_sayings stock says files none are
+seen_sayings stock (Writes bytes ∷ says) files none are = seen_sayings stock says files none are
+seen_sayings stock (Outs bytes ∷ says) files none are = seen_sayings stock says files none are
+
+-- ---- what is left, but for what was opened
+
+-- the same messages, output and files
+record IsAlike (r s : Record) : Type 0 where
+  pub messages : r.messages ≡ s.messages
+  pub output : r.output ≡ s.output
+  pub files : r.files ≡ s.files
+  pub file : file_of r.current ≡ file_of s.current
+
+same_files : (r s : Record) → IsAlike r s → all_files r ≡ all_files s
+same_files r s alike = ap (λ (fs : List Writing). fs ++ file_of r.current) alike.files ∙ ap (λ (fs : List Writing). s.files ++ fs) alike.file
+
+with_bytes : Bytes → Writing → Writing
+with_bytes bytes file = record file { bytes = file.bytes ++ bytes }
+
+written_file : (bytes : Bytes) (o : Open) → file_of (written_on bytes o) ≡ map (with_bytes bytes) (file_of o)
+unfolding with_bytes
+written_file bytes Closed = refl
+written_file bytes (ToRead x) = refl
+written_file bytes (ToWrite x) = refl
+
+alike_on : (saying : Saying) (r s : Record) → IsAlike r s → IsAlike (after saying r) (after saying s)
+alike_on (Opens (Absent name)) r s alike = record { messages = alike.messages; output = alike.output; files = same_files r s alike; file = refl }
+alike_on (Opens (Found x)) r s alike = record { messages = alike.messages; output = alike.output; files = same_files r s alike; file = refl }
+alike_on (Line bytes) r s alike =
+    record { messages = ap (λ (b : Bytes). b ++ bytes) alike.messages; output = alike.output; files = alike.files; file = alike.file }
+alike_on (Creates name) r s alike = record { messages = alike.messages; output = alike.output; files = same_files r s alike; file = refl }
+alike_on (Writes bytes) r s alike = record {
+  messages = alike.messages;
+  output = alike.output;
+  files = alike.files;
+  file = written_file bytes r.current ∙ ap (map (with_bytes bytes)) alike.file ∙ sym (written_file bytes s.current);
+}
+alike_on (Outs bytes) r s alike =
+    record { messages = alike.messages; output = ap (λ (b : Bytes). b ++ bytes) alike.output; files = alike.files; file = alike.file }
+
+alike_all : (says : List Saying) (r s : Record) → IsAlike r s → IsAlike (after_all says r) (after_all says s)
+alike_all [] r s alike = alike
+alike_all (saying ∷ says) r s alike = alike_all says (after saying r) (after saying s) (alike_on saying r s alike)
+
+-- what reads and tells makes no file
+abbrev joined : List Bytes → Bytes
+joined [] = []
+joined (line ∷ lines) = line ++ joined lines
+
+record HasTold (r : Record) (lines : List Bytes) (s : Record) : Type 0 where
+  pub messages : s.messages ≡ r.messages ++ joined lines
+  pub output : s.output ≡ r.output
+  pub files : s.files ≡ []
+  pub file : file_of s.current ≡ []
+
+only_told : (says : List Saying) (r : Record) → OnlyReads says → r.files ≡ [] → file_of r.current ≡ [] → HasTold r (lines_in says) (after_all says r)
+only_told [] r reads files file = record { messages = sym (append-nil r.messages); output = refl; files = files; file = file }
+only_told (Opens (Absent name) ∷ says) r reads files file =
+    let told = only_told says (after (Opens (Absent name)) r) reads (ap (λ (fs : List Writing). fs ++ file_of r.current) files ∙ file) refl in
+    record { messages = told.messages; output = told.output; files = told.files; file = told.file }
+only_told (Opens (Found x) ∷ says) r reads files file =
+    let told = only_told says (after (Opens (Found x)) r) reads (ap (λ (fs : List Writing). fs ++ file_of r.current) files ∙ file) refl in
+    record { messages = told.messages; output = told.output; files = told.files; file = told.file }
+only_told (Line bytes ∷ says) r reads files file =
+    let told = only_told says (after (Line bytes) r) reads files file in
+    record { messages = told.messages ∙ append_assoc r.messages bytes (joined (lines_in says)); output = told.output; files = told.files; file = told.file }
+only_told (Creates name ∷ says) r reads files file = absurd reads
+only_told (Writes bytes ∷ says) r reads files file = absurd reads
+only_told (Outs bytes ∷ says) r reads files file = absurd reads
+
+-- so two plannings that tell the same lines leave the same
+alike_planning : (first second : List Saying) → OnlyReads first → OnlyReads second → lines_in first ≡ lines_in second
+    → IsAlike (after_all first nothing_kept) (after_all second nothing_kept)
+alike_planning first second one other same =
+    let a = only_told first nothing_kept one refl refl in
+    let b = only_told second nothing_kept other refl refl in
+    record {
+      messages = a.messages ∙ ap joined same ∙ sym b.messages;
+      output = a.output ∙ sym b.output;
+      files = a.files ∙ sym b.files;
+      file = a.file ∙ sym b.file;
+    }
+
+-- ---- planning
+
+module _ (settings : Settings) (stock : Stock) (old m : Memory) (answer : Answer Plan) (unused : old.kept ≡ nothing_kept) (holds : HoldsTrue stock m)
+    (judged : answer ≡ Unread → ⊥) (went : Went (planned settings) (memory_view old) (memory_view m) answer) where
+  planned_is : planned settings (went.passed ++ []) ≡ record { says = went.says; answer = answer; left = [] }
+  planned_is = went.comes []
+
+  only_read : OnlyReads went.says
+  only_read = subst OnlyReads (ap (λ (p : StageResult Plan). p.says) planned_is) (only_reads settings (went.passed ++ []))
+
+  kept_is : m.kept ≡ after_all went.says nothing_kept
+  kept_is = went.kept ∙ ap (after_all went.says) unused
+
+  no_files : all_files m.kept ≡ []
+  no_files =
+      let told = only_told went.says nothing_kept only_read refl refl in
+      ap all_files kept_is ∙ ap (λ (fs : List Writing). fs ++ file_of (after_all went.says nothing_kept).current) told.files ∙ told.file
+
+  opened : all_openings m.kept ≡ openings_in went.says
+  opened = ap all_openings kept_is ∙ openings_shown went.says nothing_kept
+
+  seen : AreSeen stock went.says
+  seen = seen_sayings stock went.says (all_files m.kept) no_files (subst (λ os. AreTrue stock os [] (all_files m.kept)) opened (all_true stock m holds))
+
+  both : ((planned_of settings stock).answer ≡ (planned settings (went.passed ++ [])).answer)
+      × (lines_in (planned_of settings stock).says ≡ lines_in (planned settings (went.passed ++ [])).says)
+  both = seen_is_planned stock settings (went.passed ++ []) (subst (AreSeen stock) (sym (ap (λ (p : StageResult Plan). p.says) planned_is)) seen)
+      (λ unread. judged (sym (ap (λ (p : StageResult Plan). p.answer) planned_is) ∙ unread))
+
+  same_answer : (planned_of settings stock).answer ≡ answer
+  same_answer = both.0 ∙ ap (λ (p : StageResult Plan). p.answer) planned_is
+
+  same_left : IsAlike (after_all (planned_of settings stock).says nothing_kept) m.kept
+  same_left = subst (IsAlike (after_all (planned_of settings stock).says nothing_kept)) (sym kept_is)
+      (alike_planning (planned_of settings stock).says went.says (only_reads settings (files_give stock (files_read settings))) only_read
+      (both.1 ∙ ap (λ (p : StageResult Plan). lines_in p.says) planned_is))
+
+-- ---- the run
+
+-- equal in each part
+outcome_is : (status : ℕ) (sent sent' messages messages' output output' : Bytes) (files files' : List Writing)
+    → sent ≡ sent' → messages ≡ messages' → output ≡ output' → files ≡ files'
+    → ◌≡◌ {A = Outcome} (record { status = status; sent = sent; messages = messages; output = output; files = files })
+    (record { status = status; sent = sent'; messages = messages'; output = output'; files = files' })
+outcome_is status sent sent' messages messages' output output' files files' a b c d = rw (a, b, c, d) refl
+
+-- planning's sayings, and then these events, leave what the desk shows
+left_is : (status : ℕ) (says : List Saying) (events : List (Event Saying)) (m new : Memory) (link : TapeState)
+    → IsAlike (after_all says nothing_kept) m.kept → new.kept ≡ after_all (sayings events) m.kept → bytes_sent events ≡ sent link.talk
+    → left_by (map Said says ++ events) status ≡ shown_by status new link
+left_is status says events m new link alike kept frames =
+    let all : after_all (sayings (map Said says ++ events)) nothing_kept ≡ after_all (sayings events) (after_all says nothing_kept) =
+    ap (λ (s : List Saying). after_all s nothing_kept) (said_sayings says events) ∙ after_append says (sayings events) nothing_kept in
+    let same : IsAlike (after_all (sayings (map Said says ++ events)) nothing_kept) new.kept =
+    subst (λ r. IsAlike r new.kept) (sym all) (subst (IsAlike (after_all (sayings events) (after_all says nothing_kept))) (sym kept)
+    (alike_all (sayings events) (after_all says nothing_kept) m.kept alike)) in
+    outcome_is status _ _ _ _ _ _ _ _ (said_bytes says events ∙ frames) same.messages same.output (same_files _ _ same)
+
+module _ (settings : Settings) (old new : Memory) (before after : TapeState) (status : ℕ) (unused : AreUnused old before) (of_tape : IsOfTape before after) where
+  abbrev stock : Stock
+  stock = stock_of old
+
+  talk_is : after.talk ≡ of_tape.during
+  talk_is = of_tape.grows ∙ ap (λ talk. talk ++ of_tape.during) unused.link_is
+
+  -- the plan was made, and its session played
+  whole : (between : Memory) (plan : Plan) → HoldsTrue stock between → Went (planned settings) (memory_view old) (memory_view between) (Made plan)
+      → IsPlayed (session plan) (devices (tape_view before) (memory_view between)) (devices (tape_view after) (memory_view new)) status
+      → Leaves settings stock before.left (shown_by status new after)
+  whole between plan holds went played_whole =
+      let ran = played_whole.1 in
+      let end = played_whole.0 in
+      let p = planned_of settings stock in
+      let judged : ◌≡◌ {A = Answer Plan} (Made plan) Unread → ⊥ = λ e. cc in
+      let answer : p.answer ≡ Made plan = same_answer settings stock old between (Made plan) unused.desk_is holds judged went in
+      let alike = same_left settings stock old between (Made plan) unused.desk_is holds judged went in
+      let during : of_tape.during ≡ ran.during = sym talk_is ∙ ran.grows ∙ ap (λ talk. talk ++ ran.during) unused.link_is in
+      let left : left_by (map Said p.says ++ ran.events) status ≡ shown_by status new after =
+      left_is status p.says ran.events between new after alike ran.kept (ran.plays.all_sent ∙ ap sent (sym during) ∙ ap sent (sym talk_is)) in
+      record {
+        ends = of_tape.ends;
+        is = λ more.
+            let tape : before.left ++ (replicate of_tape.ends End ++ more) ≡ heard ran.during ++ (after.left ++ more) =
+            sym (append_assoc before.left (replicate of_tape.ends End) more) ∙ ap (λ (t : Tape). t ++ more) (sym of_tape.gave)
+            ∙ append_assoc (heard of_tape.during) after.left more ∙ ap (λ talk. heard talk ++ (after.left ++ more)) during in
+            ap (λ t. outcome_of (run_of settings stock t)) tape ∙ ap (λ a. outcome_of (behind (map Said p.says) (after_answer a (heard ran.during ++ (after.left ++ more))))) answer
+            ∙ ap (λ q. outcome_of (behind (map Said p.says) q)) (ran.plays.plays (after.left ++ more)) ∙ ap (λ (o : Outcome). Some o) left;
+      }
+
+  -- it was refused
+  refused : HoldsTrue stock new → after.talk ≡ before.talk → Went (planned settings) (memory_view old) (memory_view new) Refused
+      → Leaves settings stock before.left (shown_by 1 new after)
+  refused holds silent went =
+      let p = planned_of settings stock in
+      let judged : ◌≡◌ {A = Answer Plan} Refused Unread → ⊥ = λ e. cc in
+      let answer : p.answer ≡ Refused = same_answer settings stock old new Refused unused.desk_is holds judged went in
+      let alike = same_left settings stock old new Refused unused.desk_is holds judged went in
+      let left : left_by (map Said p.says ++ []) 1 ≡ shown_by 1 new after =
+      left_is 1 p.says [] new new after alike refl (ap sent (sym (silent ∙ unused.link_is))) in
+      record {
+        ends = 0;
+        is = λ more. ap (λ a. outcome_of (behind (map Said p.says) (after_answer a (before.left ++ more)))) answer ∙ ap (λ (o : Outcome). Some o) left;
+      }
+
+  -- the one or the other, or it stopped
+  pub run_is : (between : Memory) → Stays HoldsTrue old between → Stays HoldsTrue old new
+      → RunsSettings settings (devices (tape_view before) (memory_view old)) (memory_view between) (devices (tape_view after) (memory_view new)) status
+      → Leaves settings stock before.left (shown_by status new after)
+      ⊎ IsStopped settings (devices (tape_view before) (memory_view old)) (devices (tape_view after) (memory_view new)) status
+  run_is between first all (inl runs) = elim runs.runs [
+    | inl played_whole ↦ inl (whole between runs.plan (first stock (begins_true old unused.desk_is)) runs.made played_whole)
+    | inr broke ↦ inr (inl (record { plan = runs.plan; between = memory_view between; made = runs.made; broke = broke.0; status_is = broke.1 }))
+  ]
+  run_is between first all (inr none) = elim none.refused [
+    | inl went ↦ inl (subst (λ s. Leaves settings stock before.left (shown_by s new after)) (sym none.status_is)
+        (refused (all stock (begins_true old unused.desk_is)) (ap (λ (l : LinkView). l.talk) none.same) went))
+    | inr broke ↦ inr (inr (record { broke = broke; bare = none.bare; same = none.same; status_is = none.status_is }))
+  ]

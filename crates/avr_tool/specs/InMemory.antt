@@ -1,0 +1,69 @@
+-- FROM BYTES TO BYTES. What a run leaves whose files, standard input and answers are known: a function of these, and
+-- nothing of devices is in it.
+use Rattle.std.specs.Prelude.{◌≡◌, ℕ, List, [], ◌++◌, replicate, Option, Some, None}
+use Rattle.avr_cli.specs.declared.settings.Settings.{Settings}
+use Rattle.avr_desk.specs.Memory.{Memory, Stock}
+use Rattle.avr_desk.specs.Record.{Bytes, all_files, nothing_kept}
+use Rattle.avr_desk.specs.Said.{Saying, after_all}
+use Rattle.avr_desk.specs.declared.record.Writing.{Writing}
+use Rattle.avr_plan.specs.FilesRead.{files_give, files_read}
+use Rattle.stk_host.specs.Dialog.{Event, Played, bytes_sent, sayings}
+use Rattle.stk_host.specs.Links.{TapeState}
+use Rattle.stk_host.specs.Talk.{sent}
+use Rattle.stk_host.specs.Tape.{Tape}
+use Rattle.stk_host.specs.declared.link.Item.TheVariants.{End}
+use Rattle.avr_tool.specs.Headline.{run}
+
+-- all that a run leaves: its status, the bytes sent, the messages, the output, and the files that were made, in their
+-- order, of which a later one of a name takes the place of an earlier one
+pub record Outcome : Type 0 where
+  pub status : ℕ
+  pub sent : Bytes
+  pub messages : Bytes
+  pub output : Bytes
+  pub files : List Writing
+
+-- THE RUN of some files and a tape: over what each file gives that the settings name, read whole as it was before
+abbrev pub run_of : Settings → Stock → Tape → Played Saying ℕ
+run_of settings stock tape = run settings (files_give stock (files_read settings)) tape
+
+-- what events leave that come to this status
+abbrev pub left_by : List (Event Saying) → ℕ → Outcome
+left_by events status =
+    let made = after_all (sayings events) nothing_kept in
+    record {
+      status = status;
+      sent = bytes_sent events;
+      messages = made.messages;
+      output = made.output;
+      files = all_files made;
+    }
+
+abbrev pub left_at : List (Event Saying) → Option (ℕ × ℕ × Tape) → Option Outcome
+left_at events None = None
+left_at events (Some end) = Some (left_by events end.0)
+
+-- what a run leaves, if it comes to an end
+abbrev pub outcome_of : Played Saying ℕ → Option Outcome
+outcome_of p = left_at p.events p.outcome
+
+-- The run of these files and this tape leaves this. Behind the last item of the tape there come ends, as many as it
+-- asks for, and whatever more might follow changes nothing.
+pub record Leaves (settings : Settings) (stock : Stock) (tape : Tape) (outcome : Outcome) : Type 0 where
+  pub ends : ℕ
+  pub is : (more : Tape) → outcome_of (run_of settings stock (tape ++ (replicate ends End ++ more))) ≡ Some outcome
+
+-- nothing has passed over a desk and a link
+pub record AreUnused (desk : Memory) (link : TapeState) : Type 0 where
+  pub desk_is : desk.kept ≡ nothing_kept
+  pub link_is : link.talk ≡ []
+
+-- what a run with this status has left, by all that a desk and a link show over which nothing else has passed
+abbrev pub shown_by : ℕ → Memory → TapeState → Outcome
+shown_by status desk link = record {
+  status = status;
+  sent = sent link.talk;
+  messages = desk.kept.messages;
+  output = desk.kept.output;
+  files = all_files desk.kept;
+}
