@@ -1,5 +1,5 @@
 #!/usr/bin/env python3
-"""Compiles and runs the examples in the documentation of images, record files and parts, as they stand there.
+"""Compiles and runs the examples in the documentation of the crates below the front door, as they stand there.
 
     tests/examples.py [CRATE ..]        needs `rt`
 
@@ -22,6 +22,9 @@ MORE = {
     "avr_image": ["arrayvec::ArrayVec"],
     "avr_records": ["arrayvec::ArrayVec", "avr_image::{Image, Pieces}"],
     "avr_part": [],
+    "stk_frame": ["arrayvec::ArrayVec"],
+    "stk_host": ["avr_image::{Image, parse_immediate}", "avr_part::{Chip, Mem, Parts}", "stk_emu::Wired"],
+    "stk_emu": ["arrayvec::ArrayVec", "avr_part::{Chip, Mem, Parts}", "stk_host::{Host, Link}"],
 }
 
 FENCE = re.compile(r"\s*/// ?```")
@@ -68,8 +71,9 @@ def examples_of(crate):
     with tempfile.TemporaryDirectory() as folder:
         folder = Path(folder)
         subprocess.run(["git", "init", "-q", folder], check=True)
-        subprocess.run([TOP / "tools/vendor.sh", crate, folder], check=True, stdout=subprocess.DEVNULL)
         below = {it.split("::")[0] for it in MORE[crate]} | {crate}
+        ours = sorted(it for it in below if (TOP / "crates" / it).is_dir())
+        subprocess.run([TOP / "tools/vendor.sh", *ours, folder], check=True, stdout=subprocess.DEVNULL)
         with open(folder / "crates.txt", "a") as crates:
             crates.write(f"doc_examples: {' '.join(sorted(below))}\n")
         (folder / "crates/doc_examples/src").mkdir(parents=True)

@@ -1,7 +1,11 @@
 //! A caller of the headline's calls: that its conditions can be met.
+ghost use Rattle.std.specs.Prelude.{◌≡◌};
+ghost use Rattle.avr_desk.specs.Record.{nothing_kept};
+
 use crate::support::{OPENING, Over, desk_with, fates, run_wired_on, settings_for};
 use avr_tool::{
     Fate, Item, MemDesk, Settings, StreamLink, SystemDesk, TapeLink, run_in_memory, run_streams,
+    run_streams_in_memory,
 };
 use std::alloc::Global;
 use std::test::Fail;
@@ -96,12 +100,18 @@ const FUSE_ANSWERS: &str =
 /// The frames behind its opening.
 const FUSE_FRAMES: &str = "1B0600060E180450000000591B0700060E180450000000581B0800030E1101010F";
 
-/// Runs over one file and a tape of these bytes.
-fn run_over_bytes(
+/// The words of a run that compares a file with the fuse, and makes it anew.
+const FUSE_WORDS: [&str; 6] = ["-p", "m328p", "-U", "lfuse:v:low:r", "-U", "lfuse:r:low:h"];
+
+/// What it prints.
+const FUSE_MESSAGES: &str =
+    "avrstk: device signature = 1E 95 0F\navrstk: lfuse: 1 bytes verified\navrstk: lfuse: 1 bytes read\navrstk: done\n";
+
+/// Runs these words over the file `low`, which has this byte, and a tape of these bytes.
+fn run_over_tape(
     alloc: Global,
     words: &[&str],
-    name: &str,
-    bytes: &[u8],
+    low: u8,
     answers: &[u8],
 ) -> Result<Over<MemDesk, TapeLink>, Fail> {
     let settings = settings_for(alloc, words)?;
@@ -110,29 +120,72 @@ fn run_over_bytes(
         items.push(Item::Byte(*byte))?;
     }
     let mut desk = MemDesk::new(alloc);
-    desk.put(name, bytes)?;
+    desk.put("low", &[low])?;
     let mut link = TapeLink::new(alloc, items, 281);
     let status = run_in_memory(alloc, &settings, &mut desk, &mut link);
     Ok(Over { desk, link, status })
 }
 
-/// A file that is compared with a fuse, and made anew by the same run: it is read as it was before.
+/// Runs over a desk of which nothing was asked, a reader of these bytes and a writer.
+fn status_over_streams(
+    alloc: Global,
+    settings: &Settings,
+    desk: &mut MemDesk,
+    answers: &[u8],
+    sent: &mut Vec<u8>,
+) -> u8
+    requires { desk.old.kept ≡ nothing_kept }
+{
+    let mut streams = StreamLink::new(answers, sent);
+    run_streams_in_memory(alloc, settings, desk, &mut streams)
+}
+
+/// The same as over a tape, over a reader of these bytes and a writer in memory.
+fn run_over_reader(
+    alloc: Global,
+    words: &[&str],
+    low: u8,
+    answers: &[u8],
+) -> Result<Over<MemDesk, Vec<u8>>, Fail> {
+    let settings = settings_for(alloc, words)?;
+    let mut desk = MemDesk::new(alloc);
+    desk.put("low", &[low])?;
+    let mut link = Vec::new(alloc);
+    let status = status_over_streams(alloc, &settings, &mut desk, answers, &mut link);
+    Ok(Over { desk, link, status })
+}
+
+/// All frames of that run.
+fn fuse_frames(alloc: Global) -> Result<Vec<u8>, Fail> {
+    let mut frames = hex::decode(alloc, OPENING)?;
+    frames.extend_from_slice(hex::decode(alloc, FUSE_FRAMES)?.as_slice())?;
+    Ok(frames)
+}
+
+/// The file is read as it was before, and then it is what was read of the fuse.
 #[test]
 fn from_bytes_to_bytes(rt: HostRuntime) -> Result<(), Fail> {
     let alloc = rt.alloc();
-    let words = ["-p", "m328p", "-U", "lfuse:v:low:r", "-U", "lfuse:r:low:h"];
     let answers = hex::decode(alloc, FUSE_ANSWERS)?;
-    let over = run_over_bytes(alloc, &words, "low", b"\x62".as_slice(), answers.as_slice())?;
+    let over = run_over_tape(alloc, &FUSE_WORDS, 0x62, answers.as_slice())?;
     assert_eq!(rt; over.status, 0);
-    let mut frames = hex::decode(alloc, OPENING)?;
-    frames.extend_from_slice(hex::decode(alloc, FUSE_FRAMES)?.as_slice())?;
-    assert!(rt; over.link.sent() == frames.as_slice());
-    assert!(rt; over.desk.file("low") == Some(b"0x62\n".as_slice()));
+    assert!(rt; over.link.sent() == fuse_frames(alloc)?.as_slice());
+    assert!(rt; over.desk.messages() == FUSE_MESSAGES.as_bytes());
     assert!(rt; over.desk.output().is_empty());
-    assert!(rt;
-        over.desk.messages()
-            == b"avrstk: device signature = 1E 95 0F\navrstk: lfuse: 1 bytes verified\navrstk: lfuse: 1 bytes read\navrstk: done\n".as_slice()
-    );
+    assert!(rt; over.desk.file("low") == Some(b"0x62\n".as_slice()));
+    Ok(())
+}
+
+#[test]
+fn from_a_reader_to_a_writer(rt: HostRuntime) -> Result<(), Fail> {
+    let alloc = rt.alloc();
+    let answers = hex::decode(alloc, FUSE_ANSWERS)?;
+    let over = run_over_reader(alloc, &FUSE_WORDS, 0x62, answers.as_slice())?;
+    assert_eq!(rt; over.status, 0);
+    assert!(rt; over.link == fuse_frames(alloc)?);
+    assert!(rt; over.desk.messages() == FUSE_MESSAGES.as_bytes());
+    assert!(rt; over.desk.output().is_empty());
+    assert!(rt; over.desk.file("low") == Some(b"0x62\n".as_slice()));
     Ok(())
 }
 

@@ -1,5 +1,6 @@
 -- A run over a desk in memory and a tape is the function of its files and that tape.
-use Rattle.std.proofs.Common.{◌≡◌, ◌∙◌, ◌⊎◌, inl, inr, ℕ, sym, ap, subst, refl, List, [], ◌∷◌, ◌++◌, append_assoc, append-nil, map, replicate, Some}
+use Rattle.std.proofs.Common.{◌≡◌, ◌∙◌, ◌⊎◌, inl, inr, ℕ, sym, ap, subst, refl, List, [], ◌∷◌, ◌++◌, append_assoc, append-nil, map, replicate, Option, Some}
+use Rattle.std.specs.Io.KnownBytes.{Appends, Consumes}
 use Rattle.ghosts.specs.Stays.{Stays}
 use Rattle.avr_cli.specs.declared.settings.Settings.{Settings}
 use Rattle.avr_desk.proofs.Breaks.{openings_in, openings_shown}
@@ -26,13 +27,13 @@ use Rattle.avr_session.specs.Runs.{devices}
 use Rattle.avr_session.specs.Session.{session}
 use Rattle.avr_session.specs.Stopping.{IsPlayed}
 use Rattle.stk_host.specs.Dialog.{Event, Said, behind, bytes_sent, sayings}
-use Rattle.stk_host.specs.Links.{IsOfTape, TapeState, tape_view}
-use Rattle.stk_host.specs.Talk.{LinkView, heard, sent}
-use Rattle.stk_host.specs.Tape.{Tape}
+use Rattle.stk_host.specs.Links.{IsOfTape, IsTrueSince, StreamState, TapeState, stream_view, tape_view}
+use Rattle.stk_host.specs.Talk.{LinkView, Talk, heard, sent}
+use Rattle.stk_host.specs.Tape.{Tape, bytes_of}
 use Rattle.stk_host.specs.declared.link.Item.TheVariants.{End}
 use Rattle.avr_tool.proofs.Joining.{said_sayings, said_bytes}
 use Rattle.avr_tool.specs.Headline.{after_answer, IsStopped}
-use Rattle.avr_tool.specs.InMemory.{Outcome, left_by, outcome_of, run_of, shown_by, AreUnused, Leaves}
+use Rattle.avr_tool.specs.InMemory.{Outcome, left_by, outcome_of, run_of, shown_by, AreUnused, IsLeft, Leaves, LeavesStreams}
 
 -- ---- the files were seen as they were before the run
 
@@ -183,74 +184,119 @@ outcome_is : (status : ℕ) (sent sent' messages messages' output output' : Byte
 outcome_is status sent sent' messages messages' output output' files files' a b c d = rw (a, b, c, d) refl
 
 -- planning's sayings, and then these events, leave what the desk shows
-left_is : (status : ℕ) (says : List Saying) (events : List (Event Saying)) (m new : Memory) (link : TapeState)
-    → IsAlike (after_all says nothing_kept) m.kept → new.kept ≡ after_all (sayings events) m.kept → bytes_sent events ≡ sent link.talk
-    → left_by (map Said says ++ events) status ≡ shown_by status new link
-left_is status says events m new link alike kept frames =
+left_is : (status : ℕ) (says : List Saying) (events : List (Event Saying)) (between kept : Record) (talk : Talk)
+    → IsAlike (after_all says nothing_kept) between → kept ≡ after_all (sayings events) between → bytes_sent events ≡ sent talk
+    → left_by (map Said says ++ events) status ≡ shown_by status kept talk
+left_is status says events between kept talk alike then frames =
     let all : after_all (sayings (map Said says ++ events)) nothing_kept ≡ after_all (sayings events) (after_all says nothing_kept) =
     ap (λ (s : List Saying). after_all s nothing_kept) (said_sayings says events) ∙ after_append says (sayings events) nothing_kept in
-    let same : IsAlike (after_all (sayings (map Said says ++ events)) nothing_kept) new.kept =
-    subst (λ r. IsAlike r new.kept) (sym all) (subst (IsAlike (after_all (sayings events) (after_all says nothing_kept))) (sym kept)
-    (alike_all (sayings events) (after_all says nothing_kept) m.kept alike)) in
+    let same : IsAlike (after_all (sayings (map Said says ++ events)) nothing_kept) kept =
+    subst (λ r. IsAlike r kept) (sym all) (subst (IsAlike (after_all (sayings events) (after_all says nothing_kept))) (sym then)
+    (alike_all (sayings events) (after_all says nothing_kept) between alike)) in
     outcome_is status _ _ _ _ _ _ _ _ (said_bytes says events ∙ frames) same.messages same.output (same_files _ _ same)
 
-module _ (settings : Settings) (old new : Memory) (before after : TapeState) (status : ℕ) (unused : AreUnused old before) (of_tape : IsOfTape before after) where
+module _ (settings : Settings) (old new : Memory) (before after : LinkView) (status : ℕ) (unused : AreUnused old before) where
   abbrev stock : Stock
   stock = stock_of old
 
-  talk_is : after.talk ≡ of_tape.during
-  talk_is = of_tape.grows ∙ ap (λ talk. talk ++ of_tape.during) unused.link_is
+  silent_before : before.talk ≡ []
+  silent_before = ap (λ (l : LinkView). l.talk) unused.link_is
 
   -- the plan was made, and its session played
   whole : (between : Memory) (plan : Plan) → HoldsTrue stock between → Went (planned settings) (memory_view old) (memory_view between) (Made plan)
-      → IsPlayed (session plan) (devices (tape_view before) (memory_view between)) (devices (tape_view after) (memory_view new)) status
-      → Leaves settings stock before.left (shown_by status new after)
-  whole between plan holds went played_whole =
+      → IsPlayed (session plan) (devices before (memory_view between)) (devices after (memory_view new)) status
+      → IsLeft settings stock (heard after.talk) (shown_by status new.kept after.talk)
+  whole between plan holds went played_whole more =
       let ran = played_whole.1 in
-      let end = played_whole.0 in
       let p = planned_of settings stock in
       let judged : ◌≡◌ {A = Answer Plan} (Made plan) Unread → ⊥ = λ e. cc in
       let answer : p.answer ≡ Made plan = same_answer settings stock old between (Made plan) unused.desk_is holds judged went in
       let alike = same_left settings stock old between (Made plan) unused.desk_is holds judged went in
-      let during : of_tape.during ≡ ran.during = sym talk_is ∙ ran.grows ∙ ap (λ talk. talk ++ ran.during) unused.link_is in
-      let left : left_by (map Said p.says ++ ran.events) status ≡ shown_by status new after =
-      left_is status p.says ran.events between new after alike ran.kept (ran.plays.all_sent ∙ ap sent (sym during) ∙ ap sent (sym talk_is)) in
-      record {
-        ends = of_tape.ends;
-        is = λ more.
-            let tape : before.left ++ (replicate of_tape.ends End ++ more) ≡ heard ran.during ++ (after.left ++ more) =
-            sym (append_assoc before.left (replicate of_tape.ends End) more) ∙ ap (λ (t : Tape). t ++ more) (sym of_tape.gave)
-            ∙ append_assoc (heard of_tape.during) after.left more ∙ ap (λ talk. heard talk ++ (after.left ++ more)) during in
-            ap (λ t. outcome_of (run_of settings stock t)) tape ∙ ap (λ a. outcome_of (behind (map Said p.says) (after_answer a (heard ran.during ++ (after.left ++ more))))) answer
-            ∙ ap (λ q. outcome_of (behind (map Said p.says) q)) (ran.plays.plays (after.left ++ more)) ∙ ap (λ (o : Outcome). Some o) left;
-      }
+      let during : after.talk ≡ ran.during = ran.grows ∙ ap (λ talk. talk ++ ran.during) silent_before in
+      let left : left_by (map Said p.says ++ ran.events) status ≡ shown_by status new.kept after.talk =
+      left_is status p.says ran.events between.kept new.kept after.talk alike ran.kept (ran.plays.all_sent ∙ ap sent (sym during)) in
+      ap (λ talk. outcome_of (run_of settings stock (heard talk ++ more))) during
+      ∙ ap (λ a. outcome_of (behind (map Said p.says) (after_answer a (heard ran.during ++ more)))) answer
+      ∙ ap (λ q. outcome_of (behind (map Said p.says) q)) (ran.plays.plays more) ∙ ap (λ (o : Outcome). Some o) left
 
   -- it was refused
   refused : HoldsTrue stock new → after.talk ≡ before.talk → Went (planned settings) (memory_view old) (memory_view new) Refused
-      → Leaves settings stock before.left (shown_by 1 new after)
-  refused holds silent went =
+      → IsLeft settings stock (heard after.talk) (shown_by 1 new.kept after.talk)
+  refused holds silent went more =
       let p = planned_of settings stock in
       let judged : ◌≡◌ {A = Answer Plan} Refused Unread → ⊥ = λ e. cc in
       let answer : p.answer ≡ Refused = same_answer settings stock old new Refused unused.desk_is holds judged went in
       let alike = same_left settings stock old new Refused unused.desk_is holds judged went in
-      let left : left_by (map Said p.says ++ []) 1 ≡ shown_by 1 new after =
-      left_is 1 p.says [] new new after alike refl (ap sent (sym (silent ∙ unused.link_is))) in
-      record {
-        ends = 0;
-        is = λ more. ap (λ a. outcome_of (behind (map Said p.says) (after_answer a (before.left ++ more)))) answer ∙ ap (λ (o : Outcome). Some o) left;
-      }
+      let left : left_by (map Said p.says ++ []) 1 ≡ shown_by 1 new.kept after.talk =
+      left_is 1 p.says [] new.kept new.kept after.talk alike refl (ap sent (sym (silent ∙ silent_before))) in
+      ap (λ a. outcome_of (behind (map Said p.says) (after_answer a (heard after.talk ++ more)))) answer ∙ ap (λ (o : Outcome). Some o) left
 
-  -- the one or the other, or it stopped
+  -- over what was heard it leaves what is shown, and the link has not failed
+  pub record LeavesShown : Type 0 where
+    pub is : IsLeft settings stock (heard after.talk) (shown_by status new.kept after.talk)
+    pub sound : after.failures ≡ 0
+
+  -- that, or it stopped
   pub run_is : (between : Memory) → Stays HoldsTrue old between → Stays HoldsTrue old new
-      → RunsSettings settings (devices (tape_view before) (memory_view old)) (memory_view between) (devices (tape_view after) (memory_view new)) status
-      → Leaves settings stock before.left (shown_by status new after)
-      ⊎ IsStopped settings (devices (tape_view before) (memory_view old)) (devices (tape_view after) (memory_view new)) status
+      → RunsSettings settings (devices before (memory_view old)) (memory_view between) (devices after (memory_view new)) status
+      → LeavesShown ⊎ IsStopped settings (devices before (memory_view old)) (devices after (memory_view new)) status
   run_is between first all (inl runs) = elim runs.runs [
-    | inl played_whole ↦ inl (whole between runs.plan (first stock (begins_true old unused.desk_is)) runs.made played_whole)
+    | inl played_whole ↦ inl (record {
+      is = whole between runs.plan (first stock (begins_true old unused.desk_is)) runs.made played_whole;
+      sound = played_whole.1.sound.0 ∙ ap (λ (l : LinkView). l.failures) unused.link_is;
+    })
     | inr broke ↦ inr (inl (record { plan = runs.plan; between = memory_view between; made = runs.made; broke = broke.0; status_is = broke.1 }))
   ]
   run_is between first all (inr none) = elim none.refused [
-    | inl went ↦ inl (subst (λ s. Leaves settings stock before.left (shown_by s new after)) (sym none.status_is)
-        (refused (all stock (begins_true old unused.desk_is)) (ap (λ (l : LinkView). l.talk) none.same) went))
+    | inl went ↦ inl (record {
+      is = subst (λ s. IsLeft settings stock (heard after.talk) (shown_by s new.kept after.talk)) (sym none.status_is)
+          (refused (all stock (begins_true old unused.desk_is)) (ap (λ (l : LinkView). l.talk) none.same) went);
+      sound = ap (λ (l : LinkView). l.failures) (none.same ∙ unused.link_is);
+    })
     | inr broke ↦ inr (inr (record { broke = broke; bare = none.bare; same = none.same; status_is = none.status_is }))
   ]
+
+-- ---- over a tape, and over streams
+
+module _ (settings : Settings) (old new : Memory) (status : ℕ) where
+  over_tape : (before after : TapeState) → before.talk ≡ [] → IsOfTape before after → IsLeft settings (stock_of old) (heard after.talk) (shown_by status new.kept after.talk)
+      → Leaves settings (stock_of old) before.left (shown_by status new.kept after.talk)
+  over_tape before after silent of_tape left =
+      let talk_is : after.talk ≡ of_tape.during = of_tape.grows ∙ ap (λ talk. talk ++ of_tape.during) silent in
+      record {
+        ends = of_tape.ends;
+        is = λ more.
+            let tape : (before.left ++ replicate of_tape.ends End) ++ more ≡ heard after.talk ++ (after.left ++ more) =
+            ap (λ (t : Tape). t ++ more) (sym of_tape.gave) ∙ append_assoc (heard of_tape.during) after.left more
+            ∙ ap (λ talk. heard talk ++ (after.left ++ more)) (sym talk_is) in
+            ap (λ t. outcome_of (run_of settings (stock_of old) t)) tape ∙ left (after.left ++ more);
+      }
+
+  pub run_is_over_tape : (before after : TapeState) (between : Memory) (unused : AreUnused old (tape_view before)) → IsOfTape before after
+      → Stays HoldsTrue old between → Stays HoldsTrue old new
+      → RunsSettings settings (devices (tape_view before) (memory_view old)) (memory_view between) (devices (tape_view after) (memory_view new)) status
+      → Leaves settings (stock_of old) before.left (shown_by status new.kept after.talk)
+      ⊎ IsStopped settings (devices (tape_view before) (memory_view old)) (devices (tape_view after) (memory_view new)) status
+  run_is_over_tape before after between unused of_tape first all runs =
+      elim (run_is settings old new (tape_view before) (tape_view after) status unused between first all runs) [
+        | inl left ↦ inl (over_tape before after (ap (λ (l : LinkView). l.talk) unused.link_is) of_tape left.is)
+        | inr stopped ↦ inr stopped
+      ]
+
+  pub run_is_over_streams : {R W : Type 0} (remaining : R → Option Bytes) (contents : W → Option Bytes) (before after : StreamState R W) (between : Memory)
+      (unused : AreUnused old (stream_view before)) → IsTrueSince remaining contents before after → Stays HoldsTrue old between → Stays HoldsTrue old new
+      → RunsSettings settings (devices (stream_view before) (memory_view old)) (memory_view between) (devices (stream_view after) (memory_view new)) status
+      → LeavesStreams remaining contents settings (stock_of old) before after (shown_by status new.kept after.talk)
+      ⊎ IsStopped settings (devices (stream_view before) (memory_view old)) (devices (stream_view after) (memory_view new)) status
+  run_is_over_streams remaining contents before after between unused true_since first all runs =
+      let talk_is : after.talk ≡ true_since.during =
+      true_since.grows ∙ ap (λ talk. talk ++ true_since.during) (ap (λ (l : LinkView). l.talk) unused.link_is) in
+      elim (run_is settings old new (stream_view before) (stream_view after) status unused between first all runs) [
+        | inl left ↦ inl (record {
+          tape = heard after.talk;
+          gave = subst (λ talk. Consumes (remaining before.reader) (remaining after.reader) (bytes_of (heard talk))) (sym talk_is) true_since.gave;
+          took = subst (λ talk. Appends (contents before.writer) (contents after.writer) (sent talk)) (sym talk_is) (true_since.took left.sound);
+          is = left.is;
+        })
+        | inr stopped ↦ inr stopped
+      ]

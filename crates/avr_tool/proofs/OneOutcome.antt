@@ -1,5 +1,5 @@
 -- What a run leaves over known files and a known tape.
-use Rattle.std.proofs.Common.{◌≡◌, ◌∙◌, ◌+◌, ℕ, sym, ap, refl, arith, List, [], ◌∷◌, ◌++◌, map, append-nil, replicate, Option, Some, None}
+use Rattle.std.proofs.Common.{◌≡◌, ◌∙◌, ◌+◌, ℕ, sym, ap, refl, arith, List, [], ◌∷◌, ◌++◌, append_assoc, map, append-nil, replicate, Option, Some, None}
 use Rattle.std.proofs.lemmas.List.{replicate-append-replicate}
 use Rattle.avr_cli.specs.declared.settings.Settings.{Settings}
 use Rattle.avr_desk.specs.Memory.{Stock}
@@ -24,16 +24,16 @@ some_is : (a b : Outcome) → ◌≡◌ {A = Option Outcome} (Some a) (Some b) �
 some_is a b e = cc
 
 -- as many ends as either asks for, in whichever order
-ends_either : (a b : ℕ) → replicate a End ++ (replicate b End ++ []) ≡ replicate b End ++ (replicate a End ++ [])
-ends_either a b =
+ends_either : (tape : Tape) (a b : ℕ) → (tape ++ replicate a End) ++ replicate b End ≡ (tape ++ replicate b End) ++ replicate a End
+ends_either tape a b =
     let sum : a + b ≡ b + a = omega arith in
-    ap (λ (t : Tape). replicate a End ++ t) (append-nil (replicate b End)) ∙ replicate-append-replicate a b End ∙ ap (λ (n : ℕ). replicate n End) sum
-    ∙ sym (replicate-append-replicate b a End) ∙ ap (λ (t : Tape). replicate b End ++ t) (sym (append-nil (replicate a End)))
+    append_assoc tape (replicate a End) (replicate b End) ∙ ap (λ (t : Tape). tape ++ t) (replicate-append-replicate a b End ∙ ap (λ (n : ℕ). replicate n End) sum
+    ∙ sym (replicate-append-replicate b a End)) ∙ sym (append_assoc tape (replicate b End) (replicate a End))
 
 pub one_outcome : (s : Settings) (stock : Stock) (tape : Tape) (a b : Outcome) → Leaves s stock tape a → Leaves s stock tape b → a ≡ b
 one_outcome s stock tape a b first second =
-    some_is a b (sym (first.is (replicate second.ends End ++ [])) ∙ ap (λ t. outcome_of (run_of s stock (tape ++ t))) (ends_either first.ends second.ends)
-    ∙ second.is (replicate first.ends End ++ []))
+    some_is a b (sym (first.is (replicate second.ends End)) ∙ ap (λ t. outcome_of (run_of s stock t)) (ends_either tape first.ends second.ends)
+    ∙ second.is (replicate first.ends End))
 
 -- ---- more of a tape changes nothing of what came to its end
 
@@ -83,10 +83,13 @@ worked_over stock more =
     ∙ ap (λ (o : Outcome). Some o) (worked_left (run worked_settings [] worked_answers).events (sent_due []) (said_due []))
 
 pub worked_leaves : (stock : Stock) → Leaves worked_settings stock worked_answers worked_outcome
-worked_leaves stock = record { ends = 0; is = worked_over stock }
+worked_leaves stock = record {
+  ends = 0;
+  is = λ more. ap (λ (t : Tape). outcome_of (run_of worked_settings stock (t ++ more))) (append-nil worked_answers) ∙ worked_over stock more;
+}
 
 absent_over : (tape : Tape) → outcome_of (run_of absent_settings no_stock tape) ≡ Some absent_outcome
 absent_over tape = refl
 
 pub absent_leaves : (tape : Tape) → Leaves absent_settings no_stock tape absent_outcome
-absent_leaves tape = record { ends = 0; is = λ more. absent_over (tape ++ more) }
+absent_leaves tape = record { ends = 0; is = λ more. absent_over ((tape ++ []) ++ more) }

@@ -199,5 +199,5 @@ pub record OverAnyLink (plan : Plan) (p q : Programmer) (turns : List Turn) (byt
 
 -- ---- 8. From bytes to bytes: specs/InMemory
 --
--- `Leaves`: over files, a standard input and a tape that are known, the status, the bytes sent, the messages, the output
--- and the files made are a function of the settings and these; no device is in it.
+-- `Leaves`: over files, a standard input and a tape that are known, the status, the bytes sent, the messages, the
+-- output and the files made are a function of the settings and these; no device is in it.

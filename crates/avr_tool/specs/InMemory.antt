@@ -1,16 +1,17 @@
 -- FROM BYTES TO BYTES. What a run leaves whose files, standard input and answers are known: a function of these, and
 -- nothing of devices is in it.
+use Rattle.std.specs.Io.KnownBytes.{Appends, Consumes}
 use Rattle.std.specs.Prelude.{◌≡◌, ℕ, List, [], ◌++◌, replicate, Option, Some, None}
 use Rattle.avr_cli.specs.declared.settings.Settings.{Settings}
 use Rattle.avr_desk.specs.Memory.{Memory, Stock}
-use Rattle.avr_desk.specs.Record.{Bytes, all_files, nothing_kept}
+use Rattle.avr_desk.specs.Record.{Bytes, Record, all_files, nothing_kept}
 use Rattle.avr_desk.specs.Said.{Saying, after_all}
 use Rattle.avr_desk.specs.declared.record.Writing.{Writing}
 use Rattle.avr_plan.specs.FilesRead.{files_give, files_read}
 use Rattle.stk_host.specs.Dialog.{Event, Played, bytes_sent, sayings}
-use Rattle.stk_host.specs.Links.{TapeState}
-use Rattle.stk_host.specs.Talk.{sent}
-use Rattle.stk_host.specs.Tape.{Tape}
+use Rattle.stk_host.specs.Links.{StreamState}
+use Rattle.stk_host.specs.Talk.{LinkView, Talk, sent}
+use Rattle.stk_host.specs.Tape.{Tape, bytes_of}
 use Rattle.stk_host.specs.declared.link.Item.TheVariants.{End}
 use Rattle.avr_tool.specs.Headline.{run}
 
@@ -47,23 +48,35 @@ left_at events (Some end) = Some (left_by events end.0)
 abbrev pub outcome_of : Played Saying ℕ → Option Outcome
 outcome_of p = left_at p.events p.outcome
 
--- The run of these files and this tape leaves this. Behind the last item of the tape there come ends, as many as it
--- asks for, and whatever more might follow changes nothing.
+-- The run of these files over this tape leaves this, whatever more might follow on it.
+abbrev pub IsLeft : Settings → Stock → Tape → Outcome → Type 0
+IsLeft settings stock tape outcome = (more : Tape) → outcome_of (run_of settings stock (tape ++ more)) ≡ Some outcome
+
+-- The same of a tape behind whose last item there come ends, as many as the run asks for.
 pub record Leaves (settings : Settings) (stock : Stock) (tape : Tape) (outcome : Outcome) : Type 0 where
   pub ends : ℕ
-  pub is : (more : Tape) → outcome_of (run_of settings stock (tape ++ (replicate ends End ++ more))) ≡ Some outcome
+  pub is : IsLeft settings stock (tape ++ replicate ends End) outcome
 
--- nothing has passed over a desk and a link
-pub record AreUnused (desk : Memory) (link : TapeState) : Type 0 where
+-- And of a reader and a writer: some tape was heard, whose bytes are those that the reader gave, where it is known
+-- which these are; and the writer took what was sent. (Where a reader is silent or ends, its bytes don't tell.)
+pub record LeavesStreams {R W : Type 0} (remaining : R → Option Bytes) (contents : W → Option Bytes)
+    (settings : Settings) (stock : Stock) (old new : StreamState R W) (outcome : Outcome) : Type 0 where
+  pub tape : Tape
+  pub gave : Consumes (remaining old.reader) (remaining new.reader) (bytes_of tape)
+  pub took : Appends (contents old.writer) (contents new.writer) outcome.sent
+  pub is : IsLeft settings stock tape outcome
+
+-- nothing has passed over a desk and a link, which never failed
+pub record AreUnused (desk : Memory) (link : LinkView) : Type 0 where
   pub desk_is : desk.kept ≡ nothing_kept
-  pub link_is : link.talk ≡ []
+  pub link_is : link ≡ record { talk = []; failures = 0 }
 
--- what a run with this status has left, by all that a desk and a link show over which nothing else has passed
-abbrev pub shown_by : ℕ → Memory → TapeState → Outcome
-shown_by status desk link = record {
+-- what a run with this status has left, by all that a desk keeps and that passed over a link
+abbrev pub shown_by : ℕ → Record → Talk → Outcome
+shown_by status kept talk = record {
   status = status;
-  sent = sent link.talk;
-  messages = desk.kept.messages;
-  output = desk.kept.output;
-  files = all_files desk.kept;
+  sent = sent talk;
+  messages = kept.messages;
+  output = kept.output;
+  files = all_files kept;
 }

@@ -56,7 +56,7 @@ pub use avr_plan::{Plan, Task, plan};
 pub use avr_session::drive;
 pub use of_port::{run_emu, run_net, serve, serve_net, serve_on};
 pub use program::{run_program, run_words};
-pub use running::{run, run_in_memory, run_streams, run_wired};
+pub use running::{run, run_in_memory, run_streams, run_streams_in_memory, run_wired};
 // parts, their chips and what is in their memories
 pub use avr_image::Image;
 pub use avr_part::{Chip, Mem, Part, PartFault, Parts};

@@ -6,7 +6,7 @@ ghost use Rattle.avr_desk.specs.Memory.{memory_view, stock_of};
 ghost use Rattle.avr_desk.specs.Truth.{HoldsTrue};
 ghost use Rattle.avr_session.specs.Runs.{devices};
 ghost use Rattle.avr_tool.specs.Headline.{IsNew, IsRun, IsStopped, RunsWired};
-ghost use Rattle.avr_tool.specs.InMemory.{AreUnused, Leaves, shown_by};
+ghost use Rattle.avr_tool.specs.InMemory.{AreUnused, Leaves, LeavesStreams, shown_by};
 ghost use Rattle.stk_host.specs.Links.{IsOfTape, IsTrueSince, stream_view, tape_view};
 ghost use Rattle.ghosts.specs.Stays.{Stays};
 
@@ -66,14 +66,34 @@ pub fn run_in_memory(
     desk: &mut MemDesk,
     tape: &mut TapeLink,
 ) -> u8
-    requires unused { AreUnused desk.old tape.old }
-    ensures leaves { Leaves settings.now (stock_of desk.old) tape.old.left (shown_by result desk.new tape.new)
+    requires unused { AreUnused desk.old (tape_view tape.old) }
+    ensures leaves { Leaves settings.now (stock_of desk.old) tape.old.left
+        (shown_by result desk.new.kept tape.new.talk)
         ⊎ IsStopped settings.now (devices (tape_view tape.old) (memory_view desk.old))
         (devices (tape_view tape.new) (memory_view desk.new)) result }
     ensures comes { Stays IsOfTape tape.old tape.new }
     ensures stays { Stays HoldsTrue desk.old desk.new }
 {
     run_over(alloc, settings, desk, tape)
+}
+
+/// The same over a reader and a writer, as a slice of bytes and a `Vec`: what is left is a function of the settings,
+/// the files and what came from the reader, and the writer has taken what was sent.
+pub fn run_streams_in_memory<R: Read + Drop, W: Write + Drop>(
+    alloc: Global,
+    settings: &Settings,
+    desk: &mut MemDesk,
+    streams: &mut StreamLink<R, W>,
+) -> u8
+    requires unused { AreUnused desk.old (stream_view streams.old) }
+    ensures leaves { LeavesStreams R.remaining W.contents settings.now (stock_of desk.old) streams.old streams.new
+        (shown_by result desk.new.kept streams.new.talk)
+        ⊎ IsStopped settings.now (devices (stream_view streams.old) (memory_view desk.old))
+        (devices (stream_view streams.new) (memory_view desk.new)) result }
+    ensures tells { IsTrueSince R.remaining W.contents streams.old streams.new }
+    ensures stays { Stays HoldsTrue desk.old desk.new }
+{
+    run_over(alloc, settings, desk, streams)
 }
 
 /// Runs what the settings ask for over a wire to the emulated programmer, whatever its line loses, delays and spoils.

@@ -71,6 +71,15 @@ fn answer_event(reader: &FrameReader, event: Event, programmer: &mut Programmer,
 ///
 /// A good frame is obeyed, and a frame whose XOR is wrong is answered with the body `B0 C1`. An answer carries the
 /// number of its frame, whatever the numbers before it were. Only the part of a frame that has come is held.
+///
+/// ```text
+/// let chip = Chip::fresh(alloc, Parts::none().find("t85")?)?;
+/// let mut emulator = Emulator::new(chip);
+/// let mut answer = ArrayVec::new();
+/// let used = emulator.feed(b"\x1B\x01\x00\x01\x0E\x01\x14", &mut answer);
+/// assert_eq!(rt; used, 7);
+/// assert!(rt; answer.as_slice() == b"\x1B\x01\x00\x0B\x0E\x01\x00\x08STK500_2\x02".as_slice());
+/// ```
 #[derive(Drop)]
 pub struct Emulator {
     reader: FrameReader,
@@ -87,6 +96,12 @@ impl Model for Emulator {
 
 impl Emulator {
     /// A programmer with this chip, out of programming mode, that was fed nothing.
+    ///
+    /// ```text
+    /// let chip = Chip::fresh(alloc, Parts::none().find("t85")?)?;
+    /// let emulator = Emulator::new(chip);
+    /// assert!(rt; emulator.chip().byte(Mem::Flash, 0) == Some(0xFF));
+    /// ```
     pub fn new(chip: Chip) -> Emulator
         ensures held { result.held ≡ [] }
         ensures programmer { result.programmer ≡ fresh_programmer chip }
@@ -99,6 +114,11 @@ impl Emulator {
     }
 
     /// The chip, as it is after the frames so far.
+    ///
+    /// ```text
+    /// let chip = Chip::fresh(alloc, Parts::none().find("t85")?)?;
+    /// assert!(rt; Emulator::new(chip).chip().byte(Mem::Signature, 0) == Some(0x1E));
+    /// ```
     pub fn chip(&self) -> &Chip
         ensures { result.now ≡ self.now.programmer.chip }
     {
@@ -107,6 +127,15 @@ impl Emulator {
 
     /// Uses bytes up to the end of the first frame that is answered, whose answer `out` becomes, and says how many.
     /// Where no frame ends all bytes are used, and `out` is empty.
+    ///
+    /// ```text
+    /// let chip = Chip::fresh(alloc, Parts::none().find("t85")?)?;
+    /// let mut emulator = Emulator::new(chip);
+    /// let mut answer = ArrayVec::new();
+    /// let spoiled = b"\x1B\x01\x00\x01\x0E\x01\x15";
+    /// assert_eq!(rt; emulator.feed(spoiled, &mut answer), 7);
+    /// assert!(rt; answer.as_slice() == b"\x1B\x01\x00\x02\x0E\xB0\xC1\x67".as_slice());
+    /// ```
     pub fn feed(&mut self, piece: &[u8], out: &mut ArrayVec<u8, LARGEST_FRAME>) -> usize
         ensures within { result ≤ length piece.now }
         ensures all { out.new.items ≡ [] → result ≡ length piece.now }

@@ -66,6 +66,11 @@ fn has_good_frame(noise: &[u8]) -> bool
 /// left.
 ///
 /// The noise of every [`crate::Fate::AnswerSpoiled`] of a [`crate::Wired`] is lawful, as its maker sees to.
+///
+/// ```text
+/// assert!(rt; noise_is_lawful(b"\xFF\x1B\x01"));
+/// assert!(rt; !noise_is_lawful(b"\x1B\x01\x00\x02\x0E\x01\x00\x17"));
+/// ```
 pub fn noise_is_lawful(noise: &[u8]) -> bool
     ensures { IsTrue result ↔ IsLawful noise.now }
 {

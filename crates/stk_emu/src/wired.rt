@@ -89,6 +89,15 @@ fn consume(waits: &mut Vec<Option<u8>>, at: usize, count: usize) -> usize
 
 impl Wired {
     /// A wire to a programmer with this chip, out of programming mode, over which nothing has passed.
+    ///
+    /// ```text
+    /// let part = Parts::none().find("t85")?;
+    /// let chip = Chip::fresh(alloc, part.copied())?;
+    /// let mut fates = Vec::new(alloc);
+    /// fates.push(Fate::LostCommand)?;
+    /// let mut wire = Wired::new(alloc, chip, fates);
+    /// Host::new(&part).open(&mut wire, false)?;
+    /// ```
     pub fn new(alloc: Global, chip: Chip, fates: Vec<Fate>) -> Wired
         requires { AreLawful fates.items }
         ensures held { result.held ≡ [] }
@@ -110,6 +119,12 @@ impl Wired {
     }
 
     /// The chip, as it is after all whole frames that were sent.
+    ///
+    /// ```text
+    /// let chip = Chip::fresh(alloc, Parts::none().find("t85")?)?;
+    /// let wire = Wired::new(alloc, chip, Vec::new(alloc));
+    /// assert!(rt; wire.chip().byte(Mem::Flash, 0) == Some(0xFF));
+    /// ```
     pub fn chip(&self) -> &Chip
         ensures { result.now ≡ self.now.wire.programmer.chip }
     {
@@ -117,6 +132,13 @@ impl Wired {
     }
 
     /// The chip, as all whole frames that were sent have left it.
+    ///
+    /// ```text
+    /// let chip = Chip::fresh(alloc, Parts::none().find("t85")?)?;
+    /// let wire = Wired::new(alloc, chip, Vec::new(alloc));
+    /// let chip = wire.into_chip();
+    /// assert!(rt; chip.byte(Mem::Flash, 0) == Some(0xFF));
+    /// ```
     pub fn into_chip(self) -> Chip
         ensures { result ≡ self.wire.programmer.chip }
     {
@@ -125,6 +147,12 @@ impl Wired {
     }
 
     /// How many calls have failed so far.
+    ///
+    /// ```text
+    /// let chip = Chip::fresh(alloc, Parts::none().find("t85")?)?;
+    /// let wire = Wired::new(alloc, chip, Vec::new(alloc));
+    /// assert_eq!(rt; wire.failures(), 0);
+    /// ```
     pub fn failures(&self) -> u64
         ensures { result ≡ self.now.failures }
     {
@@ -132,6 +160,13 @@ impl Wired {
     }
 
     /// The bytes sent.
+    ///
+    /// ```text
+    /// let chip = Chip::fresh(alloc, Parts::none().find("t85")?)?;
+    /// let mut wire = Wired::new(alloc, chip, Vec::new(alloc));
+    /// wire.send(b"\x1B")?;
+    /// assert!(rt; wire.sent() == b"\x1B".as_slice());
+    /// ```
     pub fn sent(&self) -> &[u8]
         ensures { result.now ≡ talk.sent self.now.talk }
     {

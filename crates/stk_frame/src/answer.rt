@@ -26,6 +26,10 @@ pub enum FrameFault {
 
 impl FrameFault {
     /// The fault's number.
+    ///
+    /// ```text
+    /// assert_eq!(rt; FrameFault::CheckSum.number(), 3);
+    /// ```
     pub fn number(&self) -> u8
         ensures { result ≡ frame_fault_number self.now }
     {
@@ -58,6 +62,11 @@ pub enum Shape {
 
 impl Command<'_> {
     /// What follows the first status of an answer to this command.
+    ///
+    /// ```text
+    /// assert_eq!(rt; Command::SignOn.shape(), Shape::Name);
+    /// assert_eq!(rt; Command::read_flash(256).shape(), Shape::Closed(256));
+    /// ```
     pub fn shape(&self) -> Shape
         ensures { result ≡ shape self.now }
     {
@@ -79,6 +88,11 @@ impl Command<'_> {
 impl Shape {
     /// The data among what follows the first status: WrongLength where that has another length, and
     /// Status where the last status isn't 00.
+    ///
+    /// ```text
+    /// assert!(rt; Shape::Closed(1).data_in(&[0x62, 0x00])? == [0x62].as_slice());
+    /// assert!(rt; Shape::Closed(1).data_in(&[0x62, 0xC0]).err() == Some(FrameFault::Status(0xC0)));
+    /// ```
     pub fn data_in<'a>(&self, more: &'a [u8]) -> Result<&'a [u8], FrameFault>
         ensures judged { MatchResult result (λ found. data_of self.now more.now ≡ Ok found.now)
             (λ fault. data_of self.now more.now ≡ Err fault) }
@@ -122,6 +136,13 @@ impl<'a> Answer<'a> {
     /// another first byte than the command's, or none, is WrongCommand; one byte alone is WrongLength;
     /// a second byte other than 00 is Status; a length other than the command's is WrongLength; a last
     /// status other than 00, where the command has one, is Status.
+    ///
+    /// ```text
+    /// let answer = Answer::read(&Command::SignOn, b"\x01\x00\x08STK500_2")?;
+    /// assert!(rt; answer.data == b"STK500_2".as_slice());
+    /// let refusal = Answer::read(&Command::erase(), &[0xB0, 0xC1]);
+    /// assert!(rt; refusal.err() == Some(FrameFault::CheckSum));
+    /// ```
     pub fn read(command: &Command<'_>, body: &'a [u8]) -> Result<Answer<'a>, FrameFault>
         ensures judged { MatchResult result (λ answer. judge command.now body.now ≡ Ok answer.data.now)
             (λ fault. judge command.now body.now ≡ Err fault) }

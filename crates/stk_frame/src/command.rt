@@ -27,6 +27,11 @@ impl<'a> Model for Data<'a> {
 
 impl<'a> Data<'a> {
     /// Data of these bytes.
+    ///
+    /// ```text
+    /// let data = Data::new(&[0xAC, 0x53]);
+    /// assert!(rt; data.bytes() == [0xAC, 0x53].as_slice());
+    /// ```
     pub fn new(bytes: &'a [u8]) -> Data<'a>
         ensures { result ≡ bytes.now }
     {
@@ -34,6 +39,10 @@ impl<'a> Data<'a> {
     }
 
     /// The bytes.
+    ///
+    /// ```text
+    /// assert!(rt; Data::new(b"AVR").bytes() == b"AVR".as_slice());
+    /// ```
     pub fn bytes(&self) -> &'a [u8]
         ensures { result.now ≡ self.now }
     {
@@ -154,6 +163,10 @@ pub enum Command<'a> {
 
 impl Command<'_> {
     /// The command's byte.
+    ///
+    /// ```text
+    /// assert_eq!(rt; Command::SignOn.code(), 0x01);
+    /// ```
     pub fn code(&self) -> u8
         ensures { result ≡ code self.now }
     {

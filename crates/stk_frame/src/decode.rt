@@ -231,6 +231,14 @@ fn with_fields(code: u8, fields: &[u8]) -> Option<Command<'_>>
 
 impl<'a> Command<'a> {
     /// The command whose body these bytes are; None where they are no command's.
+    ///
+    /// ```text
+    /// let Some(Command::LoadAddress { address }) = Command::read(&[0x06, 0x80, 0x00, 0x01, 0x00]) else {
+    ///     return Ok(());
+    /// };
+    /// assert_eq!(rt; address, 0x8000_0100);
+    /// assert!(rt; Command::read(&[0x04]).is_none());
+    /// ```
     pub fn read(bytes: &'a [u8]) -> Option<Command<'a>>
         ensures value { result ≡ command_of bytes.now }
         ensures body { (command : Command) → FieldsFit command → (result ≡ Some command) ↔ (body command ≡ bytes.now) }

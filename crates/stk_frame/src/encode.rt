@@ -126,6 +126,12 @@ impl Command<'_> {
 
     /// Makes `out` the frame that carries the command under the sequence number `seq`. The bytes that the command lends
     /// are copied into the frame and nowhere else.
+    ///
+    /// ```text
+    /// let mut out = ArrayVec::new();
+    /// Command::SignOn.put_frame(1, &mut out);
+    /// assert!(rt; out.as_slice() == [0x1B, 0x01, 0x00, 0x01, 0x0E, 0x01, 0x14].as_slice());
+    /// ```
     pub fn put_frame(&self, seq: u8, out: &mut ArrayVec<u8, LARGEST_FRAME>)
         requires { length (body self.now) ≤ LARGEST_BODY }
         ensures { out.new.items ≡ frame seq (body self.now) }
@@ -137,6 +143,12 @@ impl Command<'_> {
 
     /// Makes `out` the command's body: its byte, and its fields in their order. Counts and addresses
     /// have their highest byte first.
+    ///
+    /// ```text
+    /// let mut body = ArrayVec::new();
+    /// Command::leave().body(&mut body);
+    /// assert!(rt; body.as_slice() == [0x11, 0x01, 0x01].as_slice());
+    /// ```
     pub fn body(&self, out: &mut ArrayVec<u8, LARGEST_BODY>)
         requires { length (body self.now) ≤ LARGEST_BODY }
         ensures body { out.new.items ≡ body self.now }

@@ -44,6 +44,12 @@ pub(crate) fn seal(out: &mut ArrayVec<u8, LARGEST_FRAME>)
 ///
 /// A frame is the start byte `1B`, the number, the body's size in two bytes (the high one first),
 /// the token `0E`, the body, and a byte that makes the XOR of all bytes 0.
+///
+/// ```text
+/// let mut out = ArrayVec::new();
+/// put_frame(1, &[0x01], &mut out);
+/// assert!(rt; out.as_slice() == [0x1B, 0x01, 0x00, 0x01, 0x0E, 0x01, 0x14].as_slice());
+/// ```
 pub fn put_frame(seq: u8, body: &[u8], out: &mut ArrayVec<u8, LARGEST_FRAME>)
     requires some { 0 < length body.now }
     requires fits { length body.now ≤ LARGEST_BODY }

@@ -62,6 +62,13 @@ fn programming<'a>(cmd1: u8, cmd2: u8, cmd3: u8, bytes: &'a [u8]) -> ProgramBloc
 
 impl<'a> Command<'a> {
     /// Turns programming mode on, and tests that the part is in step.
+    ///
+    /// ```text
+    /// let mut body = ArrayVec::new();
+    /// Command::enter().body(&mut body);
+    /// let due = [0x10, 0xC8, 0x64, 0x19, 0x20, 0x00, 0x53, 0x03, 0xAC, 0x53, 0x00, 0x00];
+    /// assert!(rt; body.as_slice() == due.as_slice());
+    /// ```
     pub fn enter() -> Command<'a>
         ensures value { result ≡ enter }
         ensures bytes { body result ≡ CMD_ENTER_PROGMODE_ISP ∷ 0xC8 ∷ 0x64 ∷ 0x19 ∷ 0x20 ∷ 0x00 ∷ 0x53 ∷ 0x03 ∷ 0xAC
@@ -80,6 +87,12 @@ impl<'a> Command<'a> {
     }
 
     /// Turns programming mode off.
+    ///
+    /// ```text
+    /// let mut body = ArrayVec::new();
+    /// Command::leave().body(&mut body);
+    /// assert!(rt; body.as_slice() == [0x11, 0x01, 0x01].as_slice());
+    /// ```
     pub fn leave() -> Command<'a>
         ensures value { result ≡ leave }
         ensures bytes { body result ≡ CMD_LEAVE_PROGMODE_ISP ∷ 0x01 ∷ 0x01 ∷ [] }
@@ -91,6 +104,12 @@ impl<'a> Command<'a> {
     }
 
     /// Erases the chip.
+    ///
+    /// ```text
+    /// let mut body = ArrayVec::new();
+    /// Command::erase().body(&mut body);
+    /// assert!(rt; body.as_slice() == [0x12, 0x09, 0x00, 0xAC, 0x80, 0x00, 0x00].as_slice());
+    /// ```
     pub fn erase() -> Command<'a>
         ensures value { result ≡ erase }
         ensures bytes { body result ≡ CMD_CHIP_ERASE_ISP ∷ 0x09 ∷ 0x00 ∷ 0xAC ∷ 0x80 ∷ 0x00 ∷ 0x00 ∷ [] }
@@ -103,6 +122,13 @@ impl<'a> Command<'a> {
     }
 
     /// Programs a page of flash with these bytes, at the address that was loaded.
+    ///
+    /// ```text
+    /// let mut body = ArrayVec::new();
+    /// Command::program_page(&[0x0C, 0x94]).body(&mut body);
+    /// let due = [0x13, 0x00, 0x02, 0xC1, 0x0A, 0x40, 0x4C, 0x20, 0xFF, 0xFF, 0x0C, 0x94];
+    /// assert!(rt; body.as_slice() == due.as_slice());
+    /// ```
     pub fn program_page(bytes: &'a [u8]) -> Command<'a>
         requires { length bytes.now ≤ 265 }
         ensures value { result ≡ program_page bytes.now }
@@ -113,6 +139,12 @@ impl<'a> Command<'a> {
     }
 
     /// Reads so many bytes of flash from the address that was loaded on.
+    ///
+    /// ```text
+    /// let mut body = ArrayVec::new();
+    /// Command::read_flash(256).body(&mut body);
+    /// assert!(rt; body.as_slice() == [0x14, 0x01, 0x00, 0x20].as_slice());
+    /// ```
     pub fn read_flash(count: u16) -> Command<'a>
         ensures value { result ≡ read_flash_block count }
         ensures bytes { body result ≡ CMD_READ_FLASH_ISP ∷ (big_bytes 2 count ++ 0x20 ∷ []) }
@@ -121,6 +153,13 @@ impl<'a> Command<'a> {
     }
 
     /// Programs a run of EEPROM bytes, at the address that was loaded.
+    ///
+    /// ```text
+    /// let mut body = ArrayVec::new();
+    /// Command::program_eeprom(&[0x2A]).body(&mut body);
+    /// let due = [0x15, 0x00, 0x01, 0xC1, 0x0A, 0xC1, 0xC2, 0xA0, 0xFF, 0xFF, 0x2A];
+    /// assert!(rt; body.as_slice() == due.as_slice());
+    /// ```
     pub fn program_eeprom(bytes: &'a [u8]) -> Command<'a>
         requires { length bytes.now ≤ 265 }
         ensures value { result ≡ program_eeprom_block bytes.now }
@@ -131,6 +170,12 @@ impl<'a> Command<'a> {
     }
 
     /// Reads so many bytes of EEPROM from the address that was loaded on.
+    ///
+    /// ```text
+    /// let mut body = ArrayVec::new();
+    /// Command::read_eeprom(4).body(&mut body);
+    /// assert!(rt; body.as_slice() == [0x16, 0x00, 0x04, 0xA0].as_slice());
+    /// ```
     pub fn read_eeprom(count: u16) -> Command<'a>
         ensures value { result ≡ read_eeprom_block count }
         ensures bytes { body result ≡ CMD_READ_EEPROM_ISP ∷ (big_bytes 2 count ++ 0xA0 ∷ []) }
@@ -139,6 +184,12 @@ impl<'a> Command<'a> {
     }
 
     /// Writes a fuse byte.
+    ///
+    /// ```text
+    /// let mut body = ArrayVec::new();
+    /// Command::program_fuse(Fuse::Low, 0xE2).body(&mut body);
+    /// assert!(rt; body.as_slice() == [0x17, 0xAC, 0xA0, 0x00, 0xE2].as_slice());
+    /// ```
     pub fn program_fuse(fuse: Fuse, value: u8) -> Command<'a>
         ensures value { result ≡ program_fuse fuse value }
         ensures bytes { body result ≡ CMD_PROGRAM_FUSE_ISP ∷ 0xAC ∷ write_address fuse ∷ 0x00 ∷ value ∷ [] }
@@ -149,6 +200,12 @@ impl<'a> Command<'a> {
     }
 
     /// Reads a fuse byte.
+    ///
+    /// ```text
+    /// let mut body = ArrayVec::new();
+    /// Command::read_fuse(Fuse::Low).body(&mut body);
+    /// assert!(rt; body.as_slice() == [0x18, 0x04, 0x50, 0x00, 0x00, 0x00].as_slice());
+    /// ```
     pub fn read_fuse(fuse: Fuse) -> Command<'a>
         ensures value { result ≡ read_fuse fuse }
         ensures bytes { body result ≡ CMD_READ_FUSE_ISP ∷ 0x04 ∷ read_instruction fuse }
@@ -160,6 +217,12 @@ impl<'a> Command<'a> {
     }
 
     /// Writes the lock byte.
+    ///
+    /// ```text
+    /// let mut body = ArrayVec::new();
+    /// Command::program_lock(0xFC).body(&mut body);
+    /// assert!(rt; body.as_slice() == [0x19, 0xAC, 0xE0, 0x00, 0xFC].as_slice());
+    /// ```
     pub fn program_lock(value: u8) -> Command<'a>
         ensures value { result ≡ program_lock value }
         ensures bytes { body result ≡ CMD_PROGRAM_LOCK_ISP ∷ 0xAC ∷ 0xE0 ∷ 0x00 ∷ value ∷ [] }
@@ -170,6 +233,12 @@ impl<'a> Command<'a> {
     }
 
     /// Reads the lock byte.
+    ///
+    /// ```text
+    /// let mut body = ArrayVec::new();
+    /// Command::read_lock().body(&mut body);
+    /// assert!(rt; body.as_slice() == [0x1A, 0x04, 0x58, 0x00, 0x00, 0x00].as_slice());
+    /// ```
     pub fn read_lock() -> Command<'a>
         ensures value { result ≡ read_lock }
         ensures bytes { body result ≡ CMD_READ_LOCK_ISP ∷ 0x04 ∷ 0x58 ∷ 0x00 ∷ 0x00 ∷ 0x00 ∷ [] }
@@ -181,6 +250,12 @@ impl<'a> Command<'a> {
     }
 
     /// Reads the signature's byte of this place, from 0 to 2.
+    ///
+    /// ```text
+    /// let mut body = ArrayVec::new();
+    /// Command::read_signature(1).body(&mut body);
+    /// assert!(rt; body.as_slice() == [0x1B, 0x04, 0x30, 0x00, 0x01, 0x00].as_slice());
+    /// ```
     pub fn read_signature(place: u8) -> Command<'a>
         ensures value { result ≡ read_signature place }
         ensures bytes { body result ≡ CMD_READ_SIGNATURE_ISP ∷ 0x04 ∷ 0x30 ∷ 0x00 ∷ place ∷ 0x00 ∷ [] }
@@ -192,6 +267,12 @@ impl<'a> Command<'a> {
     }
 
     /// Reads the calibration byte.
+    ///
+    /// ```text
+    /// let mut body = ArrayVec::new();
+    /// Command::read_calibration().body(&mut body);
+    /// assert!(rt; body.as_slice() == [0x1C, 0x04, 0x38, 0x00, 0x00, 0x00].as_slice());
+    /// ```
     pub fn read_calibration() -> Command<'a>
         ensures value { result ≡ read_calibration }
         ensures bytes { body result ≡ CMD_READ_OSCCAL_ISP ∷ 0x04 ∷ 0x38 ∷ 0x00 ∷ 0x00 ∷ 0x00 ∷ [] }

@@ -29,6 +29,14 @@ pub enum Event {
 ///
 /// Only the part of a frame that has come is held, or the whole frame that has just ended. A reader
 /// is seen as these bytes.
+///
+/// ```text
+/// let mut reader = FrameReader::new();
+/// assert!(rt; reader.feed(&[0xFF, 0x1B, 0x01, 0x00]) == (4, Event::More));
+/// assert!(rt; reader.feed(&[0x01, 0x0E, 0x01, 0x14, 0x1B]) == (4, Event::Frame));
+/// assert_eq!(rt; reader.seq(), 1);
+/// assert!(rt; reader.body() == [0x01].as_slice());
+/// ```
 #[derive(Drop)]
 pub struct FrameReader {
     held: ArrayVec<u8, LARGEST_FRAME>,
@@ -132,6 +140,11 @@ fn end_piece(held: &mut ArrayVec<u8, LARGEST_FRAME>) -> Event
 
 impl FrameReader {
     /// A reader of no bytes.
+    ///
+    /// ```text
+    /// let reader = FrameReader::new();
+    /// assert!(rt; reader.body().is_empty());
+    /// ```
     pub fn new() -> Self
         ensures { result ≡ [] }
     {
@@ -141,6 +154,13 @@ impl FrameReader {
     }
 
     /// Drops a part of a frame.
+    ///
+    /// ```text
+    /// let mut reader = FrameReader::new();
+    /// reader.feed(&[0x1B, 0x01, 0x00]);
+    /// reader.reset();
+    /// assert!(rt; reader.feed(&[0x01, 0x0E, 0x01, 0x14]) == (4, Event::More));
+    /// ```
     pub fn reset(&mut self)
         ensures { self.new ≡ [] }
     {
@@ -148,6 +168,12 @@ impl FrameReader {
     }
 
     /// The sequence number of the frame that has just ended.
+    ///
+    /// ```text
+    /// let mut reader = FrameReader::new();
+    /// reader.feed(&[0x1B, 0x2A, 0x00, 0x01, 0x0E, 0x01, 0x3F]);
+    /// assert_eq!(rt; reader.seq(), 0x2A);
+    /// ```
     pub fn seq(&self) -> u8
         requires { HoldsFrame self.now }
         ensures { result ≡ seq_of self.now }
@@ -156,6 +182,12 @@ impl FrameReader {
     }
 
     /// The body of the frame that has just ended.
+    ///
+    /// ```text
+    /// let mut reader = FrameReader::new();
+    /// reader.feed(&[0x1B, 0x01, 0x00, 0x01, 0x0E, 0x01, 0x14]);
+    /// assert!(rt; reader.body() == [0x01].as_slice());
+    /// ```
     pub fn body(&self) -> &[u8]
         ensures body { result.now ≡ body_of self.now }
         ensures fits { length result.now ≤ LARGEST_BODY }
@@ -188,6 +220,12 @@ impl FrameReader {
     }
 
     /// Takes bytes up to the end of the first frame that ends in the piece, or all of them.
+    ///
+    /// ```text
+    /// let mut reader = FrameReader::new();
+    /// let spoiled = [0x1B, 0x01, 0x00, 0x01, 0x0E, 0x01, 0x15];
+    /// assert!(rt; reader.feed(&spoiled) == (7, Event::Spoiled));
+    /// ```
     pub fn feed(&mut self, piece: &[u8]) -> (usize, Event)
         ensures within { result.0 ≤ length piece.now }
         ensures all { result.1 ≡ Event.More → result.0 ≡ length piece.now }

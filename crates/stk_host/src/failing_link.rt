@@ -33,6 +33,13 @@ impl<L> Model for FailingLink<L> {
 
 impl<L> FailingLink<L> {
     /// A link over `inner` whose call number `n`, from 1, fails (0: none), in pieces of at most `cut` bytes.
+    ///
+    /// ```text
+    /// let tape = TapeLink::new(alloc, Vec::new(alloc), 281);
+    /// let mut link = FailingLink::new(tape, 2, 281);
+    /// assert!(rt; link.send(b"\x1B").is_ok());
+    /// assert!(rt; link.send(b"\x1B").is_err());
+    /// ```
     pub fn new(inner: L, n: u64, cut: usize) -> Self
         requires { 0 < cut }
         ensures { result ≡ record { inner = inner; due = n; cut = cut; failed = 0 } }
@@ -46,6 +53,13 @@ impl<L> FailingLink<L> {
     }
 
     /// The inner link.
+    ///
+    /// ```text
+    /// let tape = TapeLink::new(alloc, Vec::new(alloc), 281);
+    /// let mut link = FailingLink::new(tape, 0, 281);
+    /// link.send(b"\x1B")?;
+    /// assert!(rt; link.inner().sent() == b"\x1B".as_slice());
+    /// ```
     pub fn inner(&self) -> &L
         ensures { result.now ≡ self.now.inner }
     {

@@ -24,6 +24,10 @@ pub enum StepFault {
 
 impl StepFault {
     /// The fault's number, which no later version changes: that of the [`HostFault`] that it is told as.
+    ///
+    /// ```text
+    /// assert_eq!(rt; StepFault::NoAnswer.number(), HostFault::NoAnswer.number());
+    /// ```
     pub fn number(&self) -> u8
         ensures { result ≡ host_fault_number (host_fault self.now) }
     {
@@ -94,6 +98,10 @@ pub enum HostFault {
 
 impl HostFault {
     /// The fault's number, which no later version changes.
+    ///
+    /// ```text
+    /// assert_eq!(rt; HostFault::ReadOnly(Mem::Signature).number(), 9);
+    /// ```
     pub fn number(&self) -> u8
         ensures { result ≡ host_fault_number self.now }
     {

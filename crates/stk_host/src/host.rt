@@ -138,6 +138,11 @@ fn lasting<T>(outcome: &Result<T, HostFault>) -> Option<HostFault>
 
 impl Host {
     /// A host that has said nothing, for work on this part.
+    ///
+    /// ```text
+    /// let part = Parts::none().find("m328p")?;
+    /// let host = Host::new(&part);
+    /// ```
     pub fn new(part: &Part) -> Self
         ensures { result ≡ record { part = part.now; progress = record { next = 1; unread = [] }; broken = None } }
     {
@@ -153,6 +158,14 @@ impl Host {
     ///
     /// Where the signature is another than the part's the fault is [`HostFault::WrongSignature`], unless `force` takes
     /// any.
+    ///
+    /// ```text
+    /// let part = Parts::none().find("m328p")?;
+    /// let chip = Chip::fresh(alloc, part.copied())?;
+    /// let mut wire = Wired::new(alloc, chip, Vec::new(alloc));
+    /// let signature = Host::new(&part).open(&mut wire, false)?;
+    /// assert!(rt; signature == [0x1E, 0x95, 0x0F]);
+    /// ```
     pub fn open<L: Link>(&mut self, link: &mut L, force: bool) -> Result<[u8; 3], HostFault>
         ensures calls { Calls (opening self.old.part.signature force) self.old self.new
             (L.view link.old) (L.view link.new) result }
@@ -169,6 +182,13 @@ impl Host {
     }
 
     /// Erases the chip: flash and lock, and EEPROM too unless the part's EESAVE fuse keeps it.
+    ///
+    /// ```text
+    /// let part = Parts::none().find("m328p")?;
+    /// let answers = b"\x1B\x01\x00\x02\x0E\x12\x00\x04";
+    /// let mut link = StreamLink::new(answers.as_slice(), Vec::new(alloc));
+    /// Host::new(&part).erase(&mut link)?;
+    /// ```
     pub fn erase<L: Link>(&mut self, link: &mut L) -> Result<(), HostFault>
         ensures calls { Calls erasing self.old self.new (L.view link.old) (L.view link.new) result }
         ensures stays { (fault : HostFault) → self.old.broken ≡ Some fault → link.new ≡ link.old }
@@ -188,6 +208,14 @@ impl Host {
     ///
     /// A memory that can't be written is [`HostFault::ReadOnly`], and nothing is sent. The image is no larger than the
     /// memory. The call never answers [`HostFault::Memory`].
+    ///
+    /// ```text
+    /// let part = Parts::none().find("m328p")?;
+    /// let image = parse_immediate(alloc, "0xE2", part.size_of(Mem::Lfuse))?;
+    /// let answers = b"\x1B\x01\x00\x03\x0E\x17\x00\x00\x00";
+    /// let mut link = StreamLink::new(answers.as_slice(), Vec::new(alloc));
+    /// Host::new(&part).write(&mut link, Mem::Lfuse, &image)?;
+    /// ```
     pub fn write<L: Link>(&mut self, link: &mut L, mem: Mem, image: &Image) -> Result<(), HostFault>
         requires { length image.now ≤ size_of mem self.old.part }
         ensures calls { Calls (writing self.old.part mem image.now) self.old self.new
@@ -210,6 +238,15 @@ impl Host {
     /// Reads a whole memory. The vector then holds its bytes and nothing else, and nothing at all after a fault.
     ///
     /// Its memory is taken before the first frame is sent; where it is refused the fault is [`HostFault::Memory`].
+    ///
+    /// ```text
+    /// let part = Parts::none().find("m328p")?;
+    /// let answers = b"\x1B\x01\x00\x04\x0E\x18\x00\x62\x00\x6A";
+    /// let mut link = StreamLink::new(answers.as_slice(), Vec::new(alloc));
+    /// let mut bytes = Vec::new(alloc);
+    /// Host::new(&part).read(&mut link, Mem::Lfuse, &mut bytes)?;
+    /// assert!(rt; bytes.as_slice() == [0x62].as_slice());
+    /// ```
     pub fn read<L: Link>(
         &mut self,
         link: &mut L,
@@ -243,6 +280,15 @@ impl Host {
     /// holds: the lowest at which they differ is told as [`HostFault::Differs`].
     ///
     /// Its memory is taken before the first frame is sent; where it is refused the fault is [`HostFault::Memory`].
+    ///
+    /// ```text
+    /// let part = Parts::none().find("m328p")?;
+    /// let image = parse_immediate(alloc, "0xE2", part.size_of(Mem::Lfuse))?;
+    /// let answers = b"\x1B\x01\x00\x04\x0E\x18\x00\x62\x00\x6A";
+    /// let mut link = StreamLink::new(answers.as_slice(), Vec::new(alloc));
+    /// let verified = Host::new(&part).verify(alloc, &mut link, Mem::Lfuse, &image);
+    /// assert!(rt; verified == Err(HostFault::Differs(Mem::Lfuse, 0, 0xE2, 0x62)));
+    /// ```
     pub fn verify<L: Link>(
         &mut self,
         alloc: Global,
@@ -271,6 +317,13 @@ impl Host {
     }
 
     /// Closes the session: leaves programming mode.
+    ///
+    /// ```text
+    /// let part = Parts::none().find("m328p")?;
+    /// let answers = b"\x1B\x01\x00\x02\x0E\x11\x00\x07";
+    /// let mut link = StreamLink::new(answers.as_slice(), Vec::new(alloc));
+    /// Host::new(&part).close(&mut link)?;
+    /// ```
     pub fn close<L: Link>(&mut self, link: &mut L) -> Result<(), HostFault>
         ensures calls { Calls closing self.old self.new (L.view link.old) (L.view link.new) result }
         ensures stays { (fault : HostFault) → self.old.broken ≡ Some fault → link.new ≡ link.old }

@@ -16,6 +16,10 @@ pub enum LinkFault {
 
 impl LinkFault {
     /// The fault's number, which no later version changes.
+    ///
+    /// ```text
+    /// assert_eq!(rt; LinkFault::Failed.number(), 1);
+    /// ```
     pub fn number(&self) -> u8
         ensures { result ≡ 1 }
     {
@@ -82,6 +86,12 @@ pub trait Link {
 /// Sends all of the bytes, in as many pieces as the link takes them.
 ///
 /// A link that takes none of them has failed; nothing is sent twice.
+///
+/// ```text
+/// let mut link = TapeLink::new(alloc, Vec::new(alloc), 2);
+/// send_all(&mut link, b"\x1B\x01\x00\x01\x0E\x01\x14")?;
+/// assert_eq!(rt; link.sent().len(), 7);
+/// ```
 pub fn send_all<L: Link>(link: &mut L, bytes: &[u8]) -> Result<(), LinkFault>
     ensures sends { SendsAll bytes.now (L.view link.old) (L.view link.new) result }
     ensures comes { Stays L.comes_of link.old link.new }

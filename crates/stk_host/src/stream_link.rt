@@ -112,6 +112,13 @@ fn hear_bytes<R: Read>(reader: &mut R, buffer: &mut [u8]) -> Result<Heard, LinkF
 
 impl<R, W> StreamLink<R, W> {
     /// A link that hears what the reader gives and sends what the writer takes.
+    ///
+    /// ```text
+    /// let mut link = StreamLink::new(b"\x1B".as_slice(), Vec::new(alloc));
+    /// let mut buffer = [0; 281];
+    /// assert!(rt; link.recv(&mut buffer)? == Heard::Bytes(1));
+    /// assert!(rt; link.recv(&mut buffer)? == Heard::End);
+    /// ```
     pub fn new(reader: R, writer: W) -> Self
         ensures { result ≡ record { reader = reader; writer = writer; failures = 0; talk = [] } }
     {
@@ -124,6 +131,11 @@ impl<R, W> StreamLink<R, W> {
     }
 
     /// How many calls have failed so far.
+    ///
+    /// ```text
+    /// let link = StreamLink::new(b"".as_slice(), Vec::<u8>::new(alloc));
+    /// assert_eq!(rt; link.failures(), 0);
+    /// ```
     pub fn failures(&self) -> u64
         ensures { result ≡ self.now.failures }
     {
@@ -131,6 +143,13 @@ impl<R, W> StreamLink<R, W> {
     }
 
     /// The reader and the writer, as the calls so far have left them.
+    ///
+    /// ```text
+    /// let mut link = StreamLink::new(b"".as_slice(), Vec::new(alloc));
+    /// link.send(b"\x1B")?;
+    /// let (_, sent) = link.into_inner();
+    /// assert!(rt; sent.as_slice() == b"\x1B".as_slice());
+    /// ```
     pub fn into_inner(self) -> (R, W)
         ensures reader { result.0 ≡ self.reader }
         ensures writer { result.1 ≡ self.writer }

@@ -91,6 +91,15 @@ fn item_count(heard: Heard) -> usize
 
 impl TapeLink {
     /// A link over these items, in pieces of at most `cut` bytes.
+    ///
+    /// ```text
+    /// let mut tape = Vec::new(alloc);
+    /// tape.push(Item::Byte(0x1B))?;
+    /// let mut link = TapeLink::new(alloc, tape, 281);
+    /// let mut buffer = [0; 281];
+    /// assert!(rt; link.recv(&mut buffer)? == Heard::Bytes(1));
+    /// assert!(rt; link.recv(&mut buffer)? == Heard::End);
+    /// ```
     pub fn new(alloc: Global, items: Vec<Item>, cut: usize) -> Self
         requires { 0 < cut }
         ensures { result ≡ record { left = items.items; cut = cut; talk = []; failures = 0 } }
@@ -105,6 +114,12 @@ impl TapeLink {
     }
 
     /// The bytes sent.
+    ///
+    /// ```text
+    /// let mut link = TapeLink::new(alloc, Vec::new(alloc), 281);
+    /// link.send(b"\x1B")?;
+    /// assert!(rt; link.sent() == b"\x1B".as_slice());
+    /// ```
     pub fn sent(&self) -> &[u8]
         ensures { result.now ≡ talk.sent self.now.talk }
     {
