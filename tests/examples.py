@@ -1,5 +1,5 @@
 #!/usr/bin/env python3
-"""Compiles and runs the examples in the documentation of the crates below the front door, as they stand there.
+"""Compiles and runs the examples in the documentation of these crates, as they stand there.
 
     tests/examples.py [CRATE ..]        needs `rt`
 
@@ -25,6 +25,7 @@ MORE = {
     "stk_frame": ["arrayvec::ArrayVec"],
     "stk_host": ["avr_image::{Image, parse_immediate}", "avr_part::{Chip, Mem, Parts}", "stk_emu::Wired"],
     "stk_emu": ["arrayvec::ArrayVec", "avr_part::{Chip, Mem, Parts}", "stk_host::{Host, Link}"],
+    "avr_tool": [],
 }
 
 FENCE = re.compile(r"\s*/// ?```")

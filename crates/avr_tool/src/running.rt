@@ -22,6 +22,16 @@ use stk_host::{Link, StreamLink, TapeLink};
 
 /// Plans what the settings ask for, runs it over a link, reports it at the desk, and answers the status: 0 where no
 /// fault came, else 1. What is refused is told before any frame is sent or file created.
+///
+/// ```text
+/// let settings = Settings::for_link(alloc, "m328p")?;
+/// let mut desk = MemDesk::new(alloc);
+/// let chip = Chip::fresh(alloc, Parts::none().find("m328p")?)?;
+/// let mut wire = Wired::new(alloc, chip, Vec::new(alloc));
+/// assert_eq!(rt; run(alloc, &settings, &mut desk, &mut wire), 0);
+/// let printed = b"avrstk: device signature = 1E 95 0F\navrstk: done\n";
+/// assert!(rt; desk.messages() == printed.as_slice());
+/// ```
 #[tactic(auto, using(crate::proofs::Joining::is_run))]
 pub fn run<D: Desk, L: Link>(alloc: Global, settings: &Settings, desk: &mut D, link: &mut L) -> u8
     ensures runs { IsRun settings.now (devices (L.view link.old) (D.view desk.old))
@@ -37,6 +47,14 @@ pub fn run<D: Desk, L: Link>(alloc: Global, settings: &Settings, desk: &mut D, l
 
 /// [`run`] over a reader and a writer. What the link keeps of the run, for proofs alone, is true: the bytes heard are
 /// those that the reader gave, and while it has never failed the bytes sent are those that the writer took.
+///
+/// ```text
+/// let settings = Settings::for_link(alloc, "m328p")?;
+/// let mut desk = MemDesk::new(alloc);
+/// let mut streams = StreamLink::new(b"".as_slice(), Vec::new(alloc));
+/// assert_eq!(rt; run_streams(alloc, &settings, &mut desk, &mut streams), 1);
+/// assert!(rt; desk.messages() == b"avrstk: error: link ended\n".as_slice());
+/// ```
 pub fn run_streams<D: Desk, R: Read + Drop, W: Write + Drop>(
     alloc: Global,
     settings: &Settings,
@@ -60,6 +78,15 @@ pub fn run_streams<D: Desk, R: Read + Drop, W: Write + Drop>(
 ///
 /// Nothing has passed over the desk and the link yet. Each file is read as it was before the run, also one that the run
 /// makes anew.
+///
+/// ```text
+/// let settings = Settings::for_link(alloc, "m328p")?;
+/// let mut desk = MemDesk::new(alloc);
+/// let mut tape = TapeLink::new(alloc, Vec::new(alloc), 281);
+/// assert_eq!(rt; run_in_memory(alloc, &settings, &mut desk, &mut tape), 1);
+/// assert!(rt; tape.sent() == b"\x1B\x01\x00\x01\x0E\x01\x14".as_slice());
+/// assert!(rt; desk.messages() == b"avrstk: error: link ended\n".as_slice());
+/// ```
 pub fn run_in_memory(
     alloc: Global,
     settings: &Settings,
@@ -79,6 +106,15 @@ pub fn run_in_memory(
 
 /// The same over a reader and a writer, as a slice of bytes and a `Vec`: what is left is a function of the settings,
 /// the files and what came from the reader, and the writer has taken what was sent.
+///
+/// ```text
+/// let settings = Settings::for_link(alloc, "m328p")?;
+/// let mut desk = MemDesk::new(alloc);
+/// let mut streams = StreamLink::new(b"".as_slice(), Vec::new(alloc));
+/// assert_eq!(rt; run_streams_in_memory(alloc, &settings, &mut desk, &mut streams), 1);
+/// let (_, sent) = streams.into_inner();
+/// assert!(rt; sent.as_slice() == b"\x1B\x01\x00\x01\x0E\x01\x14".as_slice());
+/// ```
 pub fn run_streams_in_memory<R: Read + Drop, W: Write + Drop>(
     alloc: Global,
     settings: &Settings,
@@ -100,6 +136,17 @@ pub fn run_streams_in_memory<R: Read + Drop, W: Write + Drop>(
 ///
 /// Nothing has passed over the wire yet. What is promised of the chip is so where it is of the plan's part; a chip of
 /// another part is met as any programmer is.
+///
+/// ```text
+/// let settings = Settings::for_link(alloc, "m328p")?;
+/// let mut desk = MemDesk::new(alloc);
+/// let chip = Chip::fresh(alloc, Parts::none().find("m328p")?)?;
+/// let mut fates = Vec::new(alloc);
+/// fates.push(Fate::LostCommand)?;
+/// let mut wire = Wired::new(alloc, chip, fates);
+/// assert_eq!(rt; run_wired(alloc, &settings, &mut desk, &mut wire), 0);
+/// assert_eq!(rt; wire.failures(), 0);
+/// ```
 pub fn run_wired<D: Desk>(alloc: Global, settings: &Settings, desk: &mut D, wire: &mut Wired) -> u8
     requires new { IsNew wire.old }
     ensures runs { RunsWired settings.now wire.old wire.new (D.view desk.old) (D.view desk.new) result }
