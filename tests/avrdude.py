@@ -23,7 +23,7 @@ import sys
 import threading
 from dataclasses import dataclass
 
-from cases import leave_out, run_cases, same, see
+from cases import PATIENCE, leave_out, run_cases, same, see
 from line import BadLine
 from program import Room, Server, has_avrdude
 
@@ -83,7 +83,7 @@ class Beside:
         """AVRDUDE's status and messages, and how the server ended."""
         with Server(self.room, "served.bin", part or self.name) as server:
             with self.asked(server.port, words) as client:
-                _, messages = client.communicate(timeout=120)
+                _, messages = client.communicate(timeout=PATIENCE)
             return client.returncode, messages, server.end()
 
     def by_this(self, words):
@@ -168,7 +168,7 @@ class Beside:
         peer = BadLine(self.room, fates, self.name)
         with self.asked(peer.port, words) as client:
             fates.give(client)
-            client.communicate(timeout=120)
+            client.communicate(timeout=PATIENCE)
         same(f"{self.name}: {memory}: killed at frame {frame}", (client.returncode, len(peer.end())), (-9, frame))
         chip, image = self.room.read("served.bin") or b"", self.flash + self.eeprom
         written = [at for at, byte in enumerate(chip[: len(image)]) if byte != 0xFF]
@@ -194,7 +194,7 @@ class Killing:
     def get(self, number, good):
         if number < self.frame:
             return good
-        self.given.wait(30)
+        self.given.wait(PATIENCE)
         self.client.kill()
         self.client.wait()
         return "lost answer"

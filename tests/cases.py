@@ -14,6 +14,10 @@ passed = 0
 failed = 0
 left = 0
 
+# the seconds that a script waits for what has to come, at most: an end for what hangs, also on a machine that stands
+# still for minutes; nothing is measured by it
+PATIENCE = 600
+
 # how much of what was found, and of what was wanted, is printed
 SHOWN = 600
 

@@ -21,7 +21,7 @@ import threading
 import time
 from pathlib import Path
 
-from cases import leave_out, named, run_cases, same, see
+from cases import PATIENCE, leave_out, named, run_cases, same, see
 from program import CHIP_FILE, FRAMES, PROGRAM, TOP, Room, Server, free_port, has_avrdude, lines
 
 room = Room()
@@ -103,7 +103,7 @@ def at_once():
         data = room.start([*EMULATED, "-U", "eeprom:w:0x77:m"])
         wanted = OLD
         for started, change in [(fuse, lambda it: with_fuse(it, 0x62)), (data, lambda it: it[:EEPROM] + b"\x77" + it[EEPROM + 1 :])]:
-            output, messages = started.communicate(timeout=60)
+            output, messages = started.communicate(timeout=PATIENCE)
             if started.returncode == 0:
                 good += 1
                 wanted = change(wanted)
@@ -126,7 +126,7 @@ def held_by_a_run():
     server = Server(room, "chip.bin", waits=False)
     same("the emulator served", server.end(), (1, b"", IN_USE))
     see("what is read", (room.folder / "pipe").read_bytes() == OLD[EEPROM:LFUSE])
-    holder.communicate(timeout=60)
+    holder.communicate(timeout=PATIENCE)
     see("the first run ends well", holder.returncode == 0)
     is_good("and then the other one", room.run(writes_fuse(0x62)))
     see("writes its fuse", room.read("chip.bin") == with_fuse(OLD, 0x62))
@@ -157,7 +157,7 @@ def refused_by_then():
             same("the caller hears", caller.recv(1), b"")
         same("the server says", server.end(), (1, b"", IN_USE))
     (room.folder / "pipe").read_bytes()
-    holder.communicate(timeout=60)
+    holder.communicate(timeout=PATIENCE)
     see("the run ends well", holder.returncode == 0)
 
 
@@ -194,7 +194,7 @@ def may_not_write(bare):
 
     def run():
         started = room.start(writes_fuse(0x62), **how)
-        output, messages = started.communicate(timeout=60)
+        output, messages = started.communicate(timeout=PATIENCE)
         return started.returncode, output, messages
 
     told = (1, b"", lines("error: chip.bin: cannot be written"))
@@ -242,7 +242,7 @@ def no_regular_file():
     with open(room.folder / "pipe", "wb") as given:
         back = os.open(room.folder / "pipe", os.O_RDONLY | os.O_NONBLOCK)
         given.write(OLD)
-    messages = started.communicate(timeout=60)[1]
+    messages = started.communicate(timeout=PATIENCE)[1]
     same("the run", (started.returncode, messages.splitlines()[-1]), (0, b"avrstk: done"))
     with open(back, "rb") as it:
         see("what it is given back", it.read() == with_fuse(OLD, 0x62))
@@ -276,7 +276,7 @@ def the_recipe():
     pasted = "\n".join([first, "server=$!", *(f"{it} || echo failed" for it in calls), "kill $server"])
     port = str(free_port())
     how = {"cwd": room.folder, "env": os.environ | {"AVRSTK": str(PROGRAM)}, "capture_output": True, "text": True}
-    ran = subprocess.run(["bash", "-c", pasted.replace("5000", port)], timeout=60, **how)
+    ran = subprocess.run(["bash", "-c", pasted.replace("5000", port)], timeout=PATIENCE, **how)
     see("each call succeeds", ran.returncode == 0 and "failed" not in ran.stdout, (ran.stdout, ran.stderr))
     see("the chip has the firmware", (room.read("chip.bin") or b"")[:2] == b"\x0c\x94")
 
@@ -293,7 +293,7 @@ def callers_that_reset():
         for value in range(0x60, 0x68):
             found = room.run(["-p", "m328p", "-P", f"net:127.0.0.1:{port}", "-U", f"lfuse:w:{value}:m"])
             see(f"fuse {value}", found[0] == 0, found)
-            with socket.create_connection(("127.0.0.1", int(port)), 30) as caller:
+            with socket.create_connection(("127.0.0.1", int(port)), PATIENCE) as caller:
                 caller.sendall(FRAMES[0])
                 see("an answer", caller.recv(1) == b"\x1b")
                 caller.setsockopt(socket.SOL_SOCKET, socket.SO_LINGER, struct.pack("ii", 1, 0))

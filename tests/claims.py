@@ -16,7 +16,7 @@ import subprocess
 import sys
 import time
 
-from cases import leave_out, named, run_cases, see
+from cases import PATIENCE, leave_out, named, run_cases, see
 from line import BadLine, Peer, frames_of
 from program import CHIP_FILE, PROGRAM, TOP, Room, Server, frame, has_avrdude, lines
 
@@ -246,7 +246,7 @@ def a_silence_is_a_second_without_a_byte():
     """A byte each quarter second: in more than three seconds the first frame isn't sent again."""
     peer = Trickle()
     started = room.start(["-p", "m328p", "-P", f"net:127.0.0.1:{peer.port}"])
-    started.communicate(timeout=60)
+    started.communicate(timeout=PATIENCE)
     heard = [it for it in peer.end() if it]
     see("one frame in three seconds", heard[:1] == [frame(1, 1)] and len(heard) == 1, heard)
 
@@ -256,7 +256,7 @@ def standard_streams_that_do_not_block():
     fcntl.fcntl(here, fcntl.F_SETFL, fcntl.fcntl(here, fcntl.F_GETFL) | os.O_NONBLOCK)
     begun = time.monotonic()
     words = [PROGRAM, "-p", "m328p", "-P", "stdio:"]
-    ran = subprocess.run(words, stdin=here, capture_output=True, timeout=60)
+    ran = subprocess.run(words, stdin=here, capture_output=True, timeout=PATIENCE)
     taken = time.monotonic() - begun
     os.close(here)
     os.close(other)
@@ -285,7 +285,7 @@ def standard_streams_that_block():
     started.stdin.flush()
     see("4,096 other bytes: sent again", started.stdout.read(7) == frame(3, 1))
     started.send_signal(signal.SIGINT)
-    found = (*started.communicate(timeout=60), started.returncode)
+    found = (*started.communicate(timeout=PATIENCE), started.returncode)
     see("Ctrl-C: no line, nothing more is sent", found == (b"", b"", -signal.SIGINT), found)
 
 
@@ -330,7 +330,7 @@ def ended_from_outside():
     while b"verified" not in started.stderr.readline():
         pass
     started.send_signal(signal.SIGINT)
-    started.communicate(timeout=30)
+    started.communicate(timeout=PATIENCE)
     see("emu: that is ended saves nothing", (started.returncode, room.read("chip.bin")) == (-signal.SIGINT, None))
 
 
@@ -459,7 +459,7 @@ def avrdude():
         with Server(room, "chip.bin") as server:
             words = ["avrdude", "-qq", "-c", "stk500v2", "-p", "m328p", "-P", f"net:127.0.0.1:{server.port}"]
             words += ["-U", f"flash:w:{update}"]
-            ran = subprocess.run(words, cwd=room.folder, capture_output=True, text=True, timeout=60)
+            ran = subprocess.run(words, cwd=room.folder, capture_output=True, text=True, timeout=PATIENCE)
             server.end()
         chip = room.read("chip.bin")
         found = ran.returncode, chip == FULL

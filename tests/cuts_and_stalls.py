@@ -16,7 +16,7 @@ import sys
 import threading
 from concurrent.futures import ThreadPoolExecutor
 
-from cases import named, run_cases, same, see
+from cases import PATIENCE, named, run_cases, same, see
 from line import Peer
 from program import CHIP_FILE, Room, Server
 
@@ -75,7 +75,7 @@ class Line(Peer):
 
     def serve(self, caller):
         with self.server.call() as programmer:
-            programmer.settimeout(60)
+            programmer.settimeout(PATIENCE)
             up = threading.Thread(target=self.carry_up, args=(caller, programmer), daemon=True)
             up.start()
             self.carry_down(programmer, caller)
@@ -136,7 +136,7 @@ class Line(Peer):
         """Until the run has sent more, or has ended."""
         with self.changed:
             count = self.count
-            self.changed.wait_for(lambda: self.count > count or self.ended, 30)
+            self.changed.wait_for(lambda: self.count > count or self.ended, PATIENCE)
 
     def end(self):
         """The status of the programmer, once it has saved its chip."""
@@ -159,18 +159,19 @@ def over(plan, number, line):
     return status, messages, peer.end(), room.read("served.bin")
 
 
-def many(count, line):
-    """So many runs, each over a line that this makes; gives how many ended with status 0."""
+def many(numbers, line, at_once=AT_ONCE):
+    """The runs of these numbers, each over a line that this makes; gives the numbers of those that ended with another
+    status than 0."""
     plans = [Plan(seed) for seed in range(10)]
     courses = [plan.run(Room(), lambda: "emu:chip.bin", "chip.bin") for plan in plans]
     same("over emu:", [status for status, _ in courses], [0] * len(plans))
-    with ThreadPoolExecutor(AT_ONCE) as pool:
-        begun = [pool.submit(over, plans[it % 10], it, line) for it in range(count)]
+    with ThreadPoolExecutor(at_once) as pool:
+        begun = [pool.submit(over, plans[it % 10], it, line) for it in numbers]
         found = [it.result() for it in begun]
-    for it, (status, messages, served, chip) in enumerate(found):
+    for it, (status, messages, served, chip) in zip(numbers, found):
         told = courses[it % 10][1].splitlines()
         holds(f"run {it}", plans[it % 10], told, status, messages.splitlines(), served, chip)
-    return sum(status == 0 for status, *_ in found)
+    return [it for it, (status, *_) in zip(numbers, found) if status != 0]
 
 
 def holds(name, plan, told, status, messages, served, chip):
@@ -190,9 +191,11 @@ def holds(name, plan, told, status, messages, served, chip):
 def cuts():
     """A line that never stalls."""
     line = lambda room, lots: Line(room, lots, lots.choice([1, 7, 40, 300]))
-    spoiled = 150 - many(150, line)
-    # (a machine so busy that nothing comes for a second spoils some: they are made again, few at once)
-    same("each run succeeds", many(spoiled, line), spoiled)
+    failed = list(range(150))
+    # (a machine so busy that nothing comes for a second spoils some: they are made again, fewer at once)
+    for at_once in [AT_ONCE, 8, 2, 1]:
+        failed = many(failed, line, at_once) if failed else []
+    same("each run succeeds", failed, [])
 
 
 def stalls():
@@ -202,14 +205,14 @@ def stalls():
         places = [[lots.randint(0, 1_000) for _ in range(lots.randint(0, 2))] for _ in range(2)]
         return Line(room, lots, lots.choice([3, 20, 300]), *places)
 
-    count = many(310, line)
-    see("most runs succeed", count > 250, count)
+    failed = many(range(310), line)
+    see("most runs succeed", len(failed) < 60, failed)
 
 
 def lags():
     """A line on which, from some place on, each answer comes too late: a run ends there."""
-    count = many(40, lambda room, lots: Line(room, lots, 300, lags_from=lots.randint(0, 1_000)))
-    see("most runs fail", count < 20, count)
+    failed = many(range(40), lambda room, lots: Line(room, lots, 300, lags_from=lots.randint(0, 1_000)))
+    see("most runs fail", len(failed) > 20, failed)
 
 
 CASES = named(cuts, stalls, lags)

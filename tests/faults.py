@@ -25,7 +25,7 @@ import time
 from collections import Counter
 from pathlib import Path
 
-from cases import leave_out, run_cases, same, see
+from cases import PATIENCE, leave_out, run_cases, same, see
 from line import BadLine
 from program import ANSWERS, CHIP_FILE, ENDS, FRAMES, TOP, Room, Server
 
@@ -225,7 +225,7 @@ class Tests:
         """One test with a refusal, and whether that came."""
         self.room.clear()
         environment = os.environ | {"LD_PRELOAD": str(self.shim), "REFUSE": refused, "REFUSED": "refused"}
-        how = {"stdin": subprocess.DEVNULL, "capture_output": True, "cwd": self.room.folder, "timeout": 60}
+        how = {"stdin": subprocess.DEVNULL, "capture_output": True, "cwd": self.room.folder, "timeout": PATIENCE}
         return subprocess.run([self.program, name], env=environment, **how), self.room.read("refused") is not None
 
 

@@ -12,7 +12,7 @@ import subprocess
 import sys
 import time
 
-from cases import named, run_cases, same, see
+from cases import PATIENCE, named, run_cases, same, see
 from line import BadLine, FrontOfAnswers
 from program import ANSWERS, CHIP_FILE, ENDS, FRAMES, Room, Server, lines
 
@@ -33,7 +33,7 @@ def output_fails():
         same("the chip file behind it", len(room.read("chip.bin") or b""), CHIP_FILE)
     room.clear()
     started = room.start([*EMULATED, "-U", "lfuse:w:0xE2:m"], stderr=open("/dev/full", "wb"))
-    started.communicate(timeout=60)
+    started.communicate(timeout=PATIENCE)
     same("messages that can't be printed", started.returncode, 1)
 
 
@@ -47,7 +47,7 @@ def with_output(words, target):
     started = room.start(words, subprocess.PIPE, stdout=output)
     os.close(output)
     try:
-        _, messages = started.communicate(ANSWERS, timeout=60)
+        _, messages = started.communicate(ANSWERS, timeout=PATIENCE)
     except BrokenPipeError:
         messages = started.stderr.read()
     return started.wait(), messages
@@ -59,9 +59,9 @@ def input_fails():
     same("no answers", room.run(SESSION), (1, FRAMES[0], lines("error: link ended")))
     folder = os.open(room.folder, os.O_RDONLY)
     started = room.start(SESSION, folder)
-    same("a folder for a line", (*started.communicate(timeout=60), started.returncode), (FRAMES[0], lines("error: link cannot be read"), 1))
+    same("a folder for a line", (*started.communicate(timeout=PATIENCE), started.returncode), (FRAMES[0], lines("error: link cannot be read"), 1))
     started = room.start([*EMULATED, "-U", "flash:w:-"], folder)
-    same("a folder for an image", (started.communicate(timeout=60)[1], started.returncode), (lines("error: -: cannot be read"), 1))
+    same("a folder for an image", (started.communicate(timeout=PATIENCE)[1], started.returncode), (lines("error: -: cannot be read"), 1))
     os.close(folder)
     same("no file was made", room.read("chip.bin"), None)
 
@@ -177,7 +177,7 @@ def served(sent, resets=False):
     answered = b""
     with Server(room) as server:
         with server.call() as caller:
-            caller.settimeout(30)
+            caller.settimeout(PATIENCE)
             if resets:
                 caller.sendall(sent)
                 caller.setsockopt(socket.SOL_SOCKET, socket.SO_LINGER, struct.pack("ii", 1, 0))

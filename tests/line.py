@@ -4,6 +4,7 @@ import socket
 import struct
 import threading
 
+from cases import PATIENCE
 from program import Server
 
 
@@ -34,7 +35,7 @@ class Peer:
 
     def __init__(self):
         self.listener = socket.create_server(("127.0.0.1", 0))
-        self.listener.settimeout(30)
+        self.listener.settimeout(PATIENCE)
         self.port = self.listener.getsockname()[1]
         self.heard = []
         self.thread = threading.Thread(target=self.meet, daemon=True)
@@ -46,14 +47,14 @@ class Peer:
         except OSError:
             return
         with caller:
-            caller.settimeout(30)
+            caller.settimeout(PATIENCE)
             caller.setsockopt(socket.IPPROTO_TCP, socket.TCP_NODELAY, 1)
             self.serve(caller)
 
     def end(self):
         """What was heard, once the caller has gone."""
         # where nobody called, this one does, and says nothing; else it isn't met
-        socket.create_connection(("127.0.0.1", self.port), 30).close()
+        socket.create_connection(("127.0.0.1", self.port), PATIENCE).close()
         self.thread.join()
         self.listener.close()
         return self.heard

@@ -12,7 +12,7 @@ import subprocess
 import sys
 import time
 
-from cases import chosen, named, run_cases, same, see
+from cases import PATIENCE, chosen, named, run_cases, same, see
 from line import Peer, frames_of
 from program import ANSWERS, CHIP_FILE, PROGRAM, TOP, Room, frame, kept_port, lines, port_of
 
@@ -131,7 +131,7 @@ def words_are_refused():
         same(f"{words}", (status, output), (1, b""))
         see(f"{words}: its line", messages.decode().startswith(told), messages[:80])
     room.clear()
-    started = subprocess.run([os.fsencode(PROGRAM), b"-p", b"\xff"], cwd=room.folder, capture_output=True, timeout=60)
+    started = subprocess.run([os.fsencode(PROGRAM), b"-p", b"\xff"], cwd=room.folder, capture_output=True, timeout=PATIENCE)
     same("a word that is not UTF-8", (started.returncode, started.stdout, started.stderr), (1, b"", lines("error: invalid data")))
     met.add("error: invalid data")
 

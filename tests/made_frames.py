@@ -12,7 +12,7 @@ import sys
 import threading
 import time
 
-from cases import named, run_cases, see
+from cases import PATIENCE, named, run_cases, see
 from line import frames_of
 from program import Room, Server, frame, lines
 
@@ -39,7 +39,7 @@ class Line:
         room.put("chip.bin", chip)
         self.server = Server(room, "chip.bin", "t85")
         self.listener = socket.create_server(("127.0.0.1", 0))
-        self.listener.settimeout(60)
+        self.listener.settimeout(PATIENCE)
         self.port = self.listener.getsockname()[1]
         self.thread = threading.Thread(target=self.carry, daemon=True)
         self.thread.start()
@@ -83,7 +83,7 @@ class Line:
     def run(self, *words):
         """The status and messages of a run over this line, and the chip's flash behind it."""
         status, output, messages = room.run(["-p", "t85", "-P", f"net:127.0.0.1:{self.port}", *words])
-        self.thread.join(60)
+        self.thread.join(PATIENCE)
         self.listener.close()
         self.server.end()
         return status, messages, (room.read("chip.bin") or b"")[:FLASH]

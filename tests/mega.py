@@ -19,7 +19,7 @@ import sys
 import threading
 from pathlib import Path
 
-from cases import leave_out, named, run_cases, same, see
+from cases import PATIENCE, leave_out, named, run_cases, same, see
 from program import TOP, Room, lines
 
 HEX = Path("/usr/share/arduino/hardware/arduino/avr/bootloaders/stk500v2/stk500boot_v2_mega2560.hex")
@@ -60,7 +60,7 @@ class Board:
         """The status and messages of a run over the board, once its flash is saved."""
         words = ["-c", "stk500v2", "-p", "m2560", "-P", f"net:127.0.0.1:{port or self.port}", *words]
         with self.room.start(words) as started:
-            _, messages = started.communicate(timeout=240)
+            _, messages = started.communicate(timeout=PATIENCE)
         self.started.stdout.readline()
         return started.returncode, messages
 

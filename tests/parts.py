@@ -18,7 +18,7 @@ import sys
 import tomllib
 from pathlib import Path
 
-from cases import leave_out, named, run_cases, see
+from cases import PATIENCE, leave_out, named, run_cases, see
 from program import TOP, Room, Server
 
 CLASSIC = TOP / "parts/classic.toml"
@@ -262,7 +262,7 @@ def session(room, short, fields, part):
     see(f"{short} over emu:", status == 0, told)
     with Server(room, "served.bin", short, words[:2]) as server:
         asked = ["avrdude", "-qq", "-c", "stk500v2", "-p", short, "-P", f"net:127.0.0.1:{server.port}", *updates]
-        ran = subprocess.run(asked, cwd=room.folder, stdin=subprocess.DEVNULL, capture_output=True, timeout=600)
+        ran = subprocess.run(asked, cwd=room.folder, stdin=subprocess.DEVNULL, capture_output=True, timeout=PATIENCE)
         status, _, told = server.end()
     see(f"{short} by AVRDUDE", (ran.returncode, status) == (0, 0), (ran.stderr, told))
     served, wanted = room.read("served.bin"), room.read("emu.bin")

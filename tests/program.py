@@ -8,6 +8,8 @@ import tempfile
 import time
 from pathlib import Path
 
+from cases import PATIENCE
+
 TOP = Path(__file__).resolve().parent.parent
 # the program that is run: as rt ci leaves it, or another that AVRSTK names
 PROGRAM = Path(os.environ.get("AVRSTK") or TOP / "crates/avrstk/out/avrstk").resolve()
@@ -79,7 +81,7 @@ class Room:
     def run(self, words, given=b"", environment=None, closed=""):
         """The status, the output and the messages of a run; what is closed is in the words of the shell."""
         started = self.start(words, subprocess.PIPE, closed, env=os.environ | (environment or {}))
-        output, messages = started.communicate(given, timeout=60)
+        output, messages = started.communicate(given, timeout=PATIENCE)
         return started.returncode, output, messages
 
 
@@ -135,7 +137,7 @@ class Server:
         return f" 0100007F:{self.port:04X} 00000000:0000 0A " in Path("/proc/net/tcp").read_text()
 
     def wait_until_listens(self):
-        ends = time.monotonic() + 30
+        ends = time.monotonic() + PATIENCE
         while not self.listens():
             if self.started.poll() is not None or time.monotonic() > ends:
                 raise ConnectionRefusedError(f"nobody serves at port {self.port}: {self.stop()}")
@@ -143,11 +145,11 @@ class Server:
 
     def call(self):
         """A connection to it."""
-        return socket.create_connection(("127.0.0.1", self.port), 30)
+        return socket.create_connection(("127.0.0.1", self.port), PATIENCE)
 
     def end(self):
         """Its status, output and messages, once its caller has gone."""
-        output, messages = self.started.communicate(timeout=60)
+        output, messages = self.started.communicate(timeout=PATIENCE)
         self.kept.close()
         return self.started.returncode, output, messages
 

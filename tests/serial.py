@@ -24,7 +24,7 @@ import time
 import tty
 from pathlib import Path
 
-from cases import leave_out, named, run_cases, same, see
+from cases import PATIENCE, leave_out, named, run_cases, same, see
 from program import PROGRAM, TOP, Room, Server, free_port, lines
 
 SCRIPT = TOP / "avrstk-serial"
@@ -96,7 +96,7 @@ class Board:
         """The chip, once the device was closed, which it has to be soon."""
         if not self.opened:
             self.stopped.set()
-        self.thread.join(20)
+        self.thread.join(PATIENCE)
         if self.thread.is_alive():
             raise SystemExit("the device stays open behind the run")
         if self.server and not self.opened:
@@ -118,7 +118,7 @@ def start(words, **more):
 def run(words, **more):
     """Its status, output, the lines of avrstk, and its own."""
     started = start(words, **more)
-    output, told = started.communicate(timeout=120)
+    output, told = started.communicate(timeout=PATIENCE)
     own = [it[15:] for it in told.decode().splitlines() if it.startswith("avrstk-serial: ")]
     others = b"".join(it for it in told.splitlines(True) if not it.startswith(b"avrstk-serial: "))
     return started.returncode, output, others, own
@@ -188,7 +188,7 @@ def speed_and_line():
     same("bytes that are written, and the terminal", (written, local), (0, 0))
     same("8N1", control & (termios.CSIZE | termios.PARENB | termios.CSTOPB | termios.CRTSCTS), termios.CS8)
     started.send_signal(signal.SIGTERM)
-    started.communicate(timeout=30)
+    started.communicate(timeout=PATIENCE)
     it.end()
 
 
@@ -414,10 +414,10 @@ def signals():
 
         it = Board(answer=held)
         started = start([*FLASH, "-P", it.device], start_new_session=True)
-        see("it is reached", reached.wait(30))
+        see("it is reached", reached.wait(PATIENCE))
         begun = time.monotonic()
         os.killpg(started.pid, number) if number == signal.SIGINT else started.send_signal(number)
-        _, told = started.communicate(timeout=30)
+        _, told = started.communicate(timeout=PATIENCE)
         own = [row for row in told.decode().splitlines() if row.startswith("avrstk-serial: ")]
         see(wanted, started.returncode == 1 and len(own) == 1 and wanted in own[0], told)
         took = time.monotonic() - begun
@@ -449,7 +449,7 @@ def typed(command, device, port=0):
 
 def ended(started):
     """The status and the tool's own messages of a run."""
-    _, messages = started.communicate(timeout=120)
+    _, messages = started.communicate(timeout=PATIENCE)
     told = b"".join(it for it in messages.splitlines(True) if not re.match(rb"\d{4}/\d\d/\d\d .* socat\[", it))
     return started.returncode, told
 
@@ -457,11 +457,11 @@ def ended(started):
 def wait_for(port):
     """Waits until somebody listens, without a call."""
     mark = f" 0100007F:{port:04X} 00000000:0000 0A "
-    for _ in range(1000):
-        if mark in Path("/proc/net/tcp").read_text():
-            return
+    ends = time.monotonic() + PATIENCE
+    while mark not in Path("/proc/net/tcp").read_text():
+        if time.monotonic() > ends:
+            raise SystemExit(f"nobody listens at port {port}")
         time.sleep(0.01)
-    raise SystemExit(f"nobody listens at port {port}")
 
 
 def recipe_of_the_script():
@@ -494,7 +494,7 @@ def recipe_of_a_plain_bridge():
         bridge = typed(recipe("socat TCP-LISTEN:5000,bind=127.0.0.1,reuseaddr FILE"), it.device, port)
         wait_for(port)
         found = ended(typed(recipe(CALL), it.device, port))
-        bridge.communicate(timeout=30)
+        bridge.communicate(timeout=PATIENCE)
         same("a plain bridge", (*found, it.end() == firmware), wanted)
     room.clear()
     it = Board()

@@ -8,7 +8,7 @@ import os
 import subprocess
 import sys
 
-from cases import leave_out, named, run_cases, same, see
+from cases import PATIENCE, leave_out, named, run_cases, same, see
 from program import PROGRAM, TOP, has_avrdude
 
 
@@ -20,7 +20,7 @@ def rows(text):
 def table_is_printed():
     """Each row of the table is printed, and no other."""
     wanted = rows((TOP / "docs/WHY.md").read_text())
-    how = {"capture_output": True, "text": True, "env": os.environ | {"AVRSTK": str(PROGRAM)}, "timeout": 300}
+    how = {"capture_output": True, "text": True, "env": os.environ | {"AVRSTK": str(PROGRAM)}, "timeout": PATIENCE}
     ran = subprocess.run([TOP / "examples/lossy/compare.py"], **how)
     found = rows(ran.stdout)
     if not has_avrdude():

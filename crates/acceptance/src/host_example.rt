@@ -3,7 +3,7 @@
 use avr_image::Image;
 use avr_part::{Chip, Mem, Parts};
 use std::test::Fail;
-use stk_emu::Wired;
+use stk_emu::{Fates, Wired};
 use stk_host::Host;
 
 #[test]
@@ -13,7 +13,7 @@ fn an_image_is_programmed(rt: HostRuntime) -> Result<(), Fail> {
     let mut image = Image::new(alloc, part.size_of(Mem::Flash))?;
     image.put_slice(0, &[0x0C, 0x94, 0x34, 0x00])?;
     let chip = Chip::fresh(alloc, part.copied())?;
-    let mut wire = Wired::new(alloc, chip, Vec::new(alloc));
+    let mut wire = Wired::new(alloc, chip, Fates::none(alloc));
     let mut host = Host::new(&part);
     let signature = host.open(&mut wire, false)?;
     host.erase(&mut wire)?;

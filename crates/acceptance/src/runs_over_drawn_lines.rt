@@ -1,10 +1,8 @@
 //! Whole runs over lines whose fates are drawn, by the call of the headline, compared with a plain rule.
-ghost use Rattle.std.specs.Prelude.{IfOk};
-ghost use Rattle.stk_emu.specs.Wire.{AreLawful, IsLawfulFate};
 
-use crate::support::{Over, add, desk_with, is_blank, run_wired_on};
+use crate::support::{Over, desk_with, is_blank, run_wired_on};
 use avr_part::{Chip, Mem};
-use avr_tool::{Fate, MemDesk, Wired, noise_is_lawful};
+use avr_tool::{Fate, Fates, MemDesk, Wired};
 use std::alloc::{AllocError, Global};
 use std::process::Abort;
 use std::test::Fail;
@@ -16,21 +14,13 @@ const GOOD: u32 = 13;
 const RESET: u32 = 12;
 
 /// A frame with this XOR in place of the answer; 07 would be right, and is not drawn.
-fn spoiled(alloc: Global, xor: u8) -> Result<Fate, AllocError>
-    ensures { IfOk result IsLawfulFate }
-{
+fn spoiled(alloc: Global, xor: u8) -> Result<Fate, AllocError> {
     let noise = [0x1B, 0x06, 0x00, 0x03, 0x0E, 0x17, 0x00, 0x00, xor];
-    if noise_is_lawful(&noise) {
-        Ok(Fate::AnswerSpoiled(Vec::from_slice(alloc, &noise)?))
-    } else {
-        Ok(Fate::LostAnswer)
-    }
+    Ok(Fate::AnswerSpoiled(Vec::from_slice(alloc, &noise)?))
 }
 
 /// The fate that a number draws.
-fn fate_drawn(alloc: Global, number: u32) -> Result<Fate, AllocError>
-    ensures { IfOk result IsLawfulFate }
-{
+fn fate_drawn(alloc: Global, number: u32) -> Result<Fate, AllocError> {
     match number {
         0 | 1 => Ok(Fate::LostCommand),
         2 | 3 => Ok(Fate::LostAnswer),
@@ -58,12 +48,10 @@ fn numbers_drawn(alloc: Global, seed: u32) -> Result<Vec<u32>, AllocError> {
 }
 
 /// The fates that these numbers draw.
-fn fates_drawn(alloc: Global, numbers: &[u32]) -> Result<Vec<Fate>, AllocError>
-    ensures { IfOk result (λ v. AreLawful v.items) }
-{
-    let mut fates = Vec::new(alloc);
+fn fates_drawn(alloc: Global, numbers: &[u32]) -> Result<Fates, Fail> {
+    let mut fates = Fates::none(alloc);
     for number in numbers {
-        add(&mut fates, fate_drawn(alloc, *number)?)?;
+        fates.push(fate_drawn(alloc, *number)?)?;
     }
     Ok(fates)
 }
@@ -92,9 +80,7 @@ avrstk: done
 ";
 
 /// A run on an ATtiny85, over a line of these fates, that writes and reads back the image and a fuse.
-fn run_over(alloc: Global, fates: Vec<Fate>) -> Result<Over<MemDesk, Wired>, Fail>
-    requires { AreLawful fates.items }
-{
+fn run_over(alloc: Global, fates: Fates) -> Result<Over<MemDesk, Wired>, Fail> {
     let words = [
         "-p",
         "t85",
@@ -196,7 +182,7 @@ fn try_seed(
 /// Some runs end well, some don't, and some of these in the middle of the pages; on some lines few frames go wrong.
 #[test]
 fn drawn_fates_leave_a_front(rt: HostRuntime) -> Result<(), Fail> {
-    let good = run_over(rt.alloc(), Vec::new(rt.alloc()))?;
+    let good = run_over(rt.alloc(), Fates::none(rt.alloc()))?;
     let mut counts = Counts {
         sound: 0,
         stopped: 0,

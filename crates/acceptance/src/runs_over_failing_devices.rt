@@ -10,7 +10,7 @@ use avr_part::Mem;
 use std::alloc::Global;
 use std::process::Abort;
 use std::test::Fail;
-use stk_emu::{Fate, Wired};
+use stk_emu::{Fate, Fates, Wired};
 use stk_host::FailingLink;
 
 /// A run to which nothing happens, and how many calls of its devices it makes.
@@ -125,7 +125,7 @@ fn wire_of(alloc: Global, run: &SoundRun) -> Result<Wired, Fail> {
     if run.is_late {
         wire_to(alloc, "m328p", fates(alloc, 254, Fate::LateAnswer)?)
     } else {
-        wire_to(alloc, "m328p", Vec::new(alloc))
+        wire_to(alloc, "m328p", Fates::none(alloc))
     }
 }
 
@@ -304,7 +304,7 @@ fn no_leave_follows_an_output_that_fails(rt: HostRuntime) -> Result<(), Fail> {
         status: 1,
     };
     let desk = FailingDesk::new(desk_with(alloc, &[])?, 5);
-    let wire = wire_to(alloc, "m328p", Vec::new(alloc))?;
+    let wire = wire_to(alloc, "m328p", Fates::none(alloc))?;
     let over = run_on(alloc, row.words, desk, wire)?;
     shows(&rt, alloc, &row, over.desk.inner(), over.status)?;
     let frames = joined(alloc, &[OPENING, "1B0600060E18045000000059"])?;

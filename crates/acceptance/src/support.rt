@@ -1,6 +1,4 @@
 //! What the tests share: words, desks, wires and their fates, runs, and looks at what came of them.
-ghost use Rattle.std.specs.Prelude.{IfOk, OnOk};
-ghost use Rattle.stk_emu.specs.Wire.{AreLawful, IsLawfulFate};
 
 use avr_cli::{Settings, read_settings, read_words};
 use avr_desk::{Desk, MemDesk};
@@ -10,7 +8,7 @@ use avr_tool::run_wired;
 use std::alloc::{AllocError, Global};
 use std::process::Abort;
 use std::test::Fail;
-use stk_emu::{Fate, Wired};
+use stk_emu::{Fate, Fates, FatesFault, Wired};
 use stk_host::Link;
 
 /// The five frames that open a session with an ATmega328P, in hexadecimal digits.
@@ -57,33 +55,18 @@ pub(crate) fn desk_with(alloc: Global, files: &[(&str, &[u8])]) -> Result<MemDes
     Ok(desk)
 }
 
-/// One fate more.
-pub(crate) fn add(fates: &mut Vec<Fate>, fate: Fate) -> Result<(), AllocError>
-    requires lawful { IsLawfulFate fate }
-    requires before { AreLawful fates.old.items }
-    ensures { OnOk result (AreLawful fates.new.items) }
-{
-    fates.push(fate)?;
-    Ok(())
-}
-
 /// So many good fates, and then another.
-pub(crate) fn fates(alloc: Global, good: usize, last: Fate) -> Result<Vec<Fate>, AllocError>
-    requires { IsLawfulFate last }
-    ensures { IfOk result (λ v. AreLawful v.items) }
-{
-    let mut fates = Vec::new(alloc);
+pub(crate) fn fates(alloc: Global, good: usize, last: Fate) -> Result<Fates, FatesFault> {
+    let mut fates = Fates::none(alloc);
     for _good in 0..good {
-        add(&mut fates, Fate::Good)?;
+        fates.push(Fate::Good)?;
     }
-    add(&mut fates, last)?;
+    fates.push(last)?;
     Ok(fates)
 }
 
 /// A wire with these fates to a part that was never written.
-pub(crate) fn wire_to(alloc: Global, id: &str, fates: Vec<Fate>) -> Result<Wired, Fail>
-    requires { AreLawful fates.items }
-{
+pub(crate) fn wire_to(alloc: Global, id: &str, fates: Fates) -> Result<Wired, Fail> {
     let part = Parts::none().find(id)?;
     let chip = Chip::fresh(alloc, part.copied())?;
     Ok(Wired::new(alloc, chip, fates))
@@ -110,10 +93,8 @@ pub(crate) fn run_wired_on(
     id: &str,
     words: &[&str],
     desk: MemDesk,
-    fates: Vec<Fate>,
-) -> Result<Over<MemDesk, Wired>, Fail>
-    requires { AreLawful fates.items }
-{
+    fates: Fates,
+) -> Result<Over<MemDesk, Wired>, Fail> {
     let settings = settings_for(alloc, words)?;
     let chip = Chip::fresh(alloc, Parts::none().find(id)?)?;
     let mut desk = desk;

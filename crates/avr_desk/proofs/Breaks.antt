@@ -9,11 +9,11 @@ use Rattle.avr_desk.specs.declared.record.Opening.{Opening}
 use Rattle.avr_desk.specs.declared.record.Opening.TheVariants.{Absent, Found}
 use Rattle.avr_desk.specs.declared.record.Reading.{Reading}
 use Rattle.avr_desk.specs.Lines.{memory_line, not_opened_line}
-use Rattle.avr_desk.specs.Said.{Saying, Opens, Line, Creates, Writes, Outs, TellsLine, TellsFailure, after, after_all}
+use Rattle.avr_desk.specs.Said.{Saying, Opens, Line, Creates, Writes, Outs, TellsLine, TellsFailure, IsPrefixOf, after, after_all}
 use Rattle.avr_desk.proofs.Saying.{after_append}
 use Rattle.avr_desk.proofs.Telling.{follows_here, not_failed}
-use Rattle.avr_desk.specs.Playing.{Went, Break, InLine, NotOpened, NotRead, NoMemory, NoMemoryFor, last_done, IsBreak, TellsBreak, StageBrokeOff, Goes, part_read}
-use Rattle.avr_desk.specs.Stage.{Stage, Made, Refused, StageResult, ◌>>=◌, content_stage, next_opening, file_stage}
+use Rattle.avr_desk.specs.Playing.{Break, InLine, NotOpened, NotRead, NoMemory, NoMemoryFor, last_done, IsBreak, TellsBreak, StageBrokeOff, WentRefused, Goes, part_read}
+use Rattle.avr_desk.specs.Stage.{Stage, Answer, Made, Refused, Unread, StageResult, all_told, ◌>>=◌, content_stage, next_opening, file_stage}
 use Rattle.avr_desk.proofs.Played.{says_more}
 
 -- ---- where the desk did not fail
@@ -60,7 +60,7 @@ broke_lacks stage before after k l m n sound b = by_break b.break b.told b.tells
 -- So a status other than that of a plan is the refusal that the stage says.
 pub sound_refusal : {A : Type 0} (stage : Stage A) (before after : Record) (k l m n status : ℕ) → HasStood k l
     → ((front : Bytes) → after.messages ≡ front ++ memory_line → ⊥) → Goes stage (showing before k m) (showing after l n) (Err status)
-    → Went stage (showing before k m) (showing after l n) Refused
+    → WentRefused stage (showing before k m) (showing after l n)
 sound_refusal stage before after k l m n status sound has_memory (one, inl went) = went
 sound_refusal stage before after k l m n status sound has_memory (one, inr broke) =
     let lacks = broke_lacks stage before after k l m n sound broke in absurd (has_memory lacks.0 lacks.1)
@@ -135,6 +135,12 @@ same_name name other [] is = cc
 same_name name other (Absent x ∷ passed) is = cc
 same_name name other (Found x ∷ passed) is = cc
 
+-- the line of a refusal stands behind what was said first
+told_first : {A : Type 0} (first : Saying) (says : List Saying) (answer : Answer A) → all_told (first ∷ says) answer ≡ first ∷ all_told says answer
+told_first first says (Made a) = refl
+told_first first says (Refused line) = refl
+told_first first says Unread = refl
+
 -- nothing but this line was told since
 only_told : (r : Record) (told line : Bytes) → after_err told r ≡ after_all (Line line ∷ []) r → told ≡ line
 only_told r told line kept =
@@ -158,28 +164,31 @@ module _ {A : Type 0} (name told : Bytes) (stage : Stage A) (begins : Begins nam
   abbrev Next : List Opening → List Saying
   Next passed = Opens (next_opening name (passed ++ [])) ∷ (begins (passed ++ [])).0
 
-  first_is : (passed : List Opening) (other : Bytes) (extra : List Saying) → Next passed ≡ Opens (Absent other) ∷ extra → name ≡ other
-  first_is passed other extra is =
+  first_is : (passed : List Opening) (other : Bytes) (behind extra : List Saying) → Opens (next_opening name (passed ++ [])) ∷ behind ≡ Opens (Absent other) ∷ extra → name ≡ other
+  first_is passed other behind extra is =
       let opens : Opens (next_opening name (passed ++ [])) ≡ Opens (Absent other) = cc in
       let opening : next_opening name (passed ++ []) ≡ Absent other = cc in
       same_name name other passed opening
 
-  by_break : (passed : List Opening) (break : Break) (line : Bytes) → IsBreak break [] (Next passed) → TellsBreak break line Old New → Leaves (last_done break line) → Told
-  by_break passed (InLine due) line is tells kept = let clash : Opens (next_opening name (passed ++ [])) ≡ Line due = let e = is.1 in cc in absurd (cc)
-  by_break passed (NotOpened other) line is tells kept =
-      let named = first_is passed other is.0 is.1 in
+  by_break : (passed : List Opening) (behind : List Saying) (break : Break) (line : Bytes) → IsBreak break [] (Opens (next_opening name (passed ++ [])) ∷ behind) → TellsBreak break line Old New → Leaves (last_done break line) → Told
+  by_break passed behind (InLine due) line is tells kept = let clash : Opens (next_opening name (passed ++ [])) ≡ Line due = let e = is.1 in cc in absurd (cc)
+  by_break passed behind (NotOpened other) line is tells kept =
+      let named = first_is passed other behind is.0 is.1 in
       inl (subst (λ n. TellsFailure (not_opened_line n) told Old New) (sym named) (subst (λ t. TellsFailure (not_opened_line other) t Old New) (sym (only_told r told line kept)) tells))
-  by_break passed (NotRead other bytes) line is tells kept =
+  by_break passed behind (NotRead other bytes) line is tells kept =
       let none : ◌≡◌ {A = List Opening} [] (Found (record { name = other; bytes = bytes; ended = false }) ∷ []) =
       same_openings (Line told ∷ []) (part_read other bytes ∷ Line line ∷ []) r kept in absurd (cc)
-  by_break passed NoMemory line is tells kept = inr (subst (λ t. TellsLine memory_line t Old New) (sym (only_told r told line kept)) tells)
-  by_break passed (NoMemoryFor reading) line is tells kept =
+  by_break passed behind NoMemory line is tells kept = inr (subst (λ t. TellsLine memory_line t Old New) (sym (only_told r told line kept)) tells)
+  by_break passed behind (NoMemoryFor reading) line is tells kept =
       let none : ◌≡◌ {A = List Opening} [] (Found reading ∷ []) = same_openings (Line told ∷ []) (Opens (Found reading) ∷ Line line ∷ []) r kept in absurd (cc)
 
-  by_whole : (passed : List Opening) (whole later : List Saying) (break : Break) (line : Bytes) → Next passed ≡ whole ++ later → IsBreak break [] later
+  by_whole : (passed : List Opening) (answer : Answer A) (whole later : List Saying) (break : Break) (line : Bytes) → Next passed ≡ whole ++ later → IsBreak break [] (all_told later answer)
       → TellsBreak break line Old New → Leaves (whole ++ last_done break line) → Told
-  by_whole passed [] later break line says is tells kept = by_break passed break line (subst (IsBreak break []) (sym says) is) tells kept
-  by_whole passed (first ∷ whole) later break line says is tells kept =
+  by_whole passed answer [] later break line says is tells kept =
+      let next : IsBreak break [] (all_told (Next passed) answer) = subst (λ (ls : List Saying). IsBreak break [] (all_told ls answer)) (sym says) is in
+      let behind = (begins (passed ++ [])).0 in
+      by_break passed (all_told behind answer) break line (subst (IsBreak break []) (told_first (Opens (next_opening name (passed ++ []))) behind answer) next) tells kept
+  by_whole passed answer (first ∷ whole) later break line says is tells kept =
       let opens : first ≡ Opens (next_opening name (passed ++ [])) = cc in
       let none = same_openings (Line told ∷ []) (first ∷ (whole ++ last_done break line)) r kept in
       let some : openings_in (first ∷ (whole ++ last_done break line)) ≡ next_opening name (passed ++ []) ∷ openings_in (whole ++ last_done break line) =
@@ -188,14 +197,15 @@ module _ {A : Type 0} (name told : Bytes) (stage : Stage A) (begins : Begins nam
       absurd (cc)
 
   pub unopened : (status : ℕ) → Goes stage (showing r k m) (showing (after_err told r) l n) (Err status) → Told
-  unopened status (one, inl went) =
+  unopened status (one, inl (line, went)) =
       let says : went.says ≡ Next went.passed = sym (ap (λ (p : StageResult A). p.says) (went.comes [])) ∙ (begins (went.passed ++ [])).1 in
-      let none = same_openings (Line told ∷ []) went.says r went.kept in
-      let clash : [] ≡ next_opening name (went.passed ++ []) ∷ openings_in (begins (went.passed ++ [])).0 = none ∙ ap openings_in says in
+      let none = same_openings (Line told ∷ []) (went.says ++ Line line ∷ []) r went.kept in
+      let clash : [] ≡ next_opening name (went.passed ++ []) ∷ openings_in ((begins (went.passed ++ [])).0 ++ Line line ∷ []) =
+      none ∙ ap (λ (ss : List Saying). openings_in (ss ++ Line line ∷ [])) says in
       absurd (cc)
   unopened status (one, inr b) =
       let rest = b.rest [] in
-      by_whole b.passed b.whole rest.later b.break b.told (sym (begins (b.passed ++ [])).1 ∙ rest.says_are) rest.broken b.tells b.kept
+      by_whole b.passed (stage (b.passed ++ [])).answer b.whole rest.later b.break b.told (sym (begins (b.passed ++ [])).1 ∙ rest.says_are) rest.broken b.tells b.kept
 
 -- ---- a file that was opened and is good
 
@@ -264,7 +274,8 @@ module _ {A : Type 0} (name : Bytes) (limit : ℕ) (judge : Bytes → Result A B
   by_end first opening (x ∷ whole) later break line one none is tells kept = absurd (cc)
 
   by_front : (openings : List Opening) (whole later : List Saying) (break : Break) (line : Bytes) → (file_stage name limit judge openings).says ≡ whole ++ later
-      → IsBreak break [] later → TellsBreak break line Before After → Leaves_it (whole ++ last_done break line) → TellsLine memory_line told Before After
+      → IsBreak break [] (all_told later (file_stage name limit judge openings).answer) → TellsBreak break line Before After → Leaves_it (whole ++ last_done break line)
+      → TellsLine memory_line told Before After
   by_front openings [] later break line says is tells kept = before_it break line tells kept
   by_front openings (first ∷ whole) later break line says is tells kept =
       let extra = (begins_file name limit judge openings).0 in
@@ -275,17 +286,71 @@ module _ {A : Type 0} (name : Bytes) (limit : ℕ) (judge : Bytes → Result A B
       let opening : next_opening name openings ≡ Found reading = cc in
       let all : first ∷ (whole ++ later) ≡ Opens (Found reading) ∷ [] = sym says ∙ ap (λ (p : StageResult A). p.says) (comes_to openings opening) in
       let none : whole ++ later ≡ [] = cc in
-      by_end first (next_opening name openings) whole later break line first_is none is tells kept
+      let is_made : IsBreak break [] later =
+      subst (λ (answer : Answer A). IsBreak break [] (all_told later answer)) (ap (λ (p : StageResult A). p.answer) (comes_to openings opening)) is in
+      by_end first (next_opening name openings) whole later break line first_is none is_made tells kept
 
   -- So the desk was shown to open it, to its end, and what was told is the line of memory.
   pub opened_is_told : (status : ℕ) → Goes (file_stage name limit judge) (showing r k m) (showing (after_all done r) l n) (Err status) → TellsLine memory_line told Before After
-  opened_is_told status (one, inl went) =
+  opened_is_told status (one, inl (line, went)) =
       let openings = went.passed ++ [] in
       let begun = begins_file name limit judge openings in
       let says : went.says ≡ Opens (next_opening name openings) ∷ begun.0 = sym (ap (λ (p : StageResult A). p.says) (went.comes [])) ∙ begun.1 in
-      let shown : Found reading ∷ [] ≡ next_opening name openings ∷ openings_in begun.0 = same_openings done went.says r went.kept ∙ ap openings_in says in
+      let shown : Found reading ∷ [] ≡ next_opening name openings ∷ openings_in (begun.0 ++ Line line ∷ []) =
+      same_openings done (went.says ++ Line line ∷ []) r went.kept ∙ ap (λ (ss : List Saying). openings_in (ss ++ Line line ∷ [])) says in
       let opening : next_opening name openings ≡ Found reading = cc in
-      let answers : Made good ≡ Refused = sym (ap (λ (p : StageResult A). p.answer) (comes_to openings opening)) ∙ ap (λ (p : StageResult A). p.answer) (went.comes []) in
+      let answers : Made good ≡ Refused line = sym (ap (λ (p : StageResult A). p.answer) (comes_to openings opening)) ∙ ap (λ (p : StageResult A). p.answer) (went.comes []) in
       absurd (cc)
   opened_is_told status (one, inr b) =
       let rest = b.rest [] in by_front (b.passed ++ []) b.whole rest.later b.break b.told rest.says_are rest.broken b.tells b.kept
+
+-- ---- a stage that is refused at once
+
+same_refusal : {A : Type 0} (line other : Bytes) → ◌≡◌ {A = Answer A} (Refused line) (Refused other) → line ≡ other
+same_refusal line other is = cc
+
+-- Whatever files give, it is refused by this line, and says nothing before it: so of it nothing was told but that line, or
+-- that memory was refused.
+module _ {A : Type 0} (line told : Bytes) (stage : Stage A) (refuses : (openings : List Opening) → stage openings ≡ record { says = []; answer = Refused line; left = openings })
+    (r : Record) (k l m n : ℕ) where
+  abbrev Here : DeskView
+  Here = showing r k m
+
+  abbrev There : DeskView
+  There = showing (after_err told r) l n
+
+  abbrev pub TellsOne : Type 0
+  TellsOne = TellsLine line told Here There ⊎ TellsLine memory_line told Here There
+
+  abbrev Only : List Saying → Type 0
+  Only sayings = after_err told r ≡ after_all sayings r
+
+  -- what is told of a break there
+  at_once : (break : Break) (some : Bytes) → IsBreak break [] (Line line ∷ []) → TellsBreak break some Here There → Only (last_done break some) → TellsOne
+  at_once (InLine due) some is tells kept =
+      let same : Line line ≡ Line due = let e = is.1 in cc in
+      let lines : line ≡ due = cc in
+      inl (inr (subst (λ t. IsPrefixOf t line) (sym (only_told r told some kept)) (subst (IsPrefixOf some) (sym lines) tells.0), tells.1))
+  at_once (NotOpened name) some is tells kept = let clash : Line line ≡ Opens (next_opening name []) = let e = is.1 in cc in absurd (cc)
+  at_once (NotRead name bytes) some is tells kept = let clash : Line line ≡ Opens (next_opening name []) = let e = is.1 in cc in absurd (cc)
+  at_once NoMemory some is tells kept = inr (subst (λ t. TellsLine memory_line t Here There) (sym (only_told r told some kept)) tells)
+  at_once (NoMemoryFor reading) some is tells kept = let clash : Line line ≡ Opens (next_opening reading.name []) = let e = is.1 in cc in absurd (cc)
+
+  in_front : (whole later : List Saying) (break : Break) (some : Bytes) → [] ≡ whole ++ later → IsBreak break [] (all_told {A = A} later (Refused line)) → TellsBreak break some Here There
+      → Only (whole ++ last_done break some) → TellsOne
+  in_front [] [] break some says is tells kept = at_once break some is tells kept
+  in_front [] (x ∷ later) break some says is tells kept = absurd (cc)
+  in_front (x ∷ whole) later break some says is tells kept = absurd (cc)
+
+  pub refused_once : (status : ℕ) → Goes stage Here There (Err status) → TellsOne
+  refused_once status (one, inl (other, went)) =
+      let openings = went.passed ++ [] in
+      let says : [] ≡ went.says = sym (ap (λ (p : StageResult A). p.says) (refuses openings)) ∙ ap (λ (p : StageResult A). p.says) (went.comes []) in
+      let lines : line ≡ other = same_refusal {A = A} line other (sym (ap (λ (p : StageResult A). p.answer) (refuses openings)) ∙ ap (λ (p : StageResult A). p.answer) (went.comes [])) in
+      let kept : Only (Line other ∷ []) = subst (λ (ss : List Saying). Only (ss ++ Line other ∷ [])) (sym says) went.kept in
+      inl (inl (only_told r told other kept ∙ sym lines, went.sound))
+  refused_once status (one, inr b) =
+      let rest = b.rest [] in
+      let is = refuses (b.passed ++ []) in
+      in_front b.whole rest.later b.break b.told (sym (ap (λ (p : StageResult A). p.says) is) ∙ rest.says_are)
+      (subst (λ (answer : Answer A). IsBreak b.break [] (all_told rest.later answer)) (ap (λ (p : StageResult A). p.answer) is) rest.broken) b.tells b.kept

@@ -13,7 +13,7 @@ use Rattle.avr_desk.proofs.Saying.{kept_none, kept_append}
 use Rattle.avr_desk.proofs.Telling.{follows_on, follows_same, same_here, same_on, unsaid_since, tells_since, failure_since}
 use Rattle.avr_desk.specs.Lines.{memory_line, not_opened_line, not_read_line}
 use Rattle.avr_desk.specs.Playing.{Went, Break, InLine, NotOpened, NotRead, NoMemory, NoMemoryFor, last_done, IsNextSaying, IsBreak, TellsBreak, Rest, StageBrokeOff, Goes}
-use Rattle.avr_desk.specs.Stage.{Stage, Answer, Made, Refused, Unread, StageResult, behind_sayings, going_on, ◌>>=◌, verdict_stage, saying_stage, next_opening}
+use Rattle.avr_desk.specs.Stage.{Stage, Answer, Made, Refused, Unread, StageResult, all_told, behind_sayings, going_on, ◌>>=◌, verdict_stage, saying_stage, next_opening}
 
 -- ---- counts
 
@@ -40,19 +40,33 @@ break_more (NoMemoryFor reading) more later extra is = next_more (Opens (next_op
 pub says_more : {A B : Type 0} (says : List Saying) (left : List Opening) (go_on : A → Stage B) (answer : Answer A)
     → (extra : List Saying) × ((going_on says left go_on answer).says ≡ says ++ extra)
 says_more says left go_on (Made a) = ((go_on a left).says, refl)
-says_more says left go_on Refused = ([], sym (append-nil says))
+says_more says left go_on (Refused line) = ([], sym (append-nil says))
 says_more says left go_on Unread = ([], sym (append-nil says))
+
+-- the line of a refusal stands behind both
+pub told_append : {A : Type 0} (first second : List Saying) (answer : Answer A) → all_told (first ++ second) answer ≡ first ++ all_told second answer
+told_append first second (Made a) = refl
+told_append first second (Refused line) = append_assoc first second (Line line ∷ [])
+told_append first second Unread = refl
+
+rest_on : {A B : Type 0} (says : List Saying) (left : List Opening) (go_on : A → Stage B) (answer : Answer A) (whole later : List Saying) (break : Break)
+    (more : List Opening)
+    → says ≡ whole ++ later → IsBreak break more (all_told later answer) → Rest (going_on says left go_on answer) whole break more
+rest_on says left go_on (Made a) whole later break more is broken =
+    let q = go_on a left in
+    record {
+      later = later ++ q.says;
+      says_are = ap (λ (ss : List Saying). ss ++ q.says) is ∙ append_assoc whole later q.says;
+      broken = subst (IsBreak break more) (sym (told_append later q.says q.answer)) (break_more break more later (all_told q.says q.answer) broken);
+    }
+rest_on says left go_on (Refused line) whole later break more is broken = record { later = later; says_are = is; broken = broken }
+rest_on says left go_on Unread whole later break more is broken = record { later = later; says_are = is; broken = broken }
 
 rest_more : {A B : Type 0} (p : StageResult A) (go_on : A → Stage B) (whole : List Saying) (break : Break) (more : List Opening)
     → Rest p whole break more
     → Rest (going_on p.says p.left go_on p.answer) whole break more
 rest_more p go_on whole break more rest =
-    let extra = says_more p.says p.left go_on p.answer in
-    record {
-      later = rest.later ++ extra.0;
-      says_are = extra.1 ∙ ap (λ (ss : List Saying). ss ++ extra.0) rest.says_are ∙ append_assoc whole rest.later extra.0;
-      broken = break_more break more rest.later extra.0 rest.broken;
-    }
+    rest_on p.says p.left go_on p.answer whole rest.later break more rest.says_are rest.broken
 
 rest_behind : {A : Type 0} (says whole : List Saying) (p : StageResult A) (break : Break) (more : List Opening) → Rest p whole break more
     → Rest (behind_sayings says p) (says ++ whole) break more
@@ -78,7 +92,8 @@ went_went stage go_on old mid new a answer first then = record {
       ap (stage >>= go_on) (append_assoc first.passed then.passed more)
       ∙ made_then stage go_on old mid a first (then.passed ++ more)
       ∙ ap (behind_sayings first.says) (then.comes more);
-  kept = kept_append first.says then.says old.kept mid.kept new.kept first.kept then.kept;
+  kept = subst (λ ss. Passes (after_all ss) old new) (sym (told_append first.says then.says answer))
+      (kept_append first.says (all_told then.says answer) old.kept mid.kept new.kept first.kept then.kept);
   sound = same_on old mid new first.sound then.sound;
 }
 
@@ -100,9 +115,9 @@ went_broke stage go_on old mid new a first then = record {
   follows = follows_on old mid new (follows_same old mid first.sound) then.follows;
 }
 
-refused_then : {A B : Type 0} (stage : Stage A) (go_on : A → Stage B) (old new : DeskView) → Went stage old new Refused
-    → Went (stage >>= go_on) old new Refused
-refused_then stage go_on old new first = record {
+refused_then : {A B : Type 0} (stage : Stage A) (go_on : A → Stage B) (old new : DeskView) (line : List ℕ) → Went stage old new (Refused line)
+    → Went (stage >>= go_on) old new (Refused line)
+refused_then stage go_on old new line first = record {
   passed = first.passed;
   says = first.says;
   comes = λ more. ap (λ p. going_on p.says p.left go_on p.answer) (first.comes more);
@@ -129,7 +144,7 @@ pub goes_on : {A B : Type 0} (stage : Stage A) (go_on : A → Stage B) (old mid 
     → Went stage old mid (Made a) → Goes (go_on a) mid new result → Goes (stage >>= go_on) old new result
 goes_on stage go_on old mid new a (Ok b) went then = went_went stage go_on old mid new a (Made b) went then
 goes_on stage go_on old mid new a (Err status) went (one, inl then) =
-    (one, inl (went_went stage go_on old mid new a Refused went then))
+    (one, inl (then.0, went_went stage go_on old mid new a (Refused then.0) went then.1))
 goes_on stage go_on old mid new a (Err status) went (one, inr then) =
     (one, inr (went_broke stage go_on old mid new a went then))
 
@@ -137,7 +152,7 @@ goes_on stage go_on old mid new a (Err status) went (one, inr then) =
 pub goes_no_further : {A B : Type 0} (stage : Stage A) (go_on : A → Stage B) (old new : DeskView) (status : ℕ)
     → Goes stage old new (Err status)
     → Goes (stage >>= go_on) old new (Err status)
-goes_no_further stage go_on old new status (one, inl went) = (one, inl (refused_then stage go_on old new went))
+goes_no_further stage go_on old new status (one, inl went) = (one, inl (went.0, refused_then stage go_on old new went.0 went.1))
 goes_no_further stage go_on old new status (one, inr broke) = (one, inr (broke_then stage go_on old new broke))
 
 -- ---- stages that read nothing
@@ -148,13 +163,13 @@ went_nowhere d a = record { passed = []; says = []; comes = λ more. refl; kept 
 
 -- a line was printed whole
 told_whole : {A : Type 0} (old new : DeskView) (line : List ℕ) → Passes (after_all (Line line ∷ [])) old new → HasSameCounts old new
-    → Went {A = A} (verdict_stage (Err line)) old new Refused
+    → Went {A = A} (verdict_stage (Err line)) old new (Refused line)
 told_whole old new line kept same =
-    record { passed = []; says = Line line ∷ []; comes = λ more. refl; kept = kept; sound = same }
+    record { passed = []; says = []; comes = λ more. refl; kept = kept; sound = same }
 
 -- or it broke off there
 broke_here : {A : Type 0} (stage : Stage A) (old new : DeskView) (break : Break) (told : List ℕ)
-    → ((more : List Opening) → IsBreak break more (stage more).says) → TellsBreak break told old new
+    → ((more : List Opening) → IsBreak break more (all_told (stage more).says (stage more).answer)) → TellsBreak break told old new
     → Passes (after_all (last_done break told)) old new → Follows old new → StageBrokeOff stage old new
 broke_here stage old new break told is tells kept follows = record {
   passed = [];
@@ -171,7 +186,7 @@ broke_here stage old new break told is tells kept follows = record {
 refused_by : {A : Type 0} (old new : DeskView) (line told : List ℕ) → TellsLine line told old new
     → Passes (after_all (Line told ∷ [])) old new → Follows old new → Goes {A = A} (verdict_stage (Err line)) old new (Err 1)
 refused_by {A} old new line told (inl whole) kept follows =
-    (refl, inl (told_whole {A = A} old new line (subst (λ bytes. Passes (after_all (Line bytes ∷ [])) old new) whole.0 kept) whole.1))
+    (refl, inl (line, told_whole {A = A} old new line (subst (λ bytes. Passes (after_all (Line bytes ∷ [])) old new) whole.0 kept) whole.1))
 refused_by {A} old new line told (inr part) kept follows =
     (refl, inr (broke_here (verdict_stage {A = A} (Err line)) old new (InLine line) told (λ more. ([], refl)) part kept follows))
 
@@ -227,5 +242,5 @@ went_into stage f old new a went = went_went stage (λ x. verdict_stage (Ok (f x
 -- however a stage goes, the counts of failures never fall
 pub goes_follows : {A : Type 0} (stage : Stage A) (old new : DeskView) (result : Result A ℕ) → Goes stage old new result → Follows old new
 goes_follows stage old new (Ok a) went = follows_same old new went.sound
-goes_follows stage old new (Err status) (one, inl went) = follows_same old new went.sound
+goes_follows stage old new (Err status) (one, inl went) = follows_same old new went.1.sound
 goes_follows stage old new (Err status) (one, inr broke) = broke.follows

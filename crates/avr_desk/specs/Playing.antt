@@ -7,15 +7,15 @@ use Rattle.avr_desk.specs.declared.record.Opening.TheVariants.{Found}
 use Rattle.avr_desk.specs.declared.record.Reading.{Reading}
 use Rattle.avr_desk.specs.Lines.{memory_line, not_opened_line, not_read_line}
 use Rattle.avr_desk.specs.Said.{Saying, Opens, Line, IsPrefixOf, TellsLine, TellsFailure, after_all}
-use Rattle.avr_desk.specs.Stage.{Stage, Answer, Made, Refused, StageResult, next_opening}
+use Rattle.avr_desk.specs.Stage.{Stage, Answer, Made, Refused, StageResult, all_told, next_opening}
 
 -- These openings passed, and what the desk was given to do is what the stage says of them, whatever later ones would
--- give; and no call of the desk failed.
+-- give, and behind that the line of its refusal, if it is refused; and no call of the desk failed.
 pub record Went {A : Type 0} (stage : Stage A) (old new : DeskView) (answer : Answer A) : Type 0 where
   pub passed : List Opening
   pub says : List Saying
   pub comes : (more : List Opening) → stage (passed ++ more) ≡ record { says = says; answer = answer; left = more }
-  pub kept : Passes (after_all says) old new
+  pub kept : Passes (after_all (all_told says answer)) old new
   pub sound : HasSameCounts old new
 
 -- Why it broke off: the next line could not be printed; the next file could not be opened, or be read on behind these
@@ -57,12 +57,13 @@ TellsBreak (NotRead name bytes) told old new = TellsFailure (not_read_line name)
 TellsBreak NoMemory told old new = TellsLine memory_line told old new
 TellsBreak (NoMemoryFor reading) told old new = TellsLine memory_line told old new
 
--- the rest of what a stage says of some openings
+-- The rest of what a stage says of some openings. The line of a refusal is told behind all that, so that no break
+-- stands behind it.
 pub record Rest {A : Type 0} (played : StageResult A) (whole : List Saying) (break : Break)
     (more : List Opening) : Type 0 where
   pub later : List Saying
   pub says_are : played.says ≡ whole ++ later
-  pub broken : IsBreak break more later
+  pub broken : IsBreak break more (all_told later played.answer)
 
 -- These openings passed, a front of what the stage says of them was done, whatever later ones would give, and then it
 -- broke off, and why was told.
@@ -76,7 +77,11 @@ pub record StageBrokeOff {A : Type 0} (stage : Stage A) (old new : DeskView) : T
   pub kept : Passes (after_all (whole ++ last_done break told)) old new
   pub follows : Follows old new
 
+-- it is refused, and that was told, as the last thing
+abbrev pub WentRefused : {A : Type 0} → Stage A → DeskView → DeskView → Type 0
+WentRefused stage old new = (line : Bytes) × Went stage old new (Refused line)
+
 -- What was made was made by the stage; the status 1 is a refusal that was told, or a break.
 abbrev pub Goes : {A : Type 0} → Stage A → DeskView → DeskView → Result A ℕ → Type 0
 Goes stage old new (Ok a) = Went stage old new (Made a)
-Goes stage old new (Err status) = (status ≡ 1) × (Went stage old new Refused ⊎ StageBrokeOff stage old new)
+Goes stage old new (Err status) = (status ≡ 1) × (WentRefused stage old new ⊎ StageBrokeOff stage old new)

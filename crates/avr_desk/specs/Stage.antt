@@ -7,17 +7,27 @@ use Rattle.avr_desk.specs.declared.record.Reading.{Reading}
 use Rattle.avr_desk.specs.Lines.{not_opened_line}
 use Rattle.avr_desk.specs.Said.{Saying, Opens, Line}
 
--- It made something; or it is refused; or it can't be judged, since a file was not read to its end or past its limit.
+-- It made something; or it is refused, by this line; or it can't be judged, since a file was not read to its end or
+-- past its limit.
 pub data Answer (A : Type 0) : Type 0 where
   Made : A → Answer A
-  Refused : Answer A
+  Refused : Bytes → Answer A
   Unread : Answer A
 
--- what was said, the answer, and what the later openings give
+-- what was said before the answer, the answer, and what the later openings give
 pub record StageResult (A : Type 0) : Type 0 where
   pub says : List Saying
   pub answer : Answer A
   pub left : List Opening
+
+-- what was said, and the line of a refusal, which comes last
+abbrev pub all_told : {A : Type 0} → List Saying → Answer A → List Saying
+all_told says (Made a) = says
+all_told says (Refused line) = says ++ Line line ∷ []
+all_told says Unread = says
+
+abbrev pub told_in : {A : Type 0} → StageResult A → List Saying
+told_in p = all_told p.says p.answer
 
 abbrev pub Stage : Type 0 → Type 0
 Stage A = List Opening → StageResult A
@@ -28,7 +38,7 @@ behind_sayings says p = record { says = says ++ p.says; answer = p.answer; left 
 
 abbrev pub going_on : {A B : Type 0} → List Saying → List Opening → (A → Stage B) → Answer A → StageResult B
 going_on says left go_on (Made a) = behind_sayings says (go_on a left)
-going_on says left go_on Refused = record { says = says; answer = Refused; left = left }
+going_on says left go_on (Refused line) = record { says = says; answer = Refused line; left = left }
 going_on says left go_on Unread = record { says = says; answer = Unread; left = left }
 
 -- one stage, and then the one that its answer chooses
@@ -45,7 +55,7 @@ saying_stage says openings = record { says = says; answer = Made tt; left = open
 -- a judgment: what it gives, or the line of its refusal
 abbrev pub verdict_stage : {A : Type 0} → Result A Bytes → Stage A
 verdict_stage (Ok a) openings = record { says = []; answer = Made a; left = openings }
-verdict_stage (Err line) openings = record { says = Line line ∷ []; answer = Refused; left = openings }
+verdict_stage (Err line) openings = record { says = []; answer = Refused line; left = openings }
 
 abbrev pub unread_stage : {A : Type 0} → Stage A
 unread_stage openings = record { says = []; answer = Unread; left = openings }

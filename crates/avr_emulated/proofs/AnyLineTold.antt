@@ -28,11 +28,11 @@ none_left m (Say s d) p turns = none_left m d p turns
 none_left m (Ask bytes go_on) p turns = refl
 
 module _ {P : Type 0} (m : Device P) where
-  says_programmer : {R : Type 0} (k : ℕ) (sayings : List Saying) (r : R) (p : P) (turns : List Turn) → (along m k (says sayings (Done r)) p turns).programmer ≡ p
+  pub says_programmer : {R : Type 0} (k : ℕ) (sayings : List Saying) (r : R) (p : P) (turns : List Turn) → (along m k (says sayings (Done r)) p turns).programmer ≡ p
   says_programmer k [] r p turns = refl
   says_programmer k (saying ∷ sayings) r p turns = says_programmer k sayings r p turns
 
-  says_dialog : {R : Type 0} (k : ℕ) (sayings : List Saying) (r : R) (p : P) (turns : List Turn) → (along m k (says sayings (Done r)) p turns).dialog ≡ Done r
+  pub says_dialog : {R : Type 0} (k : ℕ) (sayings : List Saying) (r : R) (p : P) (turns : List Turn) → (along m k (says sayings (Done r)) p turns).dialog ≡ Done r
   says_dialog k [] r p turns = refl
   says_dialog k (saying ∷ sayings) r p turns = says_dialog k sayings r p turns
 

@@ -130,14 +130,14 @@ module _ (plan : Plan) (sound : IsPart plan.part) (m0 : Memories) (f0 : FitsPart
   counts_hold mem count done_text q t = informs_hold plan.switches.quiet (name_of mem ∷ codes ": " ∷ decimal count ∷ done_text ∷ []) q t
 
   -- after a call: its data, judged; or the fault of a step
-  abbrev AfterCall : {A : Type 0} → List (List Command) → Memories → (List ℕ → Result A HostFault) → Result A HostFault → Programmer → Type 0
+  abbrev pub AfterCall : {A : Type 0} → List (List Command) → Memories → (List ℕ → Result A HostFault) → Result A HostFault → Programmer → Type 0
   AfterCall steps m judge r q = (Settled plan.part (struck_by plan.part (length steps) steps m) q × (r ≡ judge (all_given plan.part steps m))) ⊎ ((fault : StepFault) × (r ≡ Err (host_fault fault)))
 
   after_call : {A : Type 0} (steps : List (List Command)) (m : Memories) (judge : List ℕ → Result A HostFault) (o : Outcome) (q : Programmer) → AfterSteps plan.part steps m [] o q → AfterCall steps m judge (judged_by judge o) q
   after_call steps m judge (Ok got) q a = inl (a.0, ap judge a.1)
   after_call steps m judge (Err fault) q a = inr (fault, refl)
 
-  leads_call : {A : Type 0} (steps : List (List Command)) (m : Memories) (judge : List ℕ → Result A HostFault) (p : Programmer) (turns : List Turn) → AreSteps plan.part steps → FitsPart plan.part m
+  pub leads_call : {A : Type 0} (steps : List (List Command)) (m : Memories) (judge : List ℕ → Result A HostFault) (p : Programmer) (turns : List Turn) → AreSteps plan.part steps → FitsPart plan.part m
       → Settled plan.part m p → Leads device (operation steps judge) p turns (λ q. ⊤) (AfterCall steps m judge)
   unfolding operation
   leads_call steps m judge p turns are f s =
@@ -175,7 +175,7 @@ module _ (plan : Plan) (sound : IsPart plan.part) (m0 : Memories) (f0 : FitsPart
 
   -- ---- the opening
 
-  abbrev AfterSignature : Result (List ℕ) HostFault → Programmer → Type 0
+  abbrev pub AfterSignature : Result (List ℕ) HostFault → Programmer → Type 0
   AfterSignature r q = (r ≡ Ok plan.part.signature) ⊎ ((fault : StepFault) × (r ≡ Err (host_fault fault)))
 
   found_signature : (force : Bool) (o : Outcome) (q : Programmer) → AfterBeginning plan.part m0 o q → AfterSignature (signature_judged plan.part.signature force o) q
@@ -183,7 +183,7 @@ module _ (plan : Plan) (sound : IsPart plan.part) (m0 : Memories) (f0 : FitsPart
       inl (subst (λ x. signature_judged plan.part.signature force (Ok x) ≡ Ok plan.part.signature) (sym a.1) (signature_taken plan.part.signature force))
   found_signature force (Err fault) q a = inr (fault, refl)
 
-  leads_signature : (force : Bool) (p : Programmer) (turns : List Turn) → Idle plan.part m0 p → Leads device (host.opening plan.part.signature force) p turns (λ q. ⊤) AfterSignature
+  pub leads_signature : (force : Bool) (p : Programmer) (turns : List Turn) → Idle plan.part m0 p → Leads device (host.opening plan.part.signature force) p turns (λ q. ⊤) AfterSignature
   unfolding host.opening
   leads_signature force p turns idle =
       leads_bind device (λ q. ⊤) (AfterBeginning plan.part m0) AfterSignature (λ outcome. Done (signature_judged plan.part.signature force outcome))
@@ -335,10 +335,10 @@ module _ (plan : Plan) (sound : IsPart plan.part) (m0 : Memories) (f0 : FitsPart
   after_ended (Ok bytes) q = inl refl
   after_ended (Err fault) q = inr (fault, refl)
 
-  abbrev AfterClosing : Result ⊤ HostFault → Programmer → Type 0
+  abbrev pub AfterClosing : Result ⊤ HostFault → Programmer → Type 0
   AfterClosing r q = (r ≡ Ok tt) ⊎ ((fault : StepFault) × (r ≡ Err (host_fault fault)))
 
-  leads_closed : (p : Programmer) (turns : List Turn) → Leads device host.closing p turns (λ q. ⊤) AfterClosing
+  pub leads_closed : (p : Programmer) (turns : List Turn) → Leads device host.closing p turns (λ q. ⊤) AfterClosing
   unfolding host.closing
   leads_closed p turns =
       leads_bind device (λ q. ⊤) (λ o q. ⊤) AfterClosing (λ outcome. Done (without_bytes outcome))

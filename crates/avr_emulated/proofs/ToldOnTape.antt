@@ -7,7 +7,7 @@ use Rattle.stk_emu.specs.Device.{Device}
 use Rattle.stk_emu.specs.Lawful.{IsBody}
 use Rattle.stk_emu.specs.Along.{AsksBodies}
 use Rattle.stk_emu.specs.Turn.{Turn, Became, after_became, after_turn, IsHonest}
-use Rattle.stk_emu.specs.AnyTape.{first_became, other_becames, on_answer, AreHonest}
+use Rattle.stk_emu.specs.AnyTape.{first_became, other_becames, on_answer, AreHonest, turn_by}
 use Rattle.stk_emu.proofs.AnyTape.{honest_turn, obeyed_frame}
 use Rattle.avr_emulated.specs.Told.{TellsTrue, SaidTrueBy}
 
@@ -30,7 +30,8 @@ module _ {P : Type 0} (m : Device P) where
       let q = after_became became (m.after bytes p) p m.reset in
       let t = honest_turn m bytes p became reading h.0 in
       let inner : AlwaysTrue T (go_on reading) q =
-      λ k turns. subst (λ r. TellsTrue m T k (go_on reading) r turns) t.2 (subst (λ x. TellsTrue m T k (go_on x) (after_turn t.0 (m.after bytes p) p m.reset) turns) t.1 (tells (suc k) (t.0 ∷ turns))) in
+      λ k turns. subst (λ r. TellsTrue m T k (go_on reading) r turns) t.1
+      (subst (λ x. TellsTrue m T k (go_on x) (after_turn (turn_by became reading) (m.after bytes p) p m.reset) turns) t.0 (tells (suc k) (turn_by became reading ∷ turns))) in
       subst (λ r. SaidTrueBy m T (played (go_on reading) (next n) left).events (other_becames becames) (after_became became r p m.reset)) (sym (obeyed_frame m n bytes p b))
       (each reading left q inner h.1)
 

@@ -14,12 +14,15 @@ use Rattle.stk_emu.specs.Turn.{after_turn, turn_reading}
 use Rattle.stk_emu.specs.Device.{Device, device}
 use Rattle.stk_emu.specs.Lawful.{IsClear}
 use Rattle.stk_emu.specs.Programmer.{Programmer}
-use Rattle.stk_emu.specs.Wire.{AreLawful, first_fate, other_fates, turn_of, turns_of, Wire, wire_behind, tape_of, fresh_wire}
+use Rattle.stk_emu.specs.AnyTape.{AreHonest}
+use Rattle.stk_emu.specs.Wire.{AreLawful, first_fate, other_fates, turn_of, turns_of, becames_of, Wire, wire_behind, tape_of, fresh_wire}
 use Rattle.stk_emu.specs.Wired.{brought}
+use Rattle.stk_emu.proofs.AnyTape.{honest_front}
 use Rattle.stk_emu.proofs.Bodies.{answers_bodies}
 use Rattle.stk_emu.proofs.Fused.{AnswersBodies, first_played, others_lawful, head_is, tail_is}
 use Rattle.stk_emu.proofs.Segments.{none_clear, segment_late, segment_leaves}
 use Rattle.stk_emu.proofs.Turning.{sends_whole, frames_front, played_goes}
+use Rattle.stk_emu.proofs.WireHonest.{wire_honest}
 use Rattle.avr_emulated.specs.Told.{TellsTrue, SaidTrue}
 
 -- a front of events
@@ -77,17 +80,36 @@ played_more (Done r) n t u = ([], refl)
 played_more (Say e d) n t u = let g = played_more d n t u in (g.0, ap (λ es. Said e ∷ es) g.1)
 played_more (Ask bytes go_on) n t u = more_asking bytes go_on n t u (answer n t) refl (λ reading left. played_more (go_on reading) (next n) left u)
 
+-- the frames that went out over a wire, in a play over what was heard of what it brings
+went_out : {E R : Type 0} (d : Dialog E R) (n : ℕ) (p : Programmer) (fates : List Fate) (talk : Talk) (waits : Tape) → AsksBodies d → brought p fates (sent talk) ≡ heard talk ++ waits
+    → IsPrefixOf (sent talk) (bytes_sent (played d n (heard talk)).events)
+    → (others : List (List ℕ)) × (frames_in (played d n (brought p fates (sent talk))).events ≡ frames (sent talk) ++ others)
+went_out d n p fates talk waits asks brings front =
+    let f = frames_front (played d n (heard talk)).events (sent talk) front.0 (sends_whole d n (heard talk) asks) front.1 in
+    let g = played_goes d n (heard talk) waits in
+    (f.0 ++ g.0, ap (λ t. frames_in (played d n t).events) brings ∙ (g.1 ∙ (ap (λ fs. fs ++ g.0) f.1 ∙ append_assoc (frames (sent talk)) f.0 g.0)))
+
+-- what was heard of what the wire brings is honest
+pub honest_over : {E R : Type 0} (d : Dialog E R) (n : ℕ) (p : Programmer) (fates : List Fate) (talk : Talk) (waits : Tape)
+    → AsksBodies d → AreLawful fates → brought p fates (sent talk) ≡ heard talk ++ waits
+    → IsPrefixOf (sent talk) (bytes_sent (played d n (heard talk)).events)
+    → AreHonest device d n (heard talk) p (becames_of (length (frames (sent talk))) fates)
+honest_over d n p fates talk waits asks lawful brings front =
+    let out = went_out d n p fates talk waits asks brings front in
+    let becames = becames_of (length (frames (sent talk))) fates in
+    honest_front device d n (heard talk) waits p becames
+    (subst (λ t. AreHonest device d n t p becames) brings
+    (wire_honest device answers_bodies d n (fresh_wire p fates) (frames (sent talk)) out.0 asks (none_clear n) lawful out.1))
+
 -- in a talk, over what was heard of what the wire brings
 pub told_over : {E R : Type 0} (T : Programmer → E → Type 0) (d : Dialog E R) (n : ℕ) (p : Programmer) (fates : List Fate) (talk : Talk) (waits : Tape)
     → AsksBodies d → AreLawful fates → brought p fates (sent talk) ≡ heard talk ++ waits
     → IsPrefixOf (sent talk) (bytes_sent (played d n (heard talk)).events) → TellsTrue device T (length (frames (sent talk))) d p (turns_of fates)
     → SaidTrue device T (played d n (heard talk)).events (fresh_wire p fates)
 told_over T d n p fates talk waits asks lawful brings front told =
-    let f = frames_front (played d n (heard talk)).events (sent talk) front.0 (sends_whole d n (heard talk) asks) front.1 in
-    let g = played_goes d n (heard talk) waits in
+    let out = went_out d n p fates talk waits asks brings front in
     let more = played_more d n (heard talk) waits in
     let all : SaidTrue device T (played d n (brought p fates (sent talk))).events (fresh_wire p fates) =
-    true_over device answers_bodies T d n (fresh_wire p fates) (frames (sent talk)) (f.0 ++ g.0) asks (none_clear n) lawful
-    (ap (λ t. frames_in (played d n t).events) brings ∙ (g.1 ∙ (ap (λ fs. fs ++ g.0) f.1 ∙ append_assoc (frames (sent talk)) f.0 g.0))) told in
+    true_over device answers_bodies T d n (fresh_wire p fates) (frames (sent talk)) out.0 asks (none_clear n) lawful out.1 told in
     said_front device T (played d n (heard talk)).events more.0 (fresh_wire p fates)
     (subst (λ es. SaidTrue device T es (fresh_wire p fates)) (ap (λ t. (played d n t).events) brings ∙ more.1) all)

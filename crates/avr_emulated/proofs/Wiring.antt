@@ -23,7 +23,7 @@ use Rattle.stk_emu.specs.Leads.{Leads, GoesAlong}
 use Rattle.stk_emu.specs.Programmer.{Programmer, fresh_programmer}
 use Rattle.stk_emu.specs.Settled.{Idle, FitsPart}
 use Rattle.stk_emu.specs.Wire as line
-use Rattle.stk_emu.specs.Wire.{turns_of}
+use Rattle.stk_emu.specs.Wire.{turns_of, becames_of}
 use Rattle.stk_emu.specs.Wired.{WiredState, Keeps, ComesOf, IsFresh, wired_view}
 use Rattle.stk_emu.proofs.Beginning.{fresh_idle, fresh_fits}
 use Rattle.stk_emu.proofs.SaidAlong.{whole_said}
@@ -32,6 +32,7 @@ use Rattle.avr_emulated.specs.Again.{AgreesAnyway}
 use Rattle.avr_emulated.specs.AnyLine.{weighed, bodies_in, memories, frames_over, Stopped, WereTrue, OverAnyLine}
 use Rattle.avr_emulated.specs.Bound.{run_steps}
 use Rattle.avr_emulated.specs.Course.{course}
+use Rattle.avr_emulated.specs.Foretold.{IsForetold}
 use Rattle.avr_emulated.specs.Told.{IsTrue, SaidTrue}
 use Rattle.avr_emulated.specs.Items.{items, has_erase}
 use Rattle.avr_emulated.specs.Outcome.{IsTouched, MakesStrokes, IsDone, IsCourse}
@@ -44,7 +45,8 @@ use Rattle.avr_emulated.proofs.Ends.{Came}
 use Rattle.avr_emulated.proofs.FramesWeighed.{front_weighs}
 use Rattle.avr_emulated.proofs.Success.{session_succeeds}
 use Rattle.avr_emulated.proofs.TellingTrue.{session_tells}
-use Rattle.avr_emulated.proofs.ToldOnWire.{said_front, told_over}
+use Rattle.avr_emulated.proofs.SaidToFault.{foretold_on_tape}
+use Rattle.avr_emulated.proofs.ToldOnWire.{said_front, told_over, honest_over}
 use Rattle.avr_emulated.proofs.Weighing.{session_weighs}
 use Rattle.avr_emulated.proofs.WrittenRuns.{run_written}
 
@@ -197,6 +199,11 @@ module _ (plan : Plan) (w v : WiredState) (fresh : IsFresh w) (stays : Stays Com
       (keeps.brings (never_idle (session plan) 1 begun w.wire.fates v.talk asks fresh.lawful (in_turn runs)))
       (is_front runs) (session_tells plan sound before sizes fitted count begun (turns_of w.wire.fates) idle))
 
+  foretells : Either → IsForetold plan before (sayings (played (session plan) 1 (heard v.talk)).events)
+  foretells runs = foretold_on_tape plan sound fitted before sizes begun (heard v.talk) (becames_of (length (frames (sent v.talk))) w.wire.fates) idle
+      (honest_over (session plan) 1 begun w.wire.fates v.talk v.waits asks fresh.lawful
+      (keeps.brings (never_idle (session plan) 1 begun w.wire.fates v.talk asks fresh.lawful (in_turn runs))) (is_front runs))
+
   pub over_any_line : Either → OverAnyLine plan w v old now status
   over_any_line runs = record {
     success = is_course runs;
@@ -206,6 +213,7 @@ module _ (plan : Plan) (w v : WiredState) (fresh : IsFresh w) (stays : Stays Com
     untouched = λ none. ap (λ x. memories_of x.programmer.chip) (keeps.stands ∙ (ap (λ fs. line.wire_after device fs (line.fresh_wire begun w.wire.fates)) none ∙ as_begun));
     four = λ weight. front_weighs weight (4 * weighed weight (bodies_in (run_steps plan))) (session plan) 1 (heard v.talk) (sent v.talk) asks (session_weighs weight plan) (is_front runs);
     believable = tells runs;
+    foretold = foretells runs;
     few_bad = goes_well runs;
     again = succeeds_again runs;
   }

@@ -16,10 +16,11 @@ use Rattle.stk_emu.specs.Wired.{WiredState, wired_view}
 use Rattle.stk_frame.specs.Commands.{body}
 use Rattle.stk_frame.specs.Cut.{body_of, frames}
 use Rattle.stk_frame.specs.declared.command.Command.{Command}
-use Rattle.stk_host.specs.Dialog.{Event, played}
+use Rattle.stk_host.specs.Dialog.{Event, played, sayings}
 use Rattle.stk_host.specs.Talk.{sent, heard}
 use Rattle.avr_emulated.specs.Again.{AgreesAnyway}
 use Rattle.avr_emulated.specs.Bound.{run_steps}
+use Rattle.avr_emulated.specs.Foretold.{IsForetold}
 use Rattle.avr_emulated.specs.Items.{items, asked_items, has_erase}
 use Rattle.avr_emulated.specs.Outcome.{IsCourse, IsDone, MakesStrokes}
 use Rattle.avr_emulated.specs.Told.{IsTrue, SaidTrue}
@@ -77,6 +78,9 @@ pub record OverAnyLine (plan : Plan) (before after : WiredState) (old now : Desk
   -- whatever the status: each line that the session tells and each file that it writes, over what was heard, was true
   -- of the chip at that moment; and what was told and written is a front of that
   pub believable : WereTrue plan before (played (session plan) 1 (heard after.talk)).events
+  -- and it is what the course says, or as much of that as actions came to their ends, and then the line of the step
+  -- that failed
+  pub foretold : IsForetold plan (memories before) (sayings (played (session plan) 1 (heard after.talk)).events)
   -- a line that is bad, but not too bad, changes nothing: where of any seven frames in a row at most three go wrong,
   -- of which a reset counts four, the session is its course, unless it stopped
   pub few_bad : AreFew (turns_of before.wire.fates)

@@ -1,15 +1,16 @@
 //! What a run leaves in a chip, whatever the line does, and in which order; and how much it sends. No code.
 #![tactic(auto)]
 
-ghost use Rattle.std.specs.Prelude.{◌≡◌, ◌*◌, ℕ, List, [], All, take};
+ghost use Rattle.std.specs.Prelude.{◌≡◌, ◌*◌, ◌++◌, ℕ, List, [], All, take};
 ghost use Rattle.avr_desk.specs.Record.{DeskView};
-ghost use Rattle.avr_desk.specs.Said.{SaidPart};
+ghost use Rattle.avr_desk.specs.Said.{Saying, SaidPart};
 ghost use Rattle.avr_part.specs.Part.{IsPart};
 ghost use Rattle.avr_plan.specs.Plan.{Plan, IsFitted};
+ghost use Rattle.avr_session.specs.Actions.{actions};
 ghost use Rattle.avr_session.specs.Runs.{devices};
 ghost use Rattle.avr_session.specs.Session.{session};
 ghost use Rattle.avr_session.specs.Stopping.{IsPlayed};
-ghost use Rattle.stk_emu.specs.Along.{AsksBodies};
+ghost use Rattle.stk_emu.specs.Along.{AsksBodies, along, said_along};
 ghost use Rattle.stk_emu.specs.Device.{device};
 ghost use Rattle.stk_emu.specs.Effect.{Memories, effects, memories_of};
 ghost use Rattle.stk_emu.specs.Leads.{Leads};
@@ -20,10 +21,12 @@ ghost use Rattle.stk_emu.specs.Wired.{WiredState, wired_view};
 ghost use Rattle.stk_emu.specs.Turn.{Turn, Became};
 ghost use Rattle.stk_emu.specs.AnyTape.{AreHonest};
 ghost use Rattle.stk_host.specs.Tape.{Tape};
-ghost use Rattle.stk_host.specs.Dialog.{played};
+ghost use Rattle.stk_host.specs.Dialog.{Done, played, sayings};
 ghost use Rattle.stk_host.specs.Bound.{SendsAtMost, commands_in};
 ghost use Rattle.avr_emulated.specs.AnyLine.{OverAnyLine, Stopped, WereTrue};
 ghost use Rattle.avr_emulated.specs.Bound.{run_steps, ListensAtMost};
+ghost use Rattle.avr_emulated.specs.Course.{course};
+ghost use Rattle.avr_emulated.specs.Foretold.{SaysFirst, IsForetold, EndsAsForetold};
 ghost use Rattle.avr_emulated.specs.Made.{made_by};
 ghost use Rattle.avr_emulated.specs.Told.{TellsTrue, SaidTrueBy, IsTrue};
 ghost use Rattle.avr_emulated.specs.Outcome.{strokes, IsTouched, IsDone};
@@ -89,4 +92,25 @@ pub fn what_is_told_over_any_line_is_true()
         → AreHonest device (session plan) 1 tape p becames
         → SaidTrueBy device (λ q saying. IsTrue plan m (memories_of q.chip) saying)
         (played (session plan) 1 tape).events becames p }
+{}
+
+/// Whatever the line does, and at each moment: a session has said what its course says, or as much of it as its first
+/// actions say, each of which came to its end, or behind that the line of the step that failed, and no more. With a
+/// status it has said the first, with the status of its course, or the last, with status 1. Over any line that makes no
+/// answer the same, however the session ends. And what first actions say is the course's, from its beginning.
+pub fn a_session_says_its_course_up_to_a_fault()
+    ensures moment { (plan : Plan) (m : Memories) (k : ℕ) (p : Programmer) (turns : List Turn)
+        → IsPart plan.part → All (IsFitted plan.part) plan.tasks → FitsPart plan.part m → Idle plan.part m p
+        → IsForetold plan m (said_along device k (session plan) p turns) }
+    ensures end { (plan : Plan) (m : Memories) (k status : ℕ) (p : Programmer) (turns : List Turn)
+        → IsPart plan.part → All (IsFitted plan.part) plan.tasks → FitsPart plan.part m → Idle plan.part m p
+        → (along device k (session plan) p turns).dialog ≡ Done status
+        → EndsAsForetold plan m (said_along device k (session plan) p turns) status }
+    ensures tape { (plan : Plan) (m : Memories) (p : Programmer) (tape : Tape) (becames : List Became)
+        → IsPart plan.part → All (IsFitted plan.part) plan.tasks → FitsPart plan.part m → Idle plan.part m p
+        → AreHonest device (session plan) 1 tape p becames
+        → IsForetold plan m (sayings (played (session plan) 1 tape).events) }
+    ensures front { (plan : Plan) (m : Memories) (says : List Saying)
+        → SaysFirst plan.part plan.switches (actions plan) m says
+        → (later : List Saying) × ((course plan m).says ≡ says ++ later) }
 {}

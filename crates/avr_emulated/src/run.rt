@@ -16,7 +16,7 @@ use avr_desk::Desk;
 use avr_plan::{Plan, plan};
 use avr_session::drive;
 use std::alloc::Global;
-use stk_emu::Wired;
+use stk_emu::{Fates, Wired};
 
 /// Plays the session of a plan over a wire to the emulated programmer, as [`avr_session::drive`] does over any link.
 ///
@@ -80,7 +80,7 @@ pub fn run_emulated<D: Desk>(alloc: Global, settings: &Settings, file: &str, des
     // What the clause rests on: each image has the size of its memory, and the chip's memories those of its part.
     let _tasks = plan.tasks();
     let _part = chip.part();
-    let mut wire = Wired::new(alloc, chip, Vec::new(alloc));
+    let mut wire = Wired::new(alloc, chip, Fates::none(alloc));
     let status = drive_wired(alloc, &plan, desk, &mut wire);
     save_if_sent(alloc, &wire, file, desk, status)
 }

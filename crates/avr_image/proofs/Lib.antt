@@ -11,3 +11,4 @@ pub mod ByAddress
 pub mod RunWalk
 pub mod Listed
 pub mod Overlapping
+mod Removing

@@ -1,7 +1,7 @@
 -- A text that is put together, or written, piece by piece.
-use Rattle.std.proofs.Common.{◌≡◌, ◌∙◌, ap, sym, refl, subst, ℕ, List, [], ◌++◌, length, append_assoc, Option}
+use Rattle.std.proofs.Common.{◌≡◌, ◌∙◌, ap, sym, refl, subst, arith, ℕ, List, [], ◌++◌, length, append_assoc, Option}
 use Rattle.std.proofs.KnownBytes.{Appends-nil, Appends-trans}
-use Rattle.std.proofs.lemmas.List.{append-nil, nil_from_length}
+use Rattle.std.proofs.lemmas.List.{append-nil, length-append, nil_from_length}
 use Rattle.std.specs.Io.KnownBytes.{Appends}
 
 -- what came, and what is left, is the whole
@@ -12,6 +12,11 @@ goes_on text piece old left whole so_far split =
 pub is_whole : (text left whole : List ℕ) → text ++ left ≡ whole → length left ≡ 0 → text ≡ whole
 is_whole text left whole so_far none =
     sym (append-nil text) ∙ ap (λ (xs : List ℕ). text ++ xs) (sym (nil_from_length left none)) ∙ so_far
+
+-- behind an empty piece, where nothing was left, nothing is left
+pub none_left : (old piece left : List ℕ) → old ≡ piece ++ left → length old ≡ 0 → left ≡ []
+none_left old piece left split none =
+    nil_from_length left (omega (arith, none, ap length split ∙ length-append piece left))
 
 -- a writer took a front of the whole, and this is left
 pub record Written (old now : Option (List ℕ)) (left whole : List ℕ) : Type 0 where

@@ -1,7 +1,7 @@
 -- Faults: their numbers, and the one that may come in place of any other answer.
 use Rattle.std.specs.Prelude.{◌≡◌, ◌⊎◌, ℕ, Result, Err}
 use Rattle.avr_image.specs.declared.fault.ImageFault.{ImageFault}
-use Rattle.avr_image.specs.declared.fault.ImageFault.TheVariants.{OutOfRange, BadNumber, TooLarge, Failed, Memory}
+use Rattle.avr_image.specs.declared.fault.ImageFault.TheVariants.{OutOfRange, BadNumber, TooLarge, Failed, Memory, OtherSize}
 
 abbrev pub number_of : ImageFault → ℕ
 number_of (OutOfRange addr) = 1
@@ -9,6 +9,7 @@ number_of (BadNumber place) = 2
 number_of (TooLarge place) = 3
 number_of Failed = 4
 number_of Memory = 5
+number_of OtherSize = 6
 
 -- this answer, or a growth was refused
 abbrev pub OrMemory : {T : Type 0} → Result T ImageFault → Result T ImageFault → Type 0

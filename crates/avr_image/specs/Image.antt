@@ -14,6 +14,10 @@ byte_at image addr = slice_index_or image addr None
 abbrev pub with_byte : List (Option ℕ) → ℕ → ℕ → List (Option ℕ)
 with_byte image addr byte = slice_set image addr (Some byte)
 
+-- the image with a gap at this address
+abbrev pub without_byte : List (Option ℕ) → ℕ → List (Option ℕ)
+without_byte image addr = slice_set image addr None
+
 -- the first byte, if there is one, else the second
 abbrev pub either : Option ℕ → Option ℕ → Option ℕ
 either (Some b) a = Some b

@@ -1,5 +1,5 @@
 -- Which addresses hold a byte: a bit for each, 64 a word, the lowest address in the lowest bit.
-use Rattle.std.specs.Prelude.{◌≡◌, ℕ, Bool, ◌*◌, ◌/◌, ◌%◌, ◌^◌, ◌<◌, ◌≤◌, ◌==◌, ◌&&◌, nat_le, nat_lt, not, List, slice_index, slice_set, bit_or}
+use Rattle.std.specs.Prelude.{◌≡◌, ℕ, Bool, ◌-◌, ◌*◌, ◌/◌, ◌%◌, ◌^◌, ◌<◌, ◌≤◌, ◌==◌, ◌&&◌, nat_le, nat_lt, not, List, slice_index, slice_set, bit_and, bit_or}
 use Rattle.std.specs.Int.{bit_at}
 
 -- the bit of an address is 1
@@ -10,6 +10,11 @@ is_present words addr = bit_at (slice_index words (addr / 64)) (addr % 64) == 1
 abbrev pub with_mark : List ℕ → ℕ → List ℕ
 with_mark words addr = slice_set words (addr / 64)
     (bit_or (slice_index words (addr / 64)) (1 * 2 ^ (addr % 64) % 2 ^ 64))
+
+-- the words once an address is absent
+abbrev pub without_mark : List ℕ → ℕ → List ℕ
+without_mark words addr = slice_set words (addr / 64)
+    (bit_and (slice_index words (addr / 64)) (2 ^ 64 - 1 - 1 * 2 ^ (addr % 64) % 2 ^ 64))
 
 -- an address lies from `from` on and below `end`
 abbrev pub is_within : ℕ → ℕ → ℕ → Bool

@@ -9,6 +9,15 @@ pub record IsNextHeld (image : List (Option ℕ)) (addr place : ℕ) : Type 0 wh
   pub held : is_some (byte_at image place) ≡ true
   pub gap : (k : ℕ) → addr ≤ k → k < place → byte_at image k ≡ None
 
+-- the highest address that holds a byte
+pub record IsLastHeld (image : List (Option ℕ)) (place : ℕ) : Type 0 where
+  pub held : is_some (byte_at image place) ≡ true
+  pub above : (k : ℕ) → place < k → byte_at image k ≡ None
+
+-- no address holds a byte
+abbrev pub HoldsNone : List (Option ℕ) → Type 0
+HoldsNone image = (addr : ℕ) → byte_at image addr ≡ None
+
 -- the longest run of bytes from `addr` on that ends at `end` or before
 pub record IsByteRun (image : List (Option ℕ)) (addr end place : ℕ) : Type 0 where
   pub after : addr ≤ place

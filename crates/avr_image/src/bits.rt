@@ -2,7 +2,7 @@
 
 ghost use Rattle.std.specs.Prelude.{◌≡◌, ◌+◌, ◌*◌, ◌^◌, ◌<◌, ◌≤◌, ◌==◌, ◌&&◌, ◌||◌, ℕ, length, nat_le, nat_lt, if◌then◌else◌, not};
 ghost use Rattle.std.specs.Int.{bit_at};
-ghost use Rattle.avr_image.specs.Present.{is_present, with_mark, is_within, NextOne, FirstPlace};
+ghost use Rattle.avr_image.specs.Present.{is_present, with_mark, without_mark, is_within, NextOne, FirstPlace};
 
 /// Whether the bit of an address is 1.
 pub(crate) fn is_set(words: &[u64], addr: usize) -> bool
@@ -18,6 +18,14 @@ pub(crate) fn mark(words: &mut Vec<u64>, addr: usize)
     ensures words { words.new.items ≡ with_mark words.old.items addr }
 {
     words[addr / 64] |= 1 << (addr % 64);
+}
+
+/// Makes the bit of an address 0.
+pub(crate) fn unmark(words: &mut Vec<u64>, addr: usize)
+    requires { addr < length words.old.items * 64 }
+    ensures words { words.new.items ≡ without_mark words.old.items addr }
+{
+    words[addr / 64] &= !(1 << (addr % 64));
 }
 
 /// The place of a word's lowest 1 from `from` on, or 64.

@@ -5,7 +5,7 @@ ghost use Rattle.avr_image.specs.Fault.{number_of};
 
 use thiserror::Error;
 
-/// Why no image came of some bytes.
+/// Why no image came of some bytes, or one was not changed.
 ///
 /// ```text
 /// let fault = parse_immediate(alloc, "1,256", 4).err();
@@ -28,6 +28,9 @@ pub enum ImageFault {
     /// There was no memory for the image.
     #[error("out of memory")]
     Memory,
+    /// The other image is one of a memory of another size.
+    #[error("the images are of different sizes")]
+    OtherSize,
 }
 
 impl ImageFault {
@@ -45,6 +48,7 @@ impl ImageFault {
             ImageFault::TooLarge(_) => 3,
             ImageFault::Failed => 4,
             ImageFault::Memory => 5,
+            ImageFault::OtherSize => 6,
         }
     }
 }

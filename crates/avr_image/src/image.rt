@@ -1,13 +1,14 @@
 //! Images.
 
-ghost use Rattle.std.specs.Prelude.{◌≡◌, ◌==◌, ◌+◌, ◌*◌, ◌^◌, ◌<◌, ◌≤◌, ℕ, List, length, max, nat_lt, Ok, Err, OnOk, OnErr, MatchOption, MatchResult, IfOk, replicate, slice_index, slice_index_or, if◌then◌else◌};
-ghost use Rattle.avr_image.specs.Image.{empty, byte_at, with_byte, byte_count, filled_bytes, first_from, run_end, fits, laid_over, over, IsImage};
+ghost use Rattle.std.specs.Prelude.{◌≡◌, ◌==◌, ◌+◌, ◌*◌, ◌^◌, ◌<◌, ◌≤◌, ◌↔◌, ℕ, List, length, max, nat_lt, Ok, Err, OnOk, OnErr, MatchOption, MatchResult, IfOk, IsTrue, replicate, slice_index, slice_index_or, if◌then◌else◌};
+ghost use Rattle.avr_image.specs.Image.{empty, byte_at, with_byte, without_byte, byte_count, filled_bytes, first_from, run_end, fits, laid_over, over, IsImage};
 ghost use Rattle.avr_image.specs.Runs.{runs};
+ghost use Rattle.avr_image.specs.Walk.{HoldsNone, IsLastHeld};
 ghost use Rattle.std.specs.List.{enumerate_from};
 ghost use Rattle.avr_image.specs.Dense.{with_span};
 ghost use Rattle.avr_image.specs.Overlap.{AreDisjoint, IsFirstOverlap, hold_both};
 
-use crate::bits::{find, is_set, mark, mark_span};
+use crate::bits::{find, is_set, mark, mark_span, unmark};
 use crate::fault::ImageFault;
 use crate::runs::Runs;
 use std::alloc::{AllocError, Global};
@@ -111,7 +112,7 @@ impl Image {
     {
         match Image::new(alloc, self.size()) {
             Ok(mut copy) => {
-                copy.lay_over(self);
+                copy.lay_runs(self);
                 Ok(copy)
             }
             Err(fault) => Err(fault),
@@ -237,6 +238,30 @@ impl Image {
         Ok(())
     }
 
+    /// Takes away the byte at a byte address, and answers it; the address is a gap then. Where it holds none, the image
+    /// is unchanged.
+    ///
+    /// ```text
+    /// let mut image = Image::new(alloc, 64)?;
+    /// image.put(8, 0x12)?;
+    /// assert_eq!(rt; image.remove(8), Some(0x12));
+    /// assert_eq!(rt; image.remove(8), None);
+    /// ```
+    pub fn remove(&mut self, addr: u32) -> Option<u8>
+        ensures taken { result ≡ byte_at self.old addr }
+        ensures removed { self.new ≡ without_byte self.old addr }
+        ensures size { length self.new ≡ length self.old }
+    {
+        let byte = self.get(addr);
+        let place = addr as usize;
+        if place >= self.bytes.len() {
+            return byte;
+        }
+        self.bytes[place] = 255;
+        unmark(&mut self.words, place);
+        byte
+    }
+
     /// Lays bytes down at the byte addresses from `addr` on, as `put` of each in their order, and answers the address
     /// behind them. Where one lies outside the memory the fault is `OutOfRange` with the first that does, and the image
     /// is unchanged.
@@ -268,19 +293,36 @@ impl Image {
         Ok(end as u32)
     }
 
-    /// Lays the bytes of another image of the same size over those of this one.
+    /// Lays the bytes of another image of the same size over those of this one. Where the sizes differ the fault is
+    /// `OtherSize`, and the image is unchanged.
     ///
     /// ```text
     /// let mut image = Image::new(alloc, 4)?;
     /// image.put_slice(0, &[1, 2])?;
     /// let mut patch = Image::new(alloc, 4)?;
     /// patch.put_slice(1, &[3, 4])?;
-    /// image.lay_over(&patch);
+    /// image.lay_over(&patch)?;
     /// assert_eq!(rt; image.as_slice(), [1, 3, 4, 0xFF].as_slice());
+    /// assert_eq!(rt; image.lay_over(&Image::new(alloc, 8)?), Err(ImageFault::OtherSize));
     /// ```
-    pub fn lay_over(&mut self, other: &Image)
+    pub fn lay_over(&mut self, other: &Image) -> Result<(), ImageFault>
+        ensures judged { result ≡ (if length other.now == length self.old then Ok tt else Err ImageFault.OtherSize) }
+        ensures laid { OnOk result (self.new ≡ over self.old other.now) }
+        ensures same { OnErr result (self.new ≡ self.old) }
+        ensures size { length self.new ≡ length self.old }
+    {
+        if other.size() != self.size() {
+            return Err(ImageFault::OtherSize);
+        }
+        self.lay_runs(other);
+        Ok(())
+    }
+
+    /// Lays the runs of an image of the same size over the bytes of this one.
+    fn lay_runs(&mut self, other: &Image)
         requires { length other.now ≡ length self.old }
-        ensures { self.new ≡ over self.old other.now }
+        ensures over { self.new ≡ over self.old other.now }
+        ensures size { length self.new ≡ length self.old }
     {
         for (addr, bytes) in other.runs() {
             // Each run lies inside, since both images have one size.
@@ -336,6 +378,58 @@ impl Image {
         } else {
             None
         }
+    }
+
+    /// The highest byte address that holds a byte, if one does.
+    ///
+    /// ```text
+    /// let mut image = Image::new(alloc, 64)?;
+    /// assert_eq!(rt; image.last_held(), None);
+    /// image.put_slice(8, &[0x12, 0x34])?;
+    /// assert_eq!(rt; image.last_held(), Some(9));
+    /// ```
+    pub fn last_held(&self) -> Option<u32>
+        ensures { MatchOption result (HoldsNone self.now) (IsLastHeld self.now) }
+    {
+        let mut end = self.size();
+        while end > 0 {
+            if self.get(end - 1).is_some() {
+                return Some(end - 1);
+            }
+            end -= 1;
+        }
+        None
+    }
+
+    /// Whether this image and another one hold the same at a byte address.
+    fn is_same_at(&self, other: &Image, addr: u32) -> bool
+        ensures { IsTrue result ↔ (byte_at self.now addr ≡ byte_at other.now addr) }
+    {
+        self.get(addr) == other.get(addr)
+    }
+
+    /// Whether another image has the same size and holds the same bytes, with the same gaps.
+    ///
+    /// ```text
+    /// let mut image = Image::new(alloc, 64)?;
+    /// let other = Image::new(alloc, 64)?;
+    /// assert!(rt; image.holds_same(&other));
+    /// image.put(8, 0xFF)?;
+    /// assert!(rt; !image.holds_same(&other));
+    /// ```
+    pub fn holds_same(&self, other: &Image) -> bool
+        ensures { IsTrue result ↔ (self.now ≡ other.now) }
+    {
+        let size = self.size();
+        if size != other.size() {
+            return false;
+        }
+        for addr in 0..size {
+            if !self.is_same_at(other, addr) {
+                return false;
+            }
+        }
+        true
     }
 
     /// The end of the run of byte addresses that hold a byte and begins at `addr`, at most `end`; `addr` where it holds

@@ -1,6 +1,6 @@
 //! Texts that come in pieces.
 
-ghost use Rattle.std.specs.Prelude.{◌≡◌, ◌<◌, ◌↔◌, ◌++◌, ℕ, List, length, IfOk, IsTrue, OnOk};
+ghost use Rattle.std.specs.Prelude.{◌≡◌, ◌<◌, ◌↔◌, ◌++◌, ℕ, List, [], length, IfOk, IsTrue, OnOk};
 ghost use Rattle.std.specs.Io.KnownBytes.{Appends};
 
 use arrayvec::ArrayVec;
@@ -37,9 +37,10 @@ pub trait Pieces {
     /// let text = ListWriter::new(Base::Hex, &[18, 255]).to_vec(alloc)?;
     /// assert_eq!(rt; text.as_slice(), b"0x12,0xff\n".as_slice());
     /// ```
-    #[tactic(auto, using(crate::proofs::Texts::goes_on, crate::proofs::Texts::is_whole))]
+    #[tactic(auto, using(crate::proofs::Texts::goes_on, crate::proofs::Texts::is_whole, crate::proofs::Texts::none_left))]
     final fn to_vec(&mut self, alloc: Global) -> Result<Vec<u8>, AllocError>
-        ensures { IfOk result (λ text. text.items ≡ rest self.old) }
+        ensures text { IfOk result (λ text. text.items ≡ rest self.old) }
+        ensures over { OnOk result (rest self.new ≡ []) }
     {
         let mut text = Vec::new(alloc);
         let mut piece = ArrayVec::new();
@@ -57,9 +58,10 @@ pub trait Pieces {
     /// ListWriter::new(Base::Dec, &[18, 255]).write_to(&mut out)?;
     /// assert_eq!(rt; out.as_slice(), b"18,255\n".as_slice());
     /// ```
-    #[tactic(auto, using(crate::proofs::Texts::piece_written, crate::proofs::Texts::all_written))]
+    #[tactic(auto, using(crate::proofs::Texts::piece_written, crate::proofs::Texts::all_written, crate::proofs::Texts::none_left))]
     final fn write_to<W: Write>(&mut self, out: &mut W) -> io::Result<()>
-        ensures { OnOk result (Appends (W.contents out.old) (W.contents out.new) (rest self.old)) }
+        ensures written { OnOk result (Appends (W.contents out.old) (W.contents out.new) (rest self.old)) }
+        ensures over { OnOk result (rest self.new ≡ []) }
     {
         let mut piece = ArrayVec::new();
         'pieces: while self.next_piece(&mut piece) {

@@ -28,8 +28,8 @@ judged_next all ps left next k v p split so_far is =
     ∙ onto-next ps p (parts_in (members_view next))
 
 -- bytes that are text, and bytes that are none
-pub utf8_text-text : (bytes : Bytes) → IsUtf8 bytes → utf8_text bytes ≡ Some bytes
-utf8_text-text bytes h = rw (is_utf8-from_IsUtf8 bytes h)
+pub text_is_text : (bytes : Bytes) → IsUtf8 bytes → utf8_text bytes ≡ Some bytes
+text_is_text bytes h = rw (is_utf8-from_IsUtf8 bytes h)
 
-pub utf8_text-other : (bytes : Bytes) → (IsUtf8 bytes → ⊥) → utf8_text bytes ≡ None
-utf8_text-other bytes h = rw (false_from_ne_true (is_utf8 bytes) (λ e. h (IsUtf8-from_is_utf8 bytes e)))
+pub other_is_none : (bytes : Bytes) → (IsUtf8 bytes → ⊥) → utf8_text bytes ≡ None
+other_is_none bytes h = rw (false_from_ne_true (is_utf8 bytes) (λ e. h (IsUtf8-from_is_utf8 bytes e)))

@@ -6,4 +6,5 @@ pub mod Naming
 pub mod Powers
 pub mod Twice
 pub mod ChipFiles
+pub mod Counting
 pub mod Rows

@@ -1,5 +1,5 @@
 -- The parts of a part file, as its TOML tree is judged.
-use Rattle.std.specs.Prelude.{◌≡◌, ◌⊎◌, ℕ, ℤ, pos, negsuc, List, [], ◌∷◌, ◌&&◌, ◌==◌, ◌%◌, Option, Some, None, Result, Ok, Err, ok_or, codes, if◌then◌else◌}
+use Rattle.std.specs.Prelude.{◌≡◌, ◌≢◌, ◌≤◌, ◌⊎◌, ◌+◌, ℕ, ℤ, pos, negsuc, List, [], ◌∷◌, ◌&&◌, ◌==◌, ◌%◌, Option, Some, None, Result, Ok, Err, ok_or, codes, count_by, take, if◌then◌else◌}
 use Rattle.std.specs.Int.{is_power_of_two}
 use Rattle.std.specs.Str.{is_utf8}
 use Rattle.std.specs.Global.{Vec}
@@ -113,6 +113,38 @@ document_parts ms = do
   members ← ok_or (as_table parts) (of_file (BadValue field.Parts))
   parts_in members
 
+-- how many lines a text has
+abbrev pub line_count : Bytes → ℕ
+line_count text = count_by (λ byte. byte == 10) text + 1
+
+-- the line of a place in a text, from 1
+abbrev pub line_at : Bytes → ℕ → ℕ
+line_at text place = line_count (take place text)
+
+-- why a part file is refused, and the line at which it is no TOML
+pub record PlacedFault : Type 0 where
+  pub why : FileFault
+  pub line : Option ℕ
+
+abbrev pub not_toml_at : ℕ → PlacedFault
+not_toml_at line = record { why = of_file NotToml; line = Some line }
+
+abbrev pub lineless : FileFault → PlacedFault
+lineless why = record { why = why; line = None }
+
+-- a text that is no TOML has a line, one of its own, and no other fault has one
+abbrev pub HasLine : Bytes → PartFault → Option ℕ → Type 0
+HasLine text fault (Some line) = (fault ≡ NotToml) × (1 ≤ line) × (line ≤ line_count text)
+HasLine text fault None = fault ≢ NotToml
+
+abbrev pub IsPlaced : Bytes → PlacedFault → Type 0
+IsPlaced text f = HasLine text f.why.fault f.line
+
+-- what was read, whatever the line
+abbrev pub unplaced : {T : Type 0} → Result T PlacedFault → Result T FileFault
+unplaced (Ok t) = Ok t
+unplaced (Err f) = Err f.why
+
 abbrev pub utf8_text : Bytes → Option Bytes
 utf8_text bytes = if is_utf8 bytes then Some bytes else None
 
@@ -136,6 +168,6 @@ listed_items (Ok v) = Ok v.items
 listed_items (Err e) = Err e
 
 -- what was read is the document, or memory was refused
-abbrev pub ReadsDocument : Option Members → Result (BTreeMap (String Global) Value) FileFault → Type 0
+abbrev pub ReadsDocument : Option Members → Result (BTreeMap (String Global) Value) PlacedFault → Type 0
 ReadsDocument want (Ok t) = want ≡ Some (table_view t)
-ReadsDocument want (Err e) = (e ≡ of_file Memory) ⊎ ((e ≡ of_file NotToml) × (want ≡ None))
+ReadsDocument want (Err e) = (e.why ≡ of_file Memory) ⊎ ((e.why ≡ of_file NotToml) × (want ≡ None))

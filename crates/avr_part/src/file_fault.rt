@@ -1,7 +1,7 @@
-//! Why a part file is refused, and in which part.
-ghost use Rattle.std.specs.Prelude.{◌≡◌, option_map};
+//! Why a part file is refused, in which part, and at which line.
+ghost use Rattle.std.specs.Prelude.{◌≡◌, Some, option_map};
 ghost use Rattle.avr_part.specs.Part.{id_of};
-ghost use Rattle.avr_part.specs.PartFile.{of_file};
+ghost use Rattle.avr_part.specs.PartFile.{of_file, not_toml_at, lineless};
 
 use crate::fault::PartFault;
 use crate::judge::id_of;
@@ -10,7 +10,57 @@ use std::error::Error;
 use std::fmt;
 use std::marker::Model;
 
-/// Why a part file is refused, and the id of the part that is at fault, if one is.
+/// What is at fault in a part file, and the id of the part that has it, if one has.
+#[derive(Debug, Drop)]
+pub(crate) struct FileFault {
+    part: Option<ArrayString<31>>,
+    fault: PartFault,
+}
+
+impl Model for FileFault {
+    ghost use Rattle.std.specs.Prelude.{option_map};
+    ghost use Rattle.avr_part.specs.PartFile.{FileFault};
+
+    ghost Value = { FileFault };
+
+    ghost view = { λ f. record { part = option_map (λ id. id.bytes) f.part; fault = f.fault } };
+}
+
+impl FileFault {
+    /// A fault of no part.
+    pub(crate) fn of_file(fault: PartFault) -> FileFault
+        ensures { result ≡ of_file fault }
+    {
+        FileFault { part: None, fault }
+    }
+
+    /// A fault of the part of this key.
+    pub(crate) fn of_part(key: &str, fault: PartFault) -> FileFault
+        ensures { result ≡ record { part = id_of key.now; fault = fault } }
+    {
+        FileFault {
+            part: id_of(key),
+            fault,
+        }
+    }
+
+    fn part(&self) -> Option<&str>
+        ensures { option_map (λ id. id.now) result ≡ self.now.part }
+    {
+        match &self.part {
+            Some(id) => Some(id.as_str()),
+            None => None,
+        }
+    }
+
+    fn fault(&self) -> PartFault
+        ensures { result ≡ self.now.fault }
+    {
+        self.fault
+    }
+}
+
+/// Why a part file is refused; the id of the part that is at fault, if one is; and the line at which a text is no TOML.
 ///
 /// ```text
 /// let refused = parse_parts(alloc, b"[parts.x1]");
@@ -21,35 +71,34 @@ use std::marker::Model;
 /// ```
 #[derive(Debug, Drop)]
 pub struct PartFileFault {
-    part: Option<ArrayString<31>>,
-    fault: PartFault,
+    why: FileFault,
+    line: Option<usize>,
 }
 
 impl Model for PartFileFault {
-    ghost use Rattle.std.specs.Prelude.{option_map};
-    ghost use Rattle.avr_part.specs.PartFile.{FileFault};
+    ghost use Rattle.avr_part.specs.PartFile.{PlacedFault};
 
-    ghost Value = { FileFault };
+    ghost Value = { PlacedFault };
 
-    ghost view = { λ f. record { part = option_map (λ id. id.bytes) f.part; fault = f.fault } };
+    ghost view = { λ f. record { why = f.why; line = f.line } };
 }
 
 impl PartFileFault {
-    /// A fault of no part.
-    pub(crate) fn of_file(fault: PartFault) -> PartFileFault
-        ensures { result ≡ of_file fault }
-    {
-        PartFileFault { part: None, fault }
-    }
-
-    /// A fault of the part of this key.
-    pub(crate) fn of_part(key: &str, fault: PartFault) -> PartFileFault
-        ensures { result ≡ record { part = id_of key.now; fault = fault } }
+    /// A text that is no TOML, from this line on.
+    pub(crate) fn not_toml_at(line: usize) -> PartFileFault
+        ensures { result ≡ not_toml_at line }
     {
         PartFileFault {
-            part: id_of(key),
-            fault,
+            why: FileFault::of_file(PartFault::NotToml),
+            line: Some(line),
         }
+    }
+
+    /// A fault that has no line.
+    pub(crate) fn lineless(why: FileFault) -> PartFileFault
+        ensures { result ≡ lineless why }
+    {
+        PartFileFault { why, line: None }
     }
 
     /// The id of the part that is at fault. None where the file is no TOML, the table of parts isn't there or is no
@@ -61,12 +110,9 @@ impl PartFileFault {
     /// }
     /// ```
     pub fn part(&self) -> Option<&str>
-        ensures { option_map (λ id. id.now) result ≡ self.now.part }
+        ensures { option_map (λ id. id.now) result ≡ self.now.why.part }
     {
-        match &self.part {
-            Some(id) => Some(id.as_str()),
-            None => None,
-        }
+        self.why.part()
     }
 
     /// What is at fault.
@@ -77,9 +123,26 @@ impl PartFileFault {
     /// }
     /// ```
     pub fn fault(&self) -> PartFault
-        ensures { result ≡ self.now.fault }
+        ensures { result ≡ self.now.why.fault }
     {
-        self.fault
+        self.why.fault()
+    }
+
+    /// The line at which the text stops being TOML, counted from 1: of bytes that aren't UTF-8 that of the first bad
+    /// byte, else that of the first byte of what `toml` refuses. None of every other fault.
+    ///
+    /// What is refused may be empty: then it is the line of that place. Of a key that is given twice it is the second
+    /// one's line.
+    ///
+    /// ```text
+    /// if let Err(fault) = parse_parts(alloc, b"a = 1\na = 2\n") {
+    ///     assert_eq!(rt; fault.line(), Some(2));
+    /// }
+    /// ```
+    pub fn line(&self) -> Option<usize>
+        ensures { result ≡ self.now.line }
+    {
+        self.line
     }
 }
 
@@ -89,7 +152,7 @@ impl fmt::Display for PartFileFault {
         if let Some(id) = self.part() {
             write!(f, "part {}: ", id)?;
         }
-        write!(f, "{}", self.fault)
+        write!(f, "{}", self.fault())
     }
 }
 

@@ -1,5 +1,5 @@
 //! One part of a part file, judged.
-ghost use Rattle.std.specs.Prelude.{◌≡◌, ◌≤◌, ◌<◌, ◌%◌, codes, option_map, IfOk, IfSome, length, true};
+ghost use Rattle.std.specs.Prelude.{◌≡◌, ◌≢◌, ◌≤◌, ◌<◌, ◌%◌, codes, option_map, IfOk, IfErr, IfSome, length, true};
 ghost use Rattle.std.specs.List.{list_all};
 ghost use Rattle.hex.specs.Hex.{decode_sized};
 ghost use Rattle.toml.specs.View.{table_view, view};
@@ -8,7 +8,7 @@ ghost use Rattle.avr_part.specs.Part.{is_id_byte, is_id, id_of};
 ghost use Rattle.avr_part.specs.PartFile.{number_in, number_field, page_field, power_of, hex_value, signature_field, part_with, part_of, in_part};
 
 use crate::fault::{Field, PartFault};
-use crate::file_fault::PartFileFault;
+use crate::file_fault::FileFault;
 use crate::part::Part;
 use arrayvec::ArrayString;
 use hex::FromHex;
@@ -63,6 +63,7 @@ fn number_in(field: Field, least: u32, most: u32, number: i64) -> Result<u32, Pa
     ensures value { result ≡ number_in field least most number }
     ensures least { IfOk result (λ n. least ≤ n) }
     ensures most { IfOk result (λ n. n ≤ most) }
+    ensures toml { IfErr result (λ fault. fault ≢ PartFault.NotToml) }
 {
     match u32::try_from(number) {
         Ok(number) if least <= number && number <= most => Ok(number),
@@ -75,6 +76,7 @@ fn number(table: &Table, key: &str, field: Field, least: u32, most: u32) -> Resu
     ensures value { result ≡ number_field field least most (get_member key.now (table_view table.now)) }
     ensures least { IfOk result (λ n. least ≤ n) }
     ensures most { IfOk result (λ n. n ≤ most) }
+    ensures toml { IfErr result (λ fault. fault ≢ PartFault.NotToml) }
 {
     let value = at_key(table, key).ok_or(PartFault::Missing(field))?;
     let number = value.as_integer().ok_or(PartFault::BadValue(field))?;
@@ -89,6 +91,7 @@ fn power(field: Field, number: u32) -> Result<u32, PartFault>
     ensures same { IfOk result (λ n. n ≡ number) }
     ensures divides { IfOk result (λ n. 256 % n ≡ 0) }
     ensures even { IfOk result (λ n. 2 ≤ n → n % 2 ≡ 0) }
+    ensures toml { IfErr result (λ fault. fault ≢ PartFault.NotToml) }
 {
     if number.is_power_of_two() {
         Ok(number)
@@ -103,19 +106,22 @@ fn page(table: &Table, key: &str, field: Field, least: u32) -> Result<u32, PartF
     ensures least { IfOk result (λ n. least ≤ n) }
     ensures divides { IfOk result (λ n. 256 % n ≡ 0) }
     ensures even { IfOk result (λ n. 2 ≤ n → n % 2 ≡ 0) }
+    ensures toml { IfErr result (λ fault. fault ≢ PartFault.NotToml) }
 {
     power(field, number(table, key, field, least, 256)?)
 }
 
 /// The bytes of a signature.
 fn signature_in(text: &str) -> Result<[u8; 3], PartFault>
-    ensures { result ≡ hex_value (decode_sized text.now 3) }
+    ensures value { result ≡ hex_value (decode_sized text.now 3) }
+    ensures toml { IfErr result (λ fault. fault ≢ PartFault.NotToml) }
 {
     <[u8; 3] as FromHex>::from_hex(text).map_err(|_| PartFault::BadValue(Field::Signature))
 }
 
 fn signature(table: &Table) -> Result<[u8; 3], PartFault>
-    ensures { result ≡ signature_field (get_member (codes "signature") (table_view table.now)) }
+    ensures value { result ≡ signature_field (get_member (codes "signature") (table_view table.now)) }
+    ensures toml { IfErr result (λ fault. fault ≢ PartFault.NotToml) }
 {
     let value = at_key(table, "signature").ok_or(PartFault::Missing(Field::Signature))?;
     let text = value.as_str().ok_or(PartFault::BadValue(Field::Signature))?;
@@ -125,7 +131,8 @@ fn signature(table: &Table) -> Result<[u8; 3], PartFault>
 /// The fields of a part, in their order.
 fn judge_fields(id: ArrayString<31>, table: &Table) -> Result<Part, PartFault>
     requires { is_id id.bytes ≡ true }
-    ensures { result ≡ part_with id.bytes (table_view table.now) }
+    ensures value { result ≡ part_with id.bytes (table_view table.now) }
+    ensures toml { IfErr result (λ fault. fault ≢ PartFault.NotToml) }
 {
     let signature = signature(table)?;
     let flash_size = number(table, "flash_size", Field::FlashSize, 2, 262_144)?;
@@ -149,7 +156,8 @@ fn judge_fields(id: ArrayString<31>, table: &Table) -> Result<Part, PartFault>
 
 /// A member of the table of parts.
 fn judge_part(key: &str, value: &Value) -> Result<Part, PartFault>
-    ensures { result ≡ part_of key.now (view value.now) }
+    ensures value { result ≡ part_of key.now (view value.now) }
+    ensures toml { IfErr result (λ fault. fault ≢ PartFault.NotToml) }
 {
     let table = value.as_table().ok_or(PartFault::BadValue(Field::Parts))?;
     let id = id_of(key).ok_or(PartFault::BadValue(Field::Id))?;
@@ -157,11 +165,12 @@ fn judge_part(key: &str, value: &Value) -> Result<Part, PartFault>
 }
 
 /// A member of the table of parts, or its fault with the part's id.
-pub fn judge_member(key: &str, value: &Value) -> Result<Part, PartFileFault>
-    ensures { result ≡ in_part key.now (part_of key.now (view value.now)) }
+pub fn judge_member(key: &str, value: &Value) -> Result<Part, FileFault>
+    ensures value { result ≡ in_part key.now (part_of key.now (view value.now)) }
+    ensures toml { IfErr result (λ fault. fault.fault ≢ PartFault.NotToml) }
 {
     match judge_part(key, value) {
         Ok(part) => Ok(part),
-        Err(fault) => Err(PartFileFault::of_part(key, fault)),
+        Err(fault) => Err(FileFault::of_part(key, fault)),
     }
 }

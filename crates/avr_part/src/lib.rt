@@ -19,6 +19,7 @@ mod parts;
 mod fault;
 mod file_fault;
 mod judge;
+mod lines;
 mod part_file;
 // the chip: what four bytes ask of it,
 mod instruction;

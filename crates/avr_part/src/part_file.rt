@@ -1,12 +1,15 @@
 //! The part file.
-ghost use Rattle.std.specs.Prelude.{◌≡◌, option_map};
+ghost use Rattle.std.specs.Prelude.{◌≡◌, ◌≢◌, false, Err, Some, None, IfOk, IfErr};
+ghost use Rattle.std.specs.Str.{is_utf8};
+ghost use Rattle.std.specs.Str.Lossy.{utf8_valid_len};
 ghost use Rattle.toml.specs.View.{table_view};
 ghost use Rattle.toml.specs.Parse.{parse_document};
-ghost use Rattle.avr_part.specs.PartFile.{ReadsOrMemory, listed_items, parts_in, document_parts, parts_of, utf8_text, ReadsDocument};
+ghost use Rattle.avr_part.specs.PartFile.{ReadsOrMemory, listed_items, parts_in, document_parts, parts_of, utf8_text, ReadsDocument, IsPlaced, line_at, not_toml_at, unplaced};
 
 use crate::fault::{Field, PartFault};
-use crate::file_fault::PartFileFault;
+use crate::file_fault::{FileFault, PartFileFault};
 use crate::judge::{at_key, judge_member};
+use crate::lines::line_at;
 use crate::part::Part;
 use crate::parts::Parts;
 use std::alloc::Global;
@@ -14,47 +17,57 @@ use std::str;
 use toml::Table;
 
 /// The members of the table of parts, in order.
-fn judge_all(alloc: Global, table: &Table) -> Result<Vec<Part>, PartFileFault>
-    ensures { ReadsOrMemory (parts_in (table_view table.now)) (listed_items result) }
+fn judge_all(alloc: Global, table: &Table) -> Result<Vec<Part>, FileFault>
+    ensures reads { ReadsOrMemory (parts_in (table_view table.now)) (listed_items result) }
+    ensures toml { IfErr result (λ e. e.fault ≢ PartFault.NotToml) }
 {
     let mut parts = Vec::new(alloc);
     for (key, value) in table {
         let part = judge_member(key.as_str(), value)?;
         parts
             .push(part)
-            .map_err(|_| PartFileFault::of_file(PartFault::Memory))?;
+            .map_err(|_| FileFault::of_file(PartFault::Memory))?;
     }
     Ok(parts)
 }
 
 /// The parts of a document.
-fn judge_document(alloc: Global, document: &Table) -> Result<Vec<Part>, PartFileFault>
-    ensures { ReadsOrMemory (document_parts (table_view document.now)) (listed_items result) }
+fn judge_document(alloc: Global, document: &Table) -> Result<Vec<Part>, FileFault>
+    ensures reads { ReadsOrMemory (document_parts (table_view document.now)) (listed_items result) }
+    ensures toml { IfErr result (λ e. e.fault ≢ PartFault.NotToml) }
 {
-    let missing = PartFileFault::of_file(PartFault::Missing(Field::Parts));
+    let missing = FileFault::of_file(PartFault::Missing(Field::Parts));
     let value = at_key(document, "parts").ok_or(missing)?;
-    let bad_value = PartFileFault::of_file(PartFault::BadValue(Field::Parts));
+    let bad_value = FileFault::of_file(PartFault::BadValue(Field::Parts));
     let table = value.as_table().ok_or(bad_value)?;
     judge_all(alloc, table)
 }
 
+/// The document of a text, or the line from which on it is none.
 fn read_document(alloc: Global, text: &str) -> Result<Table, PartFileFault>
-    ensures { ReadsDocument (parse_document text.now) result }
+    ensures reads { ReadsDocument (parse_document text.now) result }
+    ensures line { IfErr result (IsPlaced text.now) }
 {
     match toml::table_from_str(alloc, text) {
         Ok(document) => Ok(document),
-        Err(error) if error.is_memory() => Err(PartFileFault::of_file(PartFault::Memory)),
-        Err(_) => Err(PartFileFault::of_file(PartFault::NotToml)),
+        Err(error) => Err(match error.span() {
+            Some(span) => PartFileFault::not_toml_at(line_at(text.as_bytes(), span.start)),
+            None => PartFileFault::lineless(FileFault::of_file(PartFault::Memory)),
+        }),
     }
 }
 
-/// The text of bytes that are UTF-8.
-fn utf8_text(bytes: &[u8]) -> Option<&str>
-    ensures { option_map (λ s. s.now) result ≡ utf8_text bytes.now }
+/// The text of bytes that are UTF-8, or the line of the first one that isn't.
+#[tactic(auto, using(crate::proofs::Judging::text_is_text, crate::proofs::Judging::other_is_none))]
+fn utf8_text(bytes: &[u8]) -> Result<&str, PartFileFault>
+    ensures text { IfOk result (λ s. utf8_text bytes.now ≡ Some s.now) }
+    ensures none { IfErr result (λ e. utf8_text bytes.now ≡ None) }
+    ensures line { IfErr result (λ e. e ≡ not_toml_at (line_at bytes.now (utf8_valid_len bytes.now))) }
+    ensures placed { IfErr result (IsPlaced bytes.now) }
 {
     match str::from_utf8(bytes) {
-        Ok(text) => Some(text),
-        Err(_) => None,
+        Ok(text) => Ok(text),
+        Err(error) => Err(PartFileFault::not_toml_at(line_at(bytes, error.valid_up_to()))),
     }
 }
 
@@ -63,7 +76,7 @@ fn utf8_text(bytes: &[u8]) -> Option<&str>
 ///
 /// Parts are judged in the byte order of their ids, and a part's fields in the order of [`Field`]; other keys are not
 /// looked at. The first fault is the answer, with the id of the part that has it:
-/// - [`PartFault::NotToml`]: the text is not UTF-8, or `toml` refuses it;
+/// - [`PartFault::NotToml`]: the text is not UTF-8, or `toml` refuses it; this one has a line;
 /// - [`PartFault::Missing`]: a field, or the table `parts`, is not there;
 /// - [`PartFault::BadValue`]: a field's value is of another kind or out of its range, an id is not 1 to 31 letters,
 ///   digits, `_` and `-`, or `parts` or a member of it is no table;
@@ -77,11 +90,12 @@ fn utf8_text(bytes: &[u8]) -> Option<&str>
 /// assert_eq!(rt; parts.find("x1")?.signature(), [0x1E, 0x95, 0x0F]);
 /// ```
 pub fn parse_parts(alloc: Global, text: &[u8]) -> Result<Parts, PartFileFault>
-    ensures { ReadsOrMemory (parts_of text.now) result }
+    ensures reads { ReadsOrMemory (parts_of text.now) (unplaced result) }
+    ensures line { IfErr result (IsPlaced text.now) }
+    ensures no_text { is_utf8 text.now ≡ false → result ≡ Err (not_toml_at (line_at text.now (utf8_valid_len text.now))) }
 {
-    let not_toml = PartFileFault::of_file(PartFault::NotToml);
-    let text = utf8_text(text).ok_or(not_toml)?;
+    let text = utf8_text(text)?;
     let document = read_document(alloc, text)?;
-    let parts = judge_document(alloc, &document)?;
+    let parts = judge_document(alloc, &document).map_err(PartFileFault::lineless)?;
     Ok(Parts::of_file(parts))
 }

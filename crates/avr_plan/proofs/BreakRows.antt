@@ -1,6 +1,6 @@
--- Wrong ends of a plan that writes the file `x.hex` to flash, where the desk shows that no file was opened: its contract
--- admits none of them.
-use Rattle.std.proofs.Common.{◌≡◌, ◌∙◌, sym, ap, subst, arith, ℕ, ◌+◌, ◌<◌, ◌≤◌, ◌-◌, ◌^◌, ◌⊎◌, inl, inr, List, [], ◌∷◌, ◌++◌, take, get_or, append-nil, true, Option, None, Ok, Err}
+-- Wrong ends of a plan that writes the file `x.hex` to flash, where the desk shows that no file was opened, and of one
+-- for a part that there is none of: its contract admits none of them.
+use Rattle.std.proofs.Common.{◌≡◌, ◌∙◌, sym, ap, subst, arith, ℕ, ◌+◌, ◌<◌, ◌≤◌, ◌-◌, ◌^◌, ◌⊎◌, inl, inr, List, [], ◌∷◌, ◌++◌, take, get_or, append-nil, refl, true, Option, None, Ok, Err}
 use Rattle.std.specs.Prelude.{codes}
 use Rattle.avr_cli.specs.Settings.{no_switches}
 use Rattle.avr_cli.specs.declared.settings.Port.TheVariants.{Stdio}
@@ -9,6 +9,7 @@ use Rattle.avr_cli.specs.declared.update.Format.TheVariants.{Ihex}
 use Rattle.avr_cli.specs.declared.update.Op.TheVariants as op
 use Rattle.ghosts.specs.Failures.{HasRisen, HasStood}
 use Rattle.avr_desk.specs.Record.{DeskView, Record, after_err, showing, Bytes}
+use Rattle.avr_desk.specs.declared.record.Opening.{Opening}
 use Rattle.avr_desk.specs.declared.record.Opening.TheVariants.{Found}
 use Rattle.avr_desk.specs.Lines.{memory_line, not_opened_line}
 use Rattle.avr_desk.specs.Said.{Opens, Line, TellsLine, TellsFailure, after_all}
@@ -16,12 +17,13 @@ use Rattle.ghosts.proofs.Failures.{stood_has_not_risen}
 use Rattle.avr_part.specs.BuiltIn.{m328p}
 use Rattle.avr_part.specs.declared.part.Mem.TheVariants.{Flash}
 use Rattle.avr_records.specs.declared.kind.Ending.{Ending}
+use Rattle.avr_plan.specs.Lines.{no_part_line}
 use Rattle.avr_plan.specs.Planning.{planned, file_image_stage, judged_image, warning_says}
 use Rattle.avr_desk.specs.Playing.{Goes}
-use Rattle.avr_desk.specs.Stage.{Stage, verdict_stage, saying_stage, file_stage, ◌>>=◌}
+use Rattle.avr_desk.specs.Stage.{Stage, Refused, verdict_stage, saying_stage, file_stage, ◌>>=◌}
 use Rattle.avr_plan.specs.declared.planned.Task.{Task}
 use Rattle.avr_plan.specs.declared.planned.Task.TheVariants.{Write}
-use Rattle.avr_desk.proofs.Breaks.{Begins, begins_then, begins_file, unopened, opened_is_told}
+use Rattle.avr_desk.proofs.Breaks.{Begins, begins_then, begins_file, unopened, opened_is_told, TellsOne, refused_once}
 
 abbrev file : Bytes
 file = codes "x.hex"
@@ -156,3 +158,26 @@ module _ (r : Record) (k l m n status : ℕ) where
   opened_well bytes good given ends =
       differs 15 memory_line (not_opened_line file) (showing r k m) (showing r l n) (λ back is. let e : ◌≡◌ {A = ℕ} 120 111 = is in omega (arith, e))
       (opened_is_told file 4194304 (judged_image file Ihex 32768) bytes (not_opened_line file) good given r k l m n status ends)
+
+-- ---- a refusal is the last that is told
+
+-- the same settings, but for a part that there is none of
+abbrev lacking : Settings
+lacking = record wanted { part = codes "t99" }
+
+abbrev refusal : Bytes
+refusal = no_part_line (codes "t99")
+
+lacks : (openings : List Opening) → planned lacking openings ≡ record { says = []; answer = Refused refusal; left = openings }
+lacks openings = refl
+
+module _ (r : Record) (k l m n status : ℕ) where
+  -- that memory was refused, behind the line of the refusal
+  refused_twice : TellsOne refusal (refusal ++ memory_line) (planned lacking) lacks r k l m n → ⊥
+  refused_twice (inl one) =
+      differs 27 refusal (refusal ++ memory_line) (showing r k m) (showing r l n) (λ back is. let e : ◌≡◌ {A = ℕ} 97 0 = is in omega (arith, e)) one
+  refused_twice (inr memory) =
+      differs 15 memory_line (refusal ++ memory_line) (showing r k m) (showing r l n) (λ back is. let e : ◌≡◌ {A = ℕ} 110 111 = is in omega (arith, e)) memory
+
+  two_faults : Goes (planned lacking) (showing r k m) (showing (after_err (refusal ++ memory_line) r) l n) (Err status) → ⊥
+  two_faults ends = refused_twice (refused_once refusal (refusal ++ memory_line) (planned lacking) lacks r k l m n status ends)

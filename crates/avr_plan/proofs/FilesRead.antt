@@ -12,7 +12,7 @@ use Rattle.avr_cli.specs.declared.update.Update.{Update}
 use Rattle.avr_desk.specs.Memory.{Stock, stood_for}
 use Rattle.avr_desk.specs.Record.{Bytes}
 use Rattle.avr_desk.specs.Said.{Saying, Opens, Line, Creates, Writes, Outs}
-use Rattle.avr_desk.specs.Stage.{Stage, StageResult, Answer, Made, Refused, Unread, behind_sayings, going_on, ◌>>=◌, saying_stage, verdict_stage, unread_stage, under_name, content_stage, file_stage}
+use Rattle.avr_desk.specs.Stage.{Stage, StageResult, Answer, Made, Refused, Unread, all_told, told_in, behind_sayings, going_on, ◌>>=◌, saying_stage, verdict_stage, unread_stage, under_name, content_stage, file_stage}
 use Rattle.avr_desk.specs.Truth.{IsTrueOpening}
 use Rattle.avr_desk.specs.declared.record.Opening.{Opening}
 use Rattle.avr_desk.specs.declared.record.Opening.TheVariants.{Absent, Found}
@@ -33,7 +33,7 @@ use Rattle.avr_plan.specs.declared.planned.Task.TheVariants.{Write, Verify, Read
 
 -- ---- what was opened
 
-seen_first : (stock : Stock) (first second : List Saying) → AreSeen stock (first ++ second) → AreSeen stock first
+pub seen_first : (stock : Stock) (first second : List Saying) → AreSeen stock (first ++ second) → AreSeen stock first
 seen_first stock [] second seen = tt
 seen_first stock (Opens opening ∷ first) second seen = (seen.0, seen_first stock first second seen.1)
 seen_first stock (Line bytes ∷ first) second seen = seen_first stock first second seen
@@ -56,6 +56,14 @@ lines_append (Line bytes ∷ first) second = ap (λ (ls : List Bytes). bytes ∷
 lines_append (Creates name ∷ first) second = lines_append first second
 lines_append (Writes bytes ∷ first) second = lines_append first second
 lines_append (Outs bytes ∷ first) second = lines_append first second
+
+-- the same lines, and the line of the same refusal
+lines_told : {A : Type 0} (first second : List Saying) (answer : Answer A) → lines_in first ≡ lines_in second
+    → lines_in (all_told first answer) ≡ lines_in (all_told second answer)
+lines_told first second (Made a) same = same
+lines_told first second (Refused line) same =
+    lines_append first (Line line ∷ []) ∙ ap (λ (ls : List Bytes). ls ++ line ∷ []) same ∙ sym (lines_append second (Line line ∷ []))
+lines_told first second Unread same = same
 
 -- ---- one stage over two lists of openings
 
@@ -93,7 +101,7 @@ module _ (stock : Stock) where
             ∙ ap (λ (ls : List Bytes). lines_in p.says ++ ls) behind.lines ∙ sym (lines_append p.says (go_on a p.left).says);
         left = behind.left;
       }
-  on_made go_on p q back rest sees same Refused is seen read = record { answer = refl; lines = same.lines; left = λ made e. absurd (cc) }
+  on_made go_on p q back rest sees same (Refused line) is seen read = record { answer = refl; lines = same.lines; left = λ made e. absurd (cc) }
   on_made go_on p q back rest sees same Unread is seen read = absurd (read refl)
 
   onward : {A B : Type 0} (stage : Stage A) (go_on : A → Stage B) (front back : List Bytes) → Sees stage front → ((a : A) → Sees (go_on a) back)
@@ -110,12 +118,12 @@ module _ (stock : Stock) where
     where
       of_first : (p : StageResult A) (answer : Answer A) → p.answer ≡ answer → AreSeen stock (going_on p.says p.left go_on answer).says → AreSeen stock p.says
       of_first p (Made a) is seen = seen_first stock p.says (go_on a p.left).says seen
-      of_first p Refused is seen = seen
+      of_first p (Refused line) is seen = seen
       of_first p Unread is seen = seen
 
       unread_on : (p : StageResult A) (answer : Answer A) → p.answer ≡ answer → p.answer ≡ Unread → (going_on p.says p.left go_on answer).answer ≡ Unread
       unread_on p (Made a) is unread = absurd (let e : ◌≡◌ {A = Answer A} (Made a) Unread = sym is ∙ unread in cc)
-      unread_on p Refused is unread = absurd (let e : ◌≡◌ {A = Answer A} Refused Unread = sym is ∙ unread in cc)
+      unread_on p (Refused line) is unread = absurd (let e : ◌≡◌ {A = Answer A} (Refused line) Unread = sym is ∙ unread in cc)
       unread_on p Unread is unread = refl
 
       whole : (p q : StageResult A) → IsSame p q (files_give stock back ++ rest) → AreSeen stock (going_on p.says p.left go_on p.answer).says
@@ -269,10 +277,13 @@ module _ (stock : Stock) where
 
   -- planning over what was seen of the files is planning over the files
   pub seen_is_planned : (s : Settings) (openings : List Opening) → AreSeen stock (planned s openings).says → ((planned s openings).answer ≡ Unread → ⊥)
-      → ((planned_of s stock).answer ≡ (planned s openings).answer) × (lines_in (planned_of s stock).says ≡ lines_in (planned s openings).says)
+      → ((planned_of s stock).answer ≡ (planned s openings).answer) × (lines_in (told_in (planned_of s stock)) ≡ lines_in (told_in (planned s openings)))
   seen_is_planned s openings seen read =
       let same = whole_plan s openings [] seen read in
-      let given : files_give stock (files_read s) ++ [] ≡ files_give stock (files_read s) = append-nil (files_give stock (files_read s)) in (
-        ap (λ os. (planned s os).answer) (sym given) ∙ same.answer,
-        ap (λ os. lines_in (planned s os).says) (sym given) ∙ same.lines,
+      let given : files_give stock (files_read s) ++ [] ≡ files_give stock (files_read s) = append-nil (files_give stock (files_read s)) in
+      let p = planned s openings in
+      let answer : (planned_of s stock).answer ≡ p.answer = ap (λ os. (planned s os).answer) (sym given) ∙ same.answer in
+      let lines : lines_in (planned_of s stock).says ≡ lines_in p.says = ap (λ os. lines_in (planned s os).says) (sym given) ∙ same.lines in (
+        answer,
+        ap (λ (a : Answer Plan). lines_in (all_told (planned_of s stock).says a)) answer ∙ lines_told (planned_of s stock).says p.says p.answer lines,
       )

@@ -21,7 +21,7 @@ use Rattle.avr_plan.specs.Lines.{no_end_line, read_only_line}
 use Rattle.avr_plan.specs.OnlyReading.{OnlyReads}
 use Rattle.avr_plan.specs.Plan.{Plan}
 use Rattle.avr_plan.specs.Planning.{judged_parts, parts_stage, part_or_line, part_stage, is_warned, warning_says, judged_image, file_image_stage, values_or_line, image_stage, update_image, write_stage, op_stage, task_stage, tasks_stage, planned}
-use Rattle.avr_desk.specs.Stage.{Stage, Answer, Made, Refused, Unread, going_on, ◌>>=◌, saying_stage, verdict_stage, unread_stage, open_stage, is_whole, content_stage, file_stage}
+use Rattle.avr_desk.specs.Stage.{Stage, Answer, Made, Refused, Unread, all_told, told_in, going_on, ◌>>=◌, saying_stage, verdict_stage, unread_stage, open_stage, is_whole, content_stage, file_stage}
 use Rattle.avr_plan.specs.declared.planned.Task.{Task}
 use Rattle.avr_plan.specs.declared.planned.Task.TheVariants.{Write, Verify, Read}
 
@@ -39,7 +39,7 @@ both (Outs bytes ∷ xs) ys f g = absurd f
 
 going : {A B : Type 0} (says : List Saying) (left : List Opening) (go_on : A → Stage B) (answer : Answer A) → OnlyReads says → ((a : A) → Reads (go_on a)) → OnlyReads (going_on says left go_on answer).says
 going says left go_on (Made a) f g = both says (go_on a left).says f (g a left)
-going says left go_on Refused f g = f
+going says left go_on (Refused line) f g = f
 going says left go_on Unread f g = f
 
 onward : {A B : Type 0} (stage : Stage A) (go_on : A → Stage B) → Reads stage → ((a : A) → Reads (go_on a)) → Reads (stage >>= go_on)
@@ -113,8 +113,17 @@ made s part tasks = verdict_stage (Ok (record { part = part; tasks = tasks; swit
 is_made : (s : Settings) (part : Part) (tasks : List Task) → Reads (made s part tasks)
 is_made s part tasks openings = tt
 
-pub only_reads : (s : Settings) (openings : List Opening) → OnlyReads (planned s openings).says
-only_reads s =
+reads_plan : (s : Settings) → Reads (planned s)
+reads_plan s =
     onward (parts_stage s.parts) (λ all. part_stage s.part all >>= λ part. tasks_stage s.switches part [] s.updates >>= made s part) (parts s.parts)
     (λ all. onward (part_stage s.part all) (λ part. tasks_stage s.switches part [] s.updates >>= made s part) (is_settled (part_or_line s.part (part_of_id s.part all)))
     (λ part. onward (tasks_stage s.switches part [] s.updates) (made s part) (tasks s.switches part [] s.updates) (is_made s part)))
+
+-- the line of a refusal too
+refused_so : {A : Type 0} (says : List Saying) (answer : Answer A) → OnlyReads says → OnlyReads (all_told says answer)
+refused_so says (Made a) f = f
+refused_so says (Refused line) f = both says (Line line ∷ []) f tt
+refused_so says Unread f = f
+
+pub only_reads : (s : Settings) (openings : List Opening) → OnlyReads (told_in (planned s openings))
+only_reads s openings = refused_so (planned s openings).says (planned s openings).answer (reads_plan s openings)

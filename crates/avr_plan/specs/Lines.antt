@@ -55,7 +55,7 @@ line_range_pieces file line address =
     file ∷ codes ": line " ∷ decimal line ∷ codes ": address " ∷ digits (big_bytes 4 address)
     ∷ codes " out of range" ∷ []
 
--- (the last two come of no file)
+-- (the others come of no file that is read in pieces)
 abbrev pub record_pieces : Bytes → RecordFault → List Bytes
 record_pieces file (record_fault.BadMark line) = in_line_pieces file line (codes ": no record mark")
 record_pieces file (record_fault.BadDigit line) = in_line_pieces file line (codes ": bad digit")
@@ -97,7 +97,7 @@ image_line file fault = error (image_pieces file fault)
 abbrev pub value_pieces : Mem → ℕ → Bytes → List Bytes
 value_pieces memory place text = name_of memory ∷ codes ": value " ∷ decimal place ∷ text ∷ []
 
--- (the last two come of no values)
+-- (the others come of no values)
 abbrev pub values_pieces : Mem → ImageFault → List Bytes
 values_pieces memory (image_fault.OutOfRange address) = range_pieces (name_of memory) address
 values_pieces memory (image_fault.BadNumber place) = value_pieces memory place (codes ": not a number")

@@ -81,8 +81,8 @@ fn record_message<'a>(file: &'a str, fault: RecordFault) -> Message<'a>
         RecordFault::OutOfRange(line, address) => line_range_message(file, line, address),
         RecordFault::LineTooLong(line) => in_line_message(file, line, ": line too long"),
         RecordFault::BadCount(line) => in_line_message(file, line, ": bad record count"),
-        // no file has these
-        RecordFault::Failed | RecordFault::Memory => memory_message(),
+        // no file that is read in pieces has these
+        RecordFault::Failed | RecordFault::Memory | RecordFault::TooLong => memory_message(),
     }
 }
 
@@ -152,7 +152,7 @@ pub(crate) fn values_message(memory: Mem, fault: ImageFault) -> Message<'static>
         ImageFault::BadNumber(place) => value_message(memory, place, ": not a number"),
         ImageFault::TooLarge(place) => value_message(memory, place, ": above 255"),
         // no values have these, but for the want of memory
-        ImageFault::Failed | ImageFault::Memory => memory_message(),
+        ImageFault::Failed | ImageFault::Memory | ImageFault::OtherSize => memory_message(),
     }
 }
 

@@ -1,7 +1,7 @@
 -- The numbers of faults.
 use Rattle.std.specs.Prelude.{ℕ, Option, Some, None}
 use Rattle.avr_records.specs.declared.fault.RecordFault.{RecordFault}
-use Rattle.avr_records.specs.declared.fault.RecordFault.TheVariants.{BadMark, BadDigit, BadLength, BadSum, BadType, OutOfRange, LineTooLong, BadCount, Failed, Memory}
+use Rattle.avr_records.specs.declared.fault.RecordFault.TheVariants.{BadMark, BadDigit, BadLength, BadSum, BadType, OutOfRange, LineTooLong, BadCount, Failed, Memory, TooLong}
 
 -- the number of a fault's kind
 abbrev pub fault_number : RecordFault → ℕ
@@ -15,6 +15,7 @@ fault_number (LineTooLong line) = 7
 fault_number (BadCount line) = 8
 fault_number Failed = 9
 fault_number Memory = 10
+fault_number TooLong = 11
 
 -- the number of the line at fault, if a line is
 abbrev pub fault_line_number : RecordFault → Option ℕ
@@ -28,6 +29,7 @@ fault_line_number (LineTooLong line) = Some line
 fault_line_number (BadCount line) = Some line
 fault_line_number Failed = None
 fault_line_number Memory = None
+fault_line_number TooLong = None
 
 -- the address outside the memory, if one is at fault
 abbrev pub fault_address : RecordFault → Option ℕ

@@ -46,6 +46,9 @@ pub enum RecordFault {
     /// The image's memory was refused.
     #[error("out of memory")]
     Memory,
+    /// The file has 2 to the power 32 bytes or more. Only `read_records` tells it.
+    #[error("the file is too long")]
+    TooLong,
 }
 
 impl RecordFault {
@@ -68,10 +71,11 @@ impl RecordFault {
             RecordFault::BadCount(_) => 8,
             RecordFault::Failed => 9,
             RecordFault::Memory => 10,
+            RecordFault::TooLong => 11,
         }
     }
 
-    /// The number of the line at fault, the first line being 1; none of `Failed` and `Memory`.
+    /// The number of the line at fault, the first line being 1; none of `Failed`, `Memory` and `TooLong`.
     ///
     /// ```text
     /// assert_eq!(rt; RecordFault::BadSum(2).line(), Some(2));
@@ -89,7 +93,7 @@ impl RecordFault {
             | RecordFault::OutOfRange(line, _)
             | RecordFault::LineTooLong(line)
             | RecordFault::BadCount(line) => Some(*line),
-            RecordFault::Failed | RecordFault::Memory => None,
+            RecordFault::Failed | RecordFault::Memory | RecordFault::TooLong => None,
         }
     }
 

@@ -1,5 +1,5 @@
 //! The reader of record files: in pieces, or a whole file in one call.
-ghost use Rattle.std.specs.Prelude.{◌≡◌, ◌≢◌, ◌+◌, ◌<◌, ◌^◌, ◌++◌, ℕ, List, [], true, Ok, Err, length, MatchResult, IfOk, OnOk, OnErr, ◌⊎◌};
+ghost use Rattle.std.specs.Prelude.{◌≡◌, ◌≢◌, ◌+◌, ◌<◌, ◌≤◌, ◌^◌, ◌++◌, ℕ, List, [], true, Ok, Err, length, MatchResult, IfOk, OnOk, OnErr, ◌⊎◌};
 ghost use Rattle.avr_records.specs.Closed.{closed_fault, ok_unless};
 ghost use Rattle.avr_records.specs.Reader.{ReaderState, StandsFor, IsNewReader, memory_size};
 ghost use Rattle.avr_records.specs.Reading.{image_in_text};
@@ -149,9 +149,9 @@ impl RecordReader {
     }
 }
 
-/// What a whole record file of fewer than 2 to the power 32 bytes says, for a memory of `size` bytes: the image, and
-/// whether the end record came; or the first fault; or `Memory`, where memory is refused. Start addresses and headers
-/// (S0) are dropped.
+/// What a whole record file says, for a memory of `size` bytes: the image, and whether the end record came; or the first
+/// fault; or `Memory`, where memory is refused; or `TooLong` of a file of 2 to the power 32 bytes or more, which is not
+/// looked at. Start addresses and headers (S0) are dropped.
 ///
 /// ```text
 /// let (image, ending) = read_records(alloc, Kind::Ihex, 4, b":0400000001020304F2\n:00000001FF\n")?;
@@ -164,10 +164,14 @@ pub fn read_records(
     size: u32,
     text: &[u8],
 ) -> Result<(Image, Ending), RecordFault>
-    requires { length text.now < 2 ^ 32 }
-    ensures value { (result ≡ image_in_text kind text.now size) ⊎ (result ≡ Err RecordFault.Memory) }
+    ensures value { length text.now < 2 ^ 32 → (result ≡ image_in_text kind text.now size)
+        ⊎ (result ≡ Err RecordFault.Memory) }
+    ensures long { 2 ^ 32 ≤ length text.now → result ≡ Err RecordFault.TooLong }
     ensures size { IfOk result (λ read. length read.0 ≡ size) }
 {
+    if text.len() > u32::MAX as usize {
+        return Err(RecordFault::TooLong);
+    }
     let mut reader = RecordReader::new(alloc, kind, size)?;
     reader.feed(text)?;
     reader.finish()

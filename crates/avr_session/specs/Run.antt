@@ -5,8 +5,8 @@ use Rattle.avr_desk.specs.Record.{DeskView}
 use Rattle.avr_plan.specs.Plan.{Plan}
 use Rattle.avr_plan.specs.Planning.{LacksPart, planned}
 use Rattle.avr_desk.specs.Playing as planning
-use Rattle.avr_desk.specs.Playing.{Went}
-use Rattle.avr_desk.specs.Stage.{Made, Refused}
+use Rattle.avr_desk.specs.Playing.{Went, WentRefused}
+use Rattle.avr_desk.specs.Stage.{Made}
 use Rattle.avr_session.specs.Actions.{actions, takes_memory}
 use Rattle.avr_session.specs.Runs.{Devices, devices, start, untold, BrokeOff, RunsTo}
 use Rattle.avr_session.specs.Session.{session}
@@ -36,7 +36,7 @@ pub record RunsPlan (settings : Settings) (old : Devices) (between : DeskView) (
 -- There is no plan, or planning broke off: nothing was sent or heard, and the status is 1. Without a part file and
 -- updates it is only that no part has the name, and that was told.
 pub record RunsNone (settings : Settings) (old new : Devices) (status : ℕ) : Type 0 where
-  pub refused : Went (planned settings) old.desk new.desk Refused
+  pub refused : WentRefused (planned settings) old.desk new.desk
       ⊎ planning.StageBrokeOff (planned settings) old.desk new.desk
   pub bare : settings.parts ≡ None → settings.updates ≡ [] → LacksPart settings.part [] old.desk new.desk
   pub same : new.link ≡ old.link

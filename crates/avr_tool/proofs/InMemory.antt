@@ -1,5 +1,6 @@
 -- A run over a desk in memory and a tape is the function of its files and that tape.
 use Rattle.std.proofs.Common.{◌≡◌, ◌∙◌, ◌⊎◌, inl, inr, ℕ, sym, ap, subst, refl, List, [], ◌∷◌, ◌++◌, append_assoc, append-nil, map, replicate, Option, Some}
+use Rattle.std.proofs.lemmas.List.{map-append}
 use Rattle.std.specs.Io.KnownBytes.{Appends, Consumes}
 use Rattle.ghosts.specs.Stays.{Stays}
 use Rattle.avr_cli.specs.declared.settings.Settings.{Settings}
@@ -7,16 +8,16 @@ use Rattle.avr_desk.proofs.Breaks.{openings_in, openings_shown}
 use Rattle.avr_desk.proofs.Saying.{after_append}
 use Rattle.avr_desk.proofs.Truths.{all_true, begins_true}
 use Rattle.avr_desk.specs.Memory.{Memory, Stock, memory_view, stock_of}
-use Rattle.avr_desk.specs.Playing.{Went}
+use Rattle.avr_desk.specs.Playing.{Went, WentRefused}
 use Rattle.avr_desk.specs.Record.{Bytes, Record, all_files, all_openings, file_of, nothing_kept, written_on}
 use Rattle.avr_desk.specs.Said.{Saying, Opens, Line, Creates, Writes, Outs, after, after_all}
-use Rattle.avr_desk.specs.Stage.{Answer, Made, Refused, Unread, StageResult}
+use Rattle.avr_desk.specs.Stage.{Answer, Made, Refused, Unread, StageResult, all_told, told_in}
 use Rattle.avr_desk.specs.Truth.{AreTrue, HoldsTrue, IsTrueOpening}
 use Rattle.avr_desk.specs.declared.record.Open.{Open}
 use Rattle.avr_desk.specs.declared.record.Open.TheVariants.{Closed, ToRead, ToWrite}
 use Rattle.avr_desk.specs.declared.record.Opening.TheVariants.{Absent, Found}
 use Rattle.avr_desk.specs.declared.record.Writing.{Writing}
-use Rattle.avr_plan.proofs.FilesRead.{seen_is_planned}
+use Rattle.avr_plan.proofs.FilesRead.{seen_first, seen_is_planned}
 use Rattle.avr_plan.proofs.OnlyReading.{only_reads}
 use Rattle.avr_plan.specs.FilesRead.{AreSeen, files_give, files_read, lines_in, planned_of}
 use Rattle.avr_plan.specs.OnlyReading.{OnlyReads}
@@ -139,40 +140,53 @@ alike_planning first second one other same =
 
 -- ---- planning
 
+-- what was said before a refusal was seen so too
+seen_before : (stock : Stock) (says : List Saying) (answer : Answer Plan) → AreSeen stock (all_told says answer) → AreSeen stock says
+seen_before stock says (Made plan) seen = seen
+seen_before stock says (Refused line) seen = seen_first stock says (Line line ∷ []) seen
+seen_before stock says Unread seen = seen
+
 module _ (settings : Settings) (stock : Stock) (old m : Memory) (answer : Answer Plan) (unused : old.kept ≡ nothing_kept) (holds : HoldsTrue stock m)
     (judged : answer ≡ Unread → ⊥) (went : Went (planned settings) (memory_view old) (memory_view m) answer) where
   planned_is : planned settings (went.passed ++ []) ≡ record { says = went.says; answer = answer; left = [] }
   planned_is = went.comes []
 
-  only_read : OnlyReads went.says
-  only_read = subst OnlyReads (ap (λ (p : StageResult Plan). p.says) planned_is) (only_reads settings (went.passed ++ []))
+  abbrev told : List Saying
+  told = all_told went.says answer
 
-  kept_is : m.kept ≡ after_all went.says nothing_kept
-  kept_is = went.kept ∙ ap (after_all went.says) unused
+  only_read : OnlyReads told
+  only_read = subst OnlyReads (ap (λ (p : StageResult Plan). told_in p) planned_is) (only_reads settings (went.passed ++ []))
+
+  kept_is : m.kept ≡ after_all told nothing_kept
+  kept_is = went.kept ∙ ap (after_all told) unused
 
   no_files : all_files m.kept ≡ []
   no_files =
-      let told = only_told went.says nothing_kept only_read refl refl in
-      ap all_files kept_is ∙ ap (λ (fs : List Writing). fs ++ file_of (after_all went.says nothing_kept).current) told.files ∙ told.file
+      let left = only_told told nothing_kept only_read refl refl in
+      ap all_files kept_is ∙ ap (λ (fs : List Writing). fs ++ file_of (after_all told nothing_kept).current) left.files ∙ left.file
 
-  opened : all_openings m.kept ≡ openings_in went.says
-  opened = ap all_openings kept_is ∙ openings_shown went.says nothing_kept
+  opened : all_openings m.kept ≡ openings_in told
+  opened = ap all_openings kept_is ∙ openings_shown told nothing_kept
 
-  seen : AreSeen stock went.says
-  seen = seen_sayings stock went.says (all_files m.kept) no_files (subst (λ os. AreTrue stock os [] (all_files m.kept)) opened (all_true stock m holds))
+  seen : AreSeen stock told
+  seen = seen_sayings stock told (all_files m.kept) no_files (subst (λ os. AreTrue stock os [] (all_files m.kept)) opened (all_true stock m holds))
 
   both : ((planned_of settings stock).answer ≡ (planned settings (went.passed ++ [])).answer)
-      × (lines_in (planned_of settings stock).says ≡ lines_in (planned settings (went.passed ++ [])).says)
-  both = seen_is_planned stock settings (went.passed ++ []) (subst (AreSeen stock) (sym (ap (λ (p : StageResult Plan). p.says) planned_is)) seen)
+      × (lines_in (told_in (planned_of settings stock)) ≡ lines_in (told_in (planned settings (went.passed ++ []))))
+  both = seen_is_planned stock settings (went.passed ++ []) (subst (AreSeen stock) (sym (ap (λ (p : StageResult Plan). p.says) planned_is)) (seen_before stock went.says answer seen))
       (λ unread. judged (sym (ap (λ (p : StageResult Plan). p.answer) planned_is) ∙ unread))
 
   same_answer : (planned_of settings stock).answer ≡ answer
   same_answer = both.0 ∙ ap (λ (p : StageResult Plan). p.answer) planned_is
 
-  same_left : IsAlike (after_all (planned_of settings stock).says nothing_kept) m.kept
-  same_left = subst (IsAlike (after_all (planned_of settings stock).says nothing_kept)) (sym kept_is)
-      (alike_planning (planned_of settings stock).says went.says (only_reads settings (files_give stock (files_read settings))) only_read
-      (both.1 ∙ ap (λ (p : StageResult Plan). lines_in p.says) planned_is))
+  same_left : IsAlike (after_all (all_told (planned_of settings stock).says answer) nothing_kept) m.kept
+  same_left =
+      let told_whole = told_in (planned_of settings stock) in
+      let alike : IsAlike (after_all told_whole nothing_kept) m.kept =
+      subst (IsAlike (after_all told_whole nothing_kept)) (sym kept_is)
+      (alike_planning told_whole told (only_reads settings (files_give stock (files_read settings))) only_read
+      (both.1 ∙ ap (λ (p : StageResult Plan). lines_in (told_in p)) planned_is)) in
+      subst (λ (a : Answer Plan). IsAlike (after_all (all_told (planned_of settings stock).says a) nothing_kept) m.kept) same_answer alike
 
 -- ---- the run
 
@@ -220,15 +234,17 @@ module _ (settings : Settings) (old new : Memory) (before after : LinkView) (sta
       ∙ ap (λ q. outcome_of (behind (map Said p.says) q)) (ran.plays.plays more) ∙ ap (λ (o : Outcome). Some o) left
 
   -- it was refused
-  refused : HoldsTrue stock new → after.talk ≡ before.talk → Went (planned settings) (memory_view old) (memory_view new) Refused
+  refused : HoldsTrue stock new → after.talk ≡ before.talk → WentRefused (planned settings) (memory_view old) (memory_view new)
       → IsLeft settings stock (heard after.talk) (shown_by 1 new.kept after.talk)
-  refused holds silent went more =
+  refused holds silent (line, went) more =
       let p = planned_of settings stock in
-      let judged : ◌≡◌ {A = Answer Plan} Refused Unread → ⊥ = λ e. cc in
-      let answer : p.answer ≡ Refused = same_answer settings stock old new Refused unused.desk_is holds judged went in
-      let alike = same_left settings stock old new Refused unused.desk_is holds judged went in
-      let left : left_by (map Said p.says ++ []) 1 ≡ shown_by 1 new.kept after.talk =
-      left_is 1 p.says [] new.kept new.kept after.talk alike refl (ap sent (sym (silent ∙ silent_before))) in
+      let judged : ◌≡◌ {A = Answer Plan} (Refused line) Unread → ⊥ = λ e. cc in
+      let answer : p.answer ≡ Refused line = same_answer settings stock old new (Refused line) unused.desk_is holds judged went in
+      let alike = same_left settings stock old new (Refused line) unused.desk_is holds judged went in
+      let events : map Said (p.says ++ Line line ∷ []) ++ [] ≡ map Said p.says ++ Said (Line line) ∷ [] =
+      append-nil (map Said (p.says ++ Line line ∷ [])) ∙ map-append Said p.says (Line line ∷ []) in
+      let left : left_by (map Said p.says ++ Said (Line line) ∷ []) 1 ≡ shown_by 1 new.kept after.talk =
+      ap (λ (es : List (Event Saying)). left_by es 1) (sym events) ∙ left_is 1 (p.says ++ Line line ∷ []) [] new.kept new.kept after.talk alike refl (ap sent (sym (silent ∙ silent_before))) in
       ap (λ a. outcome_of (behind (map Said p.says) (after_answer a (heard after.talk ++ more)))) answer ∙ ap (λ (o : Outcome). Some o) left
 
   -- over what was heard it leaves what is shown, and the link has not failed

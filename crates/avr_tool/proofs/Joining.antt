@@ -1,16 +1,15 @@
 -- Planning and playing as one run.
 use Rattle.std.proofs.Common.{◌≡◌, ℕ, ◌⊎◌, inl, inr, List, [], ◌∷◌, ◌++◌, map, Some, refl, sym, ap, ◌∙◌, subst, arith, append_assoc}
-use Rattle.std.proofs.lemmas.List.{append-nil}
 use Rattle.avr_cli.specs.declared.settings.Settings.{Settings}
 use Rattle.avr_desk.specs.Record.{DeskView}
 use Rattle.avr_desk.specs.declared.record.Opening.{Opening}
-use Rattle.avr_desk.specs.Said.{Saying, SaidPart, after_all}
+use Rattle.avr_desk.specs.Said.{Saying, Line, SaidPart, after_all}
 use Rattle.avr_desk.proofs.Saying.{kept_append}
 use Rattle.avr_desk.proofs.Telling.{same_on}
 use Rattle.avr_plan.specs.Plan.{Plan}
 use Rattle.avr_plan.specs.Planning.{planned}
-use Rattle.avr_desk.specs.Playing.{Went}
-use Rattle.avr_desk.specs.Stage.{Made, Refused}
+use Rattle.avr_desk.specs.Playing.{Went, WentRefused}
+use Rattle.avr_desk.specs.Stage.{Made}
 use Rattle.stk_host.specs.Dialog.{Event, Said, played, behind, bytes_sent, sayings}
 use Rattle.stk_host.specs.Talk.{LinkView, Talk, Sent, Got, heard, Grows}
 use Rattle.stk_host.specs.Tape.{Tape, on_tape}
@@ -66,18 +65,18 @@ pub ran_openings : (settings : Settings) (plan : Plan) (x y : Devices) (between 
 unfolding ran_whole
 ran_openings settings plan x y between status went whole = refl
 
-pub refused_whole : (settings : Settings) (x y : Devices) → y.link ≡ x.link → Went (planned settings) x.desk y.desk Refused → IsRun settings x y 1
-refused_whole settings x y same went = record {
+pub refused_whole : (settings : Settings) (x y : Devices) → y.link ≡ x.link → WentRefused (planned settings) x.desk y.desk → IsRun settings x y 1
+refused_whole settings x y same (line, went) = record {
   openings = went.passed;
   during = [];
-  events = map Said went.says ++ [];
+  events = map Said went.says ++ Said (Line line) ∷ [];
   next = 1;
   left = [];
   is = λ later more. ap (λ q. after_planning q more) (went.comes later);
   in_turn = λ later. tt;
-  all_sent = said_bytes went.says [];
+  all_sent = said_bytes went.says (Said (Line line) ∷ []);
   grows = subst (λ (l : LinkView). Grows x.link.talk [] l.talk) (sym same) (grows_none x.link.talk);
-  kept = went.kept ∙ ap (λ says. after_all says x.desk.kept) (sym (said_sayings went.says [] ∙ append-nil went.says));
+  kept = went.kept ∙ ap (λ says. after_all says x.desk.kept) (sym (said_sayings went.says (Said (Line line) ∷ [])));
   few = omega arith;
   sound = (ap (λ (l : LinkView). l.failures) same, went.sound);
 }

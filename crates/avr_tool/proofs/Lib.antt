@@ -14,3 +14,4 @@ pub mod Meeting
 pub mod TwoProcesses
 pub mod Prompt
 pub mod WorkedLine
+pub mod MadeFrame

@@ -2,9 +2,11 @@
 use Rattle.std.proofs.Common.{◌≡◌, ℕ, ◌≤◌, List, [], ◌∷◌, ◌++◌, length, refl, sym, ap, ◌∙◌, subst, append_assoc, arith, Some, None, inl, inr}
 use Rattle.std.proofs.lemmas.Bool.{cases_Bool}
 use Rattle.std.proofs.lemmas.List.{append-nil}
+use Rattle.std.proofs.lemmas.List.Elements.{filter-append}
 use Rattle.std.specs.List.{concat}
-use Rattle.stk_frame.specs.Cut.{frames, is_good, seq_of, body_of}
-use Rattle.stk_frame.proofs.Cut.{chosen, refused}
+use Rattle.std.specs.Prelude.{filter}
+use Rattle.stk_frame.specs.Cut.{cut, rest, frames, is_frame, is_good, seq_of, body_of}
+use Rattle.stk_frame.proofs.Cut.{chosen, refused, cut_append}
 use Rattle.stk_frame.proofs.Laws.{frame_is_piece, length_frame}
 use Rattle.stk_host.specs.Dialog.{Dialog, Event, played, frames_in, bytes_sent}
 use Rattle.stk_host.specs.Play.{IsPrefixOf}
@@ -84,6 +86,23 @@ has_served SendFailed p talk left l = broken_served p talk left l.1
 has_served TooManyReads p talk left l = all_served p talk left l
 
 -- ---- both ends
+
+-- the frames of some bytes come first among those of more
+frames_more : (used more : List ℕ) → frames (used ++ more) ≡ frames used ++ filter is_frame (cut (rest used ++ more))
+frames_more used more = ap (filter is_frame) (cut_append used more) ∙ filter-append is_frame (cut used) (cut (rest used ++ more))
+
+-- of the frames that were sent those were obeyed that the server took, and so it stands
+pub meet_sent : (p left : Programmer) (host server : Talk) (serves : HasServed p server left) → IsJoined host server
+    → after_sent device (frames (sent host)) (obeyed (length (frames serves.used))) p ≡ left
+meet_sent p left host server serves joined =
+    let arrived = length (frames serves.used) in
+    let more = serves.unused ++ joined.up.0 in
+    let all : serves.used ++ more ≡ sent host =
+    sym (append_assoc serves.used serves.unused joined.up.0) ∙ (ap (λ bs. bs ++ joined.up.0) serves.heard_is ∙ joined.up.1) in
+    let others = filter is_frame (cut (rest serves.used ++ more)) in
+    let first : first_of arrived (frames (sent host)) ≡ frames serves.used =
+    ap (λ bs. first_of arrived (frames bs)) (sym all) ∙ (ap (first_of arrived) (frames_more serves.used more) ∙ first_front (frames serves.used) others) in
+    sym (after_first device answers_bodies arrived (frames (sent host)) p) ∙ (ap (λ fs. after_frames device fs p) first ∙ sym serves.left_is)
 
 module _ {E R : Type 0} (d : Dialog E R) (asks : AsksBodies d) (p left : Programmer) (host server : Talk) (serves : HasServed p server left) (joined : IsJoined host server)
     (plays : IsPrefixOf (sent host) (bytes_sent (played d 1 (heard host)).events)) where

@@ -61,7 +61,7 @@ ended_more {E = E} {R = R} (Ask body answered) seq t u r n left is =
 answered_more : (answer : Answer Plan) (t u : Tape) (status n : ℕ) (left : Tape) → (after_answer answer t).outcome ≡ Some (status, n, left)
     → after_answer answer (t ++ u) ≡ record { events = (after_answer answer t).events; outcome = Some (status, n, left ++ u) }
 answered_more (Made plan) t u status n left is = ended_more (session plan) 1 t u status n left is
-answered_more Refused t u status n left is = let e = some_end 1 status 1 n t left is in rw (← e.0, ← e.1, ← e.2) refl
+answered_more (Refused line) t u status n left is = let e = some_end 1 status 1 n t left is in rw (← e.0, ← e.1, ← e.2) refl
 answered_more Unread t u status n left is = absurd (let e : ◌≡◌ {A = Option (ℕ × ℕ × Tape)} None (Some (status, n, left)) = is in cc)
 
 run_more : (s : Settings) (openings : List Opening) (t u : Tape) (status n : ℕ) (left : Tape) → (run s openings t).outcome ≡ Some (status, n, left)

@@ -6,8 +6,8 @@ use Rattle.avr_desk.specs.Record.{DeskView}
 use Rattle.avr_plan.specs.Plan.{Plan}
 use Rattle.avr_plan.specs.Planning.{LacksPart, planned}
 use Rattle.avr_desk.specs.Playing as planning
-use Rattle.avr_desk.specs.Playing.{Went, Goes}
-use Rattle.avr_desk.specs.Stage.{Made, Refused}
+use Rattle.avr_desk.specs.Playing.{Went, WentRefused, Goes}
+use Rattle.avr_desk.specs.Stage.{Made}
 use Rattle.avr_session.specs.Run.{RunsSession}
 use Rattle.stk_frame.specs.Cut.{frames}
 use Rattle.stk_frame.specs.Reader.{Stands}
@@ -62,7 +62,7 @@ module _ (settings : Settings) (old now : DeskView) (status : ℕ) where
       → RunsNowhere settings w w old now status
   runs_nowhere w none bare = record { runs = either none.1; untouched = refl; status_is = none.0 }
     where
-      either : Went (planned settings) old now Refused ⊎ planning.StageBrokeOff (planned settings) old now
+      either : WentRefused (planned settings) old now ⊎ planning.StageBrokeOff (planned settings) old now
           → IsRun settings (wire_and_desk w old) (wire_and_desk w now) status ⊎ StoppedPlanning settings (wire_and_desk w old) (wire_and_desk w now) status
       either (inl went) = inl (subst (IsRun settings (wire_and_desk w old) (wire_and_desk w now)) (sym none.0) (refused_whole settings (wire_and_desk w old) (wire_and_desk w now) refl went))
       either (inr broke) = inr (record { broke = broke; bare = bare; same = refl; status_is = none.0 })

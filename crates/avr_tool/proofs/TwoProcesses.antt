@@ -14,7 +14,7 @@ use Rattle.stk_frame.specs.Cut.{frames}
 use Rattle.stk_host.specs.Dialog.{Event, played, frames_in, bytes_sent, sayings}
 use Rattle.stk_host.specs.Play.{Position, Plays, IsPrefixOf, IsDue, InTurn}
 use Rattle.stk_host.specs.Tape.{Tape, on_tape, bytes_of}
-use Rattle.stk_host.specs.Talk.{Talk, Sent, Got, Grows, sent, heard}
+use Rattle.stk_host.specs.Talk.{Talk, Sent, Got, sent, heard}
 use Rattle.stk_host.proofs.Tapes.{bytes_of_append}
 use Rattle.stk_emu.specs.Along.{along, AsksBodies}
 use Rattle.stk_emu.specs.Effect.{memories_of}
@@ -22,32 +22,24 @@ use Rattle.stk_emu.specs.Settled.{Idle, FitsPart}
 use Rattle.stk_emu.proofs.Beginning.{fresh_idle, fresh_fits}
 use Rattle.avr_emulated.specs.Course.{course}
 use Rattle.avr_emulated.proofs.FewBad.{session_ends}
-use Rattle.stk_emu.specs.AnyTape.{AreHonest, GoesAs, after_sent}
+use Rattle.stk_emu.specs.AnyTape.{AreHonest, after_sent, turns_heard}
 use Rattle.stk_emu.specs.Device.{device, after_frames}
 use Rattle.stk_emu.specs.Emulator.{emulate}
 use Rattle.stk_emu.specs.Programmer.{Programmer, fresh_programmer}
-use Rattle.stk_emu.specs.Turn.{Turn}
 use Rattle.stk_emu.specs.NoFrame.{MakesNoFrame}
 use Rattle.stk_emu.proofs.NoFrame.{no_frame_honest}
-use Rattle.stk_emu.proofs.AnyTape.{goes_as}
 use Rattle.stk_emu.proofs.Turning.{due_at, sends_whole, frames_sent, shown_front}
-use Rattle.avr_emulated.specs.Outcome.{IsTouched}
-use Rattle.avr_emulated.proofs.AnyLineOrder.{session_makes}
 use Rattle.avr_emulated.proofs.AnyLineAsks.{session_asks}
 use Rattle.avr_serve.specs.Serving.{HasNoEnd, AnswersInTurn}
 use Rattle.avr_serve.specs.ServedRun.{Sides, ServesChip, SavesAfterServing}
 use Rattle.avr_chip.specs.Saving.{Saves}
 use Rattle.avr_part.specs.ChipFile.{chip_file}
-use Rattle.avr_tool.specs.Headline.{OverAnyLink}
+use Rattle.avr_tool.specs.Headline.{OverAnyLink, OverAnyEnd}
 use Rattle.avr_tool.specs.TwoProcesses.{Call, of_host, of_server, IsJoined, IsOrdered, IsPrompt, StallsBetweenAnswers, HasServed, obeyed}
-use Rattle.avr_tool.proofs.Meeting.{meet_honest, meet_leaves, meet_ends, meet_straight, has_served}
+use Rattle.avr_tool.proofs.Meeting.{meet_honest, meet_leaves, meet_sent, meet_ends, meet_straight, has_served}
 use Rattle.avr_tool.proofs.Prompt.{prompt_stalls}
 use Rattle.avr_tool.proofs.Misses.{session_few}
-use Rattle.avr_tool.proofs.OverTalk.{over_any_line}
-
--- a talk that began with nothing is what passed since
-since_none : (old now during talk : Talk) → old ≡ [] → now ≡ talk → Grows old during now → during ≡ talk
-since_none old now during talk none is grows = sym (subst (λ o. Grows o during now) none grows) ∙ is
+use Rattle.avr_tool.proofs.OverTalk.{since_none, over_any_line, over_any_end}
 
 -- where something is heard, all answers had been sent
 answered_at : (p : Programmer) (text answered : List ℕ) (before after : Talk) (items : Tape) → AnswersInTurn p text answered (before ++ Got items ∷ after) → answered ++ sent before ≡ emulate p (text ++ bytes_of (heard before))
@@ -104,19 +96,13 @@ module _ (plan : Plan) (s : chips.ChipState) (is_sound : IsSoundChip s) (part_is
         never_wait up down (answered_at (fresh_programmer s) [] [] server [] server_items server_turns) (due_at (session plan) 1 [] [] host [] host_items host_turns)
 
     -- whatever becomes of both
-    pub touched : (left : Programmer) → HasServed (fresh_programmer s) server left → IsJoined host server → IsPrefixOf (sent host) (bytes_sent (played (session plan) 1 (heard host)).events)
-        → IsTouched plan (memories_of s) (memories_of left.chip)
+    pub touched : (left : Programmer) (serves : HasServed (fresh_programmer s) server left) → IsJoined host server → IsPrefixOf (sent host) (bytes_sent (played (session plan) 1 (heard host)).events)
+        → OverAnyEnd plan (fresh_programmer s) left (turns_heard (session plan) 1 (heard host) (obeyed (length (frames serves.used)))) (sent host) (sayings (played (session plan) 1 (heard host)).events)
     touched left serves joined plays =
-        let p : Programmer = fresh_programmer s in
         let becames = obeyed (length (frames serves.used)) in
-        let goes : GoesAs device (session plan) 1 (heard host) p becames = goes_as device (session plan) 1 (heard host) p becames asks (honest left serves joined plays) in
-        let makes = session_makes plan (subst IsPart part_is is_sound.part) fitted (memories_of s) (subst (λ part. FitsPart part (memories_of s)) part_is (fresh_fits s is_sound)) p goes.turns
-        (subst (λ part. Idle part (memories_of s) p) part_is (fresh_idle s is_sound)) in
-        let k = length (frames_in (played (session plan) 1 (heard host)).events) in
-        record {
-          count = makes.count k;
-          memories = ap (λ (q : Programmer). memories_of q.chip) (sym (goes.programmer ∙ leaves left serves joined plays)) ∙ makes.stands k;
-        }
+        subst (λ q. OverAnyEnd plan (fresh_programmer s) q (turns_heard (session plan) 1 (heard host) becames) (sent host) (sayings (played (session plan) 1 (heard host)).events))
+        (meet_sent (fresh_programmer s) left host server serves joined)
+        (over_any_end plan s is_sound part_is fitted (heard host) becames (honest left serves joined plays) (sent host) plays)
 
     -- a whole session
     module _ (events : List (Event Saying)) (status : ℕ) (after : Position) (plays : Plays (session plan) start host events status after) where
@@ -126,13 +112,13 @@ module _ (plan : Plan) (s : chips.ChipState) (is_sound : IsSoundChip s) (part_is
       all_sent : bytes_sent (played (session plan) 1 (heard host)).events ≡ sent host
       all_sent = ap (λ p. bytes_sent p.events) over ∙ plays.all_sent
 
-      pub whole : (left : Programmer) → HasServed (fresh_programmer s) server left → IsJoined host server → (turns : List Turn) × OverAnyLink plan (fresh_programmer s) left turns (sent host) events status
+      pub whole : (left : Programmer) (serves : HasServed (fresh_programmer s) server left) → IsJoined host server
+          → OverAnyLink plan (fresh_programmer s) left (turns_heard (session plan) 1 (heard host) (obeyed (length (frames serves.used)))) (sent host) events status
       whole left serves joined =
           let front : IsPrefixOf (sent host) (bytes_sent (played (session plan) 1 (heard host)).events) = ([], append-nil (sent host) ∙ sym all_sent) in
-          let frames_are : frames (sent host) ≡ frames_in (played (session plan) 1 (heard host)).events =
-          ap frames (sym all_sent) ∙ frames_sent (played (session plan) 1 (heard host)).events (sends_whole (session plan) 1 (heard host) asks) in
-          over_any_line plan s is_sound part_is fitted (sent host) (heard host) (on_tape after.unread ++ []) events status after.next over plays.all_sent left (obeyed (length (frames serves.used)))
-          (honest left serves joined front) (ap (λ fs. after_sent device fs (obeyed (length (frames serves.used))) (fresh_programmer s)) frames_are ∙ leaves left serves joined front)
+          let becames = obeyed (length (frames serves.used)) in
+          subst (λ q. OverAnyLink plan (fresh_programmer s) q (turns_heard (session plan) 1 (heard host) becames) (sent host) events status) (meet_sent (fresh_programmer s) left host server serves joined)
+          (over_any_line plan s is_sound part_is fitted (heard host) becames (honest left serves joined front) (sent host) (on_tape after.unread ++ []) events status after.next over plays.all_sent)
 
       -- and one over a line that is never silent
       pub course_of : (left : Programmer) → HasServed (fresh_programmer s) server left → IsJoined host server → IsPrompt (heard host)
@@ -150,30 +136,29 @@ module _ (plan : Plan) (s : chips.ChipState) (is_sound : IsSoundChip s) (part_is
   -- over an ordered line that stalls anywhere, and makes no frame
   pub stalling : (left : Programmer) (host server : Talk) (events : List (Event Saying)) (status : ℕ) (after : Position) (serves : HasServed (fresh_programmer s) server left) → IsJoined host server
       → Plays (session plan) start host events status after
-      → MakesNoFrame device (session plan) 1 (heard host) (fresh_programmer s) (obeyed (length (frames serves.used))) [] → (turns : List Turn) × OverAnyLink plan (fresh_programmer s) left turns (sent host) events status
+      → MakesNoFrame device (session plan) 1 (heard host) (fresh_programmer s) (obeyed (length (frames serves.used))) []
+      → OverAnyLink plan (fresh_programmer s) left (turns_heard (session plan) 1 (heard host) (obeyed (length (frames serves.used)))) (sent host) events status
   stalling left host server events status after serves joined plays made =
       let over : played (session plan) 1 (heard host) ≡ record { events = events; outcome = Some (status, after.next, on_tape after.unread ++ []) } =
       ap (played (session plan) 1) (sym (append-nil (heard host))) ∙ plays.plays [] in
-      let all : bytes_sent (played (session plan) 1 (heard host)).events ≡ sent host = ap (λ p. bytes_sent p.events) over ∙ plays.all_sent in
-      let frames_are : frames (sent host) ≡ frames_in (played (session plan) 1 (heard host)).events =
-      ap frames (sym all) ∙ frames_sent (played (session plan) 1 (heard host)).events (sends_whole (session plan) 1 (heard host) asks) in
-      over_any_line plan s is_sound part_is fitted (sent host) (heard host) (on_tape after.unread ++ []) events status after.next over plays.all_sent left (obeyed (length (frames serves.used)))
-      (no_frame_honest device (session plan) 1 (heard host) (fresh_programmer s) (obeyed (length (frames serves.used))) [] tt made)
-      (ap (λ fs. after_sent device fs (obeyed (length (frames serves.used))) (fresh_programmer s)) frames_are
-      ∙ meet_leaves (session plan) asks (fresh_programmer s) left host server serves joined ([], append-nil (sent host) ∙ sym all))
+      let becames = obeyed (length (frames serves.used)) in
+      subst (λ q. OverAnyLink plan (fresh_programmer s) q (turns_heard (session plan) 1 (heard host) becames) (sent host) events status) (meet_sent (fresh_programmer s) left host server serves joined)
+      (over_any_line plan s is_sound part_is fitted (heard host) becames (no_frame_honest device (session plan) 1 (heard host) (fresh_programmer s) becames [] tt made) (sent host) (on_tape after.unread ++ [])
+      events status after.next over plays.all_sent)
 
   -- THE TWO PROCESSES
   pub one_run : (calls : List Call) (old new : Devices) (server_old server_new : Sides) (file : Bytes) (most status served_status : ℕ) (after : Position) → IsOrdered calls → StallsBetweenAnswers (heard (of_host calls))
       → old.link.talk ≡ [] → new.link.talk ≡ of_host calls → server_old.link.talk ≡ [] → server_new.link.talk ≡ of_server calls
       → (ran : Ran (session plan) start old new status after) → (serves : ServesChip s file most server_old server_new served_status)
-      → (turns : List Turn) × OverAnyLink plan (fresh_programmer s) serves.left.programmer turns (sent (of_host calls)) ran.events status
+      → (served : HasServed (fresh_programmer s) (of_server calls) serves.left.programmer)
+      × OverAnyLink plan (fresh_programmer s) serves.left.programmer (turns_heard (session plan) 1 (heard (of_host calls)) (obeyed (length (frames served.used)))) (sent (of_host calls)) ran.events status
   one_run calls old new server_old server_new file most status served_status after ordered stalls host_old host_new server_none server_some ran serves =
       let host_is : ran.during ≡ of_host calls = since_none old.link.talk new.link.talk ran.during (of_host calls) host_old host_new ran.grows in
       let server_is : serves.serves.during ≡ of_server calls = since_none server_old.link.talk server_new.link.talk serves.serves.during (of_server calls) server_none server_some serves.serves.grows in
       let plays : Plays (session plan) start (of_host calls) ran.events status after = subst (λ t. Plays (session plan) start t ran.events status after) host_is ran.plays in
       let served : HasServed (fresh_programmer s) (of_server calls) serves.left.programmer =
       subst (λ t. HasServed (fresh_programmer s) t serves.left.programmer) server_is (has_served serves.served (fresh_programmer s) serves.serves.during serves.left serves.leaves) in
-      whole (of_host calls) (of_server calls) ordered.endless stalls ran.events status after plays serves.left.programmer served (ordered.joined calls [] (sym (append-nil calls)))
+      (served, whole (of_host calls) (of_server calls) ordered.endless stalls ran.events status after plays serves.left.programmer served (ordered.joined calls [] (sym (append-nil calls))))
 
   -- and over a line that is never silent
   pub one_course : (calls : List Call) (old new : Devices) (server_old server_new : Sides) (file : Bytes) (most status served_status : ℕ) (after : Position) → IsOrdered calls → IsPrompt (heard (of_host calls))
@@ -190,12 +175,16 @@ module _ (plan : Plan) (s : chips.ChipState) (is_sound : IsSoundChip s) (part_is
 
   -- whatever becomes of both
   module _ (calls : List Call) (ordered : IsOrdered calls) (stalls : StallsBetweenAnswers (heard (of_host calls))) (left : Programmer) (serves : HasServed (fresh_programmer s) (of_server calls) left) where
-    after_any : (during : Talk) → during ≡ of_host calls → IsPrefixOf (sent during) (bytes_sent (played (session plan) 1 (heard during)).events) → IsTouched plan (memories_of s) (memories_of left.chip)
+    abbrev Ended : Type 0
+    Ended = OverAnyEnd plan (fresh_programmer s) left (turns_heard (session plan) 1 (heard (of_host calls)) (obeyed (length (frames serves.used)))) (sent (of_host calls))
+        (sayings (played (session plan) 1 (heard (of_host calls))).events)
+
+    after_any : (during : Talk) → during ≡ of_host calls → IsPrefixOf (sent during) (bytes_sent (played (session plan) 1 (heard during)).events) → Ended
     after_any during is front =
         touched (of_host calls) (of_server calls) ordered.endless stalls left serves (ordered.joined calls [] (sym (append-nil calls)))
         (subst (λ t. IsPrefixOf (sent t) (bytes_sent (played (session plan) 1 (heard t)).events)) is front)
 
-    after_run : (old new : Devices) (status : ℕ) → old.link.talk ≡ [] → new.link.talk ≡ of_host calls → RunsSession plan old new status → IsTouched plan (memories_of s) (memories_of left.chip)
+    after_run : (old new : Devices) (status : ℕ) → old.link.talk ≡ [] → new.link.talk ≡ of_host calls → RunsSession plan old new status → Ended
     after_run old new status host_old host_new (inl (after, ran)) =
         after_any ran.during (since_none old.link.talk new.link.talk ran.during (of_host calls) host_old host_new ran.grows)
         ([], append-nil (sent ran.during) ∙ (sym ran.plays.all_sent ∙ ap (λ x. bytes_sent x.events) (sym (ap (played (session plan) 1) (sym (append-nil (heard ran.during))) ∙ ran.plays.plays []))))
@@ -208,9 +197,11 @@ module _ (plan : Plan) (s : chips.ChipState) (is_sound : IsSoundChip s) (part_is
   pub any_run : (calls : List Call) (old new : Devices) (server_old server_new : Sides) (file : Bytes) (most status served_status : ℕ) → IsOrdered calls → StallsBetweenAnswers (heard (of_host calls))
       → old.link.talk ≡ [] → new.link.talk ≡ of_host calls → server_old.link.talk ≡ [] → server_new.link.talk ≡ of_server calls
       → RunsSession plan old new status → (serves : ServesChip s file most server_old server_new served_status)
-      → IsTouched plan (memories_of s) (memories_of serves.left.programmer.chip)
+      → (served : HasServed (fresh_programmer s) (of_server calls) serves.left.programmer)
+      × OverAnyEnd plan (fresh_programmer s) serves.left.programmer (turns_heard (session plan) 1 (heard (of_host calls)) (obeyed (length (frames served.used)))) (sent (of_host calls))
+      (sayings (played (session plan) 1 (heard (of_host calls))).events)
   any_run calls old new server_old server_new file most status served_status ordered stalls host_old host_new server_none server_some runs serves =
       let server_is : serves.serves.during ≡ of_server calls = since_none server_old.link.talk server_new.link.talk serves.serves.during (of_server calls) server_none server_some serves.serves.grows in
       let served : HasServed (fresh_programmer s) (of_server calls) serves.left.programmer =
       subst (λ t. HasServed (fresh_programmer s) t serves.left.programmer) server_is (has_served serves.served (fresh_programmer s) serves.serves.during serves.left serves.leaves) in
-      after_run calls ordered stalls serves.left.programmer served old new status host_old host_new runs
+      (served, after_run calls ordered stalls serves.left.programmer served old new status host_old host_new runs)

@@ -12,12 +12,12 @@
 -- said: noise can make one, and a pause inside an answer, out of the bytes that it carries. That bytes are told as
 -- written says that their commands were obeyed: what a locked chip made of them the memories tell. Nothing is said of
 -- time, nor of a chip that loses its power in the middle of a write.
-use Rattle.std.specs.Prelude.{ℕ, ◌*◌, ◌≡◌, ◌≤◌, ◌⊎◌, false, List, [], ◌∷◌, ◌++◌, map, length, Some, None}
+use Rattle.std.specs.Prelude.{ℕ, ◌*◌, ◌≡◌, ◌≤◌, ◌⊎◌, true, false, List, [], ◌∷◌, ◌++◌, map, length, Some, None}
 use Rattle.avr_cli.specs.declared.settings.Settings.{Settings}
 use Rattle.avr_desk.specs.Fault.{Follows}
 use Rattle.avr_desk.specs.Record.{DeskView, Passes}
 use Rattle.avr_desk.specs.declared.record.Opening.{Opening}
-use Rattle.avr_desk.specs.Said.{Saying, SaidPart, after_all}
+use Rattle.avr_desk.specs.Said.{Saying, Line, SaidPart, after_all}
 use Rattle.avr_plan.specs.Plan.{Plan}
 use Rattle.avr_plan.specs.Planning.{LacksPart, planned}
 use Rattle.avr_desk.specs.Playing as planning
@@ -27,13 +27,16 @@ use Rattle.avr_desk.specs.Stage.{Answer, Made, Refused, Unread}
 use Rattle.avr_session.specs.Run.{StopsSession}
 use Rattle.avr_session.specs.Runs.{Devices, devices, NoneFailed}
 use Rattle.avr_session.specs.Session.{session}
+use Rattle.avr_emulated.specs.Again.{AgreesAnyway}
 use Rattle.avr_emulated.specs.AnyLine.{Weight, weighed, bodies_in, Stopped, OverAnyLine}
 use Rattle.avr_emulated.specs.Bound.{run_steps}
 use Rattle.avr_emulated.specs.Course.{course}
-use Rattle.avr_emulated.specs.Items.{asked_items}
+use Rattle.avr_emulated.specs.Foretold.{IsForetold, EndsAsForetold}
+use Rattle.avr_emulated.specs.Items.{items, asked_items, has_erase}
 use Rattle.avr_emulated.specs.Outcome.{IsDone, MakesStrokes}
 use Rattle.avr_emulated.specs.Written.{IsWritten}
 use Rattle.stk_emu.specs.Effect.{memories_of}
+use Rattle.stk_emu.specs.Few.{AreFew}
 use Rattle.stk_emu.specs.Lawful.{none_late}
 use Rattle.stk_emu.specs.Programmer.{Programmer, fresh_programmer}
 use Rattle.stk_emu.specs.Wire.{AreLawful}
@@ -47,10 +50,10 @@ use Rattle.stk_host.specs.Tape.{Tape, on_tape}
 
 -- ---- 1. The run, as one function of the settings, of what the openings of files give, and of what comes over the line
 
--- a plan is played; a refusal comes to status 1; a file that was not read to its end can't be judged
+-- a plan is played; a refusal is told, and comes to status 1; a file that was not read to its end can't be judged
 abbrev pub after_answer : Answer Plan → Tape → Played Saying ℕ
 after_answer (Made plan) tape = played (session plan) 1 tape
-after_answer Refused tape = record { events = []; outcome = Some (1, 1, tape) }
+after_answer (Refused line) tape = record { events = Said (Line line) ∷ []; outcome = Some (1, 1, tape) }
 after_answer Unread tape = record { events = []; outcome = None }
 
 abbrev pub after_planning : stage.StageResult Plan → Tape → Played Saying ℕ
@@ -130,9 +133,9 @@ pub record IsFrontOfRun (settings : Settings) (before now : Devices) : Type 0 wh
 -- `OverAnyLine` tells what the session of a plan did from one state of a wire to another. With status 0 it said what it
 -- says over a perfect line and left the same memories (`success`), all was written and all comparisons agreed (`done`),
 -- and a verified chip holds its images (`images`). With any status the first strokes of the plan were made (`strokes`),
--- and none where nothing was sent (`untouched`); few frames went out (`four`), and what was told was true then
--- (`believable`). Where few frames go wrong it does as over a perfect line, unless it stopped (`few_bad`), and a plan
--- that agrees on each chip succeeds (`again`).
+-- and none where nothing was sent (`untouched`); few frames went out (`four`), what was told was true then
+-- (`believable`), and is what the course says, up to a step that failed (`foretold`). Where few frames go wrong it does
+-- as over a perfect line, unless it stopped (`few_bad`), and a plan that agrees on each chip succeeds (`again`).
 
 -- ---- 5. From settings to the bytes of the chip, over a wire that is new
 
@@ -184,15 +187,33 @@ RunsWired settings before after desk_before desk_now status =
 
 -- ---- 7. Over any link, as long as no frame is made
 
+-- It was its course, as over a perfect line: what was said, the status, and the memories.
+pub record IsItsCourse (plan : Plan) (p q : Programmer) (events : List (Event Saying)) (status : ℕ) : Type 0 where
+  pub said : sayings events ≡ (course plan (memories_of p.chip)).says
+  pub status_is : status ≡ (course plan (memories_of p.chip)).status
+  pub memories : memories_of q.chip ≡ (course plan (memories_of p.chip)).memories
+
 -- These events are a whole session of a plan over a link that was sent these bytes, each frame of which had its turn,
--- and the programmer ended as this one.
+-- and the programmer ended as this one. What was said, and the status, are the course's; or as much of it as actions
+-- came to their ends, behind it the line of the step that failed, and status 1. Where of any seven turns in a row at
+-- most three are wrong it was its course, and a plan that agrees on each chip succeeded.
 pub record OverAnyLink (plan : Plan) (p q : Programmer) (turns : List Turn) (bytes : List ℕ)
     (events : List (Event Saying)) (status : ℕ) : Type 0 where
-  pub agrees : status ≡ 0 → (course plan (memories_of p.chip)).status ≡ 0
-  pub said : status ≡ 0 → sayings events ≡ (course plan (memories_of p.chip)).says
+  pub said : EndsAsForetold plan (memories_of p.chip) (sayings events) status
   pub done : status ≡ 0 → IsDone plan (memories_of p.chip) (memories_of q.chip)
   pub images : status ≡ 0 → plan.switches.no_verify ≡ false
       → IsWritten plan.part (asked_items plan) (memories_of p.chip) (memories_of q.chip)
+  pub strokes : MakesStrokes plan p turns (length (frames bytes)) (memories_of p.chip) (memories_of q.chip)
+  pub four : (weight : Weight) → weighed weight (map body_of (frames bytes))
+      ≤ 4 * weighed weight (bodies_in (run_steps plan))
+  pub few_bad : AreFew turns → IsItsCourse plan p q events status
+  pub again : AreFew turns → has_erase (items plan) ≡ true → AgreesAnyway plan → status ≡ 0
+
+-- However a session ends, also where it is broken off or waits for ever: these bytes of it were sent, this is what it
+-- says over what was heard, and the programmer ended as this one.
+pub record OverAnyEnd (plan : Plan) (p q : Programmer) (turns : List Turn) (bytes : List ℕ)
+    (says : List Saying) : Type 0 where
+  pub said : IsForetold plan (memories_of p.chip) says
   pub strokes : MakesStrokes plan p turns (length (frames bytes)) (memories_of p.chip) (memories_of q.chip)
   pub four : (weight : Weight) → weighed weight (map body_of (frames bytes))
       ≤ 4 * weighed weight (bodies_in (run_steps plan))

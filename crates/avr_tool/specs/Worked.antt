@@ -1,11 +1,17 @@
--- Worked runs: `-p m328p` over a programmer that answers each frame at once; and with a part file that isn't there.
+-- Worked runs: `-p m328p` over a programmer that answers each frame at once; with a part file that isn't there; and a
+-- session over a line that makes a frame.
 use Rattle.std.specs.Prelude.{ℕ, List, [], ◌∷◌, ◌++◌, Some, None, false, codes}
 use Rattle.avr_cli.specs.declared.settings.Settings.{Settings}
 use Rattle.avr_cli.specs.declared.settings.Port.TheVariants.{Stdio}
 use Rattle.avr_desk.specs.Lines.{information, not_opened_line, spaced_digits}
 use Rattle.avr_desk.specs.Memory.{Stock}
 use Rattle.avr_desk.specs.Said.{Saying}
+use Rattle.avr_part.specs.BuiltIn.{m328p}
+use Rattle.avr_part.specs.declared.part.Mem.TheVariants.{Lfuse}
+use Rattle.avr_plan.specs.Plan.{Plan}
+use Rattle.avr_plan.specs.declared.planned.Task.TheVariants.{Verify}
 use Rattle.avr_session.specs.Lines.{informs}
+use Rattle.stk_frame.specs.Frame.{frame}
 use Rattle.stk_host.specs.Tape.{Tape, on_tape}
 use Rattle.avr_tool.specs.InMemory.{Outcome}
 
@@ -80,3 +86,19 @@ absent_outcome = record {
   output = [];
   files = [];
 }
+
+-- a comparison of the low fuse with E2
+abbrev pub fuse_plan : Plan
+fuse_plan = record {
+  part = m328p;
+  tasks = Verify Lfuse (Some 0xE2 ∷ []) ∷ [];
+  switches = worked_settings.switches;
+}
+
+-- a tape for it on which a frame was made: the answer to the fuse is E2, whatever the chip has
+abbrev pub made_answers : Tape
+made_answers = on_tape (
+    frame 1 (0x01 ∷ 0x00 ∷ 0x08 ∷ codes "STK500_2") ++ frame 2 (0x10 ∷ 0x00 ∷ []) ++ frame 3 (0x1B ∷ 0x00 ∷ 0x1E ∷ 0x00 ∷ [])
+    ++ frame 4 (0x1B ∷ 0x00 ∷ 0x95 ∷ 0x00 ∷ []) ++ frame 5 (0x1B ∷ 0x00 ∷ 0x0F ∷ 0x00 ∷ [])
+    ++ frame 6 (0x18 ∷ 0x00 ∷ 0xE2 ∷ 0x00 ∷ []) ++ frame 7 (0x11 ∷ 0x00 ∷ [])
+    )

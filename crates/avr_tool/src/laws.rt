@@ -9,7 +9,7 @@ ghost use Rattle.avr_emulated.specs.AnyLine.{Stopped, OverAnyLine, Weight, weigh
 ghost use Rattle.avr_emulated.specs.Bound.{run_steps};
 ghost use Rattle.avr_emulated.specs.Course.{course};
 ghost use Rattle.avr_emulated.specs.Items.{items, asked_items, has_erase};
-ghost use Rattle.avr_emulated.specs.Outcome.{IsCourse, IsDone, MakesStrokes, IsTouched};
+ghost use Rattle.avr_emulated.specs.Outcome.{IsCourse, IsDone};
 ghost use Rattle.avr_emulated.specs.Written.{IsWritten};
 ghost use Rattle.avr_desk.specs.Said.{Saying, after_all};
 ghost use Rattle.avr_part.specs.Part.{IsPart};
@@ -20,9 +20,9 @@ ghost use Rattle.avr_session.specs.Run.{RunsSettings, RunsSession};
 ghost use Rattle.avr_session.specs.Runs.{Devices, devices, start, Ran};
 ghost use Rattle.avr_session.specs.Session.{session};
 ghost use Rattle.avr_session.specs.Stopping.{IsSound, LacksMemory, keeping, talking};
-ghost use Rattle.avr_tool.specs.Headline.{IsRun, IsStopped, StoppedPlaying, IsFrontOfRun, OverAnyLink, wire_and_desk};
+ghost use Rattle.avr_tool.specs.Headline.{IsRun, IsStopped, StoppedPlaying, IsFrontOfRun, OverAnyLink, OverAnyEnd, wire_and_desk};
 ghost use Rattle.avr_tool.specs.InMemory.{Leaves, Outcome};
-ghost use Rattle.avr_tool.specs.Worked.{absent_outcome, absent_settings, frames_due, lines_due, no_stock, worked_answers, worked_outcome, worked_settings};
+ghost use Rattle.avr_tool.specs.Worked.{absent_outcome, absent_settings, frames_due, fuse_plan, lines_due, made_answers, no_stock, worked_answers, worked_outcome, worked_settings};
 ghost use Rattle.stk_emu.specs.Along.{along, said_along};
 ghost use Rattle.stk_emu.specs.Device.{device, after_frames, answers};
 ghost use Rattle.avr_chip.specs.Saving.{Saves};
@@ -36,12 +36,11 @@ ghost use Rattle.stk_emu.specs.Effect.{Memories, memories_of, erase_keeps_eeprom
 ghost use Rattle.stk_emu.specs.Few.{AreFew};
 ghost use Rattle.stk_emu.specs.Programmer.{Programmer, fresh_programmer};
 ghost use Rattle.stk_emu.specs.Settled.{Idle, FitsPart};
-ghost use Rattle.stk_emu.specs.Wire.{AreLawful, Talks, turns_of};
+ghost use Rattle.stk_emu.specs.Wire.{turns_of};
 ghost use Rattle.stk_emu.specs.Wired.{WiredState};
 ghost use Rattle.stk_frame.specs.Cut.{body_of, frames};
-ghost use Rattle.stk_emu.specs.declared.fate.Fate.{Fate};
 ghost use Rattle.stk_emu.specs.Turn.{Turn, Became};
-ghost use Rattle.stk_emu.specs.AnyTape.{AreHonest, CameThrough, after_sent, became_by};
+ghost use Rattle.stk_emu.specs.AnyTape.{AreHonest, CameThrough, after_sent, became_by, turns_heard};
 ghost use Rattle.stk_emu.specs.NoFrame.{MakesNoFrame};
 ghost use Rattle.stk_host.specs.Dialog.{Done, Event, played, frames_in, bytes_sent, sayings};
 ghost use Rattle.stk_host.specs.Talk.{Talk, heard, sent, Got};
@@ -115,15 +114,24 @@ pub fn a_sound_run_is_its_course()
 /// The same run once more, over the chip that a first one left, whatever became of that one: where of any seven frames
 /// in a row at most three go wrong (a reset counts four), a plan that erases, and agrees on a chip of 00 and on one of
 /// FF, comes to status 0, and leaves what one run would have left of the chip before both. Only where the chip keeps
-/// EEPROM at an erase must each byte that the plan writes to the high fuse keep it too.
+/// EEPROM at an erase must each byte that the plan writes to the high fuse keep it too. So over a wire; and over any
+/// link that makes no frame, by the turns that were heard, however the first session ended, without a word on devices.
 pub fn a_further_run_heals()
-    ensures { (plan : Plan) (w v x y : WiredState) (d e f g : DeskView) (status further : ℕ)
+    ensures wire { (plan : Plan) (w v x y : WiredState) (d e f g : DeskView) (status further : ℕ)
         → IsPart plan.part → All (IsFitted plan.part) plan.tasks → FitsPart plan.part (memories w)
         → has_erase (items plan) ≡ true → AgreesAnyway plan
         → (erase_keeps_eeprom plan.part (memories w) ≡ true → AreKeeping plan.part (items plan))
         → OverAnyLine plan w v d e status
         → memories x ≡ memories v → AreFew (turns_of x.wire.fates) → OverAnyLine plan x y f g further
         → ((further ≡ 0) × IsDone plan (memories w) (memories y)) ⊎ Stopped plan x y f g }
+    ensures link { (plan : Plan) (p q x y : Programmer) (turns more : List Turn) (bytes others : List ℕ)
+        (says : List Saying) (events : List (Event Saying)) (further : ℕ)
+        → IsPart plan.part → All (IsFitted plan.part) plan.tasks → FitsPart plan.part (memories_of p.chip)
+        → has_erase (items plan) ≡ true → AgreesAnyway plan
+        → (erase_keeps_eeprom plan.part (memories_of p.chip) ≡ true → AreKeeping plan.part (items plan))
+        → OverAnyEnd plan p q turns bytes says
+        → memories_of x.chip ≡ memories_of q.chip → AreFew more → OverAnyLink plan x y more others events further
+        → (further ≡ 0) × IsDone plan (memories_of p.chip) (memories_of y.chip) }
 {}
 
 /// A worked run, `-p m328p`, to which all answers came: another status, another frame or another line is no run.
@@ -148,33 +156,22 @@ pub fn a_run_in_memory_has_one_outcome()
     ensures absent { (tape : Tape) → Leaves absent_settings no_stock tape absent_outcome }
 {}
 
-/// Over any link that behaves as the definition of a line with fates has it, a session that was played whole did what
-/// the page says of one over a wire. (`Wired` is such a link; nothing rests on its being the only one.)
-pub fn a_session_over_any_link_that_behaves_so()
-    ensures { (plan : Plan) (s : Chip) (q : Programmer) (fates : List Fate) (bytes : List ℕ)
-        (tape left : Tape) (events : List (Event Saying)) (status next : ℕ)
-        → IsSoundChip s → s.part ≡ plan.part → All (IsFitted plan.part) plan.tasks → AreLawful fates
-        → Talks device fates (fresh_programmer s) bytes tape q
-        → played (session plan) 1 tape ≡ record { events = events; outcome = Some (status, next, left) }
-        → bytes_sent events ≡ bytes
-        → OverAnyLink plan (fresh_programmer s) q (turns_of fates) bytes events status }
-{}
-
 /// Over any link at all, as long as it makes no answer: it may lose, spoil, cut, delay, hold and repeat what it likes.
-/// The session goes along turns of its questions, and did what the page says. In bytes: whatever bytes the programmer
-/// got, of whose good frames each is one of those sent, in their order, and whatever tape came back, on which each good
-/// frame that the host cuts is one of the programmer's last answers or a refusal; and so where the programmer got a
-/// front of the bytes, in their order, as from another process. And however a session ends, the
-/// memories are those of its first strokes.
+/// The session goes along the turns of its questions, which what was read and what became of the programmer make, and
+/// did what the page says. In bytes: whatever bytes the programmer got, of whose good frames each is one of those sent,
+/// in their order, and whatever tape came back, on which each good frame that the host cuts is one of the programmer's
+/// last answers or a refusal; and so where the programmer got a front of the bytes, in their order, as from another
+/// process. And however a session ends, so that any front of its bytes was sent: the memories are those of its first
+/// strokes, and it has said no more than its course says, up to the line of a step that failed.
 pub fn a_session_over_any_line()
-    ensures turns { (plan : Plan) (s : Chip) (q : Programmer) (becames : List Became) (bytes : List ℕ)
+    ensures turns { (plan : Plan) (s : Chip) (becames : List Became) (bytes : List ℕ)
         (tape left : Tape) (events : List (Event Saying)) (status next : ℕ)
         → IsSoundChip s → s.part ≡ plan.part → All (IsFitted plan.part) plan.tasks
         → AreHonest device (session plan) 1 tape (fresh_programmer s) becames
-        → after_sent device (frames bytes) becames (fresh_programmer s) ≡ q
         → played (session plan) 1 tape ≡ record { events = events; outcome = Some (status, next, left) }
         → bytes_sent events ≡ bytes
-        → (turns : List Turn) × OverAnyLink plan (fresh_programmer s) q turns bytes events status }
+        → OverAnyLink plan (fresh_programmer s) (after_sent device (frames bytes) becames (fresh_programmer s))
+        (turns_heard (session plan) 1 tape becames) bytes events status }
     ensures bytes { (plan : Plan) (s : Chip) (got bytes : List ℕ) (through : List Bool) (tape left : Tape)
         (events : List (Event Saying)) (status next : ℕ)
         → IsSoundChip s → s.part ≡ plan.part → All (IsFitted plan.part) plan.tasks
@@ -182,8 +179,8 @@ pub fn a_session_over_any_line()
         → MakesNoFrame device (session plan) 1 tape (fresh_programmer s) (became_by through) []
         → played (session plan) 1 tape ≡ record { events = events; outcome = Some (status, next, left) }
         → bytes_sent events ≡ bytes
-        → (turns : List Turn) × OverAnyLink plan (fresh_programmer s)
-        (after_frames device (frames got) (fresh_programmer s)) turns bytes events status }
+        → OverAnyLink plan (fresh_programmer s) (after_frames device (frames got) (fresh_programmer s))
+        (turns_heard (session plan) 1 tape (became_by through)) bytes events status }
     ensures ordered { (plan : Plan) (s : Chip) (got later bytes : List ℕ) (tape left : Tape)
         (events : List (Event Saying)) (status next : ℕ)
         → IsSoundChip s → s.part ≡ plan.part → All (IsFitted plan.part) plan.tasks → got ++ later ≡ bytes
@@ -191,15 +188,42 @@ pub fn a_session_over_any_line()
         (became_by (replicate (length (frames got)) true)) []
         → played (session plan) 1 tape ≡ record { events = events; outcome = Some (status, next, left) }
         → bytes_sent events ≡ bytes
-        → (turns : List Turn) × OverAnyLink plan (fresh_programmer s)
-        (after_frames device (frames got) (fresh_programmer s)) turns bytes events status }
-    ensures end { (plan : Plan) (s : Chip) (tape : Tape) (becames : List Became)
+        → OverAnyLink plan (fresh_programmer s) (after_frames device (frames got) (fresh_programmer s))
+        (turns_heard (session plan) 1 tape (became_by (replicate (length (frames got)) true))) bytes events status }
+    ensures end { (plan : Plan) (s : Chip) (becames : List Became) (bytes : List ℕ) (tape : Tape)
         → IsSoundChip s → s.part ≡ plan.part → All (IsFitted plan.part) plan.tasks
         → AreHonest device (session plan) 1 tape (fresh_programmer s) becames
-        → (turns : List Turn) × MakesStrokes plan (fresh_programmer s) turns
-        (length (frames_in (played (session plan) 1 tape).events)) (memories_of s)
-        (memories_of (after_sent device (frames_in (played (session plan) 1 tape).events) becames
-        (fresh_programmer s)).chip) }
+        → IsPrefixOf bytes (bytes_sent (played (session plan) 1 tape).events)
+        → OverAnyEnd plan (fresh_programmer s) (after_sent device (frames bytes) becames (fresh_programmer s))
+        (turns_heard (session plan) 1 tape becames) bytes (sayings (played (session plan) 1 tape).events) }
+{}
+
+/// Whatever becomes of a session over a link over which nothing had passed, so that it is played or breaks off, also
+/// since that link failed: as long as no frame is made, the memories are those of its first strokes, as many as came to
+/// data by what was heard and at most one more, and it has said no more than its course says, up to the line of a step
+/// that failed.
+pub fn whatever_becomes_of_a_session_its_first_strokes_were_made()
+    ensures { (plan : Plan) (s : Chip) (got : List ℕ) (through : List Bool) (old new : Devices) (status : ℕ)
+        → IsSoundChip s → s.part ≡ plan.part → All (IsFitted plan.part) plan.tasks
+        → old.link.talk ≡ [] → RunsSession plan old new status
+        → CameThrough got (frames (sent new.link.talk)) through
+        → MakesNoFrame device (session plan) 1 (heard new.link.talk) (fresh_programmer s) (became_by through) []
+        → OverAnyEnd plan (fresh_programmer s) (after_frames device (frames got) (fresh_programmer s))
+        (turns_heard (session plan) 1 (heard new.link.talk) (became_by through)) (sent new.link.talk)
+        (sayings (played (session plan) 1 (heard new.link.talk)).events) }
+{}
+
+/// That no frame is made is needed: over a tape with one that nobody sent a comparison of the low fuse with E2 ends with
+/// status 0 whatever the chip has, and of a chip with another fuse the promise fails. So no line that makes no frame
+/// brings this tape.
+pub fn a_made_frame_voids_the_promise()
+    ensures ends { (played (session fuse_plan) 1 made_answers).outcome ≡ Some (0, 8, []) }
+    ensures void { (p q : Programmer) (turns : List Turn) (bytes : List ℕ) (events : List (Event Saying))
+        → (p.chip.lfuse ≡ 0xE2 → ⊥) → OverAnyLink fuse_plan p q turns bytes events 0 → ⊥ }
+    ensures made { (s : Chip) (got : List ℕ) (through : List Bool)
+        → IsSoundChip s → s.part ≡ fuse_plan.part → (s.lfuse ≡ 0xE2 → ⊥)
+        → CameThrough got (frames (bytes_sent (played (session fuse_plan) 1 made_answers).events)) through
+        → MakesNoFrame device (session fuse_plan) 1 made_answers (fresh_programmer s) (became_by through) [] → ⊥ }
 {}
 
 /// A server that answered all it heard has sent the answers to the frames in it, and no more, and its programmer is as
@@ -256,7 +280,9 @@ pub fn a_session_and_a_server_are_one_run()
         → server_old.link.talk ≡ [] → server_new.link.talk ≡ of_server calls
         → (ran : Ran (session plan) start old new status after)
         → (serves : ServesChip s file most server_old server_new served_status)
-        → (turns : List Turn) × OverAnyLink plan (fresh_programmer s) serves.left.programmer turns
+        → (served : HasServed (fresh_programmer s) (of_server calls) serves.left.programmer)
+        × OverAnyLink plan (fresh_programmer s) serves.left.programmer
+        (turns_heard (session plan) 1 (heard (of_host calls)) (obeyed (length (frames served.used))))
         (sent (of_host calls)) ran.events status }
     ensures anywhere { (plan : Plan) (s : Chip) (left : Programmer) (host server : Talk) (events : List (Event Saying))
         (status : ℕ) (after : Position)
@@ -265,7 +291,8 @@ pub fn a_session_and_a_server_are_one_run()
         → Plays (session plan) start host events status after
         → MakesNoFrame device (session plan) 1 (heard host) (fresh_programmer s)
         (obeyed (length (frames serves.used))) []
-        → (turns : List Turn) × OverAnyLink plan (fresh_programmer s) left turns (sent host) events status }
+        → OverAnyLink plan (fresh_programmer s) left
+        (turns_heard (session plan) 1 (heard host) (obeyed (length (frames serves.used)))) (sent host) events status }
     ensures saved { (s : Chip) (file : Bytes) (most : ℕ) (old new : Sides) (status : ℕ)
         → (serves : ServesChip s file most old new status) → status ≡ 0
         → Saves serves.told_desk new.desk file (chip_file serves.left.programmer.chip) (Ok tt) }
@@ -287,7 +314,7 @@ pub fn a_prompt_line_brings_the_course()
 {}
 
 /// Whatever becomes of either, so that a session is played or breaks off and serving ends anyhow: the chip that is
-/// saved has some first strokes of the plan, and no more.
+/// saved has the first strokes of the plan, as many as came to data by what was heard and at most one more.
 pub fn whatever_becomes_of_both_some_strokes_were_made()
     ensures { (plan : Plan) (s : Chip) (calls : List Call) (old new : Devices) (server_old server_new : Sides)
         (file : Bytes) (most status served_status : ℕ)
@@ -297,7 +324,10 @@ pub fn whatever_becomes_of_both_some_strokes_were_made()
         → server_old.link.talk ≡ [] → server_new.link.talk ≡ of_server calls
         → RunsSession plan old new status
         → (serves : ServesChip s file most server_old server_new served_status)
-        → IsTouched plan (memories_of s) (memories_of serves.left.programmer.chip) }
+        → (served : HasServed (fresh_programmer s) (of_server calls) serves.left.programmer)
+        × OverAnyEnd plan (fresh_programmer s) serves.left.programmer
+        (turns_heard (session plan) 1 (heard (of_host calls)) (obeyed (length (frames served.used))))
+        (sent (of_host calls)) (sayings (played (session plan) 1 (heard (of_host calls))).events) }
 {}
 
 /// Such a line is there: it cuts frames and stalls, in order; and a silence within an answer, a byte that was lost and

@@ -36,13 +36,14 @@ pub use avr_cli::{
 };
 pub use avr_session::refuse;
 pub use laws::{
-    a_further_run_heals, a_prompt_line_brings_the_course, a_run_in_memory_has_one_outcome,
-    a_run_is_one_function, a_run_of_status_0_is_its_course,
+    a_further_run_heals, a_made_frame_voids_the_promise, a_prompt_line_brings_the_course,
+    a_run_in_memory_has_one_outcome, a_run_is_one_function, a_run_of_status_0_is_its_course,
     a_server_sends_the_answers_to_what_it_heard, a_session_and_a_server_are_one_run,
-    a_session_over_any_line, a_session_over_any_link_that_behaves_so, a_sound_run_is_its_course,
-    a_stop_is_a_front, a_worked_run_has_one_outcome, a_wrong_outcome_is_refused,
-    an_ordered_line_cuts_and_stalls, two_processes_never_both_wait,
-    what_a_host_hears_of_a_server_is_honest, whatever_becomes_of_both_some_strokes_were_made,
+    a_session_over_any_line, a_sound_run_is_its_course, a_stop_is_a_front,
+    a_worked_run_has_one_outcome, a_wrong_outcome_is_refused, an_ordered_line_cuts_and_stalls,
+    two_processes_never_both_wait, what_a_host_hears_of_a_server_is_honest,
+    whatever_becomes_of_a_session_its_first_strokes_were_made,
+    whatever_becomes_of_both_some_strokes_were_made,
 };
 // what a run reads and writes beside its line
 pub use avr_desk::{
@@ -61,5 +62,5 @@ pub use running::{run, run_in_memory, run_streams, run_streams_in_memory, run_wi
 pub use avr_image::Image;
 pub use avr_part::{Chip, Mem, Part, PartFault, Parts};
 // lines
-pub use stk_emu::{Fate, Wired, noise_is_lawful};
+pub use stk_emu::{Fate, Fates, FatesFault, Wired, noise_is_lawful};
 pub use stk_host::{FailingLink, Heard, Item, Link, LinkFault, StreamLink, TapeLink};

@@ -1,12 +1,11 @@
 //! Talks with the programmer, in pieces of every size and over a bad wire; and what real AVRDUDE asks of a programmer.
-ghost use Rattle.std.specs.Prelude.{◌<◌, ◌≤◌, length, IfOk, OnOk};
-ghost use Rattle.stk_emu.specs.Wire.{AreLawful, IsLawfulFate};
+ghost use Rattle.std.specs.Prelude.{◌<◌, ◌≤◌, length};
 
 use arrayvec::ArrayVec;
 use avr_part::{Chip, Mem, Parts};
 use std::alloc::{AllocError, Global};
 use std::test::Fail;
-use stk_emu::{Emulator, Fate, Wired, noise_is_lawful};
+use stk_emu::{Emulator, Fate, Fates, FatesFault, Wired, noise_is_lawful};
 use stk_frame::{Command, put_frame};
 use stk_host::{Heard, Host, HostFault, Link};
 
@@ -207,29 +206,35 @@ fn noise_is_judged(rt: HostRuntime) -> Result<(), Fail> {
     Ok(())
 }
 
-/// One fate more.
-fn add(fates: &mut Vec<Fate>, fate: Fate) -> Result<(), AllocError>
-    requires lawful { IsLawfulFate fate }
-    requires before { AreLawful fates.old.items }
-    ensures { OnOk result (AreLawful fates.new.items) }
-{
-    fates.push(fate)?;
+#[test]
+fn fates_are_judged(rt: HostRuntime) -> Result<(), Fail> {
+    let alloc = rt.alloc();
+    let answer = [0x1B, 0x01, 0x00, 0x02, 0x0E, 0x01, 0x00, 0x17];
+    let mut fates = Fates::none(alloc);
+    assert!(rt; fates.is_empty());
+    fates.push(Fate::LostAnswer)?;
+    let noise = Vec::from_slice(alloc, &answer[..7])?;
+    fates.push(Fate::AnswerSpoiled(noise))?;
+    assert_eq!(rt; fates.len(), 2);
+    let whole = Vec::from_slice(alloc, &answer)?;
+    let fault = FatesFault::UnlawfulNoise;
+    assert_eq!(rt; fates.push(Fate::AnswerSpoiled(whole)), Err(fault));
+    assert_eq!(rt; fates.len(), 2);
+    assert_eq!(rt; fault.number(), 1);
+    assert!(rt; format!(in alloc; "{fault}")?.as_str() == "noise is not lawful");
     Ok(())
 }
 
 /// So many good fates, so many lost commands, and one fate more.
-fn fates(alloc: Global, good: usize, lost: usize, last: Fate) -> Result<Vec<Fate>, AllocError>
-    requires { IsLawfulFate last }
-    ensures { IfOk result (λ v. AreLawful v.items) }
-{
-    let mut fates = Vec::new(alloc);
+fn fates(alloc: Global, good: usize, lost: usize, last: Fate) -> Result<Fates, FatesFault> {
+    let mut fates = Fates::none(alloc);
     for _good in 0..good {
-        add(&mut fates, Fate::Good)?;
+        fates.push(Fate::Good)?;
     }
     for _lost in 0..lost {
-        add(&mut fates, Fate::LostCommand)?;
+        fates.push(Fate::LostCommand)?;
     }
-    add(&mut fates, last)?;
+    fates.push(last)?;
     Ok(fates)
 }
 
@@ -287,9 +292,6 @@ fn gets_through(alloc: Global, place: usize, kind: usize) -> Result<bool, Fail> 
         5 => Fate::HeldAnswer,
         _ => {
             let noise = [0x1B, 0x06, 0x00, 0x03, 0x0E, 0x17, 0x00, 0x00, 0x00];
-            if !noise_is_lawful(&noise) {
-                return Ok(false);
-            }
             Fate::AnswerSpoiled(Vec::from_slice(alloc, &noise)?)
         }
     };
@@ -332,7 +334,7 @@ fn a_late_answer_comes_before_the_next(rt: HostRuntime) -> Result<(), Fail> {
 fn held_answers_come_together(rt: HostRuntime) -> Result<(), Fail> {
     let alloc = rt.alloc();
     let mut fates = fates(alloc, 0, 0, Fate::HeldAnswer)?;
-    add(&mut fates, Fate::HeldAnswer)?;
+    fates.push(Fate::HeldAnswer)?;
     let mut link = Wired::new(alloc, m328p(alloc)?, fates);
     let mut buffer = [0; 64];
     assert_eq!(rt; link.send(&FRAMES), Ok(7));

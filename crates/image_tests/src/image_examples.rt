@@ -98,8 +98,34 @@ fn an_image_is_laid_over_another(rt: HostRuntime) -> Result<(), Fail> {
     image.put_slice(0, &[1, 2])?;
     let mut patch = Image::new(alloc, 4)?;
     patch.put_slice(1, &[3, 4])?;
-    image.lay_over(&patch);
+    image.lay_over(&patch)?;
     assert_eq!(rt; image.as_slice(), [1, 3, 4, 0xFF].as_slice());
+    let larger = Image::new(alloc, 8)?;
+    assert_eq!(rt; image.lay_over(&larger), Err(ImageFault::OtherSize));
+    Ok(())
+}
+
+#[test]
+fn bytes_are_taken_away(rt: HostRuntime) -> Result<(), Fail> {
+    let alloc = rt.alloc();
+    let mut image = Image::new(alloc, 64)?;
+    assert_eq!(rt; image.last_held(), None);
+    image.put_slice(8, &[0x12, 0x34])?;
+    assert_eq!(rt; image.last_held(), Some(9));
+    assert_eq!(rt; image.remove(9), Some(0x34));
+    assert_eq!(rt; image.remove(9), None);
+    assert_eq!(rt; image.last_held(), Some(8));
+    Ok(())
+}
+
+#[test]
+fn images_that_hold_the_same_are_told(rt: HostRuntime) -> Result<(), Fail> {
+    let alloc = rt.alloc();
+    let mut image = Image::new(alloc, 64)?;
+    let other = Image::new(alloc, 64)?;
+    assert!(rt; image.holds_same(&other));
+    image.put(8, 0xFF)?;
+    assert!(rt; !image.holds_same(&other));
     Ok(())
 }
 

@@ -37,6 +37,7 @@ fn an_image_and_a_fault_tell_what_they_are(rt: HostRuntime) -> Result<(), Fail> 
         (ImageFault::TooLarge(3), "value 3: above 255"),
         (ImageFault::Failed, "the reader has failed before"),
         (ImageFault::Memory, "out of memory"),
+        (ImageFault::OtherSize, "the images are of different sizes"),
     ] {
         let text = format!(in alloc; "{fault}")?;
         assert_eq!(rt; text.as_str(), want);

@@ -254,6 +254,7 @@ fn prints_faults(rt: HostRuntime) -> Result<(), Fail> {
         (RecordFault::BadCount(8), "line 8: bad record count"),
         (RecordFault::Failed, "the reader met a fault before"),
         (RecordFault::Memory, "out of memory"),
+        (RecordFault::TooLong, "the file is too long"),
     ] {
         let text = format!(in rt.alloc(); "{fault}")?;
         assert_eq!(rt; text.as_str(), want);

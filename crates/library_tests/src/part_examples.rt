@@ -77,6 +77,10 @@ fn faults_are_told_apart(rt: HostRuntime) -> Result<(), Fail> {
         assert_eq!(rt; fault.part(), None);
         assert_eq!(rt; fault.fault(), PartFault::BadValue(Field::Parts));
     }
+    if let Err(fault) = parse_parts(rt.alloc(), b"a = 1\na = 2\n") {
+        assert_eq!(rt; fault.line(), Some(2));
+        assert_eq!(rt; fault.fault(), PartFault::NotToml);
+    }
     assert_eq!(rt; PartFault::Missing(Field::Signature).number(), 2);
     assert_eq!(rt; Field::FlashSize.name(), "flash_size");
     assert_eq!(rt; Field::Id.name(), "id");

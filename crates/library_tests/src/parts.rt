@@ -160,6 +160,39 @@ fn damaged_part_files(rt: HostRuntime) -> Result<(), Fail> {
     Ok(())
 }
 
+/// The line of a part file's fault.
+fn line_of(alloc: Global, text: &[u8]) -> Option<usize> {
+    let refused = parse_parts(alloc, text).err()?;
+    refused.line()
+}
+
+#[test]
+fn what_is_no_toml_has_a_line(rt: HostRuntime) {
+    let rows: [(&[u8], Option<usize>); 12] = [
+        (b"parts = [", Some(1)),
+        (b"parts", Some(1)),
+        (b"= 3\n", Some(1)),
+        (b"title = \"mine\"\n\n[parts\n", Some(3)),
+        (
+            b"[parts.x1]\nflash_page = 128\neesave_bit 3\n[parts.x2]\n",
+            Some(3),
+        ),
+        (
+            b"[parts.x1]\r\nflash_page = 128\r\neesave_bit = \r\n",
+            Some(3),
+        ),
+        (b"a = 1\nb = 2\na = 3\n", Some(3)),
+        (b"a = \"\xFF\"\n", Some(1)),
+        (b"a = 1\n# one\nb = \"\xC3\xA9\xFF\"\n", Some(3)),
+        (b"", None),
+        (b"\n\nparts = 3\n", None),
+        (b"\n\n[parts.x1]\n", None),
+    ];
+    for (text, line) in rows {
+        assert_eq!(rt; line_of(rt.alloc(), text), line, "at {text:?}");
+    }
+}
+
 #[test]
 fn faults_have_numbers_and_texts(rt: HostRuntime) -> Result<(), Fail> {
     for (fault, number, text) in [

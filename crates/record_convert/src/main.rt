@@ -37,9 +37,6 @@ fn read_image(alloc: Global, size: u32, text: &[u8]) -> Result<Image> {
     let Some(kind) = detect(text).kind() else {
         bail!("this is no record file");
     };
-    if text.len() > u32::MAX as usize {
-        bail!("the file is too long");
-    }
     let (image, _) = read_records(alloc, kind, size, text)?;
     Ok(image)
 }

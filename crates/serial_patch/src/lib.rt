@@ -24,10 +24,7 @@ pub enum PatchFault {
     /// The text is no record file.
     #[error("this is no record file")]
     NoRecords,
-    /// The text has 2 to the power 32 bytes or more.
-    #[error("the file is too long")]
-    TooLong,
-    /// The records have a fault, or don't fit into the part's flash memory.
+    /// The records have a fault, or don't fit into the part's flash memory, or the text is too long.
     #[error(transparent)]
     Records(RecordFault),
     /// The serial number doesn't fit there.
@@ -66,9 +63,6 @@ pub fn patch_serial_number(
     ensures { IfOk result (λ out. IsPatchedFile (size_of Flash part.now) text.now at serial.now out.items) }
 {
     let kind = detect(text).kind().ok_or(PatchFault::NoRecords)?;
-    if text.len() > u32::MAX as usize {
-        return Err(PatchFault::TooLong);
-    }
     let size = part.size_of(Mem::Flash);
     let (mut image, _) = read_records(alloc, kind, size, text).map_err(PatchFault::Records)?;
     put_serial_number(&mut image, at, serial).map_err(PatchFault::Outside)?;

@@ -1,10 +1,11 @@
 -- A dialog played over any tape, by what became of the programmer at each of its questions.
-use Rattle.std.specs.Prelude.{ℕ, Bool, true, false, List, [], ◌∷◌, ◌≡◌, Option, Some, None, length, filter}
+use Rattle.std.specs.Prelude.{ℕ, suc, Bool, true, false, List, [], ◌∷◌, ◌≡◌, ◌≤◌, Option, Some, None, length, filter, take, if◌then◌else◌}
+use Rattle.std.specs.Str.{bytes_eq}
 use Rattle.stk_frame.specs.Cut.{frames, is_good}
-use Rattle.stk_host.specs.Tape.{Tape, Reading, answer}
+use Rattle.stk_host.specs.Tape.{Tape, Reading, Answered, Silent, Ended, Babbled, answer}
 use Rattle.stk_host.specs.Dialog.{Dialog, Done, Say, Ask, played, next, frames_in, sayings}
-use Rattle.stk_emu.specs.Device.{Device, after_frame}
-use Rattle.stk_emu.specs.Turn.{Became, Kept, Obeyed, after_became, Turn, IsHonest}
+use Rattle.stk_emu.specs.Device.{Device, after_frame, refusal}
+use Rattle.stk_emu.specs.Turn.{Became, Kept, Obeyed, after_became, Turn, Right, Wrong, Refusal, Nothing, Babble, Ending, IsHonest}
 use Rattle.stk_emu.specs.Along.{along, said_along}
 
 -- behind the list no command arrives
@@ -39,16 +40,49 @@ after_sent m [] becames p = p
 after_sent m (piece ∷ sent) becames p =
     after_sent m sent (other_becames becames) (after_became (first_became becames) (after_frame m piece p) p m.reset)
 
--- The play of a dialog over a tape goes along turns, one for each frame that it sends: the programmer stands there as
--- what became of it says, and where the play is done, so is the dialog, with the same result, and it has said the same.
+-- The turn of a question, by what became of the programmer and what was read: an answer to a command that was obeyed is
+-- its own, if it isn't the refusal.
+abbrev pub turn_by : Became → Reading → Turn
+turn_by Obeyed (Answered body) = if bytes_eq body refusal then Wrong Obeyed Refusal else Right
+turn_by became (Answered body) = Wrong became Refusal
+turn_by became Silent = Wrong became Nothing
+turn_by became Ended = Wrong became Ending
+turn_by became Babbled = Wrong became Babble
+
+-- of a question whose answer is awaited nothing was read
+abbrev pub turns_from : Became → (Reading → Tape → List Turn) → Option (Reading × Tape) → List Turn
+turns_from became more None = Wrong became Nothing ∷ []
+turns_from became more (Some (reading, tape)) = turn_by became reading ∷ more reading tape
+
+-- THE TURNS of a play over this tape, one for each frame that it sends.
+abbrev pub turns_heard : {E R : Type 0} → Dialog E R → ℕ → Tape → List Became → List Turn
+turns_heard (Done r) n tape becames = []
+turns_heard (Say e dialog) n tape becames = turns_heard dialog n tape becames
+turns_heard (Ask bytes go_on) n tape becames =
+    turns_from (first_became becames)
+    (λ reading left. turns_heard (go_on reading) (next n) left (other_becames becames)) (answer n tape)
+
+-- a play waits: it has said what it says along the turns of all questions but the last
+pub record WaitsAlong {E R P : Type 0} (m : Device P) (d : Dialog E R) (p : P) (turns : List Turn)
+    (sent : List (List ℕ)) (says : List E) : Type 0 where
+  pub answered : ℕ
+  pub one_more : length sent ≡ suc answered
+  pub said : says ≡ said_along m answered d p turns
+
+-- The play of a dialog over a tape goes along its turns: behind any first frames the programmer stands there as what
+-- became of it says; and where the play is done, so is the dialog, with the same result, and it has said the same.
 pub record GoesAs {E R P : Type 0} (m : Device P) (d : Dialog E R) (n : ℕ) (tape : Tape) (p : P)
     (becames : List Became) : Type 0 where
-  pub turns : List Turn
-  pub programmer : (along m (length (frames_in (played d n tape).events)) d p turns).programmer
-      ≡ after_sent m (frames_in (played d n tape).events) becames p
+  pub programmer : (k : ℕ) → k ≤ length (frames_in (played d n tape).events)
+      → (along m k d p (turns_heard d n tape becames)).programmer
+      ≡ after_sent m (take k (frames_in (played d n tape).events)) becames p
   pub outcome : (r : R) (seq : ℕ) (left : Tape) → (played d n tape).outcome ≡ Some (r, seq, left)
-      → ((along m (length (frames_in (played d n tape).events)) d p turns).dialog ≡ Done r)
-      × (sayings (played d n tape).events ≡ said_along m (length (frames_in (played d n tape).events)) d p turns)
+      → ((along m (length (frames_in (played d n tape).events)) d p (turns_heard d n tape becames)).dialog ≡ Done r)
+      × (sayings (played d n tape).events
+      ≡ said_along m (length (frames_in (played d n tape).events)) d p (turns_heard d n tape becames))
+  pub waits : (played d n tape).outcome ≡ None
+      → WaitsAlong m d p (turns_heard d n tape becames) (frames_in (played d n tape).events)
+      (sayings (played d n tape).events)
 
 -- some of these frames, in their order, each at most once: those that came through
 abbrev pub let_through : List Bool → List (List ℕ) → List (List ℕ)

@@ -1,7 +1,7 @@
 -- A line to a programmer that loses, delays and spoils.
-use Rattle.std.specs.Prelude.{ℕ, zero, suc, Bool, true, false, List, [], ◌∷◌, ◌++◌, ◌≡◌, if◌then◌else◌, All}
+use Rattle.std.specs.Prelude.{ℕ, zero, suc, Bool, true, false, List, [], ◌∷◌, ◌++◌, if◌then◌else◌, All}
 use Rattle.stk_frame.specs.Frame.{frame}
-use Rattle.stk_frame.specs.Cut.{frames, seq_of}
+use Rattle.stk_frame.specs.Cut.{seq_of}
 use Rattle.stk_host.specs.declared.link.Item.TheVariants.{Silence}
 use Rattle.stk_host.specs.Tape.{Tape, on_tape}
 use Rattle.stk_emu.specs.declared.fate.Fate.{Fate}
@@ -121,9 +121,3 @@ wire_after m (piece ∷ pieces) w = wire_after m pieces (wire_behind m piece w)
 -- a wire that nothing passed yet
 abbrev pub fresh_wire : {P : Type 0} → P → List Fate → Wire P
 fresh_wire p fates = record { programmer = p; fates = fates; late = none_late }
-
--- These bytes were sent over a wire, this is the whole tape that they bring, and this programmer stands at its end.
-pub record Talks {P : Type 0} (m : Device P) (fates : List Fate) (p : P) (sent : List ℕ) (tape : Tape)
-    (q : P) : Type 0 where
-  pub tape_is : tape_of m (frames sent) (fresh_wire p fates) ≡ tape
-  pub end_is : (wire_after m (frames sent) (fresh_wire p fates)).programmer ≡ q

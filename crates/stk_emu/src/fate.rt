@@ -65,7 +65,8 @@ fn has_good_frame(noise: &[u8]) -> bool
 /// Whether noise can be told from an answer: it has at most 2,048 bytes, and no good frame where it is cut from its
 /// left.
 ///
-/// The noise of every [`crate::Fate::AnswerSpoiled`] of a [`crate::Wired`] is lawful, as its maker sees to.
+/// The noise of every [`crate::Fate::AnswerSpoiled`] of a [`crate::Wired`] is lawful: [`crate::Fates::push`] refuses
+/// any other.
 ///
 /// ```text
 /// assert!(rt; noise_is_lawful(b"\xFF\x1B\x01"));

@@ -8,10 +8,10 @@ ghost use Rattle.ghosts.specs.Failures.{HasRisen};
 ghost use Rattle.ghosts.specs.Stays.{Stays};
 ghost use Rattle.stk_host.specs.Talk.{Sends, Receives, FitsBuffer, items_of};
 ghost use Rattle.stk_emu.specs.Programmer.{fresh_programmer};
-ghost use Rattle.stk_emu.specs.Wire.{AreLawful, fresh_wire};
+ghost use Rattle.stk_emu.specs.Wire.{fresh_wire};
 ghost use Rattle.stk_emu.specs.Wired.{Start, wired_view, ComesOf, IsFresh, PassesBytes, PassesSome, IsNext, after_hearing};
 
-use crate::fate::Fate;
+use crate::fates::Fates;
 use crate::segment::{ROOM, Segment, take_bytes};
 use crate::wire::Wire;
 use avr_part::Chip;
@@ -93,15 +93,14 @@ impl Wired {
     /// ```text
     /// let part = Parts::none().find("t85")?;
     /// let chip = Chip::fresh(alloc, part.copied())?;
-    /// let mut fates = Vec::new(alloc);
+    /// let mut fates = Fates::none(alloc);
     /// fates.push(Fate::LostCommand)?;
     /// let mut wire = Wired::new(alloc, chip, fates);
     /// Host::new(&part).open(&mut wire, false)?;
     /// ```
-    pub fn new(alloc: Global, chip: Chip, fates: Vec<Fate>) -> Wired
-        requires { AreLawful fates.items }
+    pub fn new(alloc: Global, chip: Chip, fates: Fates) -> Wired
         ensures held { result.held ≡ [] }
-        ensures wire { result.wire ≡ fresh_wire (fresh_programmer chip) fates.items }
+        ensures wire { result.wire ≡ fresh_wire (fresh_programmer chip) fates }
         ensures waits { result.waits ≡ [] }
         ensures talk { result.talk ≡ [] }
         ensures sound { result.failures ≡ 0 }
@@ -109,7 +108,7 @@ impl Wired {
     {
         Wired {
             reader: FrameReader::new(),
-            wire: Wire::new(chip, fates),
+            wire: Wire::new(chip, fates.into_all()),
             waits: Vec::new(alloc),
             at: 0,
             brought: Segment::new(),
@@ -122,7 +121,7 @@ impl Wired {
     ///
     /// ```text
     /// let chip = Chip::fresh(alloc, Parts::none().find("t85")?)?;
-    /// let wire = Wired::new(alloc, chip, Vec::new(alloc));
+    /// let wire = Wired::new(alloc, chip, Fates::none(alloc));
     /// assert!(rt; wire.chip().byte(Mem::Flash, 0) == Some(0xFF));
     /// ```
     pub fn chip(&self) -> &Chip
@@ -135,7 +134,7 @@ impl Wired {
     ///
     /// ```text
     /// let chip = Chip::fresh(alloc, Parts::none().find("t85")?)?;
-    /// let wire = Wired::new(alloc, chip, Vec::new(alloc));
+    /// let wire = Wired::new(alloc, chip, Fates::none(alloc));
     /// let chip = wire.into_chip();
     /// assert!(rt; chip.byte(Mem::Flash, 0) == Some(0xFF));
     /// ```
@@ -150,7 +149,7 @@ impl Wired {
     ///
     /// ```text
     /// let chip = Chip::fresh(alloc, Parts::none().find("t85")?)?;
-    /// let wire = Wired::new(alloc, chip, Vec::new(alloc));
+    /// let wire = Wired::new(alloc, chip, Fates::none(alloc));
     /// assert_eq!(rt; wire.failures(), 0);
     /// ```
     pub fn failures(&self) -> u64
@@ -163,7 +162,7 @@ impl Wired {
     ///
     /// ```text
     /// let chip = Chip::fresh(alloc, Parts::none().find("t85")?)?;
-    /// let mut wire = Wired::new(alloc, chip, Vec::new(alloc));
+    /// let mut wire = Wired::new(alloc, chip, Fates::none(alloc));
     /// wire.send(b"\x1B")?;
     /// assert!(rt; wire.sent() == b"\x1B".as_slice());
     /// ```

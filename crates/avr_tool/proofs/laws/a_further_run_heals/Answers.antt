@@ -1,5 +1,8 @@
-use Rattle.avr_tool.proofs.Further.{further_heals}
+use Rattle.avr_tool.proofs.Further.{further_heals, further_heals_link}
 use Rattle.avr_tool.proofs.laws.a_further_run_heals.Goals as goal
 
-pub returns : goal.returns
-returns c = further_heals
+pub returns-clause-wire : goal.returns-clause-wire
+returns-clause-wire c = further_heals
+
+pub returns-clause-link : goal.returns-clause-link
+returns-clause-link c = further_heals_link

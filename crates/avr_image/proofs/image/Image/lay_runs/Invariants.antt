@@ -1,0 +1,13 @@
+use Rattle.std.proofs.Common.{◌≡◌, length}
+use Rattle.std.specs.List.{flat_map}
+use Rattle.avr_image.specs.Image.{laid_over}
+use Rattle.avr_image.specs.Runs.{places_of}
+use Rattle.avr_image.proofs.RunWalk.{EndBy}
+use Rattle.avr_image.proofs.image.Image.lay_runs.Given as goal
+
+abbrev pub invariant-loop-addr : goal.invariant-loop-addr
+invariant-loop-addr l = record {
+  whole : laid_over l.self (flat_map places_of l.addr-iterator) ≡ laid_over l.initial.self (flat_map places_of l.initial.addr-iterator);
+  size : length l.self ≡ length l.initial.self;
+  inside : EndBy (length l.initial.self) l.addr-iterator;
+}

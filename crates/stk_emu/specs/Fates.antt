@@ -1,0 +1,15 @@
+-- Why a fate is not taken.
+use Rattle.std.specs.Prelude.{ℕ}
+use Rattle.stk_emu.specs.declared.fate.Fate.{Fate}
+use Rattle.stk_emu.specs.declared.fates.FatesFault.{FatesFault}
+use Rattle.stk_emu.specs.declared.fates.FatesFault.TheVariants.{UnlawfulNoise, Memory}
+use Rattle.stk_emu.specs.Wire.{IsLawfulFate}
+
+abbrev pub fates_fault_number : FatesFault → ℕ
+fates_fault_number UnlawfulNoise = 1
+fates_fault_number Memory = 2
+
+-- memory may be wanting for a lawful fate only
+abbrev pub Refuses : FatesFault → Fate → Type 0
+Refuses UnlawfulNoise fate = IsLawfulFate fate → ⊥
+Refuses Memory fate = IsLawfulFate fate

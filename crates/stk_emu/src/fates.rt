@@ -1,0 +1,147 @@
+//! The fates of a wire's frames, judged when they are made.
+ghost use Rattle.std.specs.Prelude.{◌≡◌, ◌++◌, ◌∷◌, ◌↔◌, [], length, IsTrue, IfErr, OnOk, OnErr};
+ghost use Rattle.stk_emu.specs.Wire.{AreLawful, IsLawfulFate};
+ghost use Rattle.stk_emu.specs.Fates.{Refuses, fates_fault_number};
+
+use crate::fate::{Fate, noise_is_lawful};
+use std::alloc::Global;
+use std::marker::Model;
+use thiserror::Error;
+
+/// Why a fate was not taken.
+#[derive(Clone, Copy, Debug, Drop, PartialEq, Eq, Error)]
+pub enum FatesFault {
+    /// The noise in place of an answer is not lawful: [`noise_is_lawful`] refuses it.
+    #[error("noise is not lawful")]
+    UnlawfulNoise,
+    /// There was no memory for one fate more.
+    #[error("out of memory")]
+    Memory,
+}
+
+impl FatesFault {
+    /// The fault's number, which no later version changes.
+    ///
+    /// ```text
+    /// assert_eq!(rt; FatesFault::UnlawfulNoise.number(), 1);
+    /// ```
+    pub fn number(&self) -> u8
+        ensures { result ≡ fates_fault_number self.now }
+    {
+        match self {
+            FatesFault::UnlawfulNoise => 1,
+            FatesFault::Memory => 2,
+        }
+    }
+}
+
+/// What happens to the first frames that are sent over a [`crate::Wired`], one after the other.
+///
+/// Noise in place of an answer is judged when its fate is pushed, so that of all these fates it is lawful.
+#[derive(Drop)]
+pub struct Fates {
+    all: Vec<Fate>,
+}
+
+impl Model for Fates {
+    ghost use Rattle.std.specs.Prelude.{List};
+    ghost use Rattle.stk_emu.specs.declared.fate.Fate.{Fate};
+    ghost use Rattle.stk_emu.specs.Wire.{AreLawful};
+
+    ghost Value = { List Fate };
+
+    ghost view = { λ fates. fates.all.items };
+
+    ghost invariant = { λ fates. AreLawful fates.all.items };
+}
+
+/// Whether the noise of a fate is lawful; where it has none, it is.
+fn is_lawful(fate: &Fate) -> bool
+    ensures { IsTrue result ↔ IsLawfulFate fate.now }
+{
+    match fate {
+        Fate::AnswerSpoiled(noise) => noise_is_lawful(noise.as_slice()),
+        Fate::Good
+        | Fate::LostCommand
+        | Fate::LostAnswer
+        | Fate::LateAnswer
+        | Fate::HeldAnswer
+        | Fate::Reset
+        | Fate::CommandRefused => true,
+    }
+}
+
+impl Fates {
+    /// No fates: every frame is obeyed, and its answer comes.
+    ///
+    /// ```text
+    /// let fates = Fates::none(alloc);
+    /// assert!(rt; fates.is_empty());
+    /// ```
+    pub fn none(alloc: Global) -> Fates
+        ensures { result ≡ [] }
+    {
+        Fates {
+            all: Vec::new(alloc),
+        }
+    }
+
+    /// One fate more, of the frame behind those that have one. Where it is refused nothing changes.
+    ///
+    /// ```text
+    /// let mut fates = Fates::none(alloc);
+    /// fates.push(Fate::LostCommand)?;
+    /// fates.push(Fate::AnswerSpoiled(Vec::from_slice(alloc, b"\xFF\x1B")?))?;
+    /// let answer = b"\x1B\x01\x00\x02\x0E\x01\x00\x17";
+    /// let spoiled = Fate::AnswerSpoiled(Vec::from_slice(alloc, answer)?);
+    /// assert_eq!(rt; fates.push(spoiled), Err(FatesFault::UnlawfulNoise));
+    /// assert_eq!(rt; fates.len(), 2);
+    /// ```
+    pub fn push(&mut self, fate: Fate) -> Result<(), FatesFault>
+        ensures pushed { OnOk result (self.new ≡ self.old ++ fate ∷ []) }
+        ensures lawful { OnOk result (IsLawfulFate fate) }
+        ensures refused { IfErr result (λ fault. Refuses fault fate) }
+        ensures same { OnErr result (self.new ≡ self.old) }
+    {
+        if !is_lawful(&fate) {
+            return Err(FatesFault::UnlawfulNoise);
+        }
+        match self.all.push(fate) {
+            Ok(()) => Ok(()),
+            Err(_) => Err(FatesFault::Memory),
+        }
+    }
+
+    /// How many frames have a fate.
+    ///
+    /// ```text
+    /// let mut fates = Fates::none(alloc);
+    /// fates.push(Fate::Reset)?;
+    /// assert_eq!(rt; fates.len(), 1);
+    /// ```
+    pub fn len(&self) -> usize
+        ensures { result ≡ length self.now }
+    {
+        self.all.len()
+    }
+
+    /// Whether no frame has a fate.
+    ///
+    /// ```text
+    /// assert!(rt; Fates::none(alloc).is_empty());
+    /// ```
+    pub fn is_empty(&self) -> bool
+        ensures { IsTrue result ↔ (self.now ≡ []) }
+    {
+        self.all.is_empty()
+    }
+
+    /// The fates, all lawful.
+    pub(crate) fn into_all(self) -> Vec<Fate>
+        ensures all { result.items ≡ self }
+        ensures lawful { AreLawful result.items }
+    {
+        let Fates { all } = self;
+        all
+    }
+}

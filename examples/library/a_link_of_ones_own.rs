@@ -1,0 +1,83 @@
+// crates: anyhow arrayvec avr_part stk_emu stk_frame stk_host
+//! A `Link` of one's own, for a device that the libraries don't know: here a bench with an emulated programmer, whose
+//! answers wait in a queue and are heard at most three bytes at a time.
+//!
+//! A link shows to contracts what it keeps of what passed (`talk`; this one keeps nothing) and how often it has failed,
+//! and it answers a fault only where it has counted one.
+//!
+//! What it prints is of the ATtiny85's data sheet: its signature, and 512 bytes of EEPROM, each FF where it is erased.
+//= signature: 1E 93 0B
+//= eeprom: 512 bytes, 512 of them FF
+#![tactic(auto)]
+
+ghost use Rattle.std.specs.Prelude.{None};
+ghost use Rattle.stk_host.specs.Talk.{LinkView};
+
+use anyhow::Result;
+use arrayvec::ArrayVec;
+use avr_part::{Chip, Mem, Parts};
+use stk_emu::Emulator;
+use stk_frame::LARGEST_FRAME;
+use stk_host::{Heard, Host, Link, LinkFault};
+
+/// How many bytes are heard at a time.
+const AT_MOST: usize = 3;
+
+/// A programmer on the bench, what it has answered, how much of that was heard, and how often memory was refused.
+#[derive(Drop)]
+struct Bench {
+    emulator: Emulator,
+    answered: Vec<u8>,
+    heard: usize,
+    failures: u64,
+}
+
+impl Link for Bench {
+    ghost view = { λ bench. record { talk = None; failures = bench.failures } };
+
+    ghost Start = { Unit {0} };
+
+    ghost comes_of = { λ start bench. Unit {0} };
+
+    fn send(&mut self, bytes: &[u8]) -> std::result::Result<usize, LinkFault> {
+        let mut answer: ArrayVec<u8, LARGEST_FRAME> = ArrayVec::new();
+        let used = self.emulator.feed(bytes, &mut answer);
+        if self.answered.extend_from_slice(answer.as_slice()).is_err() {
+            self.failures = self.failures.saturating_add(1);
+            return Err(LinkFault::Failed);
+        }
+        Ok(used)
+    }
+
+    fn recv(&mut self, buffer: &mut [u8]) -> std::result::Result<Heard, LinkFault> {
+        let waits = &self.answered.as_slice()[self.heard..];
+        if waits.is_empty() {
+            return Ok(Heard::Silence);
+        }
+        let count = buffer.len().min(waits.len()).min(AT_MOST);
+        buffer[..count].copy_from_slice(&waits[..count]);
+        self.heard += count;
+        Ok(Heard::Bytes(count))
+    }
+}
+
+fn main(rt: HostRuntime) -> Result<()> {
+    let alloc = rt.alloc();
+    let part = Parts::none().find("t85")?;
+    let mut bench = Bench {
+        emulator: Emulator::new(Chip::fresh(alloc, part.copied())?),
+        answered: Vec::new(alloc),
+        heard: 0,
+        failures: 0,
+    };
+    let mut host = Host::new(&part);
+    let [first, second, third] = host.open(&mut bench, false)?;
+    println!(rt; "signature: {first:02X} {second:02X} {third:02X}")?;
+    host.erase(&mut bench)?;
+    let mut bytes = Vec::new(alloc);
+    host.read(&mut bench, Mem::Eeprom, &mut bytes)?;
+    let erased = bytes.iter().filter(|byte| **byte == 0xFF).count();
+    println!(rt; "eeprom: {} bytes, {erased} of them FF", bytes.len())?;
+    host.close(&mut bench)?;
+    Ok(())
+}

@@ -1,0 +1,73 @@
+// crates: anyhow avr_image avr_part stk_frame stk_host
+//! Flashes two bytes by a `Host` over a reader and a writer, as the two sides of a serial port or a socket; here they
+//! are bytes and a `Vec`, so what the host sent can be looked at.
+//!
+//! What it prints, and the answers that it reads, were worked out by hand from AVR068 and the ATtiny85's data sheet
+//! (signature 1E 93 0B, pages of 64 bytes): a line is a frame's number and the front of its body.
+//= signature: 1E 93 0B
+//= 1: 01
+//= 2: 10 C8 64 19 20 00 53 03 AC 53 00 00
+//= 3: 1B 04 30 00 00 00
+//= 4: 1B 04 30 00 01 00
+//= 5: 1B 04 30 00 02 00
+//= 6: 12 09 00 AC 80 00 00
+//= 7: 06 00 00 00 00
+//= 8: 13 00 40 C1 0A 40 4C 20 FF FF 0E C0 FF FF
+//= 9: 11 01 01
+#![tactic(auto)]
+
+use anyhow::Result;
+use avr_image::Image;
+use avr_part::{Mem, Parts};
+use std::io::{self, Write};
+use stk_frame::{Event, FrameReader};
+use stk_host::{Host, StreamLink};
+
+/// How many bytes of a body are printed.
+const SHOWN: usize = 14;
+
+/// What the programmer answers: its name, that programming mode is entered, three bytes of the signature, and that the
+/// chip is erased, the address loaded, the page written and programming mode left.
+const ANSWERS: &[u8] = b"\x1B\x01\x00\x0B\x0E\x01\x00\x08STK500_2\x02\
+    \x1B\x02\x00\x02\x0E\x10\x00\x05\
+    \x1B\x03\x00\x04\x0E\x1B\x00\x1E\x00\x17\
+    \x1B\x04\x00\x04\x0E\x1B\x00\x93\x00\x9D\
+    \x1B\x05\x00\x04\x0E\x1B\x00\x0B\x00\x04\
+    \x1B\x06\x00\x02\x0E\x12\x00\x03\
+    \x1B\x07\x00\x02\x0E\x06\x00\x16\
+    \x1B\x08\x00\x02\x0E\x13\x00\x0C\
+    \x1B\x09\x00\x02\x0E\x11\x00\x0F";
+
+fn main(rt: HostRuntime) -> Result<()> {
+    let alloc = rt.alloc();
+    let part = Parts::none().find("t85")?;
+    let mut image = Image::new(alloc, part.size_of(Mem::Flash))?;
+    image.put_slice(0, &[0x0E, 0xC0])?;
+    let mut link = StreamLink::new(ANSWERS, Vec::new(alloc));
+    let mut host = Host::new(&part);
+    let [first, second, third] = host.open(&mut link, false)?;
+    println!(rt; "signature: {first:02X} {second:02X} {third:02X}")?;
+    host.erase(&mut link)?;
+    host.write(&mut link, Mem::Flash, &image)?;
+    host.close(&mut link)?;
+    let (_, sent) = link.into_inner();
+    print_frames(sent.as_slice(), &mut io::writer(&rt))
+}
+
+/// Prints the good frames among some bytes, a line each.
+fn print_frames<W: Write>(bytes: &[u8], out: &mut W) -> Result<()> {
+    let mut reader = FrameReader::new();
+    let mut used = 0;
+    while used < bytes.len() {
+        let (count, event) = reader.feed(&bytes[used..]);
+        used += count;
+        if event == Event::Frame {
+            write!(out, "{}:", reader.seq())?;
+            for byte in reader.body().iter().take(SHOWN) {
+                write!(out, " {byte:02X}")?;
+            }
+            writeln!(out)?;
+        }
+    }
+    Ok(())
+}

@@ -1,0 +1,52 @@
+// crates: anyhow avr_part
+//! Plays the chip of an ATmega328P by the serial programming instructions of its data sheet, and looks into all of its
+//! memories.
+//!
+//! What it prints is of that data sheet: the second byte of Programming Enable comes back in the third one, the
+//! signature is 1E 95 0F, what is written to a page is read back, and the sizes are those of its memories.
+//= enabled: 53
+//= signature: 1E 95 0F
+//= word 0: 940C
+//= flash: 32768
+//= eeprom: 1024
+//= lfuse: 1
+//= hfuse: 1
+//= efuse: 1
+//= lock: 1
+//= signature: 3
+//= calibration: 1
+//= there is no m32
+#![tactic(auto)]
+
+use anyhow::Result;
+use avr_part::{Chip, Mem, PartFault, Parts};
+
+fn main(rt: HostRuntime) -> Result<()> {
+    let mut chip = Chip::fresh(rt.alloc(), Parts::none().find("m328p")?)?;
+    let enabled = chip.spi([0xAC, 0x53, 0x00, 0x00]);
+    println!(rt; "enabled: {:02X}", enabled[2])?;
+    let [_, _, _, first] = chip.spi([0x30, 0x00, 0x00, 0x00]);
+    let [_, _, _, second] = chip.spi([0x30, 0x00, 0x01, 0x00]);
+    let [_, _, _, third] = chip.spi([0x30, 0x00, 0x02, 0x00]);
+    println!(rt; "signature: {first:02X} {second:02X} {third:02X}")?;
+    write_first_word(&mut chip, 0x0C, 0x94);
+    let [_, _, _, low] = chip.spi([0x20, 0x00, 0x00, 0x00]);
+    let [_, _, _, high] = chip.spi([0x28, 0x00, 0x00, 0x00]);
+    println!(rt; "word 0: {high:02X}{low:02X}")?;
+    for mem in Mem::ALL.iter() {
+        println!(rt; "{}: {}", mem.name(), chip.memory(*mem).len())?;
+    }
+    match Parts::none().find("m32") {
+        Ok(part) => println!(rt; "{}", part.id())?,
+        Err(PartFault::NoSuchPart) => println!(rt; "there is no m32")?,
+        Err(fault) => println!(rt; "{fault}")?,
+    }
+    Ok(())
+}
+
+/// Loads the page buffer's first word, and writes the first page of flash memory.
+fn write_first_word(chip: &mut Chip, low: u8, high: u8) {
+    chip.spi([0x40, 0x00, 0x00, low]);
+    chip.spi([0x48, 0x00, 0x00, high]);
+    chip.spi([0x4C, 0x00, 0x00, 0x00]);
+}
