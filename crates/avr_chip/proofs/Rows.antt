@@ -21,7 +21,7 @@ abbrev denials : Record → ℕ
 denials r = length r.denied
 
 abbrev file_count : Record → ℕ
-file_count r = length r.files
+file_count r = length r.uses
 
 -- that a file is in use, told of a desk that was not asked
 unasked : (file told : Bytes) (trouble : holding.HoldingTrouble) (after : DeskView)

@@ -2,7 +2,7 @@
 use Rattle.std.proofs.Common.{◌≡◌, ◌∙◌, sym, ap, subst, refl, ℕ, ◌⊎◌, inl, inr, List, [], ◌∷◌, ◌++◌, drop, append-nil, append_assoc, Result, Ok, Err, true, false}
 use Rattle.std.proofs.lemmas.List.{append_cancel_left}
 use Rattle.ghosts.specs.Failures.{HasStood}
-use Rattle.avr_desk.specs.Record.{DeskView, Record, showing, all_openings, opening_of, after_err, written_on, Bytes}
+use Rattle.avr_desk.specs.Record.{DeskView, Record, showing, all_openings, opening_of, openings_among, after_err, written_on, Bytes}
 use Rattle.avr_desk.specs.declared.record.Open.{Open}
 use Rattle.avr_desk.specs.declared.record.Open.TheVariants.{Closed, ToRead, ToWrite}
 use Rattle.avr_desk.specs.declared.record.Opening.{Opening}
@@ -12,6 +12,7 @@ use Rattle.avr_desk.specs.Lines.{memory_line, not_opened_line}
 use Rattle.avr_desk.specs.Said.{Saying, Opens, Line, Creates, Writes, Outs, TellsLine, TellsFailure, IsPrefixOf, after, after_all}
 use Rattle.avr_desk.proofs.Saying.{after_append}
 use Rattle.avr_desk.proofs.Telling.{follows_here, not_failed}
+use Rattle.avr_desk.proofs.Uses.{openings_absent, openings_opened}
 use Rattle.avr_desk.specs.Playing.{Break, InLine, NotOpened, NotRead, NoMemory, NoMemoryFor, last_done, IsBreak, TellsBreak, StageBrokeOff, WentRefused, Goes, part_read}
 use Rattle.avr_desk.specs.Stage.{Stage, Answer, Made, Refused, Unread, StageResult, all_told, ◌>>=◌, content_stage, next_opening, file_stage}
 use Rattle.avr_desk.proofs.Played.{says_more}
@@ -92,18 +93,21 @@ pub openings_shown : (sayings : List Saying) (r : Record) → all_openings (afte
 openings_shown [] r = sym (append-nil (all_openings r))
 openings_shown (Opens (Absent name) ∷ sayings) r =
     let now = after (Opens (Absent name)) r in
-    one_more (all_openings r) (all_openings now) (openings_in sayings) (Absent name) (all_openings (after_all sayings now)) (append-nil _) (openings_shown sayings now)
+    one_more (all_openings r) (all_openings now) (openings_in sayings) (Absent name) (all_openings (after_all sayings now)) (openings_absent name r) (openings_shown sayings now)
 openings_shown (Opens (Found reading) ∷ sayings) r =
     let now = after (Opens (Found reading)) r in
-    one_more (all_openings r) (all_openings now) (openings_in sayings) (Found reading) (all_openings (after_all sayings now)) refl (openings_shown sayings now)
+    one_more (all_openings r) (all_openings now) (openings_in sayings) (Found reading) (all_openings (after_all sayings now)) (openings_opened (ToRead reading) r)
+    (openings_shown sayings now)
 openings_shown (Line bytes ∷ sayings) r = openings_shown sayings (after (Line bytes) r)
 openings_shown (Creates name ∷ sayings) r =
     let now = after (Creates name) r in
-    none_more (all_openings r) (all_openings now) (openings_in sayings) (all_openings (after_all sayings now)) (append-nil (all_openings r)) (openings_shown sayings now)
+    let file : Open = ToWrite (record { name = name; bytes = [] }) in
+    none_more (all_openings r) (all_openings now) (openings_in sayings) (all_openings (after_all sayings now)) (openings_opened file r ∙ append-nil (all_openings r))
+    (openings_shown sayings now)
 openings_shown (Writes bytes ∷ sayings) r =
     let now = after (Writes bytes) r in
     none_more (all_openings r) (all_openings now) (openings_in sayings) (all_openings (after_all sayings now))
-    (ap (λ (os : List Opening). r.openings ++ os) (written_openings bytes r.current)) (openings_shown sayings now)
+    (ap (λ (os : List Opening). openings_among r.uses ++ os) (written_openings bytes r.current)) (openings_shown sayings now)
 openings_shown (Outs bytes ∷ sayings) r = openings_shown sayings (after (Outs bytes) r)
 
 -- so the same record shows the same openings

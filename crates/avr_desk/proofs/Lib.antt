@@ -1,6 +1,7 @@
 pub mod Sending
 pub mod ReadingLemmas
 pub mod NamedLemmas
+pub mod Uses
 pub mod Streams
 pub mod Counting
 pub mod Rows

@@ -1,5 +1,5 @@
 -- Worked calls with an outcome that the contracts refuse.
-use Rattle.std.proofs.Common.{◌≡◌, ◌∙◌, ◌⊎◌, ap, refl, subst, ℕ, zero, suc, true, List, [], ◌∷◌, ◌++◌, inl, inr, take, Some, None, Result, Ok, Err, arith}
+use Rattle.std.proofs.Common.{◌≡◌, ap, refl, ℕ, zero, suc, true, List, [], ◌∷◌, ◌++◌, inl, inr, take, Some, None, Result, Ok, Err, arith}
 use Rattle.avr_desk.specs.Failing.{Failing, FailsWhenDue}
 use Rattle.avr_desk.specs.Fault.{Counts}
 use Rattle.avr_desk.specs.Files.{FaultCounts}
@@ -14,6 +14,7 @@ use Rattle.avr_desk.specs.declared.desk.DeskFault.TheVariants.{NotFound, Failed}
 use Rattle.avr_desk.specs.declared.files.Contents.{Contents}
 use Rattle.avr_desk.specs.declared.files.FileFault.{FileFault}
 use Rattle.avr_desk.specs.declared.files.FileFault.TheVariants.{Memory}
+use Rattle.avr_desk.specs.declared.record.FileUse.TheVariants.{Opened, Created}
 use Rattle.avr_desk.specs.declared.record.Opening.{Opening}
 use Rattle.avr_desk.specs.declared.record.Opening.TheVariants.{Absent, Found}
 use Rattle.avr_desk.specs.declared.record.Writing.{Writing}
@@ -142,20 +143,15 @@ one_there = record { input = []; files = file ∷ [] }
 abbrev found_as : Bytes → Opening
 found_as bytes = Found (record { name = name; bytes = bytes; ended = true })
 
-none_made : (more rest : List Writing) → more ++ rest ≡ [] → more ≡ []
-none_made [] rest none = refl
-none_made (x ∷ more) rest none = absurd (cc)
-
 -- bytes that the file doesn't have, and one that is there and isn't found
-pub no_other_contents : AreTrue one_there (found_as end ∷ []) [] [] → ⊥
+pub no_other_contents : AreTrue one_there [] (Opened (found_as end) ∷ []) → ⊥
 no_other_contents are =
-    let gave = subst (λ made. IsTrueOpening one_there made (found_as end)) (none_made are.more are.rest are.order) are.gave in
-    let e : Some byte ≡ Some (end ++ gave.unread) = gave.whole in
+    let e : Some byte ≡ Some (end ++ are.0.unread) = are.0.whole in
     absurd (cc)
 
-pub no_file_overlooked : AreTrue one_there (Absent name ∷ []) [] [] → ⊥
+pub no_file_overlooked : AreTrue one_there [] (Opened (Absent name) ∷ []) → ⊥
 no_file_overlooked are =
-    let gave : Some byte ≡ None = subst (λ made. IsTrueOpening one_there made (Absent name)) (none_made are.more are.rest are.order) are.gave in
+    let e : Some byte ≡ None = are.0 in
     absurd (cc)
 
 -- a file whose end was seen too early
@@ -165,23 +161,18 @@ no_end_before_the_end gave =
     let e : Some byte ≡ Some gave.unread = gave.whole in
     absurd (cc)
 
--- one that was made later and found before, so that it was gone again
-same_made : (more rest : List Writing) → more ++ rest ≡ file ∷ [] → (more ≡ []) ⊎ ((more ≡ file ∷ []) × (rest ≡ []))
-same_made [] rest is = inl refl
-same_made (x ∷ []) rest is = inr (cc, cc)
-same_made (x ∷ y ∷ more) rest is = absurd (cc)
-
-found_then_gone : (more rest : List Writing) → (more ≡ []) ⊎ ((more ≡ file ∷ []) × (rest ≡ [])) → IsTrueOpening nothing_there more (found_as byte)
-    → AreTrue nothing_there (Absent name ∷ []) more rest → ⊥
-found_then_gone more rest (inl none) gave are =
-    let found = subst (λ made. IsTrueOpening nothing_there made (found_as byte)) none gave in
-    let e : None ≡ Some (byte ++ found.unread) = found.whole in
-    absurd (cc)
-found_then_gone more rest (inr all) gave are =
-    let last : are.more ≡ [] = none_made are.more are.rest (are.order ∙ all.1) in
-    let absent : Some byte ≡ None = subst (λ made. IsTrueOpening nothing_there (made ++ []) (Absent name)) all.0
-    (subst (λ later. IsTrueOpening nothing_there (more ++ later) (Absent name)) last are.gave) in
+-- one that was found before it was made, and one that was made before and not found, or found with older bytes
+pub no_file_before_it_is_made : AreTrue nothing_there [] (Opened (found_as byte) ∷ Created file ∷ []) → ⊥
+no_file_before_it_is_made are =
+    let e : None ≡ Some (byte ++ are.0.unread) = are.0.whole in
     absurd (cc)
 
-pub no_file_gone_again : AreTrue nothing_there (found_as byte ∷ Absent name ∷ []) [] (file ∷ []) → ⊥
-no_file_gone_again are = found_then_gone are.more are.rest (same_made are.more are.rest are.order) are.gave are.behind
+pub no_made_file_overlooked : AreTrue nothing_there [] (Created file ∷ Opened (Absent name) ∷ []) → ⊥
+no_made_file_overlooked are =
+    let e : Some byte ≡ None = are.0 in
+    absurd (cc)
+
+pub no_older_contents : AreTrue one_there [] (Created (record { name = name; bytes = end }) ∷ Opened (found_as byte) ∷ []) → ⊥
+no_older_contents are =
+    let e : Some end ≡ Some (byte ++ are.0.unread) = are.0.whole in
+    absurd (cc)

@@ -3,8 +3,9 @@ use Rattle.std.proofs.Common.{◌≡◌, ◌∙◌, sym, ap, subst, refl, ℕ, �
 use Rattle.std.proofs.KnownBytes.{Appends-nil, Appends-trans}
 use Rattle.std.specs.Io.KnownBytes.{Appends}
 use Rattle.ghosts.specs.Stays.{Stays}
-use Rattle.avr_desk.specs.Record.{Bytes, Record, all_files, file_of, noted, written_on, with_open, with_replaced, after_open, after_read, after_write}
+use Rattle.avr_desk.specs.Record.{Bytes, Record, all_files, file_of, files_among, noted, written_on, with_open, with_replaced, after_open, after_read, after_write}
 use Rattle.avr_desk.specs.Named.{is_dash}
+use Rattle.avr_desk.proofs.Uses.{files_absent, files_opened, files_replaced}
 use Rattle.avr_desk.specs.Shown.{Shown, IsTrueSince, TakesTruly, has_dash, to_output_opened}
 use Rattle.avr_desk.specs.declared.desk.DeskFault.{DeskFault}
 use Rattle.avr_desk.specs.declared.desk.DeskFault.TheVariants.{NotFound, Failed}
@@ -46,7 +47,7 @@ written_dash bytes (ToRead x) = refl
 written_dash bytes (ToWrite x) = refl
 
 written_dashes : (bytes : Bytes) (r : Record) → has_dash (all_files (after_write bytes r)) ≡ has_dash (all_files r)
-written_dashes bytes r = same_dash_behind r.files (file_of (written_on bytes r.current)) (file_of r.current) (written_dash bytes r.current)
+written_dashes bytes r = same_dash_behind (files_among r.uses) (file_of (written_on bytes r.current)) (file_of r.current) (written_dash bytes r.current)
 
 -- ---- one call
 
@@ -99,20 +100,22 @@ module _ {O E : Type 0} (output_of : O → Option Bytes) (messages_of : E → Op
 
   -- nothing but the counts, or what is held, has changed
   pub kept_true : (b c : Shown O E) → c.output ≡ b.output → c.messages ≡ b.messages → c.to_output ≡ b.to_output
-      → c.kept.output ≡ b.kept.output → c.kept.messages ≡ b.kept.messages → c.kept.files ≡ b.kept.files → c.kept.current ≡ b.kept.current
+      → c.kept.output ≡ b.kept.output → c.kept.messages ≡ b.kept.messages → c.kept.uses ≡ b.kept.uses → c.kept.current ≡ b.kept.current
       → Stays (IsTrueSince output_of messages_of) b c
-  kept_true b c output messages to_output put said files current =
-      let same : all_files c.kept ≡ all_files b.kept = rw (files, current) refl in
+  kept_true b c output messages to_output put said uses current =
+      let same : all_files c.kept ≡ all_files b.kept = rw (uses, current) refl in
       quiet b c output messages put said (λ none. sym (ap has_dash same) ∙ none) (λ none was. to_output ∙ was)
 
   pub open_true : (name : Bytes) (result : Result (Unit {0}) DeskFault) (b c : Shown O E) → c.output ≡ b.output → c.messages ≡ b.messages
       → c.kept ≡ after_open name result b.kept → c.to_output ≡ to_output_opened result b.to_output → Stays (IsTrueSince output_of messages_of) b c
   open_true name (Ok done) b c output messages kept to_output =
+      let files = ap all_files kept ∙ files_opened (ToRead (record { name = name; bytes = []; ended = false })) b.kept in
       quiet b c output messages (ap (λ (r : Record). r.output) kept) (ap (λ (r : Record). r.messages) kept)
-      (λ none. no_dash_in_front (all_files b.kept) [] (sym (ap (λ (r : Record). has_dash (all_files r)) kept) ∙ none)) (λ none was. to_output)
+      (λ none. no_dash_in_front (all_files b.kept) [] (sym (ap has_dash files) ∙ none)) (λ none was. to_output)
   open_true name (Err NotFound) b c output messages kept to_output =
+      let files = ap all_files kept ∙ files_absent name b.kept in
       quiet b c output messages (ap (λ (r : Record). r.output) kept) (ap (λ (r : Record). r.messages) kept)
-      (λ none. no_dash_in_front (all_files b.kept) [] (sym (ap (λ (r : Record). has_dash (all_files r)) kept) ∙ none)) (λ none was. to_output)
+      (λ none. sym (ap has_dash files) ∙ none) (λ none was. to_output)
   open_true name (Err Failed) b c output messages kept to_output =
       quiet b c output messages (ap (λ (r : Record). r.output) kept) (ap (λ (r : Record). r.messages) kept)
       (λ none. sym (ap (λ (r : Record). has_dash (all_files r)) kept) ∙ none) (λ none was. to_output ∙ was)
@@ -121,24 +124,24 @@ module _ {O E : Type 0} (output_of : O → Option Bytes) (messages_of : E → Op
       → c.kept ≡ with_open (ToWrite (record { name = own; bytes = [] })) b.kept → c.to_output ≡ is_dash name → Stays (IsTrueSince output_of messages_of) b c
   create_true name own b c output messages same kept to_output =
       let file : Writing = record { name = own; bytes = [] } in
+      let files = ap all_files kept ∙ files_opened (ToWrite file) b.kept in
       quiet b c output messages (ap (λ (r : Record). r.output) kept) (ap (λ (r : Record). r.messages) kept)
-      (λ none. no_dash_in_front (all_files b.kept) (file ∷ []) (sym (ap (λ (r : Record). has_dash (all_files r)) kept) ∙ none))
+      (λ none. no_dash_in_front (all_files b.kept) (file ∷ []) (sym (ap has_dash files) ∙ none))
       (λ none was. to_output ∙ ap is_dash (sym same)
-      ∙ (neither (is_dash own) false (no_dash_behind (all_files b.kept) (file ∷ []) (sym (ap (λ (r : Record). has_dash (all_files r)) kept) ∙ none))).0)
+      ∙ (neither (is_dash own) false (no_dash_behind (all_files b.kept) (file ∷ []) (sym (ap has_dash files) ∙ none))).0)
 
   pub replace_true : (name bytes : Bytes) (b c : Shown O E) → c.output ≡ b.output → c.messages ≡ b.messages
       → c.kept ≡ with_replaced name bytes b.kept → c.to_output ≡ false → Stays (IsTrueSince output_of messages_of) b c
   replace_true name bytes b c output messages kept to_output =
       let file : Writing = record { name = name; bytes = bytes } in
+      let files = ap all_files kept ∙ files_replaced name bytes b.kept in
       quiet b c output messages (ap (λ (r : Record). r.output) kept) (ap (λ (r : Record). r.messages) kept)
-      (λ none. no_dash_in_front (all_files b.kept) (file ∷ [])
-      (no_dash_in_front (all_files b.kept ++ file ∷ []) [] (sym (ap (λ (r : Record). has_dash (all_files r)) kept) ∙ none)))
-      (λ none was. to_output)
+      (λ none. no_dash_in_front (all_files b.kept) (file ∷ []) (sym (ap has_dash files) ∙ none)) (λ none was. to_output)
 
   pub read_true : (buffer : Bytes) (result : Result ℕ DeskFault) (b c : Shown O E) → c.output ≡ b.output → c.messages ≡ b.messages
       → c.kept ≡ after_read buffer result b.kept → c.to_output ≡ b.to_output → Stays (IsTrueSince output_of messages_of) b c
   read_true buffer (Ok n) b c output messages kept to_output =
-      let files : all_files c.kept ≡ all_files b.kept = ap all_files kept ∙ ap (λ (fs : List Writing). b.kept.files ++ fs) (noted_files _ _ b.kept.current) in
+      let files : all_files c.kept ≡ all_files b.kept = ap all_files kept ∙ ap (λ (fs : List Writing). files_among b.kept.uses ++ fs) (noted_files _ _ b.kept.current) in
       quiet b c output messages (ap (λ (r : Record). r.output) kept) (ap (λ (r : Record). r.messages) kept)
       (λ none. sym (ap has_dash files) ∙ none) (λ none was. to_output ∙ was)
   read_true buffer (Err fault) b c output messages kept to_output =

@@ -8,84 +8,50 @@ use Rattle.ghosts.specs.Stays.{Stays}
 use Rattle.avr_desk.specs.Files.{after_reading}
 use Rattle.avr_desk.specs.Memory.{Memory, Stock, stock_of, stood_for, contents, unread_bytes}
 use Rattle.avr_desk.specs.Named.{bytes_given}
-use Rattle.avr_desk.specs.Record.{Bytes, Record, all_files, all_openings, file_of, opening_of, noted, nothing_kept, with_absent, with_open, with_replaced, written_on}
-use Rattle.avr_desk.specs.Truth.{IsRead, IsTrueOpening, AreTrue, IsOpenTrue, HoldsTrue}
+use Rattle.avr_desk.specs.Record.{Bytes, Record, all_files, all_uses, files_among, use_of, noted, nothing_kept, with_absent, with_open, with_replaced, written_on}
+use Rattle.avr_desk.proofs.Uses.{files_used}
+use Rattle.avr_desk.specs.Truth.{IsRead, AreTrue, IsOpenTrue, HoldsTrue}
+use Rattle.avr_desk.specs.declared.record.FileUse.{FileUse}
+use Rattle.avr_desk.specs.declared.record.FileUse.TheVariants.{Opened, Created}
 use Rattle.avr_desk.specs.declared.record.Open.{Open}
 use Rattle.avr_desk.specs.declared.record.Open.TheVariants.{Closed, ToRead, ToWrite}
-use Rattle.avr_desk.specs.declared.record.Opening.{Opening}
-use Rattle.avr_desk.specs.declared.record.Opening.TheVariants.{Absent, Found}
+use Rattle.avr_desk.specs.declared.record.Opening.TheVariants.{Absent}
 use Rattle.avr_desk.specs.declared.record.Reading.{Reading}
 use Rattle.avr_desk.specs.declared.record.Writing.{Writing}
 
--- ---- lists of openings
+-- ---- uses that are joined
 
--- what was true before more files were made
-are_more : (stock : Stock) (openings : List Opening) (made later more : List Writing) → AreTrue stock openings made later
-    → AreTrue stock openings made (later ++ more)
-are_more stock [] made later more are = tt
-are_more stock (opening ∷ openings) made later more are = record {
-  more = are.more;
-  rest = are.rest ++ more;
-  order = sym (append_assoc are.more are.rest more) ∙ ap (λ (fs : List Writing). fs ++ more) are.order;
-  gave = are.gave;
-  behind = are_more stock openings (made ++ are.more) are.rest more are.behind;
-}
+-- uses behind those, by the files of both
+pub true_append : (stock : Stock) (made : List Writing) (first last : List FileUse) → AreTrue stock made first
+    → AreTrue stock (made ++ files_among first) last → AreTrue stock made (first ++ last)
+true_append stock made [] last are behind = subst (λ fs. AreTrue stock fs last) (append-nil made) behind
+true_append stock made (Opened opening ∷ first) last are behind = (are.0, true_append stock made first last are.1 behind)
+true_append stock made (Created file ∷ first) last are behind =
+    true_append stock (made ++ file ∷ []) first last are (subst (λ fs. AreTrue stock fs last) (sym (append_assoc made (file ∷ []) (files_among first))) behind)
 
--- files that were made before all of them
-are_behind : (stock : Stock) (openings : List Opening) (made first later : List Writing) → AreTrue stock openings (made ++ first) later
-    → AreTrue stock openings made (first ++ later)
-are_behind stock [] made first later are = tt
-are_behind stock (opening ∷ openings) made first later are = record {
-  more = first ++ are.more;
-  rest = are.rest;
-  order = append_assoc first are.more are.rest ∙ ap (λ (fs : List Writing). first ++ fs) are.order;
-  gave = subst (λ fs. IsTrueOpening stock fs opening) (append_assoc made first are.more) are.gave;
-  behind = subst (λ fs. AreTrue stock openings fs are.rest) (append_assoc made first are.more) are.behind;
-}
+-- the later ones were true by the files of both
+pub true_behind : (stock : Stock) (made : List Writing) (first last : List FileUse) → AreTrue stock made (first ++ last)
+    → AreTrue stock (made ++ files_among first) last
+true_behind stock made [] last are = subst (λ fs. AreTrue stock fs last) (sym (append-nil made)) are
+true_behind stock made (Opened opening ∷ first) last are = true_behind stock made first last are.1
+true_behind stock made (Created file ∷ first) last are =
+    subst (λ fs. AreTrue stock fs last) (append_assoc made (file ∷ []) (files_among first)) (true_behind stock (made ++ file ∷ []) first last are)
 
--- openings behind those, once all files are made
-are_append : (stock : Stock) (first last : List Opening) (made later : List Writing) → AreTrue stock first made later
-    → AreTrue stock last (made ++ later) [] → AreTrue stock (first ++ last) made later
-are_append stock [] last made later are behind =
-    subst (AreTrue stock last made) (append-nil later) (are_behind stock last made later [] behind)
-are_append stock (opening ∷ first) last made later are behind = record {
-  more = are.more;
-  rest = are.rest;
-  order = are.order;
-  gave = are.gave;
-  behind = are_append stock first last (made ++ are.more) are.rest are.behind
-      (subst (λ fs. AreTrue stock last fs []) (ap (λ (fs : List Writing). made ++ fs) (sym are.order) ∙ sym (append_assoc made are.more are.rest)) behind);
-}
-
--- one opening, of these files
-one_true : (stock : Stock) (made : List Writing) (opening : Opening) → IsTrueOpening stock made opening → AreTrue stock (opening ∷ []) made []
-one_true stock made opening is = record {
-  more = [];
-  rest = [];
-  order = refl;
-  gave = subst (λ fs. IsTrueOpening stock fs opening) (sym (append-nil made)) is;
-  behind = tt;
-}
-
--- what is open is an opening too
-of_open : (stock : Stock) (m : Memory) (o : Open) → IsOpenTrue stock m o → AreTrue stock (opening_of o) (m.kept.files ++ file_of o) []
+-- what is open is a use too
+of_open : (stock : Stock) (m : Memory) (o : Open) → IsOpenTrue stock m o → AreTrue stock (files_among m.kept.uses) (use_of o)
 of_open stock m Closed is = tt
-of_open stock m (ToRead x) is =
-    one_true stock (m.kept.files ++ []) (Found x) (subst (λ fs. IsTrueOpening stock fs (Found x)) (sym (append-nil m.kept.files))
-    (subst (λ stood. IsRead stood x.bytes x.ended) (sym is.0) is.1))
+of_open stock m (ToRead x) is = (subst (λ stood. IsRead stood x.bytes x.ended) (sym is.0) is.1, tt)
 of_open stock m (ToWrite x) is = tt
 
--- so all openings were true, while all files were made
-pub all_true : (stock : Stock) (m : Memory) → HoldsTrue stock m → AreTrue stock (all_openings m.kept) [] (all_files m.kept)
-all_true stock m holds =
-    are_append stock m.kept.openings (opening_of m.kept.current) [] (all_files m.kept)
-    (are_more stock m.kept.openings [] m.kept.files (file_of m.kept.current) holds.openings) (of_open stock m m.kept.current holds.current)
+-- so all openings were true, by the files that had been made
+pub all_true : (stock : Stock) (m : Memory) → HoldsTrue stock m → AreTrue stock [] (all_uses m.kept)
+all_true stock m holds = true_append stock [] m.kept.uses (use_of m.kept.current) holds.uses (of_open stock m m.kept.current holds.current)
 
 -- what a new desk has is what it begins with
 pub begins_true : (m : Memory) → m.kept ≡ nothing_kept → HoldsTrue (stock_of m) m
 begins_true m fresh = record {
   began = refl;
-  openings = subst (λ (r : Record). AreTrue (stock_of m) r.openings [] r.files) (sym fresh) tt;
+  uses = subst (λ (r : Record). AreTrue (stock_of m) [] r.uses) (sym fresh) tt;
   current = subst (λ (r : Record). IsOpenTrue (stock_of m) m r.current) (sym fresh) tt;
 }
 
@@ -98,33 +64,32 @@ stock_same old new input stored = ap (λ (b : Bytes). stock b new.stored) input 
     stock : Bytes → List Writing → Stock
     stock input files = record { input = input; files = files }
 
--- the same openings, files and open file
+-- the same uses and open file
 pub same_true : (old new : Memory) → new.input ≡ old.input → new.stored ≡ old.stored → new.opened ≡ old.opened
-    → new.kept.openings ≡ old.kept.openings → new.kept.files ≡ old.kept.files → new.kept.current ≡ old.kept.current → Stays HoldsTrue old new
-same_true old new input stored opened openings files current = λ stock holds. record {
+    → new.kept.uses ≡ old.kept.uses → new.kept.current ≡ old.kept.current → Stays HoldsTrue old new
+same_true old new input stored opened uses current = λ stock holds. record {
   began = stock_same old new input stored ∙ holds.began;
-  openings = subst (λ os. AreTrue stock os [] new.kept.files) (sym openings) (subst (AreTrue stock old.kept.openings []) (sym files) holds.openings);
+  uses = subst (AreTrue stock []) (sym uses) holds.uses;
   current = subst (IsOpenTrue stock new) (sym current) (open_same stock old.kept.current holds.current);
 }
   where
     open_same : (stock : Stock) (o : Open) → IsOpenTrue stock old o → IsOpenTrue stock new o
     open_same stock Closed is = tt
     open_same stock (ToRead x) is = (
-      ap (λ fs. stood_for stock fs x.name) files ∙ is.0 ∙ ap (λ (b : Bytes). Some b) (sym opened),
+      ap (λ us. stood_for stock (files_among us) x.name) uses ∙ is.0 ∙ ap (λ (b : Bytes). Some b) (sym opened),
       subst (λ (b : Bytes). IsRead (Some b) x.bytes x.ended) (sym opened) is.1,
     )
     open_same stock (ToWrite x) is = tt
 
--- the open file is put by, perhaps behind it an opening that is over and a file that is made, and nothing is read
-pub put_by_true : (more : List Opening) (made : List Writing) (old new : Memory) → new.input ≡ old.input → new.stored ≡ old.stored
-    → new.kept.openings ≡ all_openings old.kept ++ more → new.kept.files ≡ all_files old.kept ++ made
-    → ((stock : Stock) → HoldsTrue stock old → AreTrue stock more (all_files old.kept) [])
+-- the open file is put by, perhaps behind it a use that is over, and nothing is read
+pub put_by_true : (more : List FileUse) (old new : Memory) → new.input ≡ old.input → new.stored ≡ old.stored
+    → new.kept.uses ≡ all_uses old.kept ++ more
+    → ((stock : Stock) → HoldsTrue stock old → AreTrue stock (all_files old.kept) more)
     → ((stock : Stock) → IsOpenTrue stock new new.kept.current) → Stays HoldsTrue old new
-put_by_true more made old new input stored openings files behind current = λ stock holds. record {
+put_by_true more old new input stored uses behind current = λ stock holds. record {
   began = stock_same old new input stored ∙ holds.began;
-  openings = subst (λ os. AreTrue stock os [] new.kept.files) (sym openings) (subst (AreTrue stock (all_openings old.kept ++ more) []) (sym files)
-      (are_more stock (all_openings old.kept ++ more) [] (all_files old.kept) made
-      (are_append stock (all_openings old.kept) more [] (all_files old.kept) (all_true stock old holds) (behind stock holds))));
+  uses = subst (AreTrue stock []) (sym uses) (true_append stock [] (all_uses old.kept) more (all_true stock old holds)
+      (subst (λ fs. AreTrue stock fs more) (sym (files_used old.kept)) (behind stock holds)));
   current = current stock;
 }
 
@@ -137,15 +102,14 @@ changed_true : (ok : Bool) (change : Record → Record) (old new : Memory) → n
     → new.kept ≡ (if ok then change old.kept else old.kept) → (new.kept ≡ change old.kept → Stays HoldsTrue old new) → Stays HoldsTrue old new
 changed_true true change old new input stored opened kept done = done kept
 changed_true false change old new input stored opened kept done =
-    same_true old new input stored opened (ap (λ (r : Record). r.openings) kept) (ap (λ (r : Record). r.files) kept) (ap (λ (r : Record). r.current) kept)
+    same_true old new input stored opened (ap (λ (r : Record). r.uses) kept) (ap (λ (r : Record). r.current) kept)
 
 -- a file is created
 pub created_true : (ok : Bool) (file : Writing) (old new : Memory) → new.input ≡ old.input → new.stored ≡ old.stored → new.opened ≡ old.opened
     → new.kept ≡ (if ok then with_open (ToWrite file) old.kept else old.kept) → Stays HoldsTrue old new
 created_true ok file old new input stored opened kept =
     changed_true ok (with_open (ToWrite file)) old new input stored opened kept (λ is.
-    put_by_true [] [] old new input stored (ap (λ (r : Record). r.openings) is ∙ sym (append-nil (all_openings old.kept)))
-    (ap (λ (r : Record). r.files) is ∙ sym (append-nil (all_files old.kept)))
+    put_by_true [] old new input stored (ap (λ (r : Record). r.uses) is ∙ sym (append-nil (all_uses old.kept)))
     (λ stock holds. tt) (λ stock. subst (λ (r : Record). IsOpenTrue stock new r.current) (sym is) tt))
 
 -- or made whole
@@ -153,7 +117,7 @@ pub replaced_true : (ok : Bool) (file : Writing) (old new : Memory) → new.inpu
     → new.kept ≡ (if ok then with_replaced file.name file.bytes old.kept else old.kept) → Stays HoldsTrue old new
 replaced_true ok file old new input stored opened kept =
     changed_true ok (with_replaced file.name file.bytes) old new input stored opened kept (λ is.
-    put_by_true [] (file ∷ []) old new input stored (ap (λ (r : Record). r.openings) is ∙ sym (append-nil (all_openings old.kept))) (ap (λ (r : Record). r.files) is)
+    put_by_true (Created file ∷ []) old new input stored (ap (λ (r : Record). r.uses) is)
     (λ stock holds. tt) (λ stock. subst (λ (r : Record). IsOpenTrue stock new r.current) (sym is) tt))
 
 -- no file of this name is there
@@ -161,9 +125,8 @@ pub absent_true : (ok : Bool) (name own : Bytes) (old new : Memory) → own ≡ 
     → new.kept ≡ (if ok then with_absent own old.kept else old.kept) → Stays HoldsTrue old new
 absent_true ok name own old new same none input stored opened kept =
     changed_true ok (with_absent own) old new input stored opened kept (λ is.
-    put_by_true (Absent own ∷ []) [] old new input stored (ap (λ (r : Record). r.openings) is) (ap (λ (r : Record). r.files) is ∙ sym (append-nil (all_files old.kept)))
-    (λ stock holds. one_true stock (all_files old.kept) (Absent own)
-    (ap (stood_for stock (all_files old.kept)) same ∙ sym (stands stock old name holds) ∙ sym none))
+    put_by_true (Opened (Absent own) ∷ []) old new input stored (ap (λ (r : Record). r.uses) is)
+    (λ stock holds. (ap (stood_for stock (all_files old.kept)) same ∙ sym (stands stock old name holds) ∙ sym none, tt))
     (λ stock. subst (λ (r : Record). IsOpenTrue stock new r.current) (sym is) tt))
 
 -- a file is opened that has these bytes
@@ -171,10 +134,10 @@ pub opened_true : (ok : Bool) (name own bytes first : Bytes) (old new : Memory) 
     → new.kept ≡ (if ok then with_open (ToRead (record { name = own; bytes = first; ended = false })) old.kept else old.kept) → Stays HoldsTrue old new
 opened_true true name own bytes first old new ok same none has there input stored kept = λ stock holds. record {
   began = stock_same old new input stored ∙ holds.began;
-  openings = subst (λ (r : Record). AreTrue stock r.openings [] r.files) (sym kept) (all_true stock old holds);
+  uses = subst (λ (r : Record). AreTrue stock [] r.uses) (sym kept) (all_true stock old holds);
   current = subst (λ (r : Record). IsOpenTrue stock new r.current) (sym kept) (
-    ap (λ (r : Record). stood_for stock r.files own) kept ∙ ap (stood_for stock (all_files old.kept)) same ∙ sym (stands stock old name holds) ∙ sym there
-        ∙ ap (λ (b : Bytes). Some b) (sym has),
+    ap (λ (r : Record). stood_for stock (files_among r.uses) own) kept ∙ ap (λ fs. stood_for stock fs own) (files_used old.kept)
+        ∙ ap (stood_for stock (all_files old.kept)) same ∙ sym (stands stock old name holds) ∙ sym there ∙ ap (λ (b : Bytes). Some b) (sym has),
     subst (λ b. IsRead (Some new.opened) b false) (sym none) (record { unread = new.opened; whole = refl; ends = λ e. absurd (cc) }),
   );
 }
@@ -223,35 +186,35 @@ module _ (old new : Memory) (ends : Bool) (n room : ℕ) (whole gave next piece 
         ends = ended_front x.ended is.unread rest is.ends;
       }
 
-  open_on : (stock : Stock) (o : Open) → new.kept.files ≡ old.kept.files → old.kept.current ≡ o → IsOpenTrue stock old o → IsOpenTrue stock new (noted piece ends o)
-  open_on stock Closed files is held = tt
-  open_on stock (ToRead x) files is held = (
-    ap (λ fs. stood_for stock fs x.name) files ∙ held.0 ∙ ap (λ (b : Bytes). Some b) (sym opened),
+  open_on : (stock : Stock) (o : Open) → new.kept.uses ≡ old.kept.uses → old.kept.current ≡ o → IsOpenTrue stock old o → IsOpenTrue stock new (noted piece ends o)
+  open_on stock Closed uses is held = tt
+  open_on stock (ToRead x) uses is held = (
+    ap (λ us. stood_for stock (files_among us) x.name) uses ∙ held.0 ∙ ap (λ (b : Bytes). Some b) (sym opened),
     subst (λ (b : Bytes). IsRead (Some b) (x.bytes ++ piece) (x.ended || ends)) (sym opened) (front_on x (ap bytes_given is) held.1),
   )
-  open_on stock (ToWrite x) files is held = tt
+  open_on stock (ToWrite x) uses is held = tt
 
   pub read_true : (ok : Bool) → new.kept ≡ (if ok then after_reading piece ends old.kept else old.kept) → Stays HoldsTrue old new
   read_true ok kept = changed_true ok (after_reading piece ends) old new input stored opened kept (λ is stock holds. record {
     began = stock_same old new input stored ∙ holds.began;
-    openings = subst (λ (r : Record). AreTrue stock r.openings [] r.files) (sym is) holds.openings;
+    uses = subst (λ (r : Record). AreTrue stock [] r.uses) (sym is) holds.uses;
     current = subst (λ (r : Record). IsOpenTrue stock new r.current) (sym is)
-        (open_on stock old.kept.current (ap (λ (r : Record). r.files) is) refl holds.current);
+        (open_on stock old.kept.current (ap (λ (r : Record). r.uses) is) refl holds.current);
   })
 
 -- bytes are written to the open file
 pub written_true : (bytes : Bytes) (old new : Memory) → new.input ≡ old.input → new.stored ≡ old.stored → new.opened ≡ old.opened
-    → new.kept.openings ≡ old.kept.openings → new.kept.files ≡ old.kept.files → new.kept.current ≡ written_on bytes old.kept.current → Stays HoldsTrue old new
-written_true bytes old new input stored opened openings files current = λ stock holds. record {
+    → new.kept.uses ≡ old.kept.uses → new.kept.current ≡ written_on bytes old.kept.current → Stays HoldsTrue old new
+written_true bytes old new input stored opened uses current = λ stock holds. record {
   began = stock_same old new input stored ∙ holds.began;
-  openings = subst (λ os. AreTrue stock os [] new.kept.files) (sym openings) (subst (AreTrue stock old.kept.openings []) (sym files) holds.openings);
+  uses = subst (AreTrue stock []) (sym uses) holds.uses;
   current = subst (IsOpenTrue stock new) (sym current) (open_on stock old.kept.current holds.current);
 }
   where
     open_on : (stock : Stock) (o : Open) → IsOpenTrue stock old o → IsOpenTrue stock new (written_on bytes o)
     open_on stock Closed is = tt
     open_on stock (ToRead x) is = (
-      ap (λ fs. stood_for stock fs x.name) files ∙ is.0 ∙ ap (λ (b : Bytes). Some b) (sym opened),
+      ap (λ us. stood_for stock (files_among us) x.name) uses ∙ is.0 ∙ ap (λ (b : Bytes). Some b) (sym opened),
       subst (λ (b : Bytes). IsRead (Some b) x.bytes x.ended) (sym opened) is.1,
     )
     open_on stock (ToWrite x) is = tt

@@ -5,17 +5,18 @@ use Rattle.avr_desk.specs.declared.desk.DeskFault.TheVariants.{NotFound, Failed}
 use Rattle.avr_desk.specs.declared.record.Writing.{Writing}
 use Rattle.avr_desk.specs.declared.record.Opening.{Opening}
 use Rattle.avr_desk.specs.declared.record.Opening.TheVariants.{Absent, Found}
+use Rattle.avr_desk.specs.declared.record.FileUse.{FileUse}
+use Rattle.avr_desk.specs.declared.record.FileUse.TheVariants.{Opened, Created}
 use Rattle.avr_desk.specs.declared.record.Open.{Open}
 use Rattle.avr_desk.specs.declared.record.Open.TheVariants.{Closed, ToRead, ToWrite}
 
 abbrev pub Bytes : Type 0
 Bytes = List ℕ
 
--- what a desk keeps: the openings that are over, the files that are done, the file that is open, the name of the file
--- that is held, the names of those that were held already, the output and the messages
+-- what a desk keeps: the openings that are over and the files that are done, in their order, the file that is open, the
+-- name of the file that is held, the names of those that were held already, the output and the messages
 pub record Record : Type 0 where
-  pub openings : List Opening
-  pub files : List Writing
+  pub uses : List FileUse
   pub current : Open
   pub held : Option Bytes
   pub denied : List Bytes
@@ -44,21 +45,39 @@ abbrev pub file_of : Open → List Writing
 file_of (ToWrite x) = x ∷ []
 file_of _ = []
 
--- every opening, and every file that was created, in their order
+abbrev pub use_of : Open → List FileUse
+use_of Closed = []
+use_of (ToRead x) = Opened (Found x) ∷ []
+use_of (ToWrite x) = Created x ∷ []
+
+-- the openings among these uses, and the files that were created
+abbrev pub openings_among : List FileUse → List Opening
+openings_among [] = []
+openings_among (Opened opening ∷ uses) = opening ∷ openings_among uses
+openings_among (Created file ∷ uses) = openings_among uses
+
+abbrev pub files_among : List FileUse → List Writing
+files_among [] = []
+files_among (Opened opening ∷ uses) = files_among uses
+files_among (Created file ∷ uses) = file ∷ files_among uses
+
+-- every use of a file, every opening, and every file that was created, with the open file at the end
+abbrev pub all_uses : Record → List FileUse
+all_uses r = r.uses ++ use_of r.current
+
 abbrev pub all_openings : Record → List Opening
-all_openings r = r.openings ++ opening_of r.current
+all_openings r = openings_among r.uses ++ opening_of r.current
 
 abbrev pub all_files : Record → List Writing
-all_files r = r.files ++ file_of r.current
+all_files r = files_among r.uses ++ file_of r.current
 
 -- the open file is put by, and another one is open
 abbrev pub with_open : Open → Record → Record
-with_open o r = record r { openings = all_openings r; files = all_files r; current = o }
+with_open o r = record r { uses = all_uses r; current = o }
 
 -- the open file is put by, and no file of this name was there
 abbrev pub with_absent : Bytes → Record → Record
-with_absent name r =
-    record r { openings = all_openings r ++ Absent name ∷ []; files = all_files r; current = Closed }
+with_absent name r = record r { uses = all_uses r ++ Opened (Absent name) ∷ []; current = Closed }
 
 abbrev pub after_open : Bytes → Result ⊤ DeskFault → Record → Record
 after_open name (Ok done) r = with_open (ToRead (record { name = name; bytes = []; ended = false })) r
@@ -91,8 +110,7 @@ released view = record view { kept = with_none_held view.kept }
 -- the open file is put by, a file of this name has these bytes, whole, and nothing is held
 abbrev pub with_replaced : Bytes → Bytes → Record → Record
 with_replaced name bytes r = record r {
-  openings = all_openings r;
-  files = all_files r ++ record { name = name; bytes = bytes } ∷ [];
+  uses = all_uses r ++ Created (record { name = name; bytes = bytes }) ∷ [];
   current = Closed;
   held = None;
 }
@@ -150,4 +168,4 @@ HasOpen test old r = OnOk r (test old.kept.current ≡ true)
 
 abbrev pub nothing_kept : Record
 nothing_kept =
-    record { openings = []; files = []; current = Closed; held = None; denied = []; output = []; messages = [] }
+    record { uses = []; current = Closed; held = None; denied = []; output = []; messages = [] }

@@ -1,7 +1,9 @@
 -- What a desk in memory began with, and what its record says of that.
 use Rattle.std.specs.Prelude.{◌≡◌, Bool, true, List, [], ◌∷◌, ◌++◌, Option, Some, None}
+use Rattle.avr_desk.specs.declared.record.FileUse.{FileUse}
+use Rattle.avr_desk.specs.declared.record.FileUse.TheVariants.{Opened, Created}
 use Rattle.avr_desk.specs.Memory.{Memory, Stock, stock_of, stood_for}
-use Rattle.avr_desk.specs.Record.{Bytes}
+use Rattle.avr_desk.specs.Record.{Bytes, files_among}
 use Rattle.avr_desk.specs.declared.record.Open.{Open}
 use Rattle.avr_desk.specs.declared.record.Open.TheVariants.{Closed, ToRead, ToWrite}
 use Rattle.avr_desk.specs.declared.record.Opening.{Opening}
@@ -19,29 +21,22 @@ abbrev pub IsTrueOpening : Stock → List Writing → Opening → Type 0
 IsTrueOpening stock made (Absent name) = stood_for stock made name ≡ None
 IsTrueOpening stock made (Found reading) = IsRead (stood_for stock made reading.name) reading.bytes reading.ended
 
--- It was true when some of the files that were still to come had been made too, and so were those behind it later on.
-pub record TrueThen (stock : Stock) (made later : List Writing) (opening : Opening)
-    (Behind : List Writing → List Writing → Type 0) : Type 0 where
-  pub more : List Writing
-  pub rest : List Writing
-  pub order : more ++ rest ≡ later
-  pub gave : IsTrueOpening stock (made ++ more) opening
-  pub behind : Behind (made ++ more) rest
-
--- Each opening was true when it was made: one after the other, while these files were made one after the other.
-abbrev pub AreTrue : Stock → List Opening → List Writing → List Writing → Type 0
-AreTrue stock [] made later = Unit {0}
-AreTrue stock (opening ∷ openings) made later = TrueThen stock made later opening (AreTrue stock openings)
+-- Each opening was true when it was made, of the files that had been made before it: these, and those among the uses.
+abbrev pub AreTrue : Stock → List Writing → List FileUse → Type 0
+AreTrue stock made [] = Unit {0}
+AreTrue stock made (Opened opening ∷ uses) = IsTrueOpening stock made opening × AreTrue stock made uses
+AreTrue stock made (Created file ∷ uses) = AreTrue stock (made ++ file ∷ []) uses
 
 -- of a file that is read the desk holds what its name stands for
 abbrev pub IsOpenTrue : Stock → Memory → Open → Type 0
 IsOpenTrue stock m (ToRead reading) =
-    (stood_for stock m.kept.files reading.name ≡ Some m.opened) × IsRead (Some m.opened) reading.bytes reading.ended
+    (stood_for stock (files_among m.kept.uses) reading.name ≡ Some m.opened)
+    × IsRead (Some m.opened) reading.bytes reading.ended
 IsOpenTrue stock m Closed = Unit {0}
 IsOpenTrue stock m (ToWrite writing) = Unit {0}
 
 -- the desk began with this, and all that it keeps is true of it
 pub record HoldsTrue (stock : Stock) (m : Memory) : Type 0 where
   pub began : stock_of m ≡ stock
-  pub openings : AreTrue stock m.kept.openings [] m.kept.files
+  pub uses : AreTrue stock [] m.kept.uses
   pub current : IsOpenTrue stock m m.kept.current

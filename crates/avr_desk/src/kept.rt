@@ -3,16 +3,15 @@ ghost use Rattle.std.specs.Prelude.{◌≡◌, is_ok, if◌then◌else◌};
 ghost use Rattle.std.specs.Option.{option_copied};
 
 use crate::bytes::Bytes;
-use crate::record::{Open, Opening, Writing, newest};
+use crate::record::{FileUse, Open, Opening, Writing, newest_created};
 use std::alloc::{AllocError, Global};
 use std::marker::Model;
 use std::mem;
 
-/// The openings, the files that were created, the output and the messages.
+/// The uses of files, the output and the messages.
 #[derive(Debug, Drop)]
 pub struct Kept {
-    openings: Vec<Opening>,
-    files: Vec<Writing>,
+    uses: Vec<FileUse>,
     current: Open,
     held: Option<Bytes>,
     denied: Vec<Bytes>,
@@ -26,8 +25,7 @@ impl Model for Kept {
     ghost Value = { Record };
 
     ghost view = { λ k. record {
-      openings = k.openings.items;
-      files = k.files.items;
+      uses = k.uses.items;
       current = k.current;
       held = k.held;
       denied = k.denied.items;
@@ -45,8 +43,7 @@ impl Kept {
         ensures { result ≡ nothing_kept }
     {
         Kept {
-            openings: Vec::new(alloc),
-            files: Vec::new(alloc),
+            uses: Vec::new(alloc),
             current: Open::Closed,
             held: None,
             denied: Vec::new(alloc),
@@ -79,10 +76,10 @@ impl Kept {
         matches!(self.current, Open::ToWrite(_))
     }
 
-    pub fn openings(&self) -> &[Opening]
-        ensures { result.now ≡ self.now.openings }
+    pub fn uses(&self) -> &[FileUse]
+        ensures { result.now ≡ self.now.uses }
     {
-        self.openings.as_slice()
+        self.uses.as_slice()
     }
 
     /// The bytes that the open file has given.
@@ -100,7 +97,7 @@ impl Kept {
     pub fn created<'a>(&'a self, older: Option<&'a [u8]>, name: &[u8]) -> Option<&'a [u8]>
         ensures { option_copied result ≡ newest name.now (option_copied older.entry) (all_files self.now) }
     {
-        let found = newest(older, self.files.as_slice(), name);
+        let found = newest_created(older, self.uses.as_slice(), name);
         match &self.current {
             Open::ToWrite(file) => file.or_older(found, name),
             _ => found,
@@ -123,12 +120,14 @@ impl Kept {
     pub fn begin(&mut self, next: Open) -> Result<(), AllocError>
         ensures { self.new ≡ (if is_ok result then with_open next self.old else self.old) }
     {
-        self.openings.reserve(1)?;
-        self.files.reserve(1)?;
+        self.uses.reserve(1)?;
         match mem::replace(&mut self.current, next) {
             Open::Closed => {}
-            Open::ToRead(reading) => self.openings.push(Opening::Found(reading)).unwrap(),
-            Open::ToWrite(writing) => self.files.push(writing).unwrap(),
+            Open::ToRead(reading) => {
+                let found = Opening::Found(reading);
+                self.uses.push(FileUse::Opened(found)).unwrap()
+            }
+            Open::ToWrite(writing) => self.uses.push(FileUse::Created(writing)).unwrap(),
         }
         Ok(())
     }
@@ -137,14 +136,17 @@ impl Kept {
     pub fn note_absent(&mut self, name: Bytes) -> Result<(), AllocError>
         ensures { self.new ≡ (if is_ok result then with_absent name self.old else self.old) }
     {
-        self.openings.reserve(2)?;
-        self.files.reserve(1)?;
+        self.uses.reserve(2)?;
         match mem::replace(&mut self.current, Open::Closed) {
             Open::Closed => {}
-            Open::ToRead(reading) => self.openings.push(Opening::Found(reading)).unwrap(),
-            Open::ToWrite(writing) => self.files.push(writing).unwrap(),
+            Open::ToRead(reading) => {
+                let found = Opening::Found(reading);
+                self.uses.push(FileUse::Opened(found)).unwrap()
+            }
+            Open::ToWrite(writing) => self.uses.push(FileUse::Created(writing)).unwrap(),
         }
-        self.openings.push(Opening::Absent(name)).unwrap();
+        let absent = Opening::Absent(name);
+        self.uses.push(FileUse::Opened(absent)).unwrap();
         Ok(())
     }
 
@@ -184,14 +186,16 @@ impl Kept {
     pub fn add(&mut self, file: Writing) -> Result<(), AllocError>
         ensures { self.new ≡ (if is_ok result then with_replaced file.name file.bytes self.old else self.old) }
     {
-        self.openings.reserve(1)?;
-        self.files.reserve(2)?;
+        self.uses.reserve(2)?;
         match mem::replace(&mut self.current, Open::Closed) {
             Open::Closed => {}
-            Open::ToRead(reading) => self.openings.push(Opening::Found(reading)).unwrap(),
-            Open::ToWrite(writing) => self.files.push(writing).unwrap(),
+            Open::ToRead(reading) => {
+                let found = Opening::Found(reading);
+                self.uses.push(FileUse::Opened(found)).unwrap()
+            }
+            Open::ToWrite(writing) => self.uses.push(FileUse::Created(writing)).unwrap(),
         }
-        self.files.push(file).unwrap();
+        self.uses.push(FileUse::Created(file)).unwrap();
         self.held = None;
         Ok(())
     }

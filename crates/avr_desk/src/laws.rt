@@ -2,7 +2,7 @@
 ghost use Rattle.std.specs.Prelude.{◌≡◌, []};
 ghost use Rattle.ghosts.specs.Stays.{Stays};
 ghost use Rattle.avr_desk.specs.Memory.{Memory, Stock, stock_of};
-ghost use Rattle.avr_desk.specs.Record.{all_files, all_openings, nothing_kept};
+ghost use Rattle.avr_desk.specs.Record.{all_uses, nothing_kept};
 ghost use Rattle.avr_desk.specs.Shown.{IsTrueSince};
 ghost use Rattle.avr_desk.specs.Truth.{AreTrue, HoldsTrue};
 
@@ -13,9 +13,9 @@ use std::fs;
 use std::io::Write;
 use std::rt::Files;
 
-/// Whatever was done with a desk in memory, each opening that it shows gave what its name stood for then, one opening
-/// after the other: a front of the bytes of its newest file, all of them where the end was seen, and nothing where
-/// there was no file.
+/// Whatever was done with a desk in memory, each opening that it shows gave what its name stood for then, by the files
+/// that it shows to have been made before: a front of the bytes of the newest one, all of them where the end was seen,
+/// and nothing where there was no file.
 ///
 /// What it asks for is what each call over a [`crate::Desk`] promises, and so all that is made of such calls.
 pub fn what_a_desk_in_memory_gives_is_true(before: &MemDesk, after: &MemDesk)
@@ -23,7 +23,7 @@ pub fn what_a_desk_in_memory_gives_is_true(before: &MemDesk, after: &MemDesk)
     ensures begins { (fresh : Memory) → fresh.kept ≡ nothing_kept
         → HoldsTrue (stock_of fresh) fresh }
     ensures gives { (stock : Stock) → HoldsTrue stock before.now
-        → AreTrue stock (all_openings after.now.kept) [] (all_files after.now.kept) }
+        → AreTrue stock [] (all_uses after.now.kept) }
 {}
 
 /// Whatever was done with a desk over writers, its record of them is true: their bytes, where they are known, have

@@ -5,7 +5,7 @@ ghost use Rattle.std.specs.Option.{option_copied};
 use crate::bytes::Bytes;
 use crate::desk::{Desk, DeskFault};
 use crate::kept::Kept;
-use crate::record::{Open, Opening, Reading, Writing, newest};
+use crate::record::{FileUse, Open, Reading, Writing, newest};
 use std::alloc::{AllocError, Global};
 use std::marker::Model;
 
@@ -157,11 +157,11 @@ impl MemDesk {
         self.kept.messages()
     }
 
-    /// The openings that are over, in their order.
-    pub fn openings(&self) -> &[Opening]
-        ensures { result.now ≡ self.now.kept.openings }
+    /// The openings that are over and the files that are done, in their order.
+    pub fn uses(&self) -> &[FileUse]
+        ensures { result.now ≡ self.now.kept.uses }
     {
-        self.kept.openings()
+        self.kept.uses()
     }
 
     /// What a name stands for when it is opened.

@@ -2,6 +2,7 @@
 ghost use Rattle.std.specs.Prelude.{◌≡◌};
 ghost use Rattle.std.specs.Option.{option_copied};
 ghost use Rattle.avr_desk.specs.Named.{newest};
+ghost use Rattle.avr_desk.specs.Record.{files_among};
 
 use crate::bytes::Bytes;
 
@@ -27,6 +28,15 @@ pub enum Opening {
     /// There was no file of this name.
     Absent(Bytes),
     Found(Reading),
+}
+
+/// A use of a file that is over.
+#[derive(Debug, Drop)]
+pub enum FileUse {
+    /// It was opened to be read.
+    Opened(Opening),
+    /// It was created, or replaced.
+    Created(Writing),
 }
 
 /// The file that is open.
@@ -63,6 +73,23 @@ pub(crate) fn newest<'a>(
     let mut found = older;
     for file in files {
         found = file.or_older(found, name);
+    }
+    found
+}
+
+/// The bytes of the last file of this name that was created among these uses, else `older`.
+pub(crate) fn newest_created<'a>(
+    older: Option<&'a [u8]>,
+    uses: &'a [FileUse],
+    name: &[u8],
+) -> Option<&'a [u8]>
+    ensures { option_copied result ≡ newest name.now (option_copied older.entry) (files_among uses.now) }
+{
+    let mut found = older;
+    for used in uses {
+        if let FileUse::Created(file) = used {
+            found = file.or_older(found, name);
+        }
     }
     found
 }

@@ -212,7 +212,6 @@ impl<
 
     ghost comes_of = { IsTrueSince O.contents E.contents };
 
-    #[tactic(auto, using(crate::proofs::TrueStreams::open_true))]
     fn open(&mut self, name: &str) -> Result<(), DeskFault>
         ensures kept { Passes (after_open name.now result) (shown_view self.old) (shown_view self.new) }
         ensures counts { Counts File (shown_view self.old) (shown_view self.new) result }

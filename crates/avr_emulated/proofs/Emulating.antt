@@ -18,7 +18,7 @@ use Rattle.stk_emu.specs.Wire.{fresh_wire}
 use Rattle.stk_emu.specs.Wired.{WiredState, ComesOf, wired_view}
 use Rattle.avr_session.specs.Run.{RunsSession}
 use Rattle.avr_session.specs.Runs.{devices}
-use Rattle.avr_emulated.specs.AnyLine.{OverAnyLine}
+use Rattle.avr_course.specs.AnyLine.{OverAnyLine}
 use Rattle.avr_emulated.specs.Emulated.{IsSaved, new_wire, RunsOverEmulator}
 
 -- a wire that holds, brings and has passed nothing is a new one

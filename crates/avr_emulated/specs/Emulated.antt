@@ -20,7 +20,7 @@ use Rattle.stk_emu.specs.Wired.{WiredState, ComesOf, wired_view}
 use Rattle.stk_emu.specs.declared.fate.Fate.{Fate}
 use Rattle.avr_session.specs.Run.{RunsSession}
 use Rattle.avr_session.specs.Runs.{devices}
-use Rattle.avr_emulated.specs.AnyLine.{OverAnyLine}
+use Rattle.avr_course.specs.AnyLine.{OverAnyLine}
 
 -- The chip's file is replaced if anything was sent, else only released; where it can't be, the status is 1.
 abbrev pub IsSaved : List ℕ → DeskView → DeskView → Bytes → Bytes → ℕ → ℕ → Type 0

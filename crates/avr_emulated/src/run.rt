@@ -1,7 +1,7 @@
 //! Runs over the emulated programmer: of a plan over a wire, and from settings to status.
 ghost use Rattle.std.specs.Prelude.{◌≡◌};
 ghost use Rattle.avr_desk.specs.Fault.{Follows};
-ghost use Rattle.avr_emulated.specs.AnyLine.{OverAnyLine};
+ghost use Rattle.avr_course.specs.AnyLine.{OverAnyLine};
 ghost use Rattle.avr_session.specs.Run.{RunsSession};
 ghost use Rattle.avr_session.specs.Runs.{devices};
 ghost use Rattle.stk_emu.specs.Wired.{ComesOf, IsFresh, wired_view};

@@ -12,18 +12,18 @@ use Rattle.avr_session.proofs.SoundRuns.{broke_lacks}
 use Rattle.stk_host.specs.Dialog.{Event}
 use Rattle.stk_emu.specs.Wire.{turns_of}
 use Rattle.stk_emu.specs.Effect.{erase_keeps_eeprom, memories_of}
-use Rattle.stk_emu.specs.Few.{AreFew}
+use Rattle.stk_lines.specs.Few.{AreFew}
 use Rattle.stk_emu.specs.Programmer.{Programmer}
 use Rattle.stk_emu.specs.Settled.{FitsPart}
 use Rattle.stk_emu.specs.Turn.{Turn}
 use Rattle.stk_emu.specs.Wired.{WiredState, wired_view}
-use Rattle.avr_emulated.specs.Again.{AreKeeping, AgreesAnyway}
-use Rattle.avr_emulated.specs.AnyLine.{Stopped, OverAnyLine, memories}
-use Rattle.avr_emulated.specs.Items.{items, asked_items, has_erase}
-use Rattle.avr_emulated.specs.Outcome.{IsTouched, IsDone, IsCourse}
-use Rattle.avr_emulated.specs.Written.{IsWritten}
-use Rattle.avr_emulated.proofs.AgainAgrees.{agrees_anyway}
-use Rattle.avr_emulated.proofs.AgainHeals.{done_again}
+use Rattle.avr_course.specs.Again.{AreKeeping, AgreesAnyway}
+use Rattle.avr_course.specs.AnyLine.{Stopped, OverAnyLine, memories}
+use Rattle.avr_course.specs.Items.{items, asked_items, has_erase}
+use Rattle.avr_course.specs.Outcome.{IsTouched, IsDone, IsCourse}
+use Rattle.avr_course.specs.Written.{IsWritten}
+use Rattle.avr_course.proofs.AgainAgrees.{agrees_anyway}
+use Rattle.avr_course.proofs.AgainHeals.{done_again}
 use Rattle.avr_tool.specs.Headline.{OverAnyLink, OverAnyEnd, wire_and_desk}
 
 module _ (plan : Plan) (w v : WiredState) (d e : Record) (a b : ℕ × ℕ) (status : ℕ) (few : AreFew (turns_of w.wire.fates)) (sound : IsSound (wire_and_desk w (keeping d a)) (wire_and_desk v (keeping e b))) (has_memory : LacksMemory e.messages → ⊥) where

@@ -7,14 +7,18 @@ use Rattle.avr_cli.specs.declared.settings.Settings.{Settings}
 use Rattle.avr_desk.proofs.Breaks.{openings_in, openings_shown}
 use Rattle.avr_desk.proofs.Saying.{after_append}
 use Rattle.avr_desk.proofs.Truths.{all_true, begins_true}
+use Rattle.avr_desk.proofs.Uses.{absent_used, files_used, openings_used}
 use Rattle.avr_desk.specs.Memory.{Memory, Stock, memory_view, stock_of}
 use Rattle.avr_desk.specs.Playing.{Went, WentRefused}
-use Rattle.avr_desk.specs.Record.{Bytes, Record, all_files, all_openings, file_of, nothing_kept, written_on}
+use Rattle.avr_desk.specs.Record.{Bytes, Record, all_files, all_openings, all_uses, file_of, files_among, nothing_kept, openings_among, written_on}
 use Rattle.avr_desk.specs.Said.{Saying, Opens, Line, Creates, Writes, Outs, after, after_all}
 use Rattle.avr_desk.specs.Stage.{Answer, Made, Refused, Unread, StageResult, all_told, told_in}
 use Rattle.avr_desk.specs.Truth.{AreTrue, HoldsTrue, IsTrueOpening}
+use Rattle.avr_desk.specs.declared.record.FileUse.{FileUse}
+use Rattle.avr_desk.specs.declared.record.FileUse.TheVariants.{Opened, Created}
 use Rattle.avr_desk.specs.declared.record.Open.{Open}
 use Rattle.avr_desk.specs.declared.record.Open.TheVariants.{Closed, ToRead, ToWrite}
+use Rattle.avr_desk.specs.declared.record.Opening.{Opening}
 use Rattle.avr_desk.specs.declared.record.Opening.TheVariants.{Absent, Found}
 use Rattle.avr_desk.specs.declared.record.Writing.{Writing}
 use Rattle.avr_plan.proofs.FilesRead.{seen_first, seen_is_planned}
@@ -38,26 +42,25 @@ use Rattle.avr_tool.specs.InMemory.{Outcome, left_by, outcome_of, run_of, shown_
 
 -- ---- the files were seen as they were before the run
 
-none_before : (first second : List Writing) → first ++ second ≡ [] → first ≡ []
-none_before [] second none = refl
-none_before (file ∷ first) second none = absurd (cc)
+-- each of these openings was true before any file was made
+abbrev AreOpened : Stock → List Opening → Type 0
+AreOpened stock [] = Unit {0}
+AreOpened stock (opening ∷ openings) = IsTrueOpening stock [] opening × AreOpened stock openings
 
-none_behind : (first second : List Writing) → first ++ second ≡ [] → second ≡ []
-none_behind [] second none = none
-none_behind (file ∷ first) second none = absurd (cc)
+-- what was opened among these uses, where no file was made
+opened_uses : (stock : Stock) (uses : List FileUse) → files_among uses ≡ [] → AreTrue stock [] uses → AreOpened stock (openings_among uses)
+opened_uses stock [] none are = tt
+opened_uses stock (Opened opening ∷ uses) none are = (are.0, opened_uses stock uses none are.1)
+opened_uses stock (Created file ∷ uses) none are = absurd (cc)
 
--- what was opened among these sayings, where no file was made
-seen_sayings : (stock : Stock) (says : List Saying) (files : List Writing) → files ≡ [] → AreTrue stock (openings_in says) [] files → AreSeen stock says
-seen_sayings stock [] files none are = tt
-seen_sayings stock (Opens opening ∷ says) files none are =
-    let more : are.more ≡ [] = none_before are.more are.rest (are.order ∙ none) in (
-      subst (λ fs. IsTrueOpening stock fs opening) more are.gave,
-      seen_sayings stock says are.rest (none_behind are.more are.rest (are.order ∙ none)) (subst (λ fs. AreTrue stock (openings_in says) fs are.rest) more are.behind),
-    )
-seen_sayings stock (Line bytes ∷ says) files none are = seen_sayings stock says files none are
-seen_sayings stock (Creates name ∷ says) files none are = seen_sayings stock says files none are
-seen_sayings stock (Writes bytes ∷ says) files none are = seen_sayings stock says files none are
-seen_sayings stock (Outs bytes ∷ says) files none are = seen_sayings stock says files none are
+-- what was opened among these sayings
+seen_sayings : (stock : Stock) (says : List Saying) → AreOpened stock (openings_in says) → AreSeen stock says
+seen_sayings stock [] are = tt
+seen_sayings stock (Opens opening ∷ says) are = (are.0, seen_sayings stock says are.1)
+seen_sayings stock (Line bytes ∷ says) are = seen_sayings stock says are
+seen_sayings stock (Creates name ∷ says) are = seen_sayings stock says are
+seen_sayings stock (Writes bytes ∷ says) are = seen_sayings stock says are
+seen_sayings stock (Outs bytes ∷ says) are = seen_sayings stock says are
 
 -- ---- what is left, but for what was opened
 
@@ -65,11 +68,14 @@ seen_sayings stock (Outs bytes ∷ says) files none are = seen_sayings stock say
 record IsAlike (r s : Record) : Type 0 where
   pub messages : r.messages ≡ s.messages
   pub output : r.output ≡ s.output
-  pub files : r.files ≡ s.files
+  pub files : files_among r.uses ≡ files_among s.uses
   pub file : file_of r.current ≡ file_of s.current
 
 same_files : (r s : Record) → IsAlike r s → all_files r ≡ all_files s
-same_files r s alike = ap (λ (fs : List Writing). fs ++ file_of r.current) alike.files ∙ ap (λ (fs : List Writing). s.files ++ fs) alike.file
+same_files r s alike = ap (λ (fs : List Writing). fs ++ file_of r.current) alike.files ∙ ap (λ (fs : List Writing). files_among s.uses ++ fs) alike.file
+
+same_used : (r s : Record) → IsAlike r s → files_among (all_uses r) ≡ files_among (all_uses s)
+same_used r s alike = files_used r ∙ same_files r s alike ∙ sym (files_used s)
 
 with_bytes : Bytes → Writing → Writing
 with_bytes bytes file = record file { bytes = file.bytes ++ bytes }
@@ -81,11 +87,16 @@ written_file bytes (ToRead x) = refl
 written_file bytes (ToWrite x) = refl
 
 alike_on : (saying : Saying) (r s : Record) → IsAlike r s → IsAlike (after saying r) (after saying s)
-alike_on (Opens (Absent name)) r s alike = record { messages = alike.messages; output = alike.output; files = same_files r s alike; file = refl }
-alike_on (Opens (Found x)) r s alike = record { messages = alike.messages; output = alike.output; files = same_files r s alike; file = refl }
+alike_on (Opens (Absent name)) r s alike = record {
+  messages = alike.messages;
+  output = alike.output;
+  files = absent_used name r ∙ same_files r s alike ∙ sym (absent_used name s);
+  file = refl;
+}
+alike_on (Opens (Found x)) r s alike = record { messages = alike.messages; output = alike.output; files = same_used r s alike; file = refl }
 alike_on (Line bytes) r s alike =
     record { messages = ap (λ (b : Bytes). b ++ bytes) alike.messages; output = alike.output; files = alike.files; file = alike.file }
-alike_on (Creates name) r s alike = record { messages = alike.messages; output = alike.output; files = same_files r s alike; file = refl }
+alike_on (Creates name) r s alike = record { messages = alike.messages; output = alike.output; files = same_used r s alike; file = refl }
 alike_on (Writes bytes) r s alike = record {
   messages = alike.messages;
   output = alike.output;
@@ -107,16 +118,16 @@ joined (line ∷ lines) = line ++ joined lines
 record HasTold (r : Record) (lines : List Bytes) (s : Record) : Type 0 where
   pub messages : s.messages ≡ r.messages ++ joined lines
   pub output : s.output ≡ r.output
-  pub files : s.files ≡ []
+  pub files : files_among s.uses ≡ []
   pub file : file_of s.current ≡ []
 
-only_told : (says : List Saying) (r : Record) → OnlyReads says → r.files ≡ [] → file_of r.current ≡ [] → HasTold r (lines_in says) (after_all says r)
+only_told : (says : List Saying) (r : Record) → OnlyReads says → files_among r.uses ≡ [] → file_of r.current ≡ [] → HasTold r (lines_in says) (after_all says r)
 only_told [] r reads files file = record { messages = sym (append-nil r.messages); output = refl; files = files; file = file }
 only_told (Opens (Absent name) ∷ says) r reads files file =
-    let told = only_told says (after (Opens (Absent name)) r) reads (ap (λ (fs : List Writing). fs ++ file_of r.current) files ∙ file) refl in
+    let told = only_told says (after (Opens (Absent name)) r) reads (absent_used name r ∙ ap (λ (fs : List Writing). fs ++ file_of r.current) files ∙ file) refl in
     record { messages = told.messages; output = told.output; files = told.files; file = told.file }
 only_told (Opens (Found x) ∷ says) r reads files file =
-    let told = only_told says (after (Opens (Found x)) r) reads (ap (λ (fs : List Writing). fs ++ file_of r.current) files ∙ file) refl in
+    let told = only_told says (after (Opens (Found x)) r) reads (files_used r ∙ ap (λ (fs : List Writing). fs ++ file_of r.current) files ∙ file) refl in
     record { messages = told.messages; output = told.output; files = told.files; file = told.file }
 only_told (Line bytes ∷ says) r reads files file =
     let told = only_told says (after (Line bytes) r) reads files file in
@@ -169,7 +180,8 @@ module _ (settings : Settings) (stock : Stock) (old m : Memory) (answer : Answer
   opened = ap all_openings kept_is ∙ openings_shown told nothing_kept
 
   seen : AreSeen stock told
-  seen = seen_sayings stock told (all_files m.kept) no_files (subst (λ os. AreTrue stock os [] (all_files m.kept)) opened (all_true stock m holds))
+  seen = seen_sayings stock told (subst (AreOpened stock) (openings_used m.kept ∙ opened)
+      (opened_uses stock (all_uses m.kept) (files_used m.kept ∙ no_files) (all_true stock m holds)))
 
   both : ((planned_of settings stock).answer ≡ (planned settings (went.passed ++ [])).answer)
       × (lines_in (told_in (planned_of settings stock)) ≡ lines_in (told_in (planned settings (went.passed ++ []))))

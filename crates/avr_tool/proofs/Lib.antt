@@ -6,6 +6,9 @@ pub mod Refusing
 pub mod Untaken
 pub mod OverTalk
 pub mod Further
+pub mod UsesPast
+pub mod ChipFound
+pub mod ChipAgain
 pub mod Slots
 pub mod InOrder
 pub mod Misses
@@ -14,4 +17,5 @@ pub mod Meeting
 pub mod TwoProcesses
 pub mod Prompt
 pub mod WorkedLine
+pub mod PerfectRun
 pub mod MadeFrame

@@ -13,14 +13,14 @@ use Rattle.stk_host.specs.Play.{IsPrefixOf}
 use Rattle.stk_host.specs.Talk.{Talk, sent, heard}
 use Rattle.stk_host.specs.Tape.{Tape, bytes_of}
 use Rattle.stk_emu.specs.Along.{AsksBodies}
-use Rattle.stk_emu.specs.AnyTape.{AreHonest, after_sent}
+use Rattle.stk_lines.specs.AnyTape.{AreHonest, after_sent}
 use Rattle.stk_emu.specs.Device.{device, refusal, answer_body, answer_frame, after_frame, after_frames, answers}
 use Rattle.stk_emu.specs.Emulator.{Machine}
 use Rattle.stk_emu.specs.Lawful.{IsBody}
 use Rattle.stk_emu.specs.Programmer.{Programmer}
 use Rattle.stk_emu.proofs.Answering.{answers_more}
 use Rattle.stk_emu.proofs.Bodies.{answers_bodies, obey_body}
-use Rattle.stk_emu.proofs.Turning.{sends_whole, frames_front}
+use Rattle.stk_lines.proofs.Turning.{sends_whole, frames_front}
 use Rattle.avr_serve.specs.Serving.{HasNoEnd, AnswersAll, BreaksOff, ServingLeaves}
 use Rattle.avr_serve.specs.declared.serving.Served.{Served}
 use Rattle.avr_serve.specs.declared.serving.Served.TheVariants.{Ended, RecvFailed, SendFailed, TooManyReads}

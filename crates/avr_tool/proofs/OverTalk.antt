@@ -16,31 +16,31 @@ use Rattle.stk_host.specs.Play.{IsPrefixOf}
 use Rattle.stk_host.specs.Talk.{Talk, Grows, sent, heard}
 use Rattle.stk_host.specs.Tape.{Tape}
 use Rattle.stk_emu.specs.Along.{along, said_along, AsksBodies}
-use Rattle.stk_emu.specs.AnyTape.{AreHonest, GoesAs, CameThrough, after_sent, became_by, turns_heard}
-use Rattle.stk_emu.specs.NoFrame.{MakesNoFrame}
-use Rattle.stk_emu.proofs.NoFrame.{no_frame_honest, front_of_play}
+use Rattle.stk_lines.specs.AnyTape.{AreHonest, GoesAs, CameThrough, after_sent, became_by, turns_heard}
+use Rattle.stk_lines.specs.NoFrame.{MakesNoFrame}
+use Rattle.stk_lines.proofs.NoFrame.{no_frame_honest, front_of_play}
 use Rattle.stk_emu.specs.Turn.{Turn, Became}
 use Rattle.stk_emu.specs.Device.{device, after_frames}
 use Rattle.stk_emu.specs.Effect.{memories_of}
-use Rattle.stk_emu.specs.Few.{AreFew}
+use Rattle.stk_lines.specs.Few.{AreFew}
 use Rattle.stk_emu.specs.Programmer.{Programmer, fresh_programmer}
 use Rattle.stk_emu.specs.Settled.{Idle, FitsPart}
-use Rattle.stk_emu.proofs.Beginning.{fresh_idle, fresh_fits}
-use Rattle.stk_emu.proofs.Turning.{AreWhole, sends_whole, frames_front, frames_sent, shown_front}
-use Rattle.stk_emu.proofs.AnyTape.{goes_as, through_after}
-use Rattle.avr_emulated.specs.AnyLine.{weighed, bodies_in}
-use Rattle.avr_emulated.specs.Bound.{run_steps}
-use Rattle.avr_emulated.specs.Foretold.{EndsAsForetold}
-use Rattle.avr_emulated.specs.Outcome.{IsDone, MakesStrokes}
-use Rattle.avr_emulated.proofs.AgainHeals.{succeeds}
-use Rattle.avr_emulated.proofs.AnyLine.{session_leaves}
-use Rattle.avr_emulated.proofs.AnyLineAsks.{session_asks}
-use Rattle.avr_emulated.proofs.AnyLineOrder.{session_makes}
-use Rattle.avr_emulated.proofs.FewBad.{session_ends}
-use Rattle.avr_emulated.proofs.FramesWeighed.{front_weighs}
-use Rattle.avr_emulated.proofs.SaidToFault.{foretold_end, foretold_on_tape}
-use Rattle.avr_emulated.proofs.Weighing.{session_weighs}
-use Rattle.avr_emulated.proofs.WrittenRuns.{run_written}
+use Rattle.stk_lines.proofs.Beginning.{fresh_idle, fresh_fits}
+use Rattle.stk_lines.proofs.Turning.{AreWhole, sends_whole, frames_front, frames_sent, shown_front}
+use Rattle.stk_lines.proofs.AnyTape.{goes_as, through_after}
+use Rattle.avr_course.specs.AnyLine.{weighed, bodies_in}
+use Rattle.avr_course.specs.Bound.{run_steps}
+use Rattle.avr_course.specs.Foretold.{EndsAsForetold}
+use Rattle.avr_course.specs.Outcome.{IsDone, MakesStrokes}
+use Rattle.avr_course.proofs.AgainHeals.{succeeds}
+use Rattle.avr_course.proofs.AnyLine.{session_leaves}
+use Rattle.avr_course.proofs.AnyLineAsks.{session_asks}
+use Rattle.avr_course.proofs.AnyLineOrder.{session_makes}
+use Rattle.avr_course.proofs.FewBad.{session_ends}
+use Rattle.avr_course.proofs.FramesWeighed.{front_weighs}
+use Rattle.avr_course.proofs.SaidToFault.{foretold_end, foretold_on_tape}
+use Rattle.avr_course.proofs.Weighing.{session_weighs}
+use Rattle.avr_course.proofs.WrittenRuns.{run_written}
 use Rattle.avr_tool.specs.Headline.{IsItsCourse, OverAnyLink, OverAnyEnd}
 
 -- a talk that began with nothing is what passed since

@@ -15,10 +15,10 @@ use Rattle.stk_host.specs.Talk.{Talk, sent, heard}
 use Rattle.stk_host.specs.Tape.{answer, on_tape}
 use Rattle.stk_emu.specs.Effect.{effects}
 use Rattle.stk_emu.specs.Wired.{WiredState}
-use Rattle.avr_emulated.specs.AnyLine.{OverAnyLine, Weight, weighed, bodies_in, memories, frames_over}
-use Rattle.avr_emulated.specs.Bound.{run_steps}
-use Rattle.avr_emulated.specs.Course.{course}
-use Rattle.avr_emulated.specs.Items.{items}
+use Rattle.avr_course.specs.AnyLine.{OverAnyLine, Weight, weighed, bodies_in, memories, frames_over}
+use Rattle.avr_course.specs.Bound.{run_steps}
+use Rattle.avr_course.specs.Course.{course}
+use Rattle.avr_course.specs.Items.{items}
 use Rattle.avr_tool.specs.Headline.{run, IsRun}
 use Rattle.avr_tool.specs.Worked.{worked_settings, worked_answers, frames_due, lines_due}
 

@@ -19,17 +19,17 @@ use Rattle.stk_host.proofs.Tapes.{bytes_of_append}
 use Rattle.stk_emu.specs.Along.{along, AsksBodies}
 use Rattle.stk_emu.specs.Effect.{memories_of}
 use Rattle.stk_emu.specs.Settled.{Idle, FitsPart}
-use Rattle.stk_emu.proofs.Beginning.{fresh_idle, fresh_fits}
-use Rattle.avr_emulated.specs.Course.{course}
-use Rattle.avr_emulated.proofs.FewBad.{session_ends}
-use Rattle.stk_emu.specs.AnyTape.{AreHonest, after_sent, turns_heard}
+use Rattle.stk_lines.proofs.Beginning.{fresh_idle, fresh_fits}
+use Rattle.avr_course.specs.Course.{course}
+use Rattle.avr_course.proofs.FewBad.{session_ends}
+use Rattle.stk_lines.specs.AnyTape.{AreHonest, after_sent, turns_heard}
 use Rattle.stk_emu.specs.Device.{device, after_frames}
 use Rattle.stk_emu.specs.Emulator.{emulate}
 use Rattle.stk_emu.specs.Programmer.{Programmer, fresh_programmer}
-use Rattle.stk_emu.specs.NoFrame.{MakesNoFrame}
-use Rattle.stk_emu.proofs.NoFrame.{no_frame_honest}
-use Rattle.stk_emu.proofs.Turning.{due_at, sends_whole, frames_sent, shown_front}
-use Rattle.avr_emulated.proofs.AnyLineAsks.{session_asks}
+use Rattle.stk_lines.specs.NoFrame.{MakesNoFrame}
+use Rattle.stk_lines.proofs.NoFrame.{no_frame_honest}
+use Rattle.stk_lines.proofs.Turning.{due_at, sends_whole, frames_sent, shown_front}
+use Rattle.avr_course.proofs.AnyLineAsks.{session_asks}
 use Rattle.avr_serve.specs.Serving.{HasNoEnd, AnswersInTurn}
 use Rattle.avr_serve.specs.ServedRun.{Sides, ServesChip, SavesAfterServing}
 use Rattle.avr_chip.specs.Saving.{Saves}

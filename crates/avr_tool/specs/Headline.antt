@@ -1,7 +1,7 @@
 -- THE HEADLINE. What a run does, from settings to status, and what it leaves in a chip behind a line that loses, delays
 -- and spoils, as long as it makes no frame. Read it from top to bottom: each word is defined here, or one step below in
--- the file that its `use` names. Two sections stand below, as the contracts of the calls there: 4 is avr_emulated's
--- specs/AnyLine, and 6 its specs/Emulated.
+-- the file that its `use` names. Two sections stand below, as the contracts of calls below: 4 is avr_course's
+-- specs/AnyLine, and 6 avr_emulated's specs/Emulated.
 --
 -- What it does not say. Every desk and every link keeps a record, the real ones for proofs alone: what passed there is
 -- what their calls answered, and what a reader gave and a writer took (stk_host's Links, avr_desk's Shown), and
@@ -27,16 +27,16 @@ use Rattle.avr_desk.specs.Stage.{Answer, Made, Refused, Unread}
 use Rattle.avr_session.specs.Run.{StopsSession}
 use Rattle.avr_session.specs.Runs.{Devices, devices, NoneFailed}
 use Rattle.avr_session.specs.Session.{session}
-use Rattle.avr_emulated.specs.Again.{AgreesAnyway}
-use Rattle.avr_emulated.specs.AnyLine.{Weight, weighed, bodies_in, Stopped, OverAnyLine}
-use Rattle.avr_emulated.specs.Bound.{run_steps}
-use Rattle.avr_emulated.specs.Course.{course}
-use Rattle.avr_emulated.specs.Foretold.{IsForetold, EndsAsForetold}
-use Rattle.avr_emulated.specs.Items.{items, asked_items, has_erase}
-use Rattle.avr_emulated.specs.Outcome.{IsDone, MakesStrokes}
-use Rattle.avr_emulated.specs.Written.{IsWritten}
+use Rattle.avr_course.specs.Again.{AgreesAnyway}
+use Rattle.avr_course.specs.AnyLine.{Weight, weighed, bodies_in, Stopped, OverAnyLine}
+use Rattle.avr_course.specs.Bound.{run_steps}
+use Rattle.avr_course.specs.Course.{course}
+use Rattle.avr_course.specs.Foretold.{IsForetold, EndsAsForetold}
+use Rattle.avr_course.specs.Items.{items, asked_items, has_erase}
+use Rattle.avr_course.specs.Outcome.{IsDone, MakesStrokes}
+use Rattle.avr_course.specs.Written.{IsWritten}
 use Rattle.stk_emu.specs.Effect.{memories_of}
-use Rattle.stk_emu.specs.Few.{AreFew}
+use Rattle.stk_lines.specs.Few.{AreFew}
 use Rattle.stk_emu.specs.Lawful.{none_late}
 use Rattle.stk_emu.specs.Programmer.{Programmer, fresh_programmer}
 use Rattle.stk_emu.specs.Wire.{AreLawful}
@@ -128,7 +128,7 @@ pub record IsFrontOfRun (settings : Settings) (before now : Devices) : Type 0 wh
   pub all_sent : bytes_sent shown ≡ sent during
   pub grows : Grows before.link.talk during now.link.talk
 
--- ---- 4. Over the emulated programmer, whatever the line loses, delays and spoils: avr_emulated's specs/AnyLine
+-- ---- 4. Over the emulated programmer, whatever the line loses, delays and spoils: avr_course's specs/AnyLine
 --
 -- `OverAnyLine` tells what the session of a plan did from one state of a wire to another. With status 0 it said what it
 -- says over a perfect line and left the same memories (`success`), all was written and all comparisons agreed (`done`),

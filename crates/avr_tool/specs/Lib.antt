@@ -1,7 +1,7 @@
 -- what callers of the front door cite
 pub use Rattle.avr_desk.specs.Record
 pub use Rattle.avr_desk.specs.Shown
-pub use Rattle.avr_emulated.specs.AnyLine
+pub use Rattle.avr_course.specs.AnyLine
 pub use Rattle.avr_emulated.specs.Emulated
 pub use Rattle.avr_net.specs.OverNet
 pub use Rattle.avr_net.specs.ServedNet
@@ -15,6 +15,7 @@ pub mod Ports
 pub mod ServedOn
 pub mod Headline
 pub mod InMemory
+pub mod ChipFound
 pub mod Worked
 pub mod Asked
 pub mod Program

@@ -1,14 +1,20 @@
 -- TWO PROCESSES: a host that plays and a server that answers, at the two ends of a line that keeps the order of bytes,
 -- loses none and adds none, and cuts and stalls wherever it likes.
 use Rattle.std.specs.Prelude.{ℕ, zero, suc, List, [], ◌∷◌, ◌++◌, ◌≡◌, take, drop}
+use Rattle.avr_desk.specs.Record.{Bytes, DeskView}
+use Rattle.avr_part.specs.State.{ChipState as Chip}
+use Rattle.avr_plan.specs.Plan.{Plan}
+use Rattle.avr_session.specs.Runs.{Ran, devices, start}
+use Rattle.avr_session.specs.Session.{session}
 use Rattle.stk_frame.specs.Cut.{frames, rest}
 use Rattle.stk_host.specs.declared.link.Item.TheVariants.{Byte, Silence, End}
-use Rattle.stk_host.specs.Play.{IsPrefixOf}
-use Rattle.stk_host.specs.Talk.{Talk, Sent, Got, sent, heard}
+use Rattle.stk_host.specs.Play.{IsPrefixOf, Position}
+use Rattle.stk_host.specs.Talk.{LinkView, Talk, Sent, Got, sent, heard}
 use Rattle.stk_host.specs.Tape.{Tape, on_tape, bytes_of}
 use Rattle.stk_emu.specs.Device.{device, answers, after_frames}
 use Rattle.stk_emu.specs.Programmer.{Programmer}
 use Rattle.stk_emu.specs.Turn.{Became, Obeyed}
+use Rattle.avr_serve.specs.ServedRun.{ServesChip, sides}
 use Rattle.avr_serve.specs.Serving.{HasNoEnd}
 
 -- ---- 1. Both ends in one order
@@ -95,3 +101,27 @@ worked_calls =
     HostSays worked_frame ∷ HostHears (Silence ∷ []) ∷ ServerHears (on_tape (take 3 worked_frame))
     ∷ ServerHears (on_tape (drop 3 worked_frame)) ∷ ServerSays worked_reply ∷ HostHears (on_tape (take 9 worked_reply))
     ∷ HostHears (on_tape (drop 9 worked_reply)) ∷ []
+
+-- ---- 6. That there is such a run
+
+-- a link over which this passed, and that never failed
+abbrev pub passed : Talk → LinkView
+passed talk = record { talk = talk; failures = 0 }
+
+-- A session of this plan that was played whole, and a server of status 0 with this chip, at the ends of an ordered line
+-- that is never silent; nothing had passed before.
+pub record HasRun (plan : Plan) (chip : Chip) (file : Bytes) : Type 0 where
+  pub calls : List Call
+  pub ordered : IsOrdered calls
+  pub prompt : IsPrompt (heard (of_host calls))
+  pub most : ℕ
+  pub status : ℕ
+  pub after : Position
+  pub host_desk : DeskView
+  pub host_desk_then : DeskView
+  pub server_desk : DeskView
+  pub server_desk_then : DeskView
+  pub ran : Ran (session plan) start (devices (passed []) host_desk) (devices (passed (of_host calls)) host_desk_then)
+      status after
+  pub serves : ServesChip chip file most (sides (passed []) server_desk)
+      (sides (passed (of_server calls)) server_desk_then) 0

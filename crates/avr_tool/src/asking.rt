@@ -21,6 +21,20 @@ pub enum NotAsked {
 }
 
 /// The settings that the words of a command line ask for, the program's name first.
+///
+/// ```text
+/// let mut words = Vec::new(alloc);
+/// for word in ["avrstk", "-p", "nobody", "-P", "emu:chip.bin", "-U", "flash:r:-"] {
+///     words.push(String::from_str(alloc, word)?)?;
+/// }
+/// let mut desk = MemDesk::new(alloc);
+/// let Ok(settings) = asked(alloc, words.as_slice(), &mut desk) else {
+///     panic!(rt; "the words are taken");
+/// };
+/// // whether there is such a part is judged when a run is planned
+/// assert!(rt; settings.part.as_str() == "nobody");
+/// assert!(rt; settings.updates.as_slice().len() == 1);
+/// ```
 pub fn asked<D: Desk>(alloc: Global, words: &[String], desk: &mut D) -> Result<Settings, NotAsked>
     ensures asks { Asks (map string_bytes words.now) (D.view desk.old) (D.view desk.new) result }
     ensures stays { Stays D.comes_of desk.old desk.new }

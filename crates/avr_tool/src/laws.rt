@@ -2,15 +2,18 @@
 
 ghost use Rattle.std.specs.Prelude.{◌≡◌, ◌++◌, replicate, ◌<◌, ◌*◌, ◌⊎◌, ℕ, Bool, length, true, false, List, [], All, Some, map, ◌∷◌, Ok};
 ghost use Rattle.avr_cli.specs.declared.settings.Settings.{Settings as AnySettings};
-ghost use Rattle.avr_desk.specs.Memory.{Stock};
+ghost use Rattle.avr_desk.specs.Memory.{Memory, Stock, memory_view};
+ghost use Rattle.avr_desk.specs.Named.{is_dash};
+ghost use Rattle.avr_desk.specs.Truth.{HoldsTrue};
 ghost use Rattle.avr_desk.specs.Record.{DeskView, Passes, Record, Bytes};
-ghost use Rattle.avr_emulated.specs.Again.{AgreesAnyway, AreKeeping};
-ghost use Rattle.avr_emulated.specs.AnyLine.{Stopped, OverAnyLine, Weight, weighed, bodies_in, memories, frames_over};
-ghost use Rattle.avr_emulated.specs.Bound.{run_steps};
-ghost use Rattle.avr_emulated.specs.Course.{course};
-ghost use Rattle.avr_emulated.specs.Items.{items, asked_items, has_erase};
-ghost use Rattle.avr_emulated.specs.Outcome.{IsCourse, IsDone};
-ghost use Rattle.avr_emulated.specs.Written.{IsWritten};
+ghost use Rattle.avr_course.specs.Again.{AgreesAnyway, AreKeeping};
+ghost use Rattle.avr_course.specs.AnyLine.{Stopped, OverAnyLine, Weight, weighed, bodies_in, memories, frames_over};
+ghost use Rattle.avr_course.specs.Bound.{run_steps};
+ghost use Rattle.avr_course.specs.Course.{course};
+ghost use Rattle.avr_emulated.specs.Emulated.{RunsOverEmulator, new_wire};
+ghost use Rattle.avr_course.specs.Items.{items, asked_items, has_erase};
+ghost use Rattle.avr_course.specs.Outcome.{IsCourse, IsDone};
+ghost use Rattle.avr_course.specs.Written.{IsWritten};
 ghost use Rattle.avr_desk.specs.Said.{Saying, after_all};
 ghost use Rattle.avr_part.specs.Part.{IsPart};
 ghost use Rattle.avr_part.specs.Sound.{IsSoundChip};
@@ -20,6 +23,8 @@ ghost use Rattle.avr_session.specs.Run.{RunsSettings, RunsSession};
 ghost use Rattle.avr_session.specs.Runs.{Devices, devices, start, Ran};
 ghost use Rattle.avr_session.specs.Session.{session};
 ghost use Rattle.avr_session.specs.Stopping.{IsSound, LacksMemory, keeping, talking};
+ghost use Rattle.ghosts.specs.Stays.{Stays};
+ghost use Rattle.avr_tool.specs.ChipFound.{IsChipOf, file_held};
 ghost use Rattle.avr_tool.specs.Headline.{IsRun, IsStopped, StoppedPlaying, IsFrontOfRun, OverAnyLink, OverAnyEnd, wire_and_desk};
 ghost use Rattle.avr_tool.specs.InMemory.{Leaves, Outcome};
 ghost use Rattle.avr_tool.specs.Worked.{absent_outcome, absent_settings, frames_due, fuse_plan, lines_due, made_answers, no_stock, worked_answers, worked_outcome, worked_settings};
@@ -30,18 +35,18 @@ ghost use Rattle.avr_part.specs.ChipFile.{chip_file};
 ghost use Rattle.avr_serve.specs.ServedRun.{Sides, ServesChip};
 ghost use Rattle.avr_serve.specs.Serving.{HasNoEnd, AnswersAll, AnswersInTurn, ServingLeaves};
 ghost use Rattle.avr_serve.specs.declared.serving.Served.{Served};
-ghost use Rattle.avr_tool.specs.TwoProcesses.{Call, HostSays, ServerHears, worked_calls, of_host, of_server, IsJoined, IsOrdered, IsPrompt, StallsBetweenAnswers, HasServed, obeyed};
+ghost use Rattle.avr_tool.specs.TwoProcesses.{Call, HostSays, ServerHears, worked_calls, of_host, of_server, IsJoined, IsOrdered, IsPrompt, StallsBetweenAnswers, HasRun, HasServed, obeyed};
 ghost use Rattle.stk_emu.specs.Emulator.{Machine, emulate};
 ghost use Rattle.stk_emu.specs.Effect.{Memories, memories_of, erase_keeps_eeprom, effects};
-ghost use Rattle.stk_emu.specs.Few.{AreFew};
+ghost use Rattle.stk_lines.specs.Few.{AreFew};
 ghost use Rattle.stk_emu.specs.Programmer.{Programmer, fresh_programmer};
 ghost use Rattle.stk_emu.specs.Settled.{Idle, FitsPart};
 ghost use Rattle.stk_emu.specs.Wire.{turns_of};
 ghost use Rattle.stk_emu.specs.Wired.{WiredState};
 ghost use Rattle.stk_frame.specs.Cut.{body_of, frames};
 ghost use Rattle.stk_emu.specs.Turn.{Turn, Became};
-ghost use Rattle.stk_emu.specs.AnyTape.{AreHonest, CameThrough, after_sent, became_by, turns_heard};
-ghost use Rattle.stk_emu.specs.NoFrame.{MakesNoFrame};
+ghost use Rattle.stk_lines.specs.AnyTape.{AreHonest, CameThrough, after_sent, became_by, turns_heard};
+ghost use Rattle.stk_lines.specs.NoFrame.{MakesNoFrame};
 ghost use Rattle.stk_host.specs.Dialog.{Done, Event, played, frames_in, bytes_sent, sayings};
 ghost use Rattle.stk_host.specs.Talk.{Talk, heard, sent, Got};
 ghost use Rattle.stk_host.specs.Play.{Position, Plays, IsPrefixOf, InTurn};
@@ -134,6 +139,37 @@ pub fn a_further_run_heals()
         → (further ≡ 0) × IsDone plan (memories_of p.chip) (memories_of y.chip) }
 {}
 
+/// Over a desk in memory a run over the emulator begins with the chip of its file, as the file stood before the run: of
+/// its bytes, which are as many as the part's, or fresh where there is no file. And with status 0 it leaves its chip
+/// there. (A file that is named `-` is standard input where it is read, so none that is left.)
+pub fn a_run_finds_and_leaves_the_chip_of_its_file()
+    ensures finds { (settings : AnySettings) (file : Bytes) (stock : Stock) (old new : Memory) (status : ℕ)
+        → HoldsTrue stock new → (r : RunsOverEmulator settings file (memory_view old) (memory_view new) status)
+        → IsChipOf r.plan.part (file_held stock old.kept file) r.chip }
+    ensures leaves { (settings : AnySettings) (file : Bytes) (stock : Stock) (old new : Memory) (status : ℕ)
+        → is_dash file ≡ false → status ≡ 0
+        → (r : RunsOverEmulator settings file (memory_view old) (memory_view new) status)
+        → file_held stock new.kept file ≡ Some (chip_file r.after.wire.programmer.chip) }
+{}
+
+/// The same run once more, over the chip file that a first one left, whatever became of that one and of its saving: a
+/// plan that erases, and agrees on a chip of 00 and on one of FF, comes to status 0, unless a device failed or memory
+/// was refused, and leaves what one run would have left of the chip before both. Only where that chip keeps EEPROM at
+/// an erase must each byte that the plan writes to the high fuse keep it too; and no update of the first run may be
+/// read into the chip's own file.
+pub fn a_further_run_over_its_chip_file_heals()
+    ensures { (settings : AnySettings) (file : Bytes) (stock : Stock) (old mid new : Memory) (status further : ℕ)
+        → is_dash file ≡ false → HoldsTrue stock old → Stays HoldsTrue old mid → Stays HoldsTrue mid new
+        → (one : RunsOverEmulator settings file (memory_view old) (memory_view mid) status)
+        → (two : RunsOverEmulator settings file (memory_view mid) (memory_view new) further)
+        → two.plan ≡ one.plan
+        → file_held stock one.played_desk.kept file ≡ file_held stock old.kept file
+        → has_erase (items one.plan) ≡ true → AgreesAnyway one.plan
+        → (erase_keeps_eeprom one.plan.part (memories_of one.chip) ≡ true → AreKeeping one.plan.part (items one.plan))
+        → ((two.ran ≡ 0) × IsDone one.plan (memories_of one.chip) (memories two.after))
+        ⊎ Stopped one.plan (new_wire two.chip []) two.after two.loaded_desk two.played_desk }
+{}
+
 /// A worked run, `-p m328p`, to which all answers came: another status, another frame or another line is no run.
 pub fn a_worked_run_has_one_outcome()
     ensures status { (talk : Talk) (a b : ℕ) (d e : DeskView)
@@ -213,9 +249,9 @@ pub fn whatever_becomes_of_a_session_its_first_strokes_were_made()
         (sayings (played (session plan) 1 (heard new.link.talk)).events) }
 {}
 
-/// That no frame is made is needed: over a tape with one that nobody sent a comparison of the low fuse with E2 ends with
-/// status 0 whatever the chip has, and of a chip with another fuse the promise fails. So no line that makes no frame
-/// brings this tape.
+/// That no frame is made is needed: over a tape with one that nobody sent a comparison of the low fuse with E2 ends
+/// with status 0 whatever the chip has, and of a chip with another fuse the promise fails. So no line that makes no
+/// frame brings this tape.
 pub fn a_made_frame_voids_the_promise()
     ensures ends { (played (session fuse_plan) 1 made_answers).outcome ≡ Some (0, 8, []) }
     ensures void { (p q : Programmer) (turns : List Turn) (bytes : List ℕ) (events : List (Event Saying))
@@ -296,6 +332,12 @@ pub fn a_session_and_a_server_are_one_run()
     ensures saved { (s : Chip) (file : Bytes) (most : ℕ) (old new : Sides) (status : ℕ)
         → (serves : ServesChip s file most old new status) → status ≡ 0
         → Saves serves.told_desk new.desk file (chip_file serves.left.programmer.chip) (Ok tt) }
+{}
+
+/// The laws of two processes speak of something: for every plan there is such a run, over a line that is never silent.
+pub fn two_processes_have_a_run()
+    ensures { (plan : Plan) (s : Chip) (file : Bytes)
+        → IsSoundChip s → s.part ≡ plan.part → All (IsFitted plan.part) plan.tasks → HasRun plan s file }
 {}
 
 /// Where the host never hears a silence, however the line cuts, they come to the course of the plan: its status, its

@@ -20,6 +20,14 @@ use stk_host::Link;
 /// Runs what the settings ask for over the emulator, as [`run_emulated`] does with the chip file of their port: what
 /// [`crate::run_wired`] promises of a line on which no frame goes wrong holds of it, between the chip that is loaded
 /// and the one that is saved.
+///
+/// ```text
+/// let mut settings = Settings::for_link(alloc, "m328p")?;
+/// settings.port = Port::Emulated(Text::new(alloc, "chip.bin")?);
+/// let mut desk = MemDesk::new(alloc);
+/// assert_eq!(rt; run_emu(alloc, &settings, &mut desk), 0);
+/// assert!(rt; desk.file("chip.bin").map(|file| file.len()) == Some(33_796));
+/// ```
 pub fn run_emu<D: Desk>(alloc: Global, settings: &Settings, desk: &mut D) -> u8
     requires port { IsEmulated settings.now.port }
     ensures runs { RunsEmulator settings.now (chip_file_of settings.now.port)
@@ -45,6 +53,18 @@ pub fn run_net<R: Net, D: Desk>(rt: &R, alloc: Global, settings: &Settings, desk
 }
 
 /// Serves the emulator over a link, as [`avr_serve::serve`] does with the chip file of the settings.
+///
+/// ```text
+/// let mut settings = Settings::for_link(alloc, "m328p")?;
+/// let [port, chip] = [Text::new(alloc, "5000")?, Text::new(alloc, "chip.bin")?];
+/// settings.port = Port::Served { port, chip };
+/// let mut desk = MemDesk::new(alloc);
+/// let sign_on = b"\x1B\x01\x00\x01\x0E\x01\x14";
+/// let mut caller = StreamLink::new(sign_on.as_slice(), Vec::new(alloc));
+/// assert_eq!(rt; serve(alloc, &settings, &mut desk, &mut caller), 0);
+/// let (_, answer) = caller.into_inner();
+/// assert!(rt; answer.as_slice() == b"\x1B\x01\x00\x0B\x0E\x01\x00\x08STK500_2\x02".as_slice());
+/// ```
 pub fn serve<D: Desk, L: Link>(alloc: Global, settings: &Settings, desk: &mut D, link: &mut L) -> u8
     requires port { IsServed settings.now.port }
     ensures runs { RunsServed settings.now (chip_file_of settings.now.port) 16777216

@@ -58,6 +58,17 @@ fn words_untaken<D: Desk>(error: Error, desk: &mut D) -> Result<u8, Error>
 ///
 /// `Err` is an error of `clap`, not printed yet: it doesn't take the words, or they ask for help or the version.
 /// Nothing was done then.
+///
+/// ```text
+/// let mut words = Vec::new(alloc);
+/// for word in ["avrstk", "-p", "m328p", "-P", "emu:chip.bin", "-q"] {
+///     words.push(String::from_str(alloc, word)?)?;
+/// }
+/// let mut desk = MemDesk::new(alloc);
+/// let mut streams = StreamLink::new(b"".as_slice(), Vec::new(alloc));
+/// assert_eq!(rt; run_words(&rt, alloc, words.as_slice(), &mut desk, &mut streams)?, 0);
+/// assert!(rt; desk.messages().is_empty());
+/// ```
 pub fn run_words<N: Net, D: Desk, R: Read + Drop, W: Write + Drop>(
     rt: &N,
     alloc: Global,

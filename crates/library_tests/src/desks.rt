@@ -46,7 +46,7 @@ fn a_desk_gives_its_files(rt: HostRuntime) -> Result<(), Fail> {
     assert!(rt; holds(alloc, &mut desk, "-", 4096, b"in"));
     let absent = read_file(alloc, &mut desk, "b.hex", 1);
     assert!(rt; absent.err() == Some(FileFault::Absent));
-    assert!(rt; desk.openings().len() == 4);
+    assert!(rt; desk.uses().len() == 4);
     Ok(())
 }
 

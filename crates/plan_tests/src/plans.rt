@@ -340,6 +340,6 @@ fn reads_need_nothing(rt: HostRuntime) -> Result<(), Fail> {
         )
     );
     assert!(rt; made.switches().quiet == 0);
-    assert!(rt; desk.openings().is_empty());
+    assert!(rt; desk.uses().is_empty());
     Ok(())
 }

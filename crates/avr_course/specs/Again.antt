@@ -1,0 +1,46 @@
+-- When the same run again comes to what one run comes to, and when a run succeeds whatever the chip was.
+use Rattle.std.specs.Prelude.{ℕ, Bool, true, ◌==◌, ◌≡◌, List, [], ◌∷◌, Option, Some, None, replicate, ⊤}
+use Rattle.std.specs.Int.{bit_at}
+use Rattle.avr_image.specs.Image.{byte_at}
+use Rattle.avr_part.specs.Part.{Part}
+use Rattle.avr_part.specs.declared.part.Mem.TheVariants.{Hfuse}
+use Rattle.avr_plan.specs.Plan.{Plan}
+use Rattle.stk_emu.specs.Effect.{Item, Write, Memories}
+use Rattle.avr_course.specs.Agrees.{Agrees}
+use Rattle.avr_course.specs.Course.{course}
+
+-- a byte of the high fuse that keeps EEPROM, or none
+abbrev pub is_keeping : Part → Option ℕ → Bool
+is_keeping part None = true
+is_keeping part (Some byte) = bit_at byte part.eesave_bit == 0
+
+-- what an item writes to the high fuse keeps EEPROM
+abbrev pub IsKeeping : Part → Item → Type 0
+IsKeeping part (Write Hfuse image) = is_keeping part (byte_at image 0) ≡ true
+IsKeeping part item = ⊤
+
+abbrev pub AreKeeping : Part → List Item → Type 0
+AreKeeping part [] = ⊤
+AreKeeping part (item ∷ items) = IsKeeping part item × AreKeeping part items
+
+-- a chip of this one byte everywhere
+abbrev pub chip_of : Part → ℕ → Memories
+chip_of part byte = record {
+  flash = replicate part.flash_size byte;
+  eeprom = replicate part.eeprom_size byte;
+  lfuse = byte;
+  hfuse = byte;
+  efuse = byte;
+  lock = byte;
+}
+
+-- The comparisons of a plan agree on a chip of nothing but 00 and on one of nothing but FF: so none of them is of a
+-- byte that the plan hasn't made, and each is of what it made.
+pub record AgreesAnyway (plan : Plan) : Type 0 where
+  pub zeros : Agrees plan (chip_of plan.part 0)
+  pub ones : Agrees plan (chip_of plan.part 255)
+
+-- The plan's course from these memories ends with status 0, and leaves what the one from those before would have left.
+pub record Heals (plan : Plan) (before left : Memories) : Type 0 where
+  pub status : (course plan left).status ≡ 0
+  pub memories : (course plan left).memories ≡ (course plan before).memories

@@ -1,0 +1,42 @@
+-- What a run leaves in a chip, whatever the line did.
+use Rattle.std.specs.Prelude.{ℕ, suc, ◌≡◌, ◌≤◌, ◌-◌, List, take}
+use Rattle.avr_desk.specs.Record.{DeskView, Passes}
+use Rattle.avr_desk.specs.Said.{after_all}
+use Rattle.avr_plan.specs.Plan.{Plan}
+use Rattle.stk_emu.specs.Turn.{Turn}
+use Rattle.stk_emu.specs.Effect.{Item, Memories, effects}
+use Rattle.stk_emu.specs.Programmer.{Programmer}
+use Rattle.stk_emu.specs.Strokes.{all_steps, strokes_of}
+use Rattle.avr_course.specs.Items.{items}
+use Rattle.avr_course.specs.Agrees.{Agrees}
+use Rattle.avr_course.specs.Course.{course}
+use Rattle.avr_course.specs.Made.{made_by}
+
+-- what the steps of a plan write, one after another: its erase, and the parts of its writes
+abbrev pub strokes : Plan → List Item
+strokes plan = strokes_of (all_steps plan.part (items plan))
+
+-- Memories before a run and after it: those of the first so many strokes.
+pub record IsTouched (plan : Plan) (before after : Memories) : Type 0 where
+  pub count : ℕ
+  pub memories : after ≡ effects plan.part (take count (strokes plan)) before
+
+-- The same, sharper, after so many frames over a line of these turns: at least as many strokes as have come to data by
+-- then, and at most one more than had before the last frame, whose answer may not have come.
+pub record MakesStrokes (plan : Plan) (p : Programmer) (turns : List Turn) (frames : ℕ)
+    (before after : Memories) : Type 0 where
+  pub count : ℕ
+  pub at_least : made_by plan frames p turns ≤ count
+  pub at_most : count ≤ suc (made_by plan (frames - 1) p turns)
+  pub memories : after ≡ effects plan.part (take count (strokes plan)) before
+
+-- After a run of status 0: all that the plan writes was written, and all that it compares agreed.
+pub record IsDone (plan : Plan) (before after : Memories) : Type 0 where
+  pub memories : after ≡ effects plan.part (items plan) before
+  pub agrees : Agrees plan before
+
+-- A run that went as its course says: what was said at the desk, its status, and the memories.
+pub record IsCourse (plan : Plan) (before after : Memories) (old new : DeskView) (status : ℕ) : Type 0 where
+  pub said : Passes (after_all (course plan before).says) old new
+  pub status_is : status ≡ (course plan before).status
+  pub memories : after ≡ (course plan before).memories

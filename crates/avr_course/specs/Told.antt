@@ -1,0 +1,89 @@
+-- That what a run tells is true of the chip where it tells it.
+use Rattle.std.specs.Prelude.{ℕ, zero, suc, ◌≡◌, ◌⊎◌, List, [], ◌∷◌, ◌++◌, length, Contains, Err, ⊤, codes, decimal}
+use Rattle.avr_desk.specs.Record.{Bytes}
+use Rattle.avr_cli.specs.declared.update.Format.{Format}
+use Rattle.avr_image.specs.Image.{byte_count}
+use Rattle.avr_desk.specs.Lines.{spaced_digits, information, warning}
+use Rattle.avr_desk.specs.Said.{Saying, Line, Creates, Writes, Outs}
+use Rattle.avr_part.specs.Mem.{name_of}
+use Rattle.avr_part.specs.declared.part.Mem.{Mem}
+use Rattle.avr_plan.specs.Plan.{Plan}
+use Rattle.avr_session.specs.Actions.{EraseChip, LeaveErase, LeaveWrite, CompareImage, SaveMemory, actions}
+use Rattle.avr_session.specs.FileText.{file_text}
+use Rattle.avr_session.specs.Lines.{fault_line}
+use Rattle.avr_session.specs.Session.{kept_of}
+use Rattle.stk_host.specs.Dialog.{Dialog, Done, Say, Ask, Event, Frame, Said}
+use Rattle.stk_host.specs.Operations.{comparison, host_fault}
+use Rattle.stk_host.specs.declared.fault.HostFault.{HostFault}
+use Rattle.stk_host.specs.declared.fault.StepFault.{StepFault}
+use Rattle.stk_emu.specs.Device.{Device, after_frame}
+use Rattle.stk_emu.specs.Effect.{Image, Item, Erase, Write, Memories, effect, effects, memory_in}
+use Rattle.stk_emu.specs.Wire.{Wire, wire_behind}
+use Rattle.stk_lines.specs.AnyTape.{first_became, other_becames}
+use Rattle.stk_emu.specs.Turn.{Turn, Became, after_became, after_turn, turn_reading, first_turn, other_turns}
+use Rattle.avr_course.specs.Agrees.{Shows}
+use Rattle.avr_course.specs.Items.{items}
+
+-- Whatever a dialog says along a line holds of the programmer that obeyed what was asked before.
+abbrev pub TellsTrue : {E R P : Type 0} → Device P → (P → E → Type 0) → ℕ → Dialog E R → P → List Turn → Type 0
+TellsTrue m IsTrue k (Done r) p turns = ⊤
+TellsTrue m IsTrue k (Say e dialog) p turns = IsTrue p e × TellsTrue m IsTrue k dialog p turns
+TellsTrue m IsTrue zero (Ask bytes go_on) p turns = ⊤
+TellsTrue m IsTrue (suc k) (Ask bytes go_on) p turns =
+    TellsTrue m IsTrue k (go_on (turn_reading (first_turn turns) (m.answer bytes p)))
+    (after_turn (first_turn turns) (m.after bytes p) p m.reset) (other_turns turns)
+
+-- the line of a memory: so many bytes were written, verified or read
+abbrev pub count_line : Mem → ℕ → Bytes → Saying
+count_line mem count done = Line (information (name_of mem ∷ codes ": " ∷ decimal count ∷ done ∷ []))
+
+-- what a plan keeps of a memory that it reads: the chip's bytes
+abbrev pub kept_in : Plan → Mem → Memories → List ℕ
+kept_in plan mem now = kept_of mem plan.switches.all (memory_in plan.part mem now)
+
+-- What is told in a run of a plan, and what of it holds of the memories now, by those before the run. That the chip is
+-- erased: the plan's erase has been done, and nothing else. That bytes are written: the plan's items up to this write
+-- have been done. That they are verified: the plan compares the memory with this image, and the memory holds it. What
+-- is saved, and counted as read, is what the memory has; and a difference told is one that is there. Else: the chip's
+-- signature, what the plan leaves out, why a step has failed, and the end.
+pub data IsTrue (plan : Plan) (before now : Memories) (saying : Saying) : Type 0 where
+  SignatureRead : saying ≡ Line (information (codes "device signature = " ∷ spaced_digits plan.part.signature ∷ []))
+      → IsTrue plan before now saying
+  ChipErased : Contains (actions plan) EraseChip → saying ≡ Line (information (codes "chip erased" ∷ []))
+      → now ≡ effect plan.part Erase before → IsTrue plan before now saying
+  EraseLeftOut : Contains (actions plan) LeaveErase
+      → saying ≡ Line (warning (codes "chip not erased because of -n" ∷ [])) → IsTrue plan before now saying
+  BytesWritten : (mem : Mem) (image : Image) (first later : List Item)
+      → saying ≡ count_line mem (byte_count image) (codes " bytes written")
+      → items plan ≡ first ++ Write mem image ∷ later → now ≡ effects plan.part (first ++ Write mem image ∷ []) before
+      → IsTrue plan before now saying
+  WriteLeftOut : (mem : Mem) (image : Image) → Contains (actions plan) (LeaveWrite mem image)
+      → saying ≡ count_line mem (byte_count image) (codes " bytes not written") → IsTrue plan before now saying
+  BytesVerified : (mem : Mem) (image : Image) → Contains (actions plan) (CompareImage mem image)
+      → saying ≡ count_line mem (byte_count image) (codes " bytes verified") → Shows plan.part mem image now
+      → IsTrue plan before now saying
+  Differed : (mem : Mem) (image : Image) (fault : HostFault) → Contains (actions plan) (CompareImage mem image)
+      → saying ≡ Line (fault_line plan.part fault) → comparison mem image (memory_in plan.part mem now) ≡ Err fault
+      → IsTrue plan before now saying
+  BytesSaved : (mem : Mem) (format : Format) (file : Bytes) → Contains (actions plan) (SaveMemory mem format file)
+      → (saying ≡ Creates file) ⊎ ((saying ≡ Writes (file_text format (kept_in plan mem now)))
+      ⊎ (saying ≡ Outs (file_text format (kept_in plan mem now)))) → IsTrue plan before now saying
+  BytesRead : (mem : Mem) (format : Format) (file : Bytes) → Contains (actions plan) (SaveMemory mem format file)
+      → saying ≡ count_line mem (length (kept_in plan mem now)) (codes " bytes read") → IsTrue plan before now saying
+  StepFailed : (fault : StepFault) → saying ≡ Line (fault_line plan.part (host_fault fault))
+      → IsTrue plan before now saying
+  SessionDone : saying ≡ Line (information (codes "done" ∷ [])) → IsTrue plan before now saying
+
+-- Whatever is said among events holds of the programmer as the frames sent before it left it, over a wire.
+abbrev pub SaidTrue : {E P : Type 0} → Device P → (P → E → Type 0) → List (Event E) → Wire P → Type 0
+SaidTrue m IsTrue [] w = ⊤
+SaidTrue m IsTrue (Frame bytes ∷ events) w = SaidTrue m IsTrue events (wire_behind m bytes w)
+SaidTrue m IsTrue (Said e ∷ events) w = IsTrue w.programmer e × SaidTrue m IsTrue events w
+
+-- the same over any line, by what became of the programmer at each frame
+abbrev pub SaidTrueBy : {E P : Type 0} → Device P → (P → E → Type 0) → List (Event E) → List Became → P → Type 0
+SaidTrueBy m IsTrue [] becames p = ⊤
+SaidTrueBy m IsTrue (Frame bytes ∷ events) becames p =
+    SaidTrueBy m IsTrue events (other_becames becames)
+    (after_became (first_became becames) (after_frame m bytes p) p m.reset)
+SaidTrueBy m IsTrue (Said e ∷ events) becames p = IsTrue p e × SaidTrueBy m IsTrue events becames p

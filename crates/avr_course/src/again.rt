@@ -1,0 +1,70 @@
+//! When the same run again comes to what one run comes to, and when it succeeds whatever the chip was. No code.
+#![tactic(auto)]
+
+ghost use Rattle.std.specs.Prelude.{◌≡◌, ◌∷◌, ℕ, true, false, List, take, All};
+ghost use Rattle.avr_part.specs.Part.{Part, IsPart};
+ghost use Rattle.avr_plan.specs.Plan.{Plan, IsFitted};
+ghost use Rattle.stk_emu.specs.Effect.{Memories, Item, Erase, erase_keeps_eeprom, effects};
+ghost use Rattle.stk_emu.specs.Settled.{FitsPart};
+ghost use Rattle.avr_course.specs.Again.{AreKeeping, AgreesAnyway, Heals};
+ghost use Rattle.avr_course.specs.Agrees.{Agrees};
+ghost use Rattle.avr_course.specs.Course.{course};
+ghost use Rattle.avr_course.specs.Items.{items, has_erase};
+ghost use Rattle.avr_course.specs.Outcome.{strokes, IsTouched, IsDone};
+
+/// An erase and writes behind any first ones of them come to what they come to alone, unless these took the EEPROM's
+/// keeping away.
+pub fn first_items_and_then_all_are_all()
+    ensures { (part : Part) (items : List Item) (k : ℕ) (m : Memories) → has_erase items ≡ false
+        → (erase_keeps_eeprom part m ≡ true → erase_keeps_eeprom part (effects part (take k (Erase ∷ items)) m) ≡ true)
+        → effects part (Erase ∷ items) (effects part (take k (Erase ∷ items)) m) ≡ effects part (Erase ∷ items) m }
+{}
+
+/// Writes behind any first ones of them come to what they come to alone, whatever they lock.
+pub fn first_writes_and_then_all_are_all()
+    ensures { (part : Part) (items : List Item) (k : ℕ) (m : Memories) → has_erase items ≡ false
+        → effects part items (effects part (take k items) m) ≡ effects part items m }
+{}
+
+/// A plan comes, over the memories that any first strokes of it left, to what it comes to over those before. Only where
+/// it erases and the chip keeps EEPROM at an erase, each byte that it writes to the high fuse must keep it too.
+pub fn a_second_run_heals_the_first()
+    ensures { (plan : Plan) (k : ℕ) (m : Memories) → IsPart plan.part → All (IsFitted plan.part) plan.tasks
+        → FitsPart plan.part m
+        → (has_erase (items plan) ≡ true → erase_keeps_eeprom plan.part m ≡ true
+        → AreKeeping plan.part (items plan))
+        → effects plan.part (items plan) (effects plan.part (take k (strokes plan)) m)
+        ≡ effects plan.part (items plan) m }
+{}
+
+/// A plan that erases, and whose comparisons agree on a chip of nothing but 00 and on one of nothing but FF, agrees on
+/// every chip: so its course has status 0, whatever the chip was. What agrees on every chip agrees on these two.
+pub fn what_agrees_on_two_chips_agrees_on_all()
+    ensures agrees { (plan : Plan) (m : Memories) → FitsPart plan.part m
+        → has_erase (items plan) ≡ true → AgreesAnyway plan → Agrees plan m }
+    ensures status { (plan : Plan) (m : Memories) → FitsPart plan.part m
+        → has_erase (items plan) ≡ true → AgreesAnyway plan
+        → (course plan m).status ≡ 0 }
+    ensures needed { (plan : Plan) → ((m : Memories) → FitsPart plan.part m → Agrees plan m) → AgreesAnyway plan }
+{}
+
+/// Whatever a run left that was broken off: the course of the same run again has status 0, and the memories that one
+/// run would have left. And a second run of status 0, whatever its line does, has left what a first one does that is
+/// not broken off.
+pub fn the_same_run_again_heals()
+    ensures touched { (plan : Plan) (before after : Memories) → IsPart plan.part → All (IsFitted plan.part) plan.tasks
+        → FitsPart plan.part before
+        → has_erase (items plan) ≡ true → AgreesAnyway plan
+        → (erase_keeps_eeprom plan.part before ≡ true → AreKeeping plan.part (items plan))
+        → IsTouched plan before after → Heals plan before after }
+    ensures strokes { (plan : Plan) (k : ℕ) (m : Memories) → IsPart plan.part → All (IsFitted plan.part) plan.tasks
+        → FitsPart plan.part m
+        → has_erase (items plan) ≡ true → AgreesAnyway plan
+        → (erase_keeps_eeprom plan.part m ≡ true → AreKeeping plan.part (items plan))
+        → Heals plan m (effects plan.part (take k (strokes plan)) m) }
+    ensures done { (plan : Plan) (before left after : Memories) → IsPart plan.part → All (IsFitted plan.part) plan.tasks
+        → FitsPart plan.part before
+        → (has_erase (items plan) ≡ true → erase_keeps_eeprom plan.part before ≡ true
+        → AreKeeping plan.part (items plan))
+        → IsTouched plan before left → IsDone plan left after → after ≡ effects plan.part (items plan) before }
+{}

@@ -1,0 +1,266 @@
+-- A dialog over any tape goes along turns.
+use Rattle.std.proofs.Common.{◌≡◌, ◌≤◌, ℕ, zero, suc, List, [], ◌∷◌, ◌++◌, length, take, refl, sym, ap, ◌∙◌, subst, inl, inr, arith, Bool, true, false, Option, Some, None}
+use Rattle.std.proofs.lemmas.Bool.{cases_Bool}
+use Rattle.std.proofs.lemmas.Slice.Eq.{bytes_eq-Decides}
+use Rattle.std.specs.Prelude.{filter, if◌then◌else◌}
+use Rattle.std.specs.Str.{bytes_eq}
+use Rattle.stk_frame.specs.Frame.{frame}
+use Rattle.stk_frame.specs.Cut.{frames, is_good}
+use Rattle.stk_frame.proofs.Cut.{chosen, refused}
+use Rattle.stk_frame.proofs.Laws.{frame_is_good, body_of_frame}
+use Rattle.stk_host.specs.Tape.{Tape, Reading, Answered, Silent, Ended, Babbled, answer}
+use Rattle.stk_host.specs.Dialog.{Dialog, Done, Say, Ask, Frame, played, behind, by_answer, next, frames_in, sayings}
+use Rattle.stk_emu.specs.Device.{Device, after_frame, after_frames, refusal}
+use Rattle.stk_emu.specs.Lawful.{IsBody}
+use Rattle.stk_emu.specs.Turn.{Became, Kept, Obeyed, Anew, Refusal, Nothing, Babble, Ending, Turn, Right, Wrong, after_became, after_turn, became_in, turn_reading, IsHonest}
+use Rattle.stk_emu.specs.Along.{along, said_along, AsksBodies}
+use Rattle.stk_lines.specs.AnyTape.{first_became, other_becames, on_answer, AreHonest, after_sent, turn_by, turns_from, turns_heard, GoesAs, let_through, CameThrough, became_by}
+use Rattle.stk_lines.proofs.Extending.{answer_extends}
+use Rattle.stk_emu.proofs.Fused.{none_some}
+
+-- every turn is honest
+pub turn_honest : {P : Type 0} (m : Device P) (bytes : List ℕ) (p : P) (turn : Turn) → IsHonest m bytes p (became_in turn) (turn_reading turn (m.answer bytes p))
+turn_honest m bytes p Right = inl (refl, refl)
+turn_honest m bytes p (Wrong became Refusal) = inr refl
+turn_honest m bytes p (Wrong became Nothing) = tt
+turn_honest m bytes p (Wrong became Babble) = tt
+turn_honest m bytes p (Wrong became Ending) = tt
+
+-- and whatever is honest is a turn
+abbrev IsTurn : {P : Type 0} → Device P → List ℕ → P → Became → Reading → Turn → Type 0
+IsTurn m bytes p became reading turn =
+    (turn_reading turn (m.answer bytes p) ≡ reading)
+    × (after_turn turn (m.after bytes p) p m.reset ≡ after_became became (m.after bytes p) p m.reset)
+
+by_own : {P : Type 0} (m : Device P) (bytes : List ℕ) (p : P) (body : List ℕ) (told : Bool) → (told ≡ true → body ≡ refusal) → (told ≡ false → body ≡ m.answer bytes p)
+    → IsTurn m bytes p Obeyed (Answered body) (if told then Wrong Obeyed Refusal else Right)
+by_own m bytes p body true refused own = (ap (λ x. Answered x) (sym (refused refl)), refl)
+by_own m bytes p body false refused own = (ap (λ x. Answered x) (sym (own refl)), refl)
+
+own_or_refused : {P : Type 0} (m : Device P) (bytes : List ℕ) (p : P) (body : List ℕ) → IsHonest m bytes p Obeyed (Answered body) → bytes_eq body refusal ≡ false → body ≡ m.answer bytes p
+own_or_refused m bytes p body (inl own) other = own.1
+own_or_refused m bytes p body (inr is) other = absurd (never_both (bytes_eq body refusal) ((bytes_eq-Decides body refusal).1 is) other)
+  where
+    never_both : (b : Bool) → b ≡ true → b ≡ false → ⊥
+    never_both true holds fails = cc
+    never_both false holds fails = cc
+
+never_own : (became : Became) → became ≡ Obeyed → became ≡ Kept → ⊥
+never_own Kept e is = cc
+never_own Obeyed e is = cc
+never_own (Anew became) e is = cc
+
+not_anew : (became : Became) → ◌≡◌ {A = Became} (Anew became) Obeyed → ⊥
+not_anew became e = cc
+
+pub honest_turn : {P : Type 0} (m : Device P) (bytes : List ℕ) (p : P) (became : Became) (reading : Reading) → IsHonest m bytes p became reading → IsTurn m bytes p became reading (turn_by became reading)
+honest_turn m bytes p Obeyed (Answered body) h =
+    by_own m bytes p body (bytes_eq body refusal) (λ same. (bytes_eq-Decides body refusal).0 same) (λ other. own_or_refused m bytes p body h other)
+honest_turn m bytes p Kept (Answered body) (inl own) = absurd (never_own Kept own.0 refl)
+honest_turn m bytes p Kept (Answered body) (inr e) = (ap (λ x. Answered x) (sym e), refl)
+honest_turn m bytes p (Anew became) (Answered body) (inl own) = absurd (not_anew became own.0)
+honest_turn m bytes p (Anew became) (Answered body) (inr e) = (ap (λ x. Answered x) (sym e), refl)
+honest_turn m bytes p Kept Silent h = (refl, refl)
+honest_turn m bytes p Obeyed Silent h = (refl, refl)
+honest_turn m bytes p (Anew became) Silent h = (refl, refl)
+honest_turn m bytes p Kept Ended h = (refl, refl)
+honest_turn m bytes p Obeyed Ended h = (refl, refl)
+honest_turn m bytes p (Anew became) Ended h = (refl, refl)
+honest_turn m bytes p Kept Babbled h = (refl, refl)
+honest_turn m bytes p Obeyed Babbled h = (refl, refl)
+honest_turn m bytes p (Anew became) Babbled h = (refl, refl)
+
+-- where no question is asked any more, nothing becomes of the programmer
+none_asked : {E R P : Type 0} (m : Device P) (d : Dialog E R) (p : P) (turns : List Turn) → (along m 0 d p turns).programmer ≡ p
+none_asked m (Done r) p turns = refl
+none_asked m (Say e d) p turns = none_asked m d p turns
+none_asked m (Ask bytes go_on) p turns = refl
+
+abbrev result_of : {R : Type 0} → R → Option (R × ℕ × Tape) → R
+result_of other None = other
+result_of other (Some (r, seq, tape)) = r
+
+pub obeyed_frame : {P : Type 0} (m : Device P) (n : ℕ) (bytes : List ℕ) (p : P) → IsBody bytes → after_frame m (frame n bytes) p ≡ m.after bytes p
+obeyed_frame m n bytes p b = chosen (is_good (frame n bytes)) _ _ (frame_is_good n bytes b.some) ∙ ap (λ x. m.after x p) (body_of_frame n bytes)
+
+-- one frame has gone out, at most
+one_at_most : {A : Type 0} (k : ℕ) (x : A) (P : ℕ → Type 0) → k ≤ 1 → P 0 → P 1 → P k
+one_at_most zero x P le none one = none
+one_at_most (suc zero) x P le none one = one
+one_at_most (suc (suc k)) x P le none one = absurd (omega (arith, le))
+
+module _ {P : Type 0} (m : Device P) where
+  -- a question that waits for its answer
+  module _ {E R : Type 0} (bytes : List ℕ) (go_on : Reading → Dialog E R) (n : ℕ) (tape : Tape) (p : P) (becames : List Became) (b : IsBody bytes) where
+    abbrev became : Became
+    became = first_became becames
+
+    abbrev on_time : P
+    on_time = after_became became (m.after bytes p) p m.reset
+
+    obeyed : after_frame m (frame n bytes) p ≡ m.after bytes p
+    obeyed = obeyed_frame m n bytes p b
+
+    waiting : answer n tape ≡ None → GoesAs m (Ask bytes go_on) n tape p becames
+    waiting e =
+        let waits : played (Ask bytes go_on) n tape ≡ record { events = Frame (frame n bytes) ∷ []; outcome = None } =
+        ap (λ o. behind (Frame (frame n bytes) ∷ []) (by_answer (λ reading. played (go_on reading) (next n)) o)) e in
+        let turns = turns_heard (Ask bytes go_on) n tape becames in
+        let turns_are : turns ≡ Wrong became Nothing ∷ [] = ap (turns_from became (λ reading left. turns_heard (go_on reading) (next n) left (other_becames becames))) e in
+        record {
+          programmer = subst (λ x. (k : ℕ) → k ≤ length (frames_in x.events) → (along m k (Ask bytes go_on) p turns).programmer ≡ after_sent m (take k (frames_in x.events)) becames p) (sym waits)
+              (λ k le. one_at_most k bytes (λ j. (along m j (Ask bytes go_on) p turns).programmer ≡ after_sent m (take j (frame n bytes ∷ [])) becames p) le refl
+              (subst (λ ts. (along m 1 (Ask bytes go_on) p ts).programmer ≡ after_became became (after_frame m (frame n bytes) p) p m.reset) (sym turns_are)
+              (none_asked m (go_on Silent) on_time [] ∙ ap (λ q. after_became became q p m.reset) (sym obeyed))));
+          outcome = λ r seq left f. absurd (none_some (r, seq, left) (sym (ap (λ x. x.outcome) waits) ∙ f));
+          waits = λ none. record {
+            answered = 0;
+            one_more = ap (λ x. length (frames_in x.events)) waits;
+            said = ap (λ x. sayings x.events) waits;
+          };
+        }
+
+    -- one that was answered
+    module _ (reading : Reading) (left : Tape) (e : answer n tape ≡ Some (reading, left)) (honest : IsHonest m bytes p (first_became becames) reading)
+        (goes : GoesAs m (go_on reading) (next n) left (after_became (first_became becames) (m.after bytes p) p m.reset) (other_becames becames)) where
+      abbrev fs : List (List ℕ)
+      fs = frames_in (played (go_on reading) (next n) left).events
+
+      abbrev later : List Turn
+      later = turns_heard (go_on reading) (next n) left (other_becames becames)
+
+      abbrev all : List Turn
+      all = turn_by became reading ∷ later
+
+      first : played (Ask bytes go_on) n tape ≡ behind (Frame (frame n bytes) ∷ []) (played (go_on reading) (next n) left)
+      first = ap (λ o. behind (Frame (frame n bytes) ∷ []) (by_answer (λ reading. played (go_on reading) (next n)) o)) e
+
+      all_are : turns_heard (Ask bytes go_on) n tape becames ≡ all
+      all_are = ap (turns_from became (λ reading left. turns_heard (go_on reading) (next n) left (other_becames becames))) e
+
+      same : (k : ℕ) → along m (suc k) (Ask bytes go_on) p all ≡ along m k (go_on reading) on_time later
+      same k =
+          let t = honest_turn m bytes p became reading honest in
+          ap (λ x. along m k (go_on x) (after_turn (turn_by became reading) (m.after bytes p) p m.reset) later) t.0 ∙ ap (λ q. along m k (go_on reading) q later) t.1
+
+      says : (k : ℕ) → said_along m (suc k) (Ask bytes go_on) p all ≡ said_along m k (go_on reading) on_time later
+      says k =
+          let t = honest_turn m bytes p became reading honest in
+          ap (λ x. said_along m k (go_on x) (after_turn (turn_by became reading) (m.after bytes p) p m.reset) later) t.0 ∙ ap (λ q. said_along m k (go_on reading) q later) t.1
+
+      stands : (k : ℕ) → k ≤ suc (length fs) → (along m k (Ask bytes go_on) p all).programmer ≡ after_sent m (take k (frame n bytes ∷ fs)) becames p
+      stands zero le = refl
+      stands (suc k) le =
+          ap (λ s. s.programmer) (same k)
+          ∙ (goes.programmer k (omega (arith, le)) ∙ ap (λ q. after_sent m (take k fs) (other_becames becames) (after_became became q p m.reset)) (sym obeyed))
+
+      answered_goes : GoesAs m (Ask bytes go_on) n tape p becames
+      answered_goes = record {
+        programmer = subst (λ x. (k : ℕ) → k ≤ length (frames_in x.events)
+            → (along m k (Ask bytes go_on) p (turns_heard (Ask bytes go_on) n tape becames)).programmer ≡ after_sent m (take k (frames_in x.events)) becames p) (sym first)
+            (λ k le. ap (λ ts. (along m k (Ask bytes go_on) p ts).programmer) all_are ∙ stands k le);
+        outcome = λ r seq rest f.
+            subst (λ x. ((along m (length (frames_in x.events)) (Ask bytes go_on) p (turns_heard (Ask bytes go_on) n tape becames)).dialog ≡ Done r)
+            × (sayings x.events ≡ said_along m (length (frames_in x.events)) (Ask bytes go_on) p (turns_heard (Ask bytes go_on) n tape becames))) (sym first)
+            (subst (λ ts. ((along m (suc (length fs)) (Ask bytes go_on) p ts).dialog ≡ Done r)
+            × (sayings (played (go_on reading) (next n) left).events ≡ said_along m (suc (length fs)) (Ask bytes go_on) p ts)) (sym all_are)
+            (let got = goes.outcome r seq rest (sym (ap (λ x. x.outcome) first) ∙ f) in
+            (ap (λ s. s.dialog) (same (length fs)) ∙ got.0, got.1 ∙ sym (says (length fs)))));
+        waits = λ none.
+            let w = goes.waits (sym (ap (λ x. x.outcome) first) ∙ none) in
+            record {
+              answered = suc w.answered;
+              one_more = ap (λ x. length (frames_in x.events)) first ∙ ap suc w.one_more;
+              said = ap (λ x. sayings x.events) first ∙ (w.said ∙ (sym (says w.answered) ∙ ap (λ ts. said_along m (suc w.answered) (Ask bytes go_on) p ts) (sym all_are)));
+            };
+      }
+
+    asked : (o : Option (Reading × Tape)) → answer n tape ≡ o
+        → on_answer (λ reading left.
+        IsHonest m bytes p (first_became becames) reading
+        × GoesAs m (go_on reading) (next n) left (after_became (first_became becames) (m.after bytes p) p m.reset) (other_becames becames)) o
+        → GoesAs m (Ask bytes go_on) n tape p becames
+    asked None e h = waiting e
+    asked (Some (reading, left)) e h = answered_goes reading left e h.0 h.1
+
+  honest_on : {E R : Type 0} (bytes : List ℕ) (go_on : Reading → Dialog E R) (n : ℕ) (p : P) (becames : List Became) (o : Option (Reading × Tape))
+      → ((reading : Reading) (left : Tape) → AreHonest m (go_on reading) (next n) left (after_became (first_became becames) (m.after bytes p) p m.reset) (other_becames becames)
+      → GoesAs m (go_on reading) (next n) left (after_became (first_became becames) (m.after bytes p) p m.reset) (other_becames becames))
+      → on_answer (λ reading left.
+      IsHonest m bytes p (first_became becames) reading
+      × AreHonest m (go_on reading) (next n) left (after_became (first_became becames) (m.after bytes p) p m.reset) (other_becames becames)) o
+      → on_answer (λ reading left.
+      IsHonest m bytes p (first_became becames) reading
+      × GoesAs m (go_on reading) (next n) left (after_became (first_became becames) (m.after bytes p) p m.reset) (other_becames becames)) o
+  honest_on bytes go_on n p becames None each h = tt
+  honest_on bytes go_on n p becames (Some (reading, left)) each h = (h.0, each reading left h.1)
+
+  -- THE LAW
+  pub goes_as : {E R : Type 0} (d : Dialog E R) (n : ℕ) (tape : Tape) (p : P) (becames : List Became) → AsksBodies d → AreHonest m d n tape p becames → GoesAs m d n tape p becames
+  goes_as (Done r) n tape p becames asks h = record {
+    programmer = λ k le. none_sent k le;
+    outcome = λ q seq left o. (ap (λ x. Done (result_of r x)) o, refl);
+    waits = λ none. absurd (none_some (r, n, tape) (sym none));
+  }
+    where
+      none_sent : (k : ℕ) → k ≤ 0 → p ≡ after_sent m (take k []) becames p
+      none_sent zero le = refl
+      none_sent (suc k) le = absurd (omega (arith, le))
+  goes_as (Say e d) n tape p becames asks h =
+      let g = goes_as d n tape p becames asks h in
+      record {
+        programmer = g.programmer;
+        outcome = λ r seq left o. let got = g.outcome r seq left o in (got.0, ap (λ said. e ∷ said) got.1);
+        waits = λ none. let w = g.waits none in record { answered = w.answered; one_more = w.one_more; said = ap (λ said. e ∷ said) w.said };
+      }
+  goes_as (Ask bytes go_on) n tape p becames asks h =
+      asked bytes go_on n tape p becames asks.0 (answer n tape) refl
+      (honest_on bytes go_on n p becames (answer n tape) (λ reading left. goes_as (go_on reading) (next n) left _ (other_becames becames) (asks.1 reading)) h)
+
+-- ---- what was heard first of a tape that is honest
+
+module _ {P : Type 0} (m : Device P) where
+  shorter : {E R : Type 0} (bytes : List ℕ) (go_on : Reading → Dialog E R) (n : ℕ) (t u : Tape) (p : P) (becames : List Became) (o : Option (Reading × Tape)) → answer n t ≡ o
+      → ((reading : Reading) (left : Tape) (q : P) → AreHonest m (go_on reading) (next n) (left ++ u) q (other_becames becames) → AreHonest m (go_on reading) (next n) left q (other_becames becames))
+      → AreHonest m (Ask bytes go_on) n (t ++ u) p becames
+      → on_answer (λ reading left.
+      IsHonest m bytes p (first_became becames) reading
+      × AreHonest m (go_on reading) (next n) left (after_became (first_became becames) (m.after bytes p) p m.reset) (other_becames becames)) o
+  shorter bytes go_on n t u p becames None e each h = tt
+  shorter bytes go_on n t u p becames (Some (reading, left)) e each h =
+      let both = subst (on_answer (λ reading left.
+      IsHonest m bytes p (first_became becames) reading
+      × AreHonest m (go_on reading) (next n) left (after_became (first_became becames) (m.after bytes p) p m.reset) (other_becames becames))) (answer_extends n t u reading left e) h in
+      (both.0, each reading left _ both.1)
+
+  pub honest_front : {E R : Type 0} (d : Dialog E R) (n : ℕ) (t u : Tape) (p : P) (becames : List Became) → AreHonest m d n (t ++ u) p becames → AreHonest m d n t p becames
+  honest_front (Done r) n t u p becames h = tt
+  honest_front (Say e d) n t u p becames h = honest_front d n t u p becames h
+  honest_front (Ask bytes go_on) n t u p becames h =
+      shorter bytes go_on n t u p becames (answer n t) refl (λ reading left q inner. honest_front (go_on reading) (next n) left u q (other_becames becames) inner) h
+
+-- ---- what the programmer cuts from the bytes that it got
+
+module _ {P : Type 0} (m : Device P) where
+  -- pieces that are no good frames change nothing
+  good_alone : (pieces : List (List ℕ)) (p : P) → after_frames m pieces p ≡ after_frames m (filter is_good pieces) p
+  good_alone [] p = refl
+  good_alone (piece ∷ pieces) p = elim (cases_Bool (is_good piece)) [
+    | inl good ↦
+        good_alone pieces (after_frame m piece p)
+        ∙ ap (λ ps. after_frames m ps p) (sym (chosen (is_good piece) (piece ∷ filter is_good pieces) (filter is_good pieces) good))
+    | inr bad ↦
+        ap (after_frames m pieces) (refused (is_good piece) _ _ bad)
+        ∙ (good_alone pieces p
+        ∙ ap (λ ps. after_frames m ps p) (sym (refused (is_good piece) (piece ∷ filter is_good pieces) (filter is_good pieces) bad)))
+  ]
+
+  let_through_after : (through : List Bool) (sent : List (List ℕ)) (p : P) → after_frames m (let_through through sent) p ≡ after_sent m sent (became_by through) p
+  let_through_after [] [] p = refl
+  let_through_after [] (piece ∷ sent) p = let_through_after [] sent p
+  let_through_after (through ∷ more) [] p = refl
+  let_through_after (true ∷ more) (piece ∷ sent) p = let_through_after more sent (after_frame m piece p)
+  let_through_after (false ∷ more) (piece ∷ sent) p = let_through_after more sent p
+
+  pub through_after : (got : List ℕ) (sent : List (List ℕ)) (through : List Bool) (p : P) → CameThrough got sent through → after_frames m (frames got) p ≡ after_sent m sent (became_by through) p
+  through_after got sent through p c = good_alone (frames got) p ∙ (ap (λ ps. after_frames m ps p) c.good ∙ let_through_after through sent p)

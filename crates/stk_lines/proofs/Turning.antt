@@ -1,0 +1,217 @@
+-- A talk in turn over a wire: nobody listens where nothing comes, and the programmer goes along with the dialog.
+use Rattle.std.proofs.Common.{◌≡◌, ℕ, ◌<◌, List, [], ◌∷◌, ◌++◌, length, take, drop, refl, sym, ap, ◌∙◌, subst, append_assoc, arith, inl, inr, Bool, true, false, Option, Some, None, length-append}
+use Rattle.std.proofs.lemmas.Bool.{cases_lt, lt-leb}
+use Rattle.std.proofs.lemmas.List.{append-nil, take-append-le, drop-append-le, take_all, drop_all, take-append-drop}
+use Rattle.std.specs.Prelude.{filter, ◌&&◌}
+use Rattle.stk_frame.specs.Frame.{frame}
+use Rattle.stk_frame.specs.Cut.{cut, frames, is_frame, IsPiece, piece_size}
+use Rattle.stk_frame.proofs.Cut.{chosen, cut_none, size_stays}
+use Rattle.stk_frame.proofs.Laws.{cut_first, frame_is_piece, frame_is_good}
+use Rattle.stk_host.specs.Tape.{Tape, Reading, answer, on_tape}
+use Rattle.stk_host.specs.Talk.{Talk, Sent, Got, sent, heard}
+use Rattle.stk_host.specs.Dialog.{Dialog, Done, Say, Ask, Event, Frame, Said, Played, played, by_answer, next, bytes_sent, frames_in}
+use Rattle.stk_host.specs.Play.{Position, position, IsDue, TurnsFrom, InTurn, Plays, Breaks, IsFront, IsBegun, IsPrefixOf}
+use Rattle.stk_host.proofs.Leading.{bytes_append}
+use Rattle.stk_emu.specs.declared.fate.Fate.{Fate}
+use Rattle.stk_emu.specs.Programmer.{Programmer}
+use Rattle.stk_emu.specs.Device.{Device, device}
+use Rattle.stk_emu.specs.Wire.{AreLawful, first_fate, turn_of, turns_of, Wire, wire_behind, tape_of, fresh_wire}
+use Rattle.stk_emu.specs.Wired.{WiredState, Keeps, NeverIdle, brought}
+use Rattle.stk_emu.specs.Lawful.{IsBody, IsClear}
+use Rattle.stk_emu.specs.Along.{along, AsksBodies, Fused}
+use Rattle.stk_lines.specs.Leads.{GoesAlong}
+use Rattle.stk_emu.proofs.Segments.{none_clear, segment_late}
+use Rattle.stk_emu.proofs.Bodies.{answers_bodies}
+use Rattle.stk_lines.proofs.Extending.{answer_extends}
+use Rattle.stk_emu.proofs.Fused.{AnswersBodies, first_played, others_lawful, head_is, tail_is, none_some, fused}
+use Rattle.stk_emu.specs.Turn.{turn_reading}
+
+-- whole frames
+pub record IsWhole (f : List ℕ) : Type 0 where
+  pub piece : IsPiece f
+  pub frame : is_frame f ≡ true
+
+abbrev pub AreWhole : List (List ℕ) → Type 0
+AreWhole [] = Unit {0}
+AreWhole (f ∷ fs) = IsWhole f × AreWhole fs
+
+first_true : (a b : Bool) → (a && b) ≡ true → a ≡ true
+first_true true b e = refl
+first_true false b e = e
+
+frame_whole : (n : ℕ) (body : List ℕ) → IsBody body → IsWhole (frame n body)
+frame_whole n body b = record { piece = frame_is_piece n body b.some b.few; frame = first_true _ _ (frame_is_good n body b.some) }
+
+frame_first : (f bytes : List ℕ) → IsWhole f → frames (f ++ bytes) ≡ f ∷ frames bytes
+frame_first f bytes w = ap (filter is_frame) (cut_first f bytes w.piece) ∙ chosen (is_frame f) (f ∷ filter is_frame (cut bytes)) (filter is_frame (cut bytes)) w.frame
+
+whole_by : {E R : Type 0} (go_on : Reading → Tape → Played E R) (o : Option (Reading × Tape)) → ((reading : Reading) (left : Tape) → AreWhole (frames_in (go_on reading left).events)) → AreWhole (frames_in (by_answer go_on o).events)
+whole_by go_on None each = tt
+whole_by go_on (Some (reading, left)) each = each reading left
+
+-- a play sends whole frames
+pub sends_whole : {E R : Type 0} (d : Dialog E R) (n : ℕ) (t : Tape) → AsksBodies d → AreWhole (frames_in (played d n t).events)
+sends_whole (Done r) n t asks = tt
+sends_whole (Say e d) n t asks = sends_whole d n t asks
+sends_whole (Ask bytes go_on) n t asks = (
+  frame_whole n bytes asks.0,
+  whole_by (λ reading. played (go_on reading) (next n)) (answer n t) (λ reading left. sends_whole (go_on reading) (next n) left (asks.1 reading)),
+)
+
+-- the frames of all bytes of whole frames are these
+pub frames_sent : {E : Type 0} (events : List (Event E)) → AreWhole (frames_in events) → frames (bytes_sent events) ≡ frames_in events
+frames_sent [] whole = refl
+frames_sent (Frame f ∷ events) whole = frame_first f (bytes_sent events) whole.0 ∙ ap (λ fs. f ∷ fs) (frames_sent events whole.1)
+frames_sent (Said e ∷ events) whole = frames_sent events whole
+
+-- a play over what a wire brings never waits for the answer to a frame that the wire was sent
+never_waits : {E R P : Type 0} (m : Device P) (answers : AnswersBodies m) (d : Dialog E R) (n : ℕ) (w : Wire P) (sent : List (List ℕ)) → AsksBodies d → IsClear n w.late → AreLawful w.fates
+    → (played d n (tape_of m sent w)).outcome ≡ None → frames_in (played d n (tape_of m sent w)).events ≡ sent → ⊥
+never_waits m answers (Done r) n w sent asks clear lawful waits e = none_some (r, n, tape_of m sent w) (sym waits)
+never_waits m answers (Say s d) n w sent asks clear lawful waits e = never_waits m answers d n w sent asks clear lawful waits e
+never_waits m answers (Ask bytes go_on) n w [] asks clear lawful waits e = nothing _ _ e
+  where
+    nothing : (f : List ℕ) (fs : List (List ℕ)) → f ∷ fs ≡ [] → ⊥
+    nothing f fs e = cc
+never_waits m answers (Ask bytes go_on) n w (f ∷ sent) asks clear lawful waits e =
+    let is : frame n bytes ≡ f = head_is (frame n bytes) f _ sent e in
+    let first = first_played m answers bytes go_on n w sent asks.0 clear lawful in
+    let at : (g : List ℕ) → g ≡ f → played (Ask bytes go_on) n (tape_of m (f ∷ sent) w) ≡ played (Ask bytes go_on) n (tape_of m (g ∷ sent) w) = λ g same. ap (λ h. played (Ask bytes go_on) n (tape_of m (h ∷ sent) w)) (sym same) in
+    never_waits m answers (go_on (turn_reading (turn_of (first_fate w.fates)) (m.answer bytes w.programmer))) (next n) (wire_behind m (frame n bytes) w) sent
+    (asks.1 (turn_reading (turn_of (first_fate w.fates)) (m.answer bytes w.programmer)))
+    (segment_late m n bytes w asks.0 (answers bytes w.programmer asks.0) clear)
+    (others_lawful w.fates lawful)
+    (sym (ap (λ p. p.outcome) (at (frame n bytes) is ∙ first)) ∙ waits)
+    (tail_is (frame n bytes) f _ sent (sym (ap (λ p. frames_in p.events) (at (frame n bytes) is ∙ first)) ∙ e))
+
+-- where something is heard, it was due
+pub due_at : {E R : Type 0} (d : Dialog E R) (n : ℕ) (tape : Tape) (bytes : List ℕ) (before after : Talk) (items : Tape) → TurnsFrom d n tape bytes (before ++ Got items ∷ after) → IsDue d n (tape ++ heard before) (bytes ++ sent before)
+due_at d n tape bytes [] after items turns = subst (λ t. IsDue d n t (bytes ++ [])) (sym (append-nil tape)) (subst (IsDue d n tape) (sym (append-nil bytes)) turns.0)
+due_at d n tape bytes (Sent more ∷ before) after items turns =
+    subst (IsDue d n (tape ++ heard before)) (append_assoc bytes more (sent before)) (due_at d n tape (bytes ++ more) before after items turns)
+due_at d n tape bytes (Got got ∷ before) after items turns =
+    subst (λ t. IsDue d n t (bytes ++ sent before)) (append_assoc tape got (heard before)) (due_at d n (tape ++ got) bytes before after items turns.1)
+
+-- a talk in turn never listens where nothing waits
+pub never_idle : {E R : Type 0} (d : Dialog E R) (n : ℕ) (p : Programmer) (fates : List Fate) (talk : Talk) → AsksBodies d → AreLawful fates → InTurn d (position n []) talk → NeverIdle p fates talk
+never_idle d n p fates talk asks lawful turns before after items split same =
+    let due : IsDue d n (heard before) (sent before) = due_at d n [] [] before after items (subst (TurnsFrom d n [] []) split turns) in
+    let here : IsDue d n (brought p fates (sent before)) (sent before) = subst (λ t. IsDue d n t (sent before)) (sym same) due in
+    let events = (played d n (brought p fates (sent before))).events in
+    never_waits device answers_bodies d n (fresh_wire p fates) (frames (sent before)) asks (none_clear n) lawful here.waits
+    (sym (frames_sent events (sends_whole d n (brought p fates (sent before)) asks)) ∙ ap frames here.all_sent)
+
+-- more of the tape, more frames behind those sent
+abbrev Goes : {E R : Type 0} → Dialog E R → ℕ → Tape → Tape → Type 0
+Goes d n t u = (more : List (List ℕ)) × (frames_in (played d n (t ++ u)).events ≡ frames_in (played d n t).events ++ more)
+
+goes_asking : {E R : Type 0} (bytes : List ℕ) (go_on : Reading → Dialog E R) (n : ℕ) (t u : Tape) (o : Option (Reading × Tape)) → answer n t ≡ o
+    → ((reading : Reading) (left : Tape) → Goes (go_on reading) (next n) left u) → Goes (Ask bytes go_on) n t u
+goes_asking bytes go_on n t u None e each =
+    let whole = played (Ask bytes go_on) n (t ++ u) in
+    let rest = by_answer (λ reading. played (go_on reading) (next n)) (answer n (t ++ u)) in
+    (frames_in rest.events, ap (λ o. frame n bytes ∷ (frames_in (by_answer (λ reading. played (go_on reading) (next n)) o).events ++ frames_in rest.events)) (sym e))
+goes_asking bytes go_on n t u (Some (reading, left)) e each =
+    let g = each reading left in (
+      g.0,
+      ap (λ o. frame n bytes ∷ frames_in (by_answer (λ reading. played (go_on reading) (next n)) o).events) (answer_extends n t u reading left e)
+          ∙ (ap (λ fs. frame n bytes ∷ fs) g.1
+          ∙ ap (λ o. frame n bytes ∷ (frames_in (by_answer (λ reading. played (go_on reading) (next n)) o).events ++ g.0)) (sym e)),
+    )
+
+pub played_goes : {E R : Type 0} (d : Dialog E R) (n : ℕ) (t u : Tape) → Goes d n t u
+played_goes (Done r) n t u = ([], refl)
+played_goes (Say e d) n t u = played_goes d n t u
+played_goes (Ask bytes go_on) n t u = goes_asking bytes go_on n t u (answer n t) refl (λ reading left. played_goes (go_on reading) (next n) left u)
+
+-- a part of a frame has no frame
+part_none : (x y : List ℕ) → 0 < length y → IsPiece (x ++ y) → frames x ≡ []
+part_none x y some whole = elim (cases_lt (length x) (piece_size x)) [
+  | inl lt ↦ ap (filter is_frame) (cut_none x (lt-leb (piece_size x) (length x) lt))
+  | inr ge ↦ let s = size_stays x y ge in absurd (omega (arith, whole, length-append x y))
+]
+
+none_before : {A : Type 0} (x y : List A) → x ++ y ≡ [] → (x ≡ []) × (y ≡ [])
+none_before [] y e = (refl, e)
+none_before (a ∷ x) y e = (cc, cc)
+
+-- bytes that are a front of those of events have a front of their frames
+pub frames_front : {E : Type 0} (events : List (Event E)) (bytes back : List ℕ) → AreWhole (frames_in events) → bytes ++ back ≡ bytes_sent events → (others : List (List ℕ)) × (frames_in events ≡ frames bytes ++ others)
+frames_front [] bytes back whole e = ([], ap frames (sym (none_before bytes back e).0) ∙ sym (append-nil (frames bytes)))
+frames_front (Said s ∷ events) bytes back whole e = frames_front events bytes back whole e
+frames_front (Frame f ∷ events) bytes back whole e = elim (cases_lt (length bytes) (length f)) [
+  | inl lt ↦
+      let split : f ≡ bytes ++ drop (length bytes) f =
+      sym (take-append-drop (length bytes) f) ∙ ap (λ x. x ++ drop (length bytes) f)
+      (sym (take-append-le (length bytes) f (bytes_sent events) (omega arith)) ∙ (sym (ap (take (length bytes)) e) ∙ (take-append-le (length bytes) bytes back (omega arith) ∙ take_all (length bytes) bytes (omega arith)))) in
+      let rest : 0 < length (drop (length bytes) f) = let g = ap length split in omega (arith, g, length-append bytes (drop (length bytes) f)) in
+      (f ∷ frames_in events, ap (λ x. x ++ f ∷ frames_in events) (sym (part_none bytes (drop (length bytes) f) rest (subst IsPiece split whole.0.piece))))
+  | inr ge ↦
+      let front : take (length f) bytes ≡ f = sym (take-append-le (length f) bytes back ge) ∙ (ap (take (length f)) e ∙ (take-append-le (length f) f (bytes_sent events) (omega arith) ∙ take_all (length f) f (omega arith))) in
+      let split : bytes ≡ f ++ drop (length f) bytes = sym (take-append-drop (length f) bytes) ∙ ap (λ x. x ++ drop (length f) bytes) front in
+      let later : drop (length f) bytes ++ back ≡ bytes_sent events =
+      sym (drop-append-le (length f) bytes back ge) ∙ (ap (drop (length f)) e ∙ (drop-append-le (length f) f (bytes_sent events) (omega arith) ∙ ap (λ x. x ++ bytes_sent events) (drop_all (length f) f (omega arith)))) in
+      let inner = frames_front events (drop (length f) bytes) back whole.1 later in
+      (inner.0, ap (λ gs. f ∷ gs) inner.1 ∙ ap (λ x. x ++ inner.0) (sym (ap frames split ∙ frame_first f (drop (length f) bytes) whole.0)))
+]
+
+-- what happened of a talk that broke off is a front of the bytes
+begun_front : {E : Type 0} (SaidPart : E → E → Type 0) (begun later : List (Event E)) → IsBegun SaidPart begun later → IsPrefixOf (bytes_sent begun) (bytes_sent later)
+begun_front SaidPart [] later part = (bytes_sent later, refl)
+begun_front SaidPart (Frame x ∷ []) [] part = absurd part
+begun_front SaidPart (Said x ∷ []) [] part = absurd part
+begun_front SaidPart (Frame x ∷ []) (Frame y ∷ later) part =
+    (part.0 ++ bytes_sent later, ap (λ bs. bs ++ (part.0 ++ bytes_sent later)) (append-nil x) ∙ (sym (append_assoc x part.0 (bytes_sent later)) ∙ ap (λ bs. bs ++ bytes_sent later) part.1))
+begun_front SaidPart (Frame x ∷ []) (Said y ∷ later) part = absurd part
+begun_front SaidPart (Said x ∷ []) (Frame y ∷ later) part = absurd part
+begun_front SaidPart (Said x ∷ []) (Said y ∷ later) part = (bytes_sent later, refl)
+begun_front SaidPart (Frame x ∷ e ∷ begun) later part = absurd part
+begun_front SaidPart (Said x ∷ e ∷ begun) later part = absurd part
+
+pub shown_front : {E : Type 0} (SaidPart : E → E → Type 0) (shown events : List (Event E)) → IsFront SaidPart shown events → IsPrefixOf (bytes_sent shown) (bytes_sent events)
+shown_front SaidPart shown events f =
+    let g = begun_front SaidPart f.begun f.later f.part in (
+      g.0,
+      ap (λ bs. bs ++ g.0) (ap bytes_sent f.shown_is ∙ bytes_append f.whole f.begun)
+          ∙ (append_assoc (bytes_sent f.whole) (bytes_sent f.begun) g.0
+          ∙ (ap (λ bs. bytes_sent f.whole ++ bs) g.1
+          ∙ (sym (bytes_append f.whole f.later) ∙ ap bytes_sent (sym f.events_are)))),
+    )
+
+module _ {E R : Type 0} (d : Dialog E R) (n : ℕ) (p : Programmer) (fates : List Fate) (w : WiredState) (asks : AsksBodies d) (lawful : AreLawful fates) (keeps : Keeps p fates w) (turns : InTurn d (position n []) w.talk) where
+  brings : brought p fates (sent w.talk) ≡ heard w.talk ++ w.waits
+  brings = keeps.brings (never_idle d n p fates w.talk asks lawful turns)
+
+  -- from a front of the bytes of the play over what was heard
+  goes_along : IsPrefixOf (sent w.talk) (bytes_sent (played d n (heard w.talk)).events) → Fused device d n (fresh_wire p fates) (frames (sent w.talk))
+  goes_along front =
+      let f = frames_front (played d n (heard w.talk)).events (sent w.talk) front.0 (sends_whole d n (heard w.talk) asks) front.1 in
+      let g = played_goes d n (heard w.talk) w.waits in
+      fused device answers_bodies d n (fresh_wire p fates) (frames (sent w.talk)) (f.0 ++ g.0) asks (none_clear n) lawful
+      (ap (λ t. frames_in (played d n t).events) brings ∙ (g.1 ∙ (ap (λ fs. fs ++ g.0) f.1 ∙ append_assoc (frames (sent w.talk)) f.0 g.0)))
+
+  -- where the talk broke off the programmer stands along the line
+  pub broken_along : (SaidPart : E → E → Type 0) (shown : List (Event E)) → Breaks SaidPart d (position n []) w.talk shown → w.wire.programmer ≡ (along device (length (frames (sent w.talk))) d p (turns_of fates)).programmer
+  broken_along SaidPart shown breaks =
+      let front = shown_front SaidPart shown (played d n (heard w.talk)).events breaks.front in
+      ap (λ x. x.programmer) keeps.stands ∙ (goes_along (front.0, ap (λ bs. bs ++ front.0) (sym breaks.all_sent) ∙ front.1)).programmer
+
+  -- where it was whole the dialog has come to the same result there, and nothing is left
+  pub whole_along : (events : List (Event E)) (r : R) (after : Position) → Plays d (position n []) w.talk events r after
+      → GoesAlong d p (turns_of fates) w r after.unread
+  whole_along events r after plays =
+      let over : played d n (heard w.talk) ≡ record { events = events; outcome = Some (r, after.next, on_tape after.unread ++ []) } =
+      ap (played d n) (sym (append-nil (heard w.talk))) ∙ plays.plays [] in
+      let f = goes_along ([], append-nil (sent w.talk) ∙ (sym plays.all_sent ∙ ap (λ x. bytes_sent x.events) (sym over))) in
+      let o = f.outcome r after.next (on_tape after.unread ++ w.waits) (ap (λ t. (played d n t).outcome) brings ∙ ap (λ x. x.outcome) (plays.plays w.waits)) in
+      let none = none_before (on_tape after.unread) w.waits o.1 in
+      record {
+        programmer = ap (λ x. x.programmer) keeps.stands ∙ f.programmer;
+        result = o.0;
+        none_left = no_bytes after.unread none.0;
+        none_waits = none.1;
+      }
+    where
+      no_bytes : (left : List ℕ) → on_tape left ≡ [] → left ≡ []
+      no_bytes [] e = refl
+      no_bytes (b ∷ left) e = cc
