@@ -6,9 +6,11 @@ import signal
 import sys
 import traceback
 
-# In the background of a shell SIGINT is ignored, also by what is started there; the programs that are run here heed it.
-if signal.getsignal(signal.SIGINT) is signal.SIG_IGN:
-    signal.signal(signal.SIGINT, signal.default_int_handler)
+# In the background of a shell SIGINT is ignored, and under nohup SIGHUP, also by what is started there; the programs that
+# are run here heed them.
+for number, heeded in [(signal.SIGINT, signal.default_int_handler), (signal.SIGHUP, signal.SIG_DFL)]:
+    if signal.getsignal(number) is signal.SIG_IGN:
+        signal.signal(number, heeded)
 
 passed = 0
 failed = 0
