@@ -30,7 +30,12 @@ MORE = {
     "avr_part": [],
     "stk_frame": ["arrayvec::ArrayVec"],
     "stk_host": ["avr_image::{Image, parse_immediate}", "avr_part::{Chip, Mem, Parts}", "stk_emu::{Fates, Wired}"],
-    "stk_emu": ["arrayvec::ArrayVec", "avr_part::{Chip, Mem, Parts}", "stk_host::{Host, Link}"],
+    "stk_emu": [
+        "arrayvec::ArrayVec",
+        "avr_part::{Chip, Mem, Parts}",
+        "std::io::{Read, Write}",
+        "stk_host::{Host, Link}",
+    ],
     "avr_tool": [],
 }
 
@@ -100,7 +105,7 @@ def tried(folder, *words):
 
 def examples_of(crate):
     """Runs the examples in the documentation of a crate."""
-    used = {it.split("::")[0] for it in MORE[crate]} | {crate}
+    used = {it.split("::")[0] for it in MORE[crate]} - {"std"} | {crate}
     source, places = crate_of_tests(crate)
     with tempfile.TemporaryDirectory() as folder:
         ran = tried(repository_with(Path(folder), "doc_examples", used, "src/lib.rt", source), "--test")

@@ -1,22 +1,19 @@
-// crates: anyhow arrayvec avr_part stk_emu stk_frame
+// crates: anyhow avr_part stk_emu stk_frame
 //! Answers a client's bytes by an emulated programmer, as a double to test a client of one's own against: a good frame
 //! behind noise, and one that was spoiled on its way.
 //!
 //! What it prints was worked out by hand from AVR068: the good frame asks for the programmer's name, the spoiled one is
 //! answered with ANSWER_CKSUM_ERROR and STATUS_CKSUM_ERROR, and the XOR of the bytes of a frame is 00.
-//= 1B 01 00 0B 0E 01 00 08 53 54 4B 35 30 30 5F 32 02
-//= 1B 02 00 02 0E B0 C1 64
+//= 1B 01 00 0B 0E 01 00 08 53 54 4B 35 30 30 5F 32 02 1B 02 00 02 0E B0 C1 64
 //= answer 1 is good
 //= answer 2: not good
 #![tactic(auto)]
 
 use anyhow::Result;
-use arrayvec::ArrayVec;
 use avr_part::{Chip, Parts};
-use std::alloc::Global;
 use std::io::{self, Write};
 use stk_emu::Emulator;
-use stk_frame::{Answer, Command, Event, FrameReader, LARGEST_FRAME};
+use stk_frame::{Answer, Command, Event, FrameReader};
 
 /// What the client sends: noise, SIGN_ON with the number 1, and with the number 2 SIGN_ON with a wrong XOR.
 const SENT: &[u8] = b"\x00\x1B\x01\x00\x01\x0E\x01\x14\x1B\x02\x00\x01\x0E\x01\x00";
@@ -24,24 +21,11 @@ const SENT: &[u8] = b"\x00\x1B\x01\x00\x01\x0E\x01\x14\x1B\x02\x00\x01\x0E\x01\x
 fn main(rt: HostRuntime) -> Result<()> {
     let chip = Chip::fresh(rt.alloc(), Parts::none().find("m328p")?)?;
     let mut emulator = Emulator::new(chip);
+    let mut answers = Vec::new(rt.alloc());
+    emulator.answer_all(SENT, &mut answers)?;
     let mut out = io::writer(&rt);
-    let answers = answers_to(rt.alloc(), &mut emulator, SENT, &mut out)?;
+    print_bytes(answers.as_slice(), &mut out)?;
     read_answers(answers.as_slice(), &mut out)
-}
-
-/// All that the programmer answers to some bytes, each answer printed as a line.
-fn answers_to<W: Write>(alloc: Global, emulator: &mut Emulator, bytes: &[u8], out: &mut W) -> Result<Vec<u8>> {
-    let mut answers = Vec::new(alloc);
-    let mut answer: ArrayVec<u8, LARGEST_FRAME> = ArrayVec::new();
-    let mut used = 0;
-    while used < bytes.len() {
-        used += emulator.feed(&bytes[used..], &mut answer);
-        if !answer.is_empty() {
-            print_bytes(answer.as_slice(), out)?;
-        }
-        answers.extend_from_slice(answer.as_slice())?;
-    }
-    Ok(answers)
 }
 
 /// What the client reads in these bytes, as the answers to SIGN_ON.

@@ -34,7 +34,7 @@ sendable bytes le = record { some = grind (arith, nat_tests, le); few = grind (a
 
 asks_light : {E R : Type 0} (d : Dialog E R) → WeighsAtMost unsendable 0 d → AsksBodies d
 asks_light (Done r) f = tt
-asks_light (Say e d) f = asks_light d f
+asks_light (Say e d) f = asks_light d f.1
 asks_light (Ask asked answered) f = (
   sendable asked f.0,
   λ reading.

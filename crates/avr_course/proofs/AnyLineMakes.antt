@@ -19,7 +19,8 @@ use Rattle.stk_emu.specs.Settled.{Idle, Settled, FitsPart}
 use Rattle.stk_emu.specs.Strokes.{struck, struck_by, all_steps, AreSteps, AllFitItems}
 use Rattle.stk_lines.specs.Leads.{Leads}
 use Rattle.stk_lines.specs.Tallies.{Count, with_next, then_count, Tallies, GoesOn}
-use Rattle.stk_lines.proofs.Attempts.{along_bind, onward, asks≢done}
+use Rattle.stk_lines.proofs.Attempts.{along_bind, onward}
+use Rattle.stk_lines.proofs.OnAnyTurn.{asks≢done}
 use Rattle.stk_lines.proofs.Climbing.{along_before}
 use Rattle.stk_emu.proofs.Obeying.{settled_idle}
 use Rattle.stk_lines.proofs.Tallying.{tallies_wider, tallies_bind, steps_all, tallies_play}

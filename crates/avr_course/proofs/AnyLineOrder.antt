@@ -1,5 +1,5 @@
 -- A session makes the strokes of its plan in their order.
-use Rattle.std.proofs.Common.{◌≡◌, ℕ, ◌+◌, ◌-◌, ◌≤◌, List, [], ◌∷◌, ◌++◌, length, take, refl, sym, ◌∙◌, subst, arith, inr, Err, Result, Bool, true, false}
+use Rattle.std.proofs.Common.{◌≡◌, ℕ, ◌+◌, ◌-◌, ◌≤◌, List, [], ◌∷◌, ◌++◌, length, take, refl, sym, ◌∙◌, subst, arith, inr, Ok, Err, Bool, true, false}
 use Rattle.std.proofs.lemmas.List.{append-nil}
 use Rattle.std.specs.Prelude.{All, ⊤, if◌then◌else◌}
 use Rattle.avr_cli.specs.declared.settings.Switches.{Switches}
@@ -8,11 +8,10 @@ use Rattle.avr_part.specs.Mem.{is_writable}
 use Rattle.avr_part.specs.declared.part.Mem.{Mem}
 use Rattle.avr_part.specs.Part.{Part, IsPart, size_of}
 use Rattle.avr_plan.specs.Plan.{Plan, IsFitted}
-use Rattle.stk_host.specs.declared.fault.HostFault.{HostFault}
 use Rattle.stk_host.specs.declared.fault.HostFault.TheVariants.{ReadOnly}
 use Rattle.stk_host.specs.Dialog.{Dialog, Done, Say, Ask}
 use Rattle.stk_host.specs.WriteSteps.{write_steps}
-use Rattle.stk_host.specs.Operations.{no_result, closing, operation}
+use Rattle.stk_host.specs.Operations.{no_result, operation}
 use Rattle.stk_emu.specs.Turn.{Turn}
 use Rattle.stk_emu.specs.Programmer.{Programmer}
 use Rattle.stk_emu.specs.Device.{device}
@@ -24,19 +23,20 @@ use Rattle.stk_lines.specs.Leads.{Leads}
 use Rattle.stk_lines.specs.Tallies.{Count, with_next, then_count, Tallies, GoesOn}
 use Rattle.stk_lines.proofs.Counting.{items_counted}
 use Rattle.stk_lines.proofs.ItemStrokes.{write_are_steps, item_are_steps}
-use Rattle.stk_lines.proofs.LeadsOn.{leads_done, leads_bind, leads_closing}
+use Rattle.stk_lines.proofs.OnAnyTurn.{leads}
 use Rattle.stk_lines.proofs.Tallying.{tallies_wider, tallies_told, tallies_bind}
 use Rattle.avr_session.specs.declared.standing.Standing.{Standing}
-use Rattle.avr_session.specs.declared.standing.Standing.TheVariants.{Fine, Faulty, Over}
+use Rattle.avr_session.specs.declared.standing.Standing.TheVariants.{Fine}
 use Rattle.avr_session.specs.Actions.{Action, OpenSession, EraseChip, WriteImage, actions}
-use Rattle.avr_session.specs.Session.{reported, erased_says, written_says, closed_says, phase, phases, ending, playing, status_of, session}
+use Rattle.avr_session.specs.Session.{reported, opening_says, erased_says, written_says, closed_says, phase, phases, ending, playing, status_of, session}
 use Rattle.avr_course.specs.Items.{action_items, actions_items, items}
 use Rattle.avr_course.specs.Agrees.{ActionAgrees}
 use Rattle.avr_course.specs.Made.{none_made, action_made, actions_made, made_by}
 use Rattle.avr_course.specs.Outcome.{strokes}
 use Rattle.avr_course.proofs.Fitting.{FitsAction, AllFitActions, work, work_fits, action_items_fit}
 use Rattle.avr_course.proofs.AnyLineSteps.{effects_sizes}
-use Rattle.avr_course.proofs.AnyLinePhases.{leads_reported, Comes, Goes, goes_opening, goes_phase, goes_phases}
+use Rattle.avr_course.proofs.AnyLine.{goes_ending}
+use Rattle.avr_course.proofs.AnyLinePhases.{Comes, Goes, goes_leads, goes_opening, goes_phase, goes_saying, Anything, any_sayings, any_says, any_phase}
 use Rattle.avr_course.proofs.AnyLineMakes.{Struck, Makes, tallies_same, makes_none, makes_items, makes_then}
 
 -- a phase makes the strokes of these items, from a programmer in programming mode with these memories
@@ -49,8 +49,8 @@ nothing_after (Say s d) n = refl
 nothing_after (Ask bytes go_on) n = refl
 
 -- nothing is made where there are no items
-makes_quiet : (part : Part) (m : Memories) (Check : Type 0) (d : Dialog Saying Standing) → Goes part (Settled part m) m [] Check d → Strikes part m [] none_made d
-makes_quiet part m Check d goes p turns settled = makes_none part m d p turns (Comes part m [] Check) (goes p turns settled)
+makes_quiet : (part : Part) (sound : IsPart part) (m : Memories) (Check : Type 0) (d : Dialog Saying Standing) → FitsPart part m → Goes part sound Anything (Settled part m) m [] Check d → Strikes part m [] none_made d
+makes_quiet part sound m Check d f goes p turns settled = makes_none part m d p turns (Comes part m [] Check) (goes_leads part sound Anything m [] Check d p turns tt f goes settled)
 
 module _ (part : Part) (sound : IsPart part) (s : Switches) where
   makes_writing : (mem : Mem) (image : Image) (m : Memories) → length image ≤ size_of mem part → is_writable mem ≡ true
@@ -73,34 +73,25 @@ module _ (part : Part) (sound : IsPart part) (s : Switches) where
   makes_phase EraseChip m fits f = λ p turns settled.
       makes_items part sound m (Erase ∷ []) no_result (erased_says s.quiet part) p turns (item_are_steps part sound Erase tt) settled
   makes_phase (WriteImage mem image) m fits f = makes_writing mem image m (let size = fits.0 in omega (arith, size)) fits.1
-  makes_phase action m fits f = makes_quiet part m (ActionAgrees part action m) (phase part s action) (goes_phase part sound s action m fits f)
+  makes_phase action m fits f = makes_quiet part sound m (ActionAgrees part action m) (phase part s action) f (goes_phase part sound Anything s action m fits f (any_phase part sound s action m))
 
   makes_phases : (actions : List Action) (m : Memories) → AllFitActions part actions → FitsPart part m
       → Strikes part m (actions_items actions) (actions_made part s actions) (phases part s actions)
-  makes_phases [] m fits f p turns settled = makes_quiet part m ⊤ (Done Fine) (goes_phases part sound s [] m tt f) p turns settled
+  makes_phases [] m fits f p turns settled = makes_quiet part sound m ⊤ (Done Fine) f (goes_saying part sound Anything m [] (λ q s. tt)) p turns settled
   makes_phases (action ∷ actions) m fits f p turns settled =
       let items = action_items action in
       let left = effects part items m in
       makes_then part sound m items (actions_items actions) (ActionAgrees part action m) (phase part s action) (phases part s actions) (action_made part action) (actions_made part s actions) p turns
-      (action_items_fit part action fits.0) f (goes_phase part sound s action m fits.0 f p turns settled) (makes_phase action m fits.0 f p turns settled)
+      (action_items_fit part action fits.0) f
+      (goes_leads part sound Anything m items (ActionAgrees part action m) (phase part s action) p turns (action_items_fit part action fits.0) f
+      (goes_phase part sound Anything s action m fits.0 f (any_phase part sound s action m)) settled) (makes_phase action m fits.0 f p turns settled)
       (λ q fs there. makes_phases actions left fits.1 (effects_sizes part sound items m f) q fs there)
 
 -- the end keeps the memories
-ending_keeps : (part : Part) (s : Switches) (before : Memories) (standing : Standing) (p : Programmer) (turns : List Turn) → Idle part before p
+ending_keeps : (part : Part) (sound : IsPart part) (s : Switches) (before : Memories) (standing : Standing) (p : Programmer) (turns : List Turn) → Idle part before p
     → Leads device (ending part s standing) p turns (Idle part before) (λ t q. Idle part before q)
-ending_keeps part s before standing p turns idle = by_standing standing
-  where
-    closes : (outcome_says : Result ⊤ HostFault → List Saying) → Leads device (reported closing outcome_says) p turns (Idle part before) (λ t q. Idle part before q)
-    closes outcome_says =
-        leads_reported closing outcome_says p turns (Idle part before) (λ r q. Idle part before q) (λ t q. Idle part before q) (λ r q i. i) (λ r q i. i)
-        (leads_closing part before p turns idle)
-
-    by_standing : (at : Standing) → Leads device (ending part s at) p turns (Idle part before) (λ t q. Idle part before q)
-    by_standing Fine = closes (closed_says s.quiet part)
-    by_standing Faulty =
-        leads_bind device (Idle part before) (λ t q. Idle part before q) (λ t q. Idle part before q) (λ closed. Done Over)
-        (λ t q fs i. leads_done device Over q fs (Idle part before) (λ u r. Idle part before r) i i) (reported closing (λ _. [])) p turns (closes (λ _. []))
-    by_standing Over = leads_done device Over p turns (Idle part before) (λ u r. Idle part before r) idle idle
+ending_keeps part sound s before standing p turns idle =
+    leads device (λ t q x. (x.0, x.0)) (goes_ending part sound Anything s (λ r q c. any_sayings (closed_says s.quiet part r) q) before standing p idle)
 
 module _ (plan : Plan) (sound : IsPart plan.part) (fitted : All (IsFitted plan.part) plan.tasks) (m : Memories) (f : FitsPart plan.part m) (p : Programmer) (turns : List Turn)
     (idle : Idle plan.part m p) where
@@ -111,8 +102,9 @@ module _ (plan : Plan) (sound : IsPart plan.part) (fitted : All (IsFitted plan.p
   makes_actions =
       let part = plan.part in
       let s = plan.switches in
-      let opens = goes_opening part sound s m f p turns idle in
       let opened = phase part s OpenSession in
+      let opens =
+      goes_leads part sound Anything m [] ⊤ opened p turns tt f (goes_opening part sound Anything s m f (any_says part sound (opening_says s.quiet part) [] (Ok part.signature) m)) idle in
       makes_then part sound m [] (actions_items (work plan)) ⊤ opened (phases part s (work plan)) none_made (actions_made part s (work plan)) p turns tt f
       opens (makes_none part m opened p turns (Comes part m [] ⊤) opens) (λ q fs there. makes_phases part sound s (work plan) m (work_fits plan fitted) f q fs there)
 
@@ -127,7 +119,7 @@ module _ (plan : Plan) (sound : IsPart plan.part) (fitted : All (IsFitted plan.p
       let made = makes_actions.tally.count k in
       let struck = makes_actions.tally.stands k in
       let before = struck_by part made (all_steps part (items plan)) m in
-      let keeps = ending_keeps part plan.switches before s z.programmer z.turns struck.stands in
+      let keeps = ending_keeps part sound plan.switches before s z.programmer z.turns struck.stands in
       record {
         rest = record {
           count = λ l. 0;

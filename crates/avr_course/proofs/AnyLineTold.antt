@@ -9,7 +9,8 @@ use Rattle.stk_host.specs.Operations.{host_fault, judged_by, operation}
 use Rattle.stk_emu.specs.Turn.{Turn}
 use Rattle.stk_emu.specs.Device.{Device}
 use Rattle.stk_emu.specs.Along.{along}
-use Rattle.stk_lines.proofs.Attempts.{along_bind, onward, asks≢done}
+use Rattle.stk_lines.proofs.Attempts.{along_bind, onward}
+use Rattle.stk_lines.proofs.OnAnyTurn.{asks≢done}
 use Rattle.stk_lines.proofs.LeadsOn.{along_lifted, along_told}
 use Rattle.avr_session.specs.declared.standing.Standing.{Standing}
 use Rattle.avr_session.specs.declared.standing.Standing.TheVariants.{Fine}

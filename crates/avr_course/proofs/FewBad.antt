@@ -25,7 +25,7 @@ module _ (plan : Plan) (sound : IsPart plan.part) (fitted : All (IsFitted plan.p
       → (k : ℕ) (status : ℕ) → (along device k (session plan) p turns).dialog ≡ Done status
       → Came status (course plan m).status (said_along device k (session plan) p turns) (course plan m).says (memories_of (along device k (session plan) p turns).programmer.chip ≡ (course plan m).memories)
   session_ends m p turns sizes idle few k status e =
-      (session_follows ⊥ AreFew others_few plan fitted _ (few_calls plan.part sound) m p turns sizes idle).ends few k status e (λ none. absurd none)
+      (session_follows AreFew others_few plan fitted _ (few_calls plan.part sound) m p turns sizes idle).ends few k status e
 
   -- it is done after at most four times its commands
   pub session_done : (m : Memories) (k : ℕ) (p : Programmer) (turns : List Turn) → FitsPart plan.part m → Idle plan.part m p → AreFew turns → 4 * commands_in (run_steps plan) ≤ k

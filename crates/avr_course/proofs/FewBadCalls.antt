@@ -1,7 +1,7 @@
 -- The calls of a host over a line on which few frames go wrong: each has all its data, and no fault but of what they are.
 use Rattle.std.proofs.Common.{◌≡◌, ℕ, List, [], ◌∷◌, length, refl, sym, ap, ◌∙◌, subst, arith, ◌⊎◌, Bool, true, false, Result, Ok, Err}
 use Rattle.std.proofs.lemmas.Bool.{eq-eqb}
-use Rattle.std.specs.Prelude.{⊤, ◌==◌, ◌&&◌, ◌≤◌}
+use Rattle.std.specs.Prelude.{◌==◌, ◌&&◌, ◌≤◌}
 use Rattle.std.specs.Str.{bytes_eq}
 use Rattle.avr_part.specs.declared.part.Mem.{Mem}
 use Rattle.avr_part.specs.declared.part.Mem.TheVariants.{Signature}
@@ -36,7 +36,7 @@ use Rattle.stk_lines.proofs.PlayGiven.{read_gives}
 use Rattle.stk_lines.proofs.Striking.{sign_on_steady, enter_ready, leave_steady}
 use Rattle.avr_course.proofs.AnyLineSteps.{quiet_stays, read_quiet}
 use Rattle.avr_course.proofs.Ends.{Ends, nothing_said, ends_done, ends_wider, ends_bind}
-use Rattle.avr_course.proofs.Following.{Call, Calls}
+use Rattle.avr_course.proofs.Following.{Calls}
 
 -- the programmer in programming mode, with memories of the part's sizes
 pub record Stands (part : Part) (m : Memories) (q : Programmer) : Type 0 where
@@ -45,18 +45,18 @@ pub record Stands (part : Part) (m : Memories) (q : Programmer) : Type 0 where
 
 -- over such a line
 abbrev Few : {R : Type 0} → Dialog ⊥ R → R → (Programmer → Type 0) → Programmer → List Turn → Type 0
-Few d r After p turns = Ends AreFew (λ got. ⊤) d r [] After p turns
+Few d r After p turns = Ends AreFew d r [] After p turns
 
 few_bind : {A B : Type 0} (next : A → Dialog ⊥ B) (a : A) (b : B) (Between After : Programmer → Type 0) (d : Dialog ⊥ A) (p : Programmer) (turns : List Turn) → Few d a Between p turns
     → ((q : Programmer) (fs : List Turn) → Between q → Few (next a) b After q fs) → Few (d >>= next) b After p turns
 few_bind next a b Between After d p turns first more =
-    ends_bind AreFew others_few (λ got. ⊤) (λ got. ⊤) next (λ c left q fs got e counts. tt) a b [] [] Between After d p turns first more
+    ends_bind AreFew others_few next a b [] [] Between After d p turns first more
 
 -- a step of at most two commands, which have these data from under the one condition and the other
 ends_step : (commands : List Command) (got : List ℕ) (Before After : Programmer → Type 0) (p : Programmer) (turns : List Turn)
     → Fits steady commands Before After → Before p → length commands ≤ 2 → ((q : Programmer) → Before q ⊎ After q → joined_reply device commands [] q ≡ Data got) → Few (step commands) (Ok got) After p turns
 ends_step commands got Before After p turns fits before short has = record {
-  ends = λ few k o e counts.
+  ends = λ few k o e.
       let comes = step_steady Before After commands got fits has k p turns o short few before e in
       record { result = comes.0; sayings = nothing_said (said_along device k (step commands) p turns); after = comes.1 };
 }
@@ -65,7 +65,7 @@ ends_step commands got Before After p turns fits before short has = record {
 ends_told : {A B : Type 0} (d : Dialog ⊥ A) (tell : A → B) (a : A) (After : Programmer → Type 0) (p : Programmer) (turns : List Turn) → Few d a After p turns
     → Few (d >>= (λ answer. Done (tell answer))) (tell a) After p turns
 ends_told d tell a After p turns l =
-    few_bind (λ answer. Done (tell answer)) a (tell a) After After d p turns l (λ q fs after. ends_done AreFew (λ got. ⊤) (tell a) After q fs after)
+    few_bind (λ answer. Done (tell answer)) a (tell a) After After d p turns l (λ q fs after. ends_done AreFew (tell a) After q fs after)
 
 pub bytes_same : (xs : List ℕ) → bytes_eq xs xs ≡ true
 bytes_same [] = refl
@@ -84,7 +84,7 @@ module _ (part : Part) (sound : IsPart part) where
   ends_play : (steps : List (List Command)) (m : Memories) (p : Programmer) (turns : List Turn) → AreSteps part steps → Stands part m p
       → Few (play steps []) (Ok (all_given part steps m)) (Ready part (struck_by part (length steps) steps m)) p turns
   ends_play steps m p turns are s = record {
-    ends = λ few k o e counts.
+    ends = λ few k o e.
         let is : o ≡ Ok (all_given part steps m) = play_few part sound steps m k [] p turns o are s.sizes s.ready few e in record {
           result = is;
           sayings = nothing_said (said_along device k (play steps []) p turns);
@@ -98,7 +98,7 @@ module _ (part : Part) (sound : IsPart part) where
       → Few (operation steps judge) (judge (all_given part steps m)) (Stands part after) p turns
   unfolding operation
   ends_operation steps judge m after p turns are s leaves sizes =
-      ends_wider AreFew (λ got. ⊤) (operation steps judge) (judge (all_given part steps m)) [] (Ready part (struck_by part (length steps) steps m)) (Stands part after) p turns
+      ends_wider AreFew (operation steps judge) (judge (all_given part steps m)) [] (Ready part (struck_by part (length steps) steps m)) (Stands part after) p turns
       (λ q t. record { ready = subst (λ z. Ready part z q) leaves t; sizes = sizes })
       (ends_told (play steps []) (judged_by judge) (Ok (all_given part steps m)) (Ready part (struck_by part (length steps) steps m)) p turns (ends_play steps m p turns are s))
 
@@ -131,7 +131,7 @@ module _ (part : Part) (sound : IsPart part) where
   -- the three bytes of the signature
   ends_signature : (m : Memories) (p : Programmer) (turns : List Turn) → Stands part m p → Few (play signature_steps []) (Ok part.signature) (Stands part m) p turns
   ends_signature m p turns s =
-      ends_wider AreFew (λ got. ⊤) (play signature_steps []) (Ok part.signature) [] (Ready part m) (Stands part m) p turns (λ q t. record { ready = t; sizes = s.sizes })
+      ends_wider AreFew (play signature_steps []) (Ok part.signature) [] (Ready part m) (Stands part m) p turns (λ q t. record { ready = t; sizes = s.sizes })
       (subst (λ bytes. Few (play signature_steps []) (Ok bytes) (Ready part m) p turns) (read_gives part sound m s.sizes Signature)
       (ends_play signature_steps m p turns (read_are_steps part sound Signature) s))
 
@@ -160,17 +160,14 @@ unfolding host.closing
 ends_closing part m p turns idle =
     ends_told (step (leave ∷ [])) without_bytes (Ok []) (Idle part m) p turns (ends_step (leave ∷ []) [] (Idle part m) (Idle part m) p turns (leave_steady part m) idle (omega arith) (λ q stands. refl))
 
--- as the calls of a session, of which none needs to succeed
-counted : {A : Type 0} (d : Dialog ⊥ (Result A HostFault)) (r : Result A HostFault) (After : Programmer → Type 0) (p : Programmer) (turns : List Turn) → Few d r After p turns → Call ⊥ AreFew d r After p turns
-counted d r After p turns l = record { ends = λ few k got e counts. l.ends few k got e tt }
-
-pub few_calls : (part : Part) → IsPart part → Calls ⊥ AreFew part (Stands part)
+-- as the calls of a session
+pub few_calls : (part : Part) → IsPart part → Calls AreFew part (Stands part)
 few_calls part sound = record {
-  opening = λ force m p turns sizes idle. counted _ _ _ p turns (ends_opening part sound force m p turns sizes idle);
-  erasing = λ m p turns s. counted _ _ _ p turns (ends_erasing part sound m p turns s);
-  writing = λ mem image m p turns fits can s. counted _ _ _ p turns (ends_writing part sound mem image m p turns fits can s);
-  verifying = λ mem image m p turns s. counted _ _ _ p turns (ends_verifying part sound mem image m p turns s);
-  reading = λ mem m p turns s. counted _ _ _ p turns (ends_reading part sound mem m p turns s);
-  closing = λ m p turns idle. counted _ _ _ p turns (ends_closing part m p turns idle);
+  opening = λ force m p turns sizes idle. ends_opening part sound force m p turns sizes idle;
+  erasing = λ m p turns s. ends_erasing part sound m p turns s;
+  writing = λ mem image m p turns fits can s. ends_writing part sound mem image m p turns fits can s;
+  verifying = λ mem image m p turns s. ends_verifying part sound mem image m p turns s;
+  reading = λ mem m p turns s. ends_reading part sound mem m p turns s;
+  closing = λ m p turns idle. ends_closing part m p turns idle;
   rests = λ m q s. ready_idle part m q s.ready;
 }

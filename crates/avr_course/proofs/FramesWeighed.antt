@@ -20,7 +20,7 @@ module _ (w : Weight) where
 
   frames_weigh : {E R : Type 0} (n : ℕ) (d : Dialog E R) (seq : ℕ) (tape : Tape) → WeighsAtMost w n d → weighed w (map body_of (frames_in (played d seq tape).events)) ≤ n
   frames_weigh n (Done r) seq tape f = omega arith
-  frames_weigh n (Say e d) seq tape f = frames_weigh n d seq tape f
+  frames_weigh n (Say e d) seq tape f = frames_weigh n d seq tape f.1
   frames_weigh n (Ask asked answered) seq tape f =
       let first = f.0 in
       let rest = by_reading (n - w asked) (λ reading. played (answered reading) (next seq)) (answer seq tape) (λ reading left. frames_weigh (n - w asked) (answered reading) (next seq) left (f.1 reading)) in

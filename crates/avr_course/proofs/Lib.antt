@@ -30,7 +30,6 @@ pub mod AgainHeals
 pub mod AgainCases
 pub mod AgainRows
 pub mod ToldRows
-pub mod Success
 pub mod Weighing
 pub mod FramesWeighed
 pub mod Wiring

@@ -29,7 +29,7 @@ steps_weigh (commands ∷ steps) =
 
 asks_weighed : {E R : Type 0} (n : ℕ) (d : Dialog E R) → WeighsAtMost one n d → AsksAtMost n d
 asks_weighed n (Done r) f = tt
-asks_weighed n (Say e d) f = asks_weighed n d f
+asks_weighed n (Say e d) f = asks_weighed n d f.1
 asks_weighed zero (Ask asked answered) f = let first = f.0 in absurd (omega (arith, first))
 asks_weighed (suc n) (Ask asked answered) f = λ reading.
     let rest : suc n - 1 ≡ n = omega arith in

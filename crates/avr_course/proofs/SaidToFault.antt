@@ -30,16 +30,21 @@ use Rattle.stk_lines.specs.AnyTape.{AreHonest, GoesAs, turns_heard}
 use Rattle.stk_emu.specs.Along.{along, said_along}
 use Rattle.stk_emu.specs.Device.{device}
 use Rattle.stk_emu.specs.Effect as item
-use Rattle.stk_emu.specs.Effect.{Memories, Image}
+use Rattle.stk_emu.specs.Effect.{Memories, Image, memories_of}
 use Rattle.stk_emu.specs.Given.{all_given}
-use Rattle.stk_lines.specs.Leads.{Leads, AfterOpening}
+use Rattle.stk_emu.specs.Fits.{Fits}
 use Rattle.stk_emu.specs.Programmer.{Programmer}
 use Rattle.stk_emu.specs.Settled.{Idle, Settled, FitsPart}
+use Rattle.stk_emu.proofs.Obeying.{settled_idle}
+use Rattle.stk_lines.proofs.Striking.{leave_fits}
+use Rattle.avr_course.proofs.Ends.{Came}
 use Rattle.stk_emu.specs.Strokes.{struck_by, AreSteps}
 use Rattle.stk_lines.proofs.AnyTape.{goes_as}
-use Rattle.stk_lines.proofs.Attempts.{along_bind, onward, asks≢done}
+use Rattle.stk_lines.proofs.Attempts.{along_bind, onward}
+use Rattle.stk_lines.proofs.OnAnyTurn.{asks≢done, Keeps, leads_to}
+use Rattle.stk_host.proofs.Logic.{call}
 use Rattle.stk_lines.proofs.ItemStrokes.{struck_all, item_does, item_are_steps, read_are_steps, effect_sizes}
-use Rattle.stk_lines.proofs.LeadsOn.{leads_lifted, leads_opening}
+use Rattle.stk_lines.proofs.LeadsOn.{AfterCall, operation_goes, IsClosed, closing_goes}
 use Rattle.stk_lines.proofs.PlayGiven.{read_gives}
 use Rattle.stk_lines.proofs.SaidAlong.{said_on, said_bind, said_lifted}
 use Rattle.avr_course.specs.Course.{Course, then_from, ◌then◌, action_course, actions_course, working_course, ending_says, course}
@@ -49,7 +54,7 @@ use Rattle.avr_course.proofs.AnyLineSteps.{quiet_stays, read_quiet}
 use Rattle.avr_course.proofs.AnyLineTold.{done_same, says≢done, says_programmer, says_dialog}
 use Rattle.avr_course.proofs.Fitting.{FitsAction, AllFitActions, work, work_fits}
 use Rattle.avr_course.proofs.Standings.{after_fault, faulty_fine, over_fine}
-use Rattle.avr_course.proofs.TellingTrue.{AfterCall, leads_call, AfterSignature, leads_signature, AfterClosing, leads_closed}
+use Rattle.avr_course.proofs.AnyLinePhases.{Opened, opening_comes}
 
 -- ---- dialogs along a line, by what they have said at each moment, and where they are done
 
@@ -80,11 +85,11 @@ tells_says sayings r p turns Now After n a = record {
       (subst (λ z. After q sayings z) (sym (says_programmer device k sayings r p turns)) (subst (λ x. After x sayings p) is a));
 }
 
-tells_lifted : {E R : Type 0} (d : Dialog ⊥ R) (p : Programmer) (turns : List Turn) (During : Programmer → Type 0) (Came : R → Programmer → Type 0) → Leads device d p turns During Came
-    → Tells {E = E} (lifted d) p turns (λ said. said ≡ []) (λ r said q. (said ≡ []) × Came r q)
-tells_lifted {E = E} d p turns During Came l = record {
-  now = λ k. said_lifted {E = E} device k d p turns;
-  after = λ k r e. (said_lifted {E = E} device k d p turns, (leads_lifted device d p turns During Came l).after k r e);
+tells_lifted : {R : Type 0} {During : Programmer → Type 0} {Came : R → Programmer → Type 0} (d : Dialog ⊥ R) (p : Programmer) (turns : List Turn) → Keeps device During Came d p
+    → Tells {E = Saying} (lifted d) p turns (λ said. said ≡ []) (λ r said q. (said ≡ []) × Came r q)
+tells_lifted d p turns l = record {
+  now = λ k. said_lifted {E = Saying} device k d p turns;
+  after = λ k r e. (said_lifted {E = Saying} device k d p turns, (leads_to device (call {Says = λ (e : Saying) q. ⊤} l)).after k r e);
 }
 
 module _ {E A B : Type 0} (Now : List E → Type 0) (Between : A → List E → Programmer → Type 0) (After : B → List E → Programmer → Type 0) (next : A → Dialog E B)
@@ -113,23 +118,23 @@ module _ {E A B : Type 0} (Now : List E → Type 0) (Between : A → List E → 
   }
 
 -- a call, and what is said of its outcome
-tells_reported : {A : Type 0} (call : Dialog ⊥ (Result A HostFault)) (outcome_says : Result A HostFault → List Saying) (p : Programmer) (turns : List Turn) (During : Programmer → Type 0)
-    (Came : Result A HostFault → Programmer → Type 0) (Now : List Saying → Type 0) (After : Standing → List Saying → Programmer → Type 0)
-    → Leads device call p turns During Came → Now [] → ((r : Result A HostFault) (q : Programmer) → Came r q → Now (outcome_says r) × After (standing r) (outcome_says r) q)
+tells_reported : {A : Type 0} {During : Programmer → Type 0} {Came : Result A HostFault → Programmer → Type 0} (call : Dialog ⊥ (Result A HostFault)) (outcome_says : Result A HostFault → List Saying)
+    (p : Programmer) (turns : List Turn) (Now : List Saying → Type 0) (After : Standing → List Saying → Programmer → Type 0)
+    → Keeps device During Came call p → Now [] → ((r : Result A HostFault) (q : Programmer) → Came r q → Now (outcome_says r) × After (standing r) (outcome_says r) q)
     → Tells (reported call outcome_says) p turns Now After
-tells_reported call outcome_says p turns During Came Now After l none each =
+tells_reported {Came = Came} operation outcome_says p turns Now After l none each =
     tells_bind Now (λ r said q. (said ≡ []) × Came r q) After (λ outcome. says (outcome_says outcome) (Done (standing outcome)))
     (λ r said q fs came.
     let both = each r q came.1 in
     tells_says (outcome_says r) (standing r) q fs (λ x. Now (said ++ x)) (λ b x z. After b (said ++ x) z)
     (subst (λ y. Now (y ++ outcome_says r)) (sym came.0) both.0) (subst (λ y. After (standing r) (y ++ outcome_says r) q) (sym came.0) both.1))
-    (lifted call) p turns
-    (tells_wider (lifted call) p turns (λ said. said ≡ []) Now (λ r said q. (said ≡ []) × Came r q) (λ r said q. (said ≡ []) × Came r q)
-    (λ said e. subst Now (sym e) none) (λ r said q came. came) (tells_lifted call p turns During Came l))
+    (lifted operation) p turns
+    (tells_wider (lifted operation) p turns (λ said. said ≡ []) Now (λ r said q. (said ≡ []) × Came r q) (λ r said q. (said ≡ []) × Came r q)
+    (λ said e. subst Now (sym e) none) (λ r said q came. came) (tells_lifted operation p turns l))
 
-leads_both : {R : Type 0} (d : Dialog ⊥ R) (p : Programmer) (turns : List Turn) (D E : Programmer → Type 0) (F G : R → Programmer → Type 0)
-    → Leads device d p turns D F → Leads device d p turns E G → Leads device d p turns D (λ r q. F r q × G r q)
-leads_both d p turns D E F G l k = record { during = l.during; after = λ n r e. (l.after n r e, k.after n r e) }
+-- commands that are asked nothing of
+any_fits : {commands : List Command} → Fits device commands (λ q. ⊤) (λ q. ⊤)
+any_fits = record { front = λ q i x. inl x; again = λ q i x. x; whole = λ q bytes has x. x; anew = λ q x. x; anew_again = λ q x. x }
 
 -- ---- courses
 
@@ -184,10 +189,9 @@ module _ (plan : Plan) (sound : IsPart plan.part) where
       → ((fault : StepFault) → outcome_says (Err (host_fault fault)) ≡ fault_told fault)
       → TellsPhase (Settled part m) (reported (operation steps judge) outcome_says) c
   call_tells {A = A} steps judge outcome_says m c are f leaves says_are stands faults p turns settled =
-      tells_reported (operation steps judge) outcome_says p turns (λ q. ⊤) (AfterCall plan sound m f steps m judge) (NowPhase c) (AfterPhase c)
-      (leads_call plan sound m f steps m judge p turns are f settled) (inl refl) each
+      tells_reported (operation steps judge) outcome_says p turns (NowPhase c) (AfterPhase c) (operation_goes part sound steps m judge p are f settled) (inl refl) each
     where
-      each : (r : Result A HostFault) (q : Programmer) → AfterCall plan sound m f steps m judge r q → NowPhase c (outcome_says r) × AfterPhase c (standing r) (outcome_says r) q
+      each : (r : Result A HostFault) (q : Programmer) → AfterCall part sound steps m judge r q → NowPhase c (outcome_says r) × AfterPhase c (standing r) (outcome_says r) q
       each r q (inl made) =
           let is : outcome_says r ≡ c.says = ap outcome_says made.1 ∙ says_are in
           (inr (inl is), came_phase c (standing r) (outcome_says r) q is (stands ∙ ap standing (sym made.1)) (subst (λ z. Settled part z q) leaves made.0))
@@ -237,18 +241,15 @@ module _ (plan : Plan) (sound : IsPart plan.part) where
   opening_tells : (m : Memories) → FitsPart part m → TellsPhase (Idle part m) (phase part s OpenSession) (action_course part s OpenSession m)
   opening_tells m f p turns idle =
       let c = action_course part s OpenSession m in
-      let call = host.opening part.signature s.force in
-      tells_reported call (opening_says s.quiet part) p turns (Idle part m) (λ r q. AfterOpening part m r q × AfterSignature plan sound m f r q) (NowPhase c) (AfterPhase c)
-      (leads_both call p turns (Idle part m) (λ q. ⊤) (AfterOpening part m) (AfterSignature plan sound m f)
-      (leads_opening part sound part.signature s.force m p turns f idle) (leads_signature plan sound m f s.force p turns idle)) (inl refl) each
+      tells_reported (host.opening part.signature s.force) (opening_says s.quiet part) p turns (NowPhase c) (AfterPhase c) (opening_comes part sound s.force m f p idle) (inl refl) each
     where
-      each : (r : Result (List ℕ) HostFault) (q : Programmer) → AfterOpening part m r q × AfterSignature plan sound m f r q
+      each : (r : Result (List ℕ) HostFault) (q : Programmer) → Opened part sound m r q
           → NowPhase (action_course part s OpenSession m) (opening_says s.quiet part r) × AfterPhase (action_course part s OpenSession m) (standing r) (opening_says s.quiet part r) q
-      each r q (after, inl found) =
+      each r q (inl found) =
           let c = action_course part s OpenSession m in
-          let is : opening_says s.quiet part r ≡ c.says = ap (opening_says s.quiet part) found in
-          (inr (inl is), came_phase c (standing r) (opening_says s.quiet part r) q is (ap standing (sym found)) (subst (λ x. AfterOpening part m x q) found after).0)
-      each r q (after, inr broke) =
+          let is : opening_says s.quiet part r ≡ c.says = ap (opening_says s.quiet part) found.1 in
+          (inr (inl is), came_phase c (standing r) (opening_says s.quiet part r) q is (ap standing (sym found.1)) found.0)
+      each r q (inr broke) =
           let c = action_course part s OpenSession m in (
             inr (inr (broke.0, ap (opening_says s.quiet part) broke.1 ∙ no_opening broke.0)),
             subst (λ x. AfterPhase c (standing x) (opening_says s.quiet part x) q) (sym broke.1)
@@ -418,7 +419,7 @@ module _ (plan : Plan) (sound : IsPart plan.part) where
     Ended said = ((said ≡ (course plan m).says) × (1 ≡ (course plan m).status)) ⊎ SaysFault part s (actions plan) m said
 
     abbrev AfterEnd : Standing → List Saying → Programmer → Type 0
-    AfterEnd Fine said q = (said ≡ (course plan m).says) × (w.standing ≡ Fine)
+    AfterEnd Fine said q = (said ≡ (course plan m).says) × ((w.standing ≡ Fine) × (memories_of q.chip ≡ w.memories))
     AfterEnd Faulty said q = Ended said
     AfterEnd Over said q = Ended said
 
@@ -430,19 +431,19 @@ module _ (plan : Plan) (sound : IsPart plan.part) where
     ended_now said (inl own) = inl own.0
     ended_now said (inr fault) = inr (inr fault)
 
-    closing_tells : (said : List Saying) (q : Programmer) (fs : List Turn) → said ≡ w.says → w.standing ≡ Fine
+    closing_tells : (said : List Saying) (q : Programmer) (fs : List Turn) → said ≡ w.says → w.standing ≡ Fine → Settled part w.memories q
         → Tells (ending part s Fine) q fs (λ x. IsForetold plan m (said ++ x)) (λ b x z. AfterEnd b (said ++ x) z)
-    closing_tells said q fs is fine =
-        tells_reported host.closing (closed_says s.quiet part) q fs (λ z. ⊤) (AfterClosing plan sound m f) (λ x. IsForetold plan m (said ++ x)) (λ b x z. AfterEnd b (said ++ x) z)
-        (leads_closed plan sound m f q fs) (inr (inl (all_done (said ++ []) (append-nil said ∙ is) fine))) each
+    closing_tells said q fs is fine settled =
+        tells_reported host.closing (closed_says s.quiet part) q fs (λ x. IsForetold plan m (said ++ x)) (λ b x z. AfterEnd b (said ++ x) z)
+        (closing_goes (Idle part w.memories) (leave_fits part w.memories) q (settled_idle part w.memories q settled)) (inr (inl (all_done (said ++ []) (append-nil said ∙ is) fine))) each
       where
-        each : (r : Result ⊤ HostFault) (z : Programmer) → AfterClosing plan sound m f r z
+        each : (r : Result ⊤ HostFault) (z : Programmer) → Idle part w.memories z × IsClosed r
             → IsForetold plan m (said ++ closed_says s.quiet part r) × AfterEnd (standing r) (said ++ closed_says s.quiet part r) z
-        each r z (inl ok) =
+        each r z (idle, inl ok) =
             let all : said ++ closed_says s.quiet part (Ok tt) ≡ (course plan m).says =
             ap (λ xs. xs ++ closed_says s.quiet part (Ok tt)) is ∙ sym (ap (λ t. w.says ++ ending_says plan t) fine) in
-            subst (λ y. IsForetold plan m (said ++ closed_says s.quiet part y) × AfterEnd (standing y) (said ++ closed_says s.quiet part y) z) (sym ok) (inl all, (all, fine))
-        each r z (inr broke) =
+            subst (λ y. IsForetold plan m (said ++ closed_says s.quiet part y) × AfterEnd (standing y) (said ++ closed_says s.quiet part y) z) (sym ok) (inl all, (all, (fine, idle.memories)))
+        each r z (idle, inr broke) =
             let failed : SaysFault part s (actions plan) m (said ++ fault_told broke.0) = record { told = said; first = all_done said is fine; fault = broke.0; says_are = refl } in
             subst (λ y. IsForetold plan m (said ++ closed_says s.quiet part y) × AfterEnd (standing y) (said ++ closed_says s.quiet part y) z) (sym broke.1)
             (inr (inr failed), after_fault ⊤ (λ at. AfterEnd at (said ++ fault_told broke.0) z) (host_fault broke.0) (inr failed) (inr failed))
@@ -457,12 +458,12 @@ module _ (plan : Plan) (sound : IsPart plan.part) where
         (λ at x z gs e. subst (λ y. Tells (Done Over) z gs (λ v. IsForetold plan m (said ++ (y ++ v))) (λ b v u. AfterEnd b (said ++ (y ++ v)) u)) (sym e)
         (tells_done Over z gs (λ v. IsForetold plan m (said ++ v)) (λ b v u. AfterEnd b (said ++ v) u) (ended_now (said ++ []) none) none))
         leave q fs
-        (tells_reported host.closing (λ outcome. []) q fs (λ z. ⊤) (AfterClosing plan sound m f) (λ x. IsForetold plan m (said ++ x)) (λ (at : Standing) (x : List Saying) (z : Programmer). x ≡ [])
-        (leads_closed plan sound m f q fs) (ended_now (said ++ []) none) (λ r z came. (ended_now (said ++ []) none, refl)))
+        (tells_reported host.closing (λ outcome. []) q fs (λ x. IsForetold plan m (said ++ x)) (λ (at : Standing) (x : List Saying) (z : Programmer). x ≡ [])
+        (closing_goes (λ z. ⊤) any_fits q tt) (ended_now (said ++ []) none) (λ r z came. (ended_now (said ++ []) none, refl)))
 
     ending_tells : (at : Standing) (said : List Saying) (q : Programmer) (fs : List Turn) → AfterPhases (actions plan) m at said q
         → Tells (ending part s at) q fs (λ x. IsForetold plan m (said ++ x)) (λ b x z. AfterEnd b (said ++ x) z)
-    ending_tells Fine said q fs (is, (fine, settled)) = closing_tells said q fs is fine
+    ending_tells Fine said q fs (is, (fine, settled)) = closing_tells said q fs is fine settled
     ending_tells Faulty said q fs failed = silent_tells said q fs (ended_of Faulty said refl refl failed)
     ending_tells Over said q fs failed =
         let none : Ended (said ++ []) = subst Ended (sym (append-nil said)) (ended_of Over said refl refl failed) in
@@ -474,22 +475,27 @@ module _ (plan : Plan) (sound : IsPart plan.part) where
         (tells_wider (phases part s (actions plan)) p turns (NowPhases (actions plan) m) (IsForetold plan m) (AfterPhases (actions plan) m) (AfterPhases (actions plan) m) working_now (λ r said q a. a)
         (phases_tell p turns idle))
 
-    ended_status : (said : List Saying) → Ended said → IsForetold plan m (said ++ []) × EndsAsForetold plan m (said ++ []) 1
-    ended_status said (inl own) = (inl (append-nil said ∙ own.0), inl (append-nil said ∙ own.0, own.1))
-    ended_status said (inr fault) = let same = subst (SaysFault part s (actions plan) m) (sym (append-nil said)) fault in (inr (inr same), inr (same, refl))
+    -- with a status: as foretold, and with status 0 the memories are its course's
+    abbrev AfterAll : ℕ → List Saying → Programmer → Type 0
+    AfterAll status said q = EndsAsForetold plan m said status × (status ≡ 0 → memories_of q.chip ≡ w.memories)
 
-    status_tells : (at : Standing) (said : List Saying) (q : Programmer) → AfterEnd at said q → IsForetold plan m (said ++ []) × EndsAsForetold plan m (said ++ []) (status_of at)
-    status_tells Fine said q (is, fine) = (inl (append-nil said ∙ is), inl (append-nil said ∙ is, sym (ap status_of fine)))
-    status_tells Faulty said q ended = ended_status said ended
-    status_tells Over said q ended = ended_status said ended
+    ended_status : (said : List Saying) (q : Programmer) → Ended said → IsForetold plan m (said ++ []) × AfterAll 1 (said ++ []) q
+    ended_status said q (inl own) = (inl (append-nil said ∙ own.0), (inl (append-nil said ∙ own.0, own.1), λ zero. absurd (omega (arith, zero))))
+    ended_status said q (inr fault) =
+        let same = subst (SaysFault part s (actions plan) m) (sym (append-nil said)) fault in (inr (inr same), (inr (same, refl), λ zero. absurd (omega (arith, zero))))
 
-    session_said : (p : Programmer) (turns : List Turn) → Idle part m p → Tells (session plan) p turns (IsForetold plan m) (λ status said q. EndsAsForetold plan m said status)
+    status_tells : (at : Standing) (said : List Saying) (q : Programmer) → AfterEnd at said q → IsForetold plan m (said ++ []) × AfterAll (status_of at) (said ++ []) q
+    status_tells Fine said q (is, (fine, left)) = (inl (append-nil said ∙ is), (inl (append-nil said ∙ is, sym (ap status_of fine)), λ zero. left))
+    status_tells Faulty said q ended = ended_status said q ended
+    status_tells Over said q ended = ended_status said q ended
+
+    session_said : (p : Programmer) (turns : List Turn) → Idle part m p → Tells (session plan) p turns (IsForetold plan m) AfterAll
     unfolding session
     session_said p turns idle =
-        tells_bind (IsForetold plan m) AfterEnd (λ status said q. EndsAsForetold plan m said status) (λ at. Done (status_of at))
+        tells_bind (IsForetold plan m) AfterEnd AfterAll (λ at. Done (status_of at))
         (λ at said q fs ended.
         let told = status_tells at said q ended in
-        tells_done (status_of at) q fs (λ x. IsForetold plan m (said ++ x)) (λ status x z. EndsAsForetold plan m (said ++ x) status) told.0 told.1)
+        tells_done (status_of at) q fs (λ x. IsForetold plan m (said ++ x)) (λ status x z. AfterAll status (said ++ x) z) told.0 told.1)
         (playing plan) p turns (playing_tells p turns idle)
 
     -- AT EACH MOMENT, and at its end
@@ -498,7 +504,17 @@ module _ (plan : Plan) (sound : IsPart plan.part) where
 
     pub foretold_end : (k status : ℕ) (p : Programmer) (turns : List Turn) → Idle plan.part m p → (along device k (session plan) p turns).dialog ≡ Done status
         → EndsAsForetold plan m (said_along device k (session plan) p turns) status
-    foretold_end k status p turns idle e = (session_said p turns idle).after k status e
+    foretold_end k status p turns idle e = ((session_said p turns idle).after k status e).0
+
+    -- with status 0 it has its course
+    pub session_succeeds : (k status : ℕ) (p : Programmer) (turns : List Turn) → Idle plan.part m p → (along device k (session plan) p turns).dialog ≡ Done status → status ≡ 0
+        → Came status (course plan m).status (said_along device k (session plan) p turns) (course plan m).says
+        (memories_of (along device k (session plan) p turns).programmer.chip ≡ (course plan m).memories)
+    session_succeeds k status p turns idle e zero = let t = (session_said p turns idle).after k status e in by_end t.0 (t.1 zero)
+      where
+        by_end : {said : List Saying} {M : Type 0} → EndsAsForetold plan m said status → M → Came status (course plan m).status said (course plan m).says M
+        by_end (inl own) left = record { result = own.1; sayings = own.0; after = left }
+        by_end (inr broke) left = absurd (let one = broke.1 in omega (arith, zero, one))
 
     -- and in a play over any tape that is honest
     pub foretold_on_tape : (p : Programmer) (tape : Tape) (becames : List Became) → Idle plan.part m p → AreHonest device (session plan) 1 tape p becames

@@ -7,7 +7,7 @@ use Rattle.avr_part.specs.Sound.{IsSoundChip}
 use Rattle.avr_plan.specs.Plan.{Plan, IsFitted}
 use Rattle.avr_desk.specs.Record.{DeskView}
 use Rattle.stk_frame.specs.Cut.{frames}
-use Rattle.stk_host.specs.Dialog.{played, bytes_sent, sayings}
+use Rattle.stk_host.specs.Dialog.{played, bytes_sent, sayings, frames_in}
 use Rattle.stk_host.specs.Play.{Plays, Breaks, InTurn, IsPrefixOf}
 use Rattle.ghosts.specs.Stays.{Stays}
 use Rattle.stk_host.specs.Talk.{Talk, sent, heard}
@@ -18,6 +18,7 @@ use Rattle.avr_session.specs.Stopping.{IsPlayed}
 use Rattle.stk_emu.specs.Along.{along, said_along, AsksBodies}
 use Rattle.stk_emu.specs.Device.{device}
 use Rattle.stk_emu.specs.Effect.{Memories, memories_of}
+use Rattle.stk_lines.specs.AnyTape.{AreHonest}
 use Rattle.stk_lines.specs.Few.{AreFew}
 use Rattle.stk_lines.specs.Leads.{Leads, GoesAlong}
 use Rattle.stk_emu.specs.Programmer.{Programmer, fresh_programmer}
@@ -26,8 +27,7 @@ use Rattle.stk_emu.specs.Wire as line
 use Rattle.stk_emu.specs.Wire.{turns_of, becames_of}
 use Rattle.stk_emu.specs.Wired.{WiredState, Keeps, ComesOf, IsFresh, wired_view}
 use Rattle.stk_lines.proofs.Beginning.{fresh_idle, fresh_fits}
-use Rattle.stk_lines.proofs.SaidAlong.{whole_said}
-use Rattle.stk_lines.proofs.Turning.{whole_along, broken_along, never_idle, shown_front}
+use Rattle.stk_lines.proofs.Turning.{whole_along, whole_said, broken_along, honest_heard, shown_front}
 use Rattle.avr_course.specs.Again.{AgreesAnyway}
 use Rattle.avr_course.specs.AnyLine.{weighed, bodies_in, memories, frames_over, Stopped, WereTrue, OverAnyLine}
 use Rattle.avr_course.specs.Bound.{run_steps}
@@ -37,16 +37,15 @@ use Rattle.avr_course.specs.Told.{IsTrue, SaidTrue}
 use Rattle.avr_course.specs.Items.{items, has_erase}
 use Rattle.avr_course.specs.Outcome.{IsTouched, MakesStrokes, IsDone, IsCourse}
 use Rattle.avr_course.proofs.AgainHeals.{succeeds}
-use Rattle.avr_course.proofs.AnyLine.{session_leaves}
 use Rattle.avr_course.proofs.AnyLineAsks.{session_asks}
 use Rattle.avr_course.proofs.AnyLineOrder.{session_makes}
 use Rattle.avr_course.proofs.FewBad.{session_ends}
 use Rattle.avr_course.proofs.Ends.{Came}
 use Rattle.avr_course.proofs.FramesWeighed.{front_weighs}
-use Rattle.avr_course.proofs.Success.{session_succeeds}
-use Rattle.avr_course.proofs.TellingTrue.{session_tells}
-use Rattle.avr_course.proofs.SaidToFault.{foretold_on_tape}
-use Rattle.avr_course.proofs.ToldOnWire.{said_front, told_over, honest_over}
+use Rattle.avr_course.proofs.TellingTrue.{session_leaves, session_tells}
+use Rattle.avr_course.proofs.SaidToFault.{foretold_on_tape, session_succeeds}
+use Rattle.avr_course.proofs.ToldOnTape.{told_any}
+use Rattle.avr_course.proofs.ToldOnWire.{said_front, by_wire}
 use Rattle.avr_course.proofs.Weighing.{session_weighs}
 use Rattle.avr_course.proofs.WrittenRuns.{run_written}
 
@@ -106,7 +105,7 @@ module _ (plan : Plan) (w v : WiredState) (fresh : IsFresh w) (stays : Stays Com
     goes = whole_along (session plan) 1 begun w.wire.fates v asks fresh.lawful keeps plays.in_turn whole.1.events status whole.0 plays
 
     says : sayings whole.1.events ≡ said_along device count (session plan) begun (turns_of w.wire.fates)
-    says = whole_said (session plan) 1 begun w.wire.fates v whole.1.events status whole.0 asks fresh.lawful keeps plays
+    says = whole_said (session plan) 1 begun w.wire.fates v asks fresh.lawful keeps plays.in_turn whole.1.events status whole.0 plays
 
     ran_done : status ≡ 0 → IsDone plan before after
     ran_done zero = subst (λ (q : Programmer). IsDone plan before (memories_of q.chip)) (sym goes.programmer) (leads.after count status goes.result zero)
@@ -121,7 +120,7 @@ module _ (plan : Plan) (w v : WiredState) (fresh : IsFresh w) (stays : Stays Com
     }
 
     ran_success : status ≡ 0 → IsCourse plan before after old now status
-    ran_success zero = has_course (session_succeeds plan sound fitted before begun (turns_of w.wire.fates) sizes idle count status goes.result zero)
+    ran_success zero = has_course (session_succeeds plan sound fitted before sizes count status begun (turns_of w.wire.fates) idle goes.result zero)
 
     ran_few : AreFew (turns_of w.wire.fates) → IsCourse plan before after old now status
     ran_few few = has_course (session_ends plan sound fitted before begun (turns_of w.wire.fates) sizes idle few count status goes.result)
@@ -193,16 +192,19 @@ module _ (plan : Plan) (w v : WiredState) (fresh : IsFresh w) (stays : Stays Com
   as_begun : line.fresh_wire begun w.wire.fates ≡ w.wire
   as_begun = sym (fresh.begins.stands ∙ ap (λ talk. line.wire_after device (frames (sent talk)) (line.fresh_wire begun w.wire.fates)) fresh.silent)
 
+  honest : (runs : Either) → AreHonest device (session plan) 1 (heard v.talk) begun (becames_of (length (frames_in (played (session plan) 1 (heard v.talk)).events)) w.wire.fates)
+  honest runs = honest_heard (session plan) 1 begun w.wire.fates v asks fresh.lawful keeps (in_turn runs) (is_front runs)
+
   tells : Either → WereTrue plan w (played (session plan) 1 (heard v.talk)).events
-  tells runs = subst (SaidTrue device IsSaidTrue (played (session plan) 1 (heard v.talk)).events) as_begun
-      (told_over IsSaidTrue (session plan) 1 begun w.wire.fates v.talk v.waits asks fresh.lawful
-      (keeps.brings (never_idle (session plan) 1 begun w.wire.fates v.talk asks fresh.lawful (in_turn runs)))
-      (is_front runs) (session_tells plan sound before sizes fitted count begun (turns_of w.wire.fates) idle))
+  tells runs =
+      let becames = becames_of (length (frames_in (played (session plan) 1 (heard v.talk)).events)) w.wire.fates in
+      subst (SaidTrue device IsSaidTrue (played (session plan) 1 (heard v.talk)).events) as_begun
+      (by_wire device IsSaidTrue (played (session plan) 1 (heard v.talk)).events (line.fresh_wire begun w.wire.fates)
+      (told_any device IsSaidTrue (session plan) 1 (heard v.talk) begun becames asks (λ k turns. session_tells plan sound before sizes fitted k begun turns idle) (honest runs)))
 
   foretells : Either → IsForetold plan before (sayings (played (session plan) 1 (heard v.talk)).events)
-  foretells runs = foretold_on_tape plan sound fitted before sizes begun (heard v.talk) (becames_of (length (frames (sent v.talk))) w.wire.fates) idle
-      (honest_over (session plan) 1 begun w.wire.fates v.talk v.waits asks fresh.lawful
-      (keeps.brings (never_idle (session plan) 1 begun w.wire.fates v.talk asks fresh.lawful (in_turn runs))) (is_front runs))
+  foretells runs =
+      foretold_on_tape plan sound fitted before sizes begun (heard v.talk) (becames_of (length (frames_in (played (session plan) 1 (heard v.talk)).events)) w.wire.fates) idle (honest runs)
 
   pub over_any_line : Either → OverAnyLine plan w v old now status
   over_any_line runs = record {

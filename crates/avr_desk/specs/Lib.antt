@@ -7,6 +7,7 @@ pub mod Named
 pub mod Memory
 pub mod Truth
 pub mod Failing
+pub mod Watching
 pub mod Shown
 pub mod Calls
 pub mod Lines

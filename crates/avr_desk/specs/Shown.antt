@@ -1,28 +1,37 @@
 -- What the desk of a program shows: its two writers, and what they take.
-use Rattle.std.specs.Prelude.{◌≡◌, ◌++◌, ℕ, Bool, false, ◌≤◌, length, List, Option, Result, Ok, Err, take}
+use Rattle.std.specs.Prelude.{◌≡◌, ◌++◌, ℕ, Bool, false, ◌≤◌, length, List, Option, IsSome, Result, Ok, Err, take}
 use Rattle.std.specs.Io.KnownBytes.{Appends}
 use Rattle.std.specs.List.{list_any}
+use Rattle.std.specs.declared.io.ErrorKind.{ErrorKind}
 use Rattle.avr_desk.specs.Named.{is_dash}
 use Rattle.avr_desk.specs.Record.{Bytes, Record, DeskView, all_files, showing}
 use Rattle.avr_desk.specs.Stream.{after_sent}
 use Rattle.avr_desk.specs.declared.record.Writing.{Writing}
 use Rattle.avr_desk.specs.declared.stream.Stream.{Stream}
 use Rattle.avr_desk.specs.declared.desk.DeskFault.{DeskFault}
-use Rattle.avr_desk.specs.declared.desk.DeskFault.TheVariants.{Failed}
+use Rattle.avr_desk.specs.declared.desk.DeskFault.TheVariants.{Failed, NotFound}
 
--- the writers of the output and of the messages, the failures and those at the messages, and whether what is written to
--- the file goes to the output; and what passed, which is kept for proofs alone
+-- the writers of the output and of the messages, the failures and those at the messages, the kind of the error of the
+-- last failure, and whether what is written to the file goes to the output; and what passed, which is kept for proofs
+-- alone
 pub record Shown (O E : Type 0) : Type 0 where
   pub output : O
   pub messages : E
   pub failures : ℕ
   pub unsaid : ℕ
+  pub error : Option ErrorKind
   pub to_output : Bool
   pub kept : Record
 
 -- what it shows as any desk does
 abbrev pub shown_view : {O E : Type 0} → Shown O E → DeskView
 shown_view d = showing d.kept d.failures d.unsaid
+
+-- the error that a desk keeps behind a call: a failure has one, and every other answer leaves that of the last failure
+abbrev pub KeepsError : {A : Type 0} → Option ErrorKind → Option ErrorKind → Result A DeskFault → Type 0
+KeepsError old new (Err Failed) = IsSome new
+KeepsError old new (Err NotFound) = new ≡ old
+KeepsError old new (Ok done) = new ≡ old
 
 -- a writer whose bytes are known took a front of these
 abbrev pub AppendsFront : Option Bytes → Option Bytes → Bytes → Type 0

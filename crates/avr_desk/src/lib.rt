@@ -28,6 +28,7 @@ mod kept;
 mod mem_desk;
 mod replacing;
 mod system;
+mod watched;
 
 // What they keep.
 mod laws;
@@ -46,3 +47,4 @@ pub use message::{
 pub use record::{FileUse, Open, Opening, Reading, Writing};
 pub use stream::{Stream, write_all};
 pub use system::SystemDesk;
+pub use watched::{DeskCall, WatchDesk, WatchedDesk};

@@ -1,11 +1,12 @@
 //! The desk of a program: files and standard streams.
-ghost use Rattle.std.specs.Prelude.{◌≡◌, ◌≤◌, length, take, IfOk, IfErr, OnErr, true, false, []};
+ghost use Rattle.std.specs.Prelude.{◌≡◌, ◌≤◌, length, take, IfOk, IfErr, OnErr, true, false, [], None, Some};
 ghost use Rattle.std.specs.Io.KnownBytes.{Keeps, Appends};
+ghost use Rattle.std.specs.IoError.{error_kind};
 ghost use Rattle.ghosts.specs.Failures.{HasRisen};
 ghost use Rattle.ghosts.specs.Stays.{Stays};
 ghost use Rattle.avr_desk.specs.Fault.{Counts, WriteCounts};
 ghost use Rattle.avr_desk.specs.Record.{HasOpen, Passes, after_open, after_create, after_hold, after_read, after_replace, released, is_to_read, is_to_write, nothing_kept};
-ghost use Rattle.avr_desk.specs.Shown.{AppendsTaken, IsTrueSince, Shown, TakesTruly, shown_view, to_output_opened, to_output_created, to_output_replaced};
+ghost use Rattle.avr_desk.specs.Shown.{AppendsTaken, IsTrueSince, KeepsError, Shown, TakesTruly, shown_view, to_output_opened, to_output_created, to_output_replaced};
 ghost use Rattle.avr_desk.specs.Stream.{SendsTaken};
 ghost use Rattle.avr_desk.specs.declared.desk.DeskFault.TheVariants.{Failed};
 ghost use Rattle.avr_desk.specs.declared.stream.Stream.TheVariants.{File, Output, Messages};
@@ -18,7 +19,7 @@ use std::alloc::Global;
 use std::io::{ErrorKind, Read, Write};
 use std::marker::Model;
 use std::rt::Files;
-use std::{fs, io};
+use std::{fmt, fs, io};
 
 /// What is open.
 #[derive(Drop)]
@@ -54,6 +55,7 @@ pub struct SystemDesk<
     replacement: Option<Replacement>,
     failures: u64,
     unsaid: u64,
+    error: Option<ErrorKind>,
     journal: Journal,
 }
 
@@ -73,6 +75,7 @@ impl<
       messages = desk.messages;
       failures = desk.failures;
       unsaid = desk.unsaid;
+      error = desk.error;
       to_output = is_output desk.held;
       kept = desk.journal.kept;
     } };
@@ -151,13 +154,15 @@ fn raise(count: &mut u64)
     *count = count.saturating_add(1);
 }
 
-/// Counts a failure.
-fn fail(failures: &mut u64) -> DeskFault
+/// Counts a failure, and keeps the kind of its error.
+fn fail(failures: &mut u64, last: &mut Option<ErrorKind>, error: &io::Error) -> DeskFault
     ensures fault { result ≡ Failed }
     ensures rises { failures.old ≤ failures.new }
     ensures counts { HasRisen failures.old failures.new }
+    ensures kind { last.new ≡ Some (error_kind error.now) }
 {
     raise(failures);
+    *last = Some(error.kind());
     DeskFault::Failed
 }
 
@@ -174,6 +179,7 @@ impl<
           messages = messages;
           failures = 0;
           unsaid = 0;
+          error = None;
           to_output = false;
           kept = nothing_kept;
         } }
@@ -186,8 +192,19 @@ impl<
             replacement: None,
             failures: 0,
             unsaid: 0,
+            error: None,
             journal: Journal::new(),
         }
+    }
+
+    /// The kind of the error for which the last call failed that did (`StorageFull`: no room is left): that of the
+    /// system or of a writer; `WriteZero` where a writer took no byte, and `NotFound` where a file was read or written
+    /// and none was open for that. None while no call has failed; a call that succeeds leaves it, and so does a file
+    /// to open that isn't there, which is no failure.
+    pub fn last_error(&self) -> Option<ErrorKind>
+        ensures { result ≡ self.now.error }
+    {
+        self.error
     }
 
     /// Ends what is held to be replaced.
@@ -217,9 +234,11 @@ impl<
         ensures counts { Counts File (shown_view self.old) (shown_view self.new) result }
         ensures quiet { self.new ≡ record self.old {
           failures = self.new.failures;
+          error = self.new.error;
           to_output = to_output_opened result self.old.to_output;
           kept = self.new.kept;
         } }
+        ensures error { KeepsError self.old.error self.new.error result }
         ensures stays { Stays (IsTrueSince O.contents E.contents) self.old self.new }
     {
         if name == "-" {
@@ -238,7 +257,7 @@ impl<
                 self.journal = self.journal.then(&Call::Absent(name.as_bytes()));
                 Err(DeskFault::NotFound)
             }
-            Err(_) => Err(fail(&mut self.failures)),
+            Err(error) => Err(fail(&mut self.failures, &mut self.error, &error)),
         }
     }
 
@@ -249,9 +268,11 @@ impl<
         ensures fault { IfErr result (λ e. e ≡ Failed) }
         ensures quiet { self.new ≡ record self.old {
           failures = self.new.failures;
+          error = self.new.error;
           to_output = to_output_created name.now result self.old.to_output;
           kept = self.new.kept;
         } }
+        ensures error { KeepsError self.old.error self.new.error result }
         ensures stays { Stays (IsTrueSince O.contents E.contents) self.old self.new }
     {
         if name == "-" {
@@ -265,7 +286,7 @@ impl<
                 self.journal = self.journal.then(&Call::Created(name.as_bytes()));
                 Ok(())
             }
-            Err(_) => Err(fail(&mut self.failures)),
+            Err(error) => Err(fail(&mut self.failures, &mut self.error, &error)),
         }
     }
 
@@ -274,7 +295,12 @@ impl<
         ensures kept { Passes (after_hold name.now result) (shown_view self.old) (shown_view self.new) }
         ensures counts { Counts File (shown_view self.old) (shown_view self.new) result }
         ensures fault { IfErr result (λ e. e ≡ Failed) }
-        ensures quiet { self.new ≡ record self.old { failures = self.new.failures; kept = self.new.kept } }
+        ensures quiet { self.new ≡ record self.old {
+          failures = self.new.failures;
+          error = self.new.error;
+          kept = self.new.kept;
+        } }
+        ensures error { KeepsError self.old.error self.new.error result }
         ensures stays { Stays (IsTrueSince O.contents E.contents) self.old self.new }
     {
         match Replacement::begin(self.rt, name) {
@@ -288,7 +314,7 @@ impl<
                 self.journal = self.journal.then(&Call::Denied(name.as_bytes()));
                 Ok(false)
             }
-            Err(_) => Err(fail(&mut self.failures)),
+            Err(error) => Err(fail(&mut self.failures, &mut self.error, &error)),
         }
     }
 
@@ -309,9 +335,11 @@ impl<
         ensures fault { IfErr result (λ e. e ≡ Failed) }
         ensures quiet { self.new ≡ record self.old {
           failures = self.new.failures;
+          error = self.new.error;
           to_output = to_output_replaced result self.old.to_output;
           kept = self.new.kept;
         } }
+        ensures error { KeepsError self.old.error self.new.error result }
         ensures stays { Stays (IsTrueSince O.contents E.contents) self.old self.new }
     {
         let replaced = match &mut self.replacement {
@@ -325,7 +353,7 @@ impl<
                 self.journal = self.journal.then(&Call::Replaced(name.as_bytes(), bytes));
                 Ok(())
             }
-            Err(_) => Err(fail(&mut self.failures)),
+            Err(error) => Err(fail(&mut self.failures, &mut self.error, &error)),
         }
     }
 
@@ -336,7 +364,12 @@ impl<
         ensures has_file { HasOpen is_to_read (shown_view self.old) result }
         ensures counts { Counts File (shown_view self.old) (shown_view self.new) result }
         ensures fault { IfErr result (λ e. e ≡ Failed) }
-        ensures quiet { self.new ≡ record self.old { failures = self.new.failures; kept = self.new.kept } }
+        ensures quiet { self.new ≡ record self.old {
+          failures = self.new.failures;
+          error = self.new.error;
+          kept = self.new.kept;
+        } }
+        ensures error { KeepsError self.old.error self.new.error result }
         ensures stays { Stays (IsTrueSince O.contents E.contents) self.old self.new }
     {
         let result = match &mut self.held {
@@ -349,7 +382,7 @@ impl<
                 self.journal = self.journal.then(&Call::Read(&*buf, count));
                 Ok(count)
             }
-            Err(_) => Err(fail(&mut self.failures)),
+            Err(error) => Err(fail(&mut self.failures, &mut self.error, &error)),
         }
     }
 
@@ -368,8 +401,10 @@ impl<
         ensures quiet { self.new ≡ record self.old {
           output = self.new.output;
           failures = self.new.failures;
+          error = self.new.error;
           kept = self.new.kept;
         } }
+        ensures error { KeepsError self.old.error self.new.error result }
         ensures stays { Stays (IsTrueSince O.contents E.contents) self.old self.new }
     {
         match &mut self.held {
@@ -378,7 +413,7 @@ impl<
                     self.journal = self.journal.then(&Call::Sent(Stream::File, bytes, count));
                     Ok(count)
                 }
-                Err(_) => Err(fail(&mut self.failures)),
+                Err(error) => Err(fail(&mut self.failures, &mut self.error, &error)),
             },
             Held::Output => match write_through(
                 &mut self.output,
@@ -387,9 +422,12 @@ impl<
                 &mut self.journal,
             ) {
                 Ok(count) => Ok(count),
-                Err(_) => Err(fail(&mut self.failures)),
+                Err(error) => Err(fail(&mut self.failures, &mut self.error, &error)),
             },
-            _ => Err(fail(&mut self.failures)),
+            _ => {
+                let error = io::Error::from(ErrorKind::NotFound);
+                Err(fail(&mut self.failures, &mut self.error, &error))
+            }
         }
     }
 
@@ -405,13 +443,15 @@ impl<
         ensures quiet { self.new ≡ record self.old {
           output = self.new.output;
           failures = self.new.failures;
+          error = self.new.error;
           kept = self.new.kept;
         } }
+        ensures error { KeepsError self.old.error self.new.error result }
         ensures stays { Stays (IsTrueSince O.contents E.contents) self.old self.new }
     {
         match write_through(&mut self.output, Stream::Output, bytes, &mut self.journal) {
             Ok(count) => Ok(count),
-            Err(_) => Err(fail(&mut self.failures)),
+            Err(error) => Err(fail(&mut self.failures, &mut self.error, &error)),
         }
     }
 
@@ -427,9 +467,11 @@ impl<
         ensures quiet { self.new ≡ record self.old {
           messages = self.new.messages;
           failures = self.new.failures;
+          error = self.new.error;
           unsaid = self.new.unsaid;
           kept = self.new.kept;
         } }
+        ensures error { KeepsError self.old.error self.new.error result }
         ensures stays { Stays (IsTrueSince O.contents E.contents) self.old self.new }
     {
         match write_through(
@@ -439,10 +481,26 @@ impl<
             &mut self.journal,
         ) {
             Ok(count) => Ok(count),
-            Err(_) => {
+            Err(error) => {
                 raise(&mut self.unsaid);
-                Err(fail(&mut self.failures))
+                Err(fail(&mut self.failures, &mut self.error, &error))
             }
         }
+    }
+}
+
+/// Shows the failures, those at the messages and the error of the last, and neither the writers nor what is open.
+impl<
+    'a,
+    R: Files<File = fs::File> + Input + Alloc<A = Global>,
+    O: Write + Drop,
+    E: Write + Drop,
+> fmt::Debug for SystemDesk<'a, R, O, E> {
+    fn fmt<F: fmt::Write>(&self, f: &mut fmt::Formatter<F>) -> fmt::Result {
+        f.debug_struct("SystemDesk")
+            .field("failures", &self.failures)
+            .field("unsaid", &self.unsaid)
+            .field("last_error", &self.error)
+            .finish_non_exhaustive()
     }
 }

@@ -12,3 +12,4 @@ pub mod RunWalk
 pub mod Listed
 pub mod Overlapping
 mod Removing
+pub mod Sameness

@@ -1,10 +1,16 @@
 -- An image of a memory: for each address below its size the byte that it holds there, if it holds one.
-use Rattle.std.specs.Prelude.{◌≡◌, ◌<◌, ◌^◌, ℕ, zero, suc, Bool, true, nat_le, length, ◌+◌, ◌-◌, List, [], ◌∷◌, ◌++◌, map, take, drop, replicate, Option, Some, None, is_some, unwrap_or, slice_index_or, slice_set, fold, count_by}
+use Rattle.std.specs.Prelude.{◌≡◌, ◌<◌, ◌^◌, ℕ, zero, suc, Bool, true, nat_le, length, ◌+◌, ◌-◌, List, [], ◌∷◌, ◌++◌, map, take, drop, replicate, Option, Some, None, is_some, nat_eq, unwrap_or, slice_index_or, slice_set, fold, count_by}
+use Rattle.std.specs.Cmp.Lexicographic.{pointwise}
+use Rattle.std.specs.Option.{option_eq}
 use Rattle.std.specs.List.{position_from, prefix_len}
 
 -- an image that holds nothing
 abbrev pub empty : ℕ → List (Option ℕ)
 empty size = replicate size None
+
+-- images of one size that hold the same at each address
+abbrev pub is_same : List (Option ℕ) → List (Option ℕ) → Bool
+is_same = pointwise (option_eq nat_eq)
 
 -- the byte at an address
 abbrev pub byte_at : List (Option ℕ) → ℕ → Option ℕ

@@ -1,7 +1,9 @@
 //! Images.
 
 ghost use Rattle.std.specs.Prelude.{◌≡◌, ◌==◌, ◌+◌, ◌*◌, ◌^◌, ◌<◌, ◌≤◌, ◌↔◌, ℕ, List, length, max, nat_lt, Ok, Err, OnOk, OnErr, MatchOption, MatchResult, IfOk, IsTrue, replicate, slice_index, slice_index_or, if◌then◌else◌};
-ghost use Rattle.avr_image.specs.Image.{empty, byte_at, with_byte, without_byte, byte_count, filled_bytes, first_from, run_end, fits, laid_over, over, IsImage};
+ghost use Rattle.std.specs.Cmp.{nat_eq_equiv, partial_equiv_from_equiv};
+ghost use Rattle.std.specs.Cmp.Lexicographic.{lists_equiv, options_equiv};
+ghost use Rattle.avr_image.specs.Image.{empty, is_same, byte_at, with_byte, without_byte, byte_count, filled_bytes, first_from, run_end, fits, laid_over, over, IsImage};
 ghost use Rattle.avr_image.specs.Runs.{runs};
 ghost use Rattle.avr_image.specs.Walk.{HoldsNone, IsLastHeld};
 ghost use Rattle.std.specs.List.{enumerate_from};
@@ -474,6 +476,28 @@ impl Image {
     {
         copy_padded(self.bytes.as_slice(), start as usize, out);
     }
+}
+
+/// Two images are equal of which one `holds_same` as the other.
+///
+/// ```text
+/// let mut image = Image::new(alloc, 64)?;
+/// assert!(rt; image == Image::new(alloc, 64)?);
+/// image.put(8, 0xFF)?;
+/// assert!(rt; image != Image::new(alloc, 64)?);
+/// ```
+impl PartialEq for Image {
+    ghost eq = { is_same };
+
+    ghost laws = { partial_equiv_from_equiv (lists_equiv (options_equiv nat_eq_equiv)) };
+
+    fn eq(&self, other: &Image) -> bool {
+        self.holds_same(other)
+    }
+}
+
+impl Eq for Image {
+    ghost laws = { lists_equiv (options_equiv nat_eq_equiv) };
 }
 
 /// Shows the size and how many addresses hold a byte, and no byte.

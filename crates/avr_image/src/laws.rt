@@ -1,8 +1,8 @@
 //! Laws of the definitions that contracts cite, whatever the code does.
 
-ghost use Rattle.std.specs.Prelude.{◌≡◌, ◌≢◌, ◌<◌, ◌≤◌, ◌+◌, ◌++◌, ◌⊎◌, ℕ, true, List, [], All, length, flat_map, slice_index_or, Ok, Err, Option, None, Some};
+ghost use Rattle.std.specs.Prelude.{◌≡◌, ◌≢◌, ◌<◌, ◌≤◌, ◌↔◌, ◌+◌, ◌++◌, ◌⊎◌, ℕ, true, List, [], All, length, flat_map, slice_index_or, IsTrue, Ok, Err, Option, None, Some};
 ghost use Rattle.std.specs.List.{enumerate_from};
-ghost use Rattle.avr_image.specs.Image.{byte_at, either, filled_bytes, first_from, fits, from_zero, image_of_pairs, laid_over, over, run_end, with_byte};
+ghost use Rattle.avr_image.specs.Image.{byte_at, either, filled_bytes, first_from, fits, from_zero, image_of_pairs, is_same, laid_over, over, run_end, with_byte};
 ghost use Rattle.avr_image.specs.Lists.{list_line};
 ghost use Rattle.avr_image.specs.Runs.{places_of, runs};
 ghost use Rattle.avr_image.specs.Values.{values};
@@ -72,6 +72,12 @@ pub fn bytes_fit_below_the_size()
 pub fn images_are_equal_by_address()
     ensures { (first second : List (Option ℕ)) → length first ≡ length second
         → ((addr : ℕ) → addr < length second → byte_at first addr ≡ byte_at second addr) → first ≡ second }
+{}
+
+/// Images that `==` tells to be equal are one image, and no others.
+#[tactic(auto, using(crate::proofs::Sameness::same_decides))]
+pub fn equal_images_are_one()
+    ensures { (first second : List (Option ℕ)) → IsTrue (is_same first second) ↔ (first ≡ second) }
 {}
 
 /// A walk from byte to byte finds the next, and nothing only where none is left.

@@ -22,9 +22,9 @@ pub use fault::ImageFault;
 pub use image::Image;
 pub use laws::{
     a_list_reads_back, a_span_is_by_address, an_image_is_its_runs, bytes_fit_below_the_size,
-    filled_is_by_address, first_from_is_the_next_held, images_are_equal_by_address,
-    laying_is_laying_over, laying_over_groups, over_is_by_address, parts_are_laid_over,
-    run_end_is_the_longest_run,
+    equal_images_are_one, filled_is_by_address, first_from_is_the_next_held,
+    images_are_equal_by_address, laying_is_laying_over, laying_over_groups, over_is_by_address,
+    parts_are_laid_over, run_end_is_the_longest_run,
 };
 pub use list::{Base, ListWriter};
 pub use pieces::Pieces;

@@ -6,6 +6,7 @@ ghost use Rattle.avr_image.specs.Lists.{list_text};
 use crate::digits::push_number;
 use crate::pieces::Pieces;
 use arrayvec::ArrayVec;
+use std::fmt;
 use std::marker::Model;
 
 /// How the numbers of a list are written.
@@ -122,5 +123,16 @@ impl Pieces for ListWriter<'_> {
             self.push_next(out);
         }
         !out.is_empty()
+    }
+}
+
+/// Shows how the numbers are written, how many bytes are left, and whether the line has ended.
+impl fmt::Debug for ListWriter<'_> {
+    fn fmt<W: fmt::Write>(&self, f: &mut fmt::Formatter<W>) -> fmt::Result {
+        f.debug_struct("ListWriter")
+            .field("base", &self.base)
+            .field("left", &self.rest.len())
+            .field("ended", &self.ended)
+            .finish_non_exhaustive()
     }
 }

@@ -5,6 +5,7 @@ ghost use Rattle.std.specs.Prelude.{◌≡◌, ◌≢◌, ◌++◌, ℕ, List, [
 use crate::fault::ImageFault;
 use crate::image::Image;
 use std::alloc::Global;
+use std::fmt;
 use std::marker::Model;
 
 /// Reads a raw file in pieces of any size. It keeps the image alone, so a fault comes with the first piece that goes
@@ -115,5 +116,15 @@ impl RawReader {
         } else {
             Ok(image)
         }
+    }
+}
+
+/// Shows how many bytes came, and whether the reader has failed.
+impl fmt::Debug for RawReader {
+    fn fmt<W: fmt::Write>(&self, f: &mut fmt::Formatter<W>) -> fmt::Result {
+        f.debug_struct("RawReader")
+            .field("fed", &self.fed)
+            .field("failed", &self.failed)
+            .finish_non_exhaustive()
     }
 }

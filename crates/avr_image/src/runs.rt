@@ -5,6 +5,7 @@ ghost use Rattle.std.specs.Iterator.{YieldsFirstBy, item_count};
 ghost use Rattle.avr_image.specs.Runs.{runs};
 
 use crate::image::Image;
+use std::fmt;
 use std::marker::Model;
 
 /// The longest runs of bytes that follow each other without a gap, by rising address: the byte address of each with its
@@ -60,5 +61,14 @@ impl<'a> Iterator for Runs<'a> {
         let end = image.run_from(addr, image.size());
         self.addr = end;
         Some((addr, &image.as_slice()[addr as usize..end as usize]))
+    }
+}
+
+/// Shows the address below which the runs were given, and no byte.
+impl fmt::Debug for Runs<'_> {
+    fn fmt<W: fmt::Write>(&self, f: &mut fmt::Formatter<W>) -> fmt::Result {
+        f.debug_struct("Runs")
+            .field("addr", &self.addr)
+            .finish_non_exhaustive()
     }
 }

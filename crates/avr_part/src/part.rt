@@ -1,8 +1,9 @@
 //! A part, and the memories that it has.
-ghost use Rattle.std.specs.Prelude.{◌≡◌, ◌<◌, ◌≤◌, ℕ, List, length, option_map};
+ghost use Rattle.std.specs.Prelude.{◌≡◌, ◌<◌, ◌≤◌, ℕ, List, length, Some, option_map};
 ghost use Rattle.avr_part.specs.Mem.{name_of, is_writable, memory_named};
 
 use arrayvec::ArrayString;
+use std::fmt;
 use std::marker::Model;
 
 /// A memory of a part, as AVRDUDE's `-U` names it.
@@ -81,6 +82,15 @@ impl Mem {
         ensures { result ≡ is_writable self }
     {
         !matches!(self, Mem::Signature | Mem::Calibration)
+    }
+}
+
+/// A memory is shown by its name.
+impl fmt::Display for Mem {
+    ghost output = { λ mem. Some (name_of mem) };
+
+    fn fmt<W: fmt::Write>(&self, f: &mut fmt::Formatter<W>) -> fmt::Result {
+        f.write_str(self.name())
     }
 }
 

@@ -9,7 +9,7 @@ use std::alloc::{AllocError, Global};
 use std::marker::Model;
 
 /// What a session does with one memory. An image has a place for each byte of the memory; at some it may hold none.
-#[derive(Drop)]
+#[derive(Debug, Drop)]
 pub enum Task {
     /// The bytes of the image are written to the memory.
     Write(Mem, Image),
@@ -26,7 +26,7 @@ pub enum Task {
 }
 
 /// What is to be done, in its order. Contracts see it as the list of the tasks.
-#[derive(Drop)]
+#[derive(Debug, Drop)]
 pub(crate) struct Tasks {
     items: Vec<Task>,
 }
@@ -65,7 +65,7 @@ impl Tasks {
 }
 
 /// What a run is to do. Where there is a plan, everything that it needs was read and judged.
-#[derive(Drop)]
+#[derive(Debug, Drop)]
 pub struct Plan {
     part: Part,
     tasks: Tasks,

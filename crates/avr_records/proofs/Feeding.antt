@@ -128,7 +128,7 @@ ends text rest more front last one cut = goes-on text (rest ++ 10 ∷ more) fron
 ended-front : (front : List (List ℕ)) (line : List ℕ) → front ++ line ∷ [] ∷ [] ≡ (front ++ line ∷ []) ++ [] ∷ []
 ended-front front line = sym (append-assoc front (line ∷ []) ([] ∷ []))
 
-said-front : (kind : Kind) (front : List (List ℕ)) (line : List ℕ) → map (said_by_line kind) (front ++ line ∷ []) ≡ map (said_by_line kind) front ++ said_by_line kind line ∷ []
+pub said-front : (kind : Kind) (front : List (List ℕ)) (line : List ℕ) → map (said_by_line kind) (front ++ line ∷ []) ≡ map (said_by_line kind) front ++ said_by_line kind line ∷ []
 said-front kind front line = map-append (said_by_line kind) front (line ∷ [])
 
 follows-leaves : (kind : Kind) (p : Progress) (part : Option (List ℕ)) (front : List (List ℕ)) (last : List ℕ) → (p.ended ≡ false → part ≡ kept_of_line last)
@@ -294,7 +294,7 @@ kept-nothing line is =
       | inr f ↦ cc (rw f at is)
     ]
 
-says-nothing : (kind : Kind) → said_by_line kind [] ≡ Ok Nothing
+pub says-nothing : (kind : Kind) → said_by_line kind [] ≡ Ok Nothing
 says-nothing Ihex = refl
 says-nothing Srec = refl
 

@@ -138,7 +138,7 @@ pub unless-bad : (fault : Option LineFault) (p new : Progress) (out : RecordFaul
 unless-bad (Some fault) p new out e = (fault, refl, cc e)
 unless-bad None p new out e = cc e
 
-count-append : (xs ys : List Said) → count_by is_data (xs ++ ys) ≡ count_by is_data xs + count_by is_data ys
+pub count-append : (xs ys : List Said) → count_by is_data (xs ++ ys) ≡ count_by is_data xs + count_by is_data ys
 count-append xs ys = sum_by-append (λ line. cond (is_data line) 1 0) xs ys
 
 length-laid_over : (places : List (ℕ × ℕ)) (image : List (Option ℕ)) → length (laid_over image places) ≡ length image

@@ -76,7 +76,7 @@ places-wrapped-at paragraph offset n bytes full fits' short =
 
 -- ---- the first outside
 
-beyond-append : (size : ℕ) (xs ys : List (ℕ × ℕ)) → beyond size xs ≡ None → beyond size (xs ++ ys) ≡ beyond size ys
+pub beyond-append : (size : ℕ) (xs ys : List (ℕ × ℕ)) → beyond size xs ≡ None → beyond size (xs ++ ys) ≡ beyond size ys
 beyond-append size [] ys none = refl
 beyond-append size (x ∷ xs) ys none =
     elim (cases_Bool (nat_lt x.0 size)) [
@@ -84,7 +84,7 @@ beyond-append size (x ∷ xs) ys none =
       | inr f ↦ cc (rw f at none)
     ]
 
-beyond-first : (size : ℕ) (xs ys : List (ℕ × ℕ)) (addr : ℕ) → beyond size xs ≡ Some addr → beyond size (xs ++ ys) ≡ Some addr
+pub beyond-first : (size : ℕ) (xs ys : List (ℕ × ℕ)) (addr : ℕ) → beyond size xs ≡ Some addr → beyond size (xs ++ ys) ≡ Some addr
 beyond-first size [] ys addr found = cc found
 beyond-first size (x ∷ xs) ys addr found =
     elim (cases_Bool (nat_lt x.0 size)) [
@@ -93,7 +93,7 @@ beyond-first size (x ∷ xs) ys addr found =
     ]
 
 -- a span lies inside
-beyond-span : (size addr : ℕ) (bytes : List ℕ) → fits addr bytes size ≡ true → beyond size (enumerate_from addr bytes) ≡ None
+pub beyond-span : (size addr : ℕ) (bytes : List ℕ) → fits addr bytes size ≡ true → beyond size (enumerate_from addr bytes) ≡ None
 beyond-span size addr [] inside = refl
 beyond-span size addr (b ∷ []) inside =
     let here : nat_lt addr size ≡ true = grind (arith, nat_tests, inside) in rw here refl
@@ -103,7 +103,7 @@ beyond-span size addr (b ∷ c ∷ bs) inside =
     rw here (beyond-span size (addr + 1) (c ∷ bs) rest)
 
 -- or leaves the memory, at its first address or at the size
-beyond-span-end : (size addr : ℕ) (bytes : List ℕ) → fits addr bytes size ≡ false → beyond size (enumerate_from addr bytes) ≡ Some (max addr size)
+pub beyond-span-end : (size addr : ℕ) (bytes : List ℕ) → fits addr bytes size ≡ false → beyond size (enumerate_from addr bytes) ≡ Some (max addr size)
 beyond-span-end size addr [] outside = cc outside
 beyond-span-end size addr (b ∷ []) outside =
     let here : nat_lt addr size ≡ false = grind (arith, nat_tests, outside) in

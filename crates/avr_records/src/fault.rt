@@ -46,7 +46,7 @@ pub enum RecordFault {
     /// The image's memory was refused.
     #[error("out of memory")]
     Memory,
-    /// The file has 2 to the power 32 bytes or more. Only `read_records` tells it.
+    /// The file has 2 to the power 32 bytes or more. Only `read_records` and `needed_size` tell it.
     #[error("the file is too long")]
     TooLong,
 }

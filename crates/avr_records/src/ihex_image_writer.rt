@@ -12,6 +12,7 @@ use crate::ihex_writer::{new_upper, put_end, put_row, put_upper, row_size};
 use crate::kind::{Ending, Kind};
 use arrayvec::ArrayVec;
 use avr_image::{Image, Pieces};
+use std::fmt;
 use std::marker::Model;
 
 /// The end of a row of at most so many bytes that begins at an address.
@@ -113,5 +114,16 @@ impl Pieces for IhexImageWriter<'_> {
         put_row(u64::from(place), row, out);
         self.addr = end;
         true
+    }
+}
+
+/// Shows the image without its bytes, the address below which they were written, and whether the end record was.
+impl fmt::Debug for IhexImageWriter<'_> {
+    fn fmt<W: fmt::Write>(&self, f: &mut fmt::Formatter<W>) -> fmt::Result {
+        f.debug_struct("IhexImageWriter")
+            .field("image", &self.image)
+            .field("addr", &self.addr)
+            .field("ended", &self.ended)
+            .finish_non_exhaustive()
     }
 }

@@ -9,6 +9,7 @@ use crate::bytes::low_sum_of;
 use crate::written_line::{Fields, append, put_line};
 use arrayvec::ArrayVec;
 use avr_image::Pieces;
+use std::fmt;
 use std::marker::Model;
 
 /// The type of a record of data bytes.
@@ -160,5 +161,16 @@ impl Pieces for IhexWriter<'_> {
         self.bytes = &self.bytes[n..];
         self.addr += n as u64;
         true
+    }
+}
+
+/// Shows where the next byte stands, how many are left, and whether the end record was written.
+impl fmt::Debug for IhexWriter<'_> {
+    fn fmt<W: fmt::Write>(&self, f: &mut fmt::Formatter<W>) -> fmt::Result {
+        f.debug_struct("IhexWriter")
+            .field("addr", &self.addr)
+            .field("left", &self.bytes.len())
+            .field("ended", &self.ended)
+            .finish_non_exhaustive()
     }
 }

@@ -17,7 +17,7 @@ use avr_image::{Image, ImageFault};
 use std::alloc::Global;
 
 /// The bytes of a segment, within which offsets wrap.
-const SEGMENT: u32 = 65_536;
+pub(crate) const SEGMENT: u32 = 65_536;
 
 /// Lays bytes from an address on.
 fn lay_span(image: &mut Image, addr: u32, bytes: &[u8]) -> Result<(), u32>

@@ -9,6 +9,7 @@ use crate::kind::{Ending, Kind};
 use crate::line_reader::LineReader;
 use avr_image::Image;
 use std::alloc::Global;
+use std::fmt;
 use std::marker::Model;
 
 /// Reads a record file of one kind into an image, from pieces of any length.
@@ -175,4 +176,15 @@ pub fn read_records(
     let mut reader = RecordReader::new(alloc, kind, size)?;
     reader.feed(text)?;
     reader.finish()
+}
+
+/// Shows the kind of file, how many bytes came, and whether the reader has failed.
+impl fmt::Debug for RecordReader {
+    fn fmt<W: fmt::Write>(&self, f: &mut fmt::Formatter<W>) -> fmt::Result {
+        f.debug_struct("RecordReader")
+            .field("kind", &self.lines.kind)
+            .field("fed", &self.fed)
+            .field("failed", &self.failed)
+            .finish_non_exhaustive()
+    }
 }

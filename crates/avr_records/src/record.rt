@@ -10,6 +10,7 @@ use crate::fault::{LineFault, RecordFault};
 use crate::kind::Kind;
 use crate::line::record_in;
 use arrayvec::ArrayVec;
+use std::fmt;
 use std::marker::Model;
 
 /// The fields of a record, whose data bytes stand elsewhere.
@@ -112,6 +113,16 @@ impl Record {
         ensures { result.now ≡ self.now.bytes }
     {
         self.bytes.as_slice()
+    }
+}
+
+impl fmt::Debug for Record {
+    fn fmt<W: fmt::Write>(&self, f: &mut fmt::Formatter<W>) -> fmt::Result {
+        f.debug_struct("Record")
+            .field("record_type", &self.record_type)
+            .field("address", &self.address)
+            .field("bytes", &self.bytes())
+            .finish()
     }
 }
 

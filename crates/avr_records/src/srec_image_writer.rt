@@ -13,6 +13,7 @@ use crate::kind::{Ending, Kind};
 use crate::srec_writer::{ROW_SIZE, address_size_of, put_end, put_row};
 use arrayvec::ArrayVec;
 use avr_image::{Image, Pieces};
+use std::fmt;
 use std::marker::Model;
 
 /// The last address that holds a byte, or 0.
@@ -115,5 +116,16 @@ impl Pieces for SrecImageWriter<'_> {
         put_row(self.address_size, place, row, out);
         self.addr = end;
         true
+    }
+}
+
+/// Shows the image without its bytes, the address below which they were written, and whether the end record was.
+impl fmt::Debug for SrecImageWriter<'_> {
+    fn fmt<W: fmt::Write>(&self, f: &mut fmt::Formatter<W>) -> fmt::Result {
+        f.debug_struct("SrecImageWriter")
+            .field("image", &self.image)
+            .field("addr", &self.addr)
+            .field("ended", &self.ended)
+            .finish_non_exhaustive()
     }
 }

@@ -9,6 +9,7 @@ use crate::bytes::low_sum_of;
 use crate::written_line::{Fields, append, put_line};
 use arrayvec::ArrayVec;
 use avr_image::Pieces;
+use std::fmt;
 use std::marker::Model;
 
 /// How many bytes of data a row has, but for the last one.
@@ -163,5 +164,16 @@ impl Pieces for SrecWriter<'_> {
         self.bytes = &self.bytes[n..];
         self.addr += n as u64;
         true
+    }
+}
+
+/// Shows where the next byte stands, how many are left, and whether the end record was written.
+impl fmt::Debug for SrecWriter<'_> {
+    fn fmt<W: fmt::Write>(&self, f: &mut fmt::Formatter<W>) -> fmt::Result {
+        f.debug_struct("SrecWriter")
+            .field("addr", &self.addr)
+            .field("left", &self.bytes.len())
+            .field("ended", &self.ended)
+            .finish_non_exhaustive()
     }
 }

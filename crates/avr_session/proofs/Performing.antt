@@ -1,5 +1,5 @@
 -- Phases of a session, one after another.
-use Rattle.std.proofs.Common.{◌≡◌, ℕ, Bool, true, false, ◌||◌, ◌++◌, ◌≤◌, arith, List, [], ◌∷◌, length, refl, sym, ap, ◌∙◌, subst, subst₂, append_assoc, Option, Some, None, Result, Ok, Err, inl, inr, get_or, take, drop, ◌<◌, ◌-◌}
+use Rattle.std.proofs.Common.{◌≡◌, ℕ, Bool, true, false, ◌||◌, ◌++◌, ◌≤◌, arith, List, [], ◌∷◌, length, refl, sym, ap, ◌∙◌, subst, subst₂, append_assoc, Option, Some, None, Result, Ok, Err, inl, get_or, take, drop, ◌<◌, ◌-◌}
 use Rattle.std.specs.List.{list_any}
 use Rattle.std.proofs.lemmas.Grind.{common_steps}
 use Rattle.std.proofs.lemmas.List.Folds.{list_any-append}
@@ -31,7 +31,8 @@ use Rattle.avr_session.specs.Concluding.{HostServes, after_outcome, conclusion, 
 use Rattle.avr_session.specs.Lines.{fault_line}
 use Rattle.avr_session.specs.Session.{says, standing, reported, unless_fault, fault_or, read_says, opening_says, phase, phases, playing, session, status_of}
 use Rattle.avr_session.specs.Runs.{Cause, OfSending, OfListening, OfFile, OfPrinting, OfMemory, cause_line, tells_fault, Devices, devices, start, Terms, untold, TellsCause, StopsBehind, DeskStops, PrintStops, ReadStops, Reports, Lacking, BrokeOff, Ran, Runs}
-use Rattle.avr_session.specs.Run.{RunsSession}
+use Rattle.avr_session.specs.Run.{StopsSession}
+use Rattle.avr_session.specs.Stopping.{IsPlayed}
 use Rattle.avr_session.specs.Taking.{AtOnce, AtTaking}
 use Rattle.avr_session.specs.Phases.{is_told, PerformsBehind, Performs, Does, LeavesOut}
 use Rattle.avr_session.proofs.Reporting.{told_some, kept_nothing}
@@ -436,22 +437,19 @@ quietly_on go_on {y = y} {p = p} standing then is serves done = record {
   desk = done.desk;
 }
 
--- the status that a result gives
-abbrev pub StatusIs : Result Standing Stopped → ℕ → Type 0
-StatusIs (Ok standing) status = status ≡ status_of standing
-StatusIs (Err stopped) status = status ≡ 1
-
--- a whole session
-pub session_runs : (plan : Plan) {x y : HostState} {o p : Devices} (result : Result Standing Stopped) (status : ℕ) → x.progress ≡ start → PerformsBehind (untold (takes_memory plan)) (AtTaking plan.part plan.switches (actions plan)) (playing plan) x y o p result → StatusIs result status
-    → RunsSession plan o p status
+-- a whole session, played to its status, or stopped where it stood
+pub session_played : (plan : Plan) {x y : HostState} {o p : Devices} (standing : Standing) → x.progress ≡ start → PerformsBehind (untold (takes_memory plan)) (AtTaking plan.part plan.switches (actions plan)) (playing plan) x y o p (Ok standing)
+    → IsPlayed (session plan) o p (status_of standing)
 unfolding session
-session_runs plan {x = x} {y = y} {o = o} {p = p} (Ok standing) status first done is =
-    let ran = ran_on (came_part (λ standing. Done (status_of standing)) done.runs) (ran_from (came_here (Done (status_of standing)) y.progress p)) in
-    inl (
+session_played plan {x = x} {y = y} {o = o} {p = p} standing first done =
+    let ran = ran_on (came_part (λ standing. Done (status_of standing)) done.runs) (ran_from (came_here (Done (status_of standing)) y.progress p)) in (
       y.progress,
-      subst (λ s. Ran (playing plan >>= λ standing. Done (status_of standing)) start o p s y.progress) (sym is)
-          (subst (λ n. Ran (playing plan >>= λ standing. Done (status_of standing)) n o p (status_of standing) y.progress) first ran),
+      subst (λ n. Ran (playing plan >>= λ standing. Done (status_of standing)) n o p (status_of standing) y.progress) first ran,
     )
-session_runs plan {o = o} {p = p} (Err stopped) status first done is =
+
+pub session_stopped : (plan : Plan) {x y : HostState} {o p : Devices} (stopped : Stopped) → x.progress ≡ start → PerformsBehind (untold (takes_memory plan)) (AtTaking plan.part plan.switches (actions plan)) (playing plan) x y o p (Err stopped)
+    → StopsSession plan o p
+unfolding session
+session_stopped plan {o = o} {p = p} stopped first done =
     let broke = broke_part (λ standing. Done (status_of standing)) (λ said cause told s. s) (λ during shown lack. lack) done.runs in
-    inr (subst (λ n. BrokeOff (playing plan >>= λ standing. Done (status_of standing)) n o p (untold (takes_memory plan)) (AtTaking plan.part plan.switches (actions plan))) first broke, is)
+    subst (λ n. BrokeOff (playing plan >>= λ standing. Done (status_of standing)) n o p (untold (takes_memory plan)) (AtTaking plan.part plan.switches (actions plan))) first broke

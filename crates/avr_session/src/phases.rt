@@ -1,14 +1,17 @@
-//! The phases of a session: each is an operation of the host and its report.
-ghost use Rattle.std.specs.Prelude.{◌≡◌, ◌∷◌, ◌≤◌, [], None, length, All};
+//! The phases of a session: each is an operation of the host and its report. One that ends in a fault leaves it in
+//! `told`, and its line is the last one that was told.
+ghost use Rattle.std.specs.Prelude.{◌≡◌, ◌∷◌, ◌≤◌, [], None, length, All, IfOk};
 ghost use Rattle.std.specs.List.{list_any};
 ghost use Rattle.avr_part.specs.Part.{size_of};
 ghost use Rattle.avr_plan.specs.Plan.{IsFitted};
 ghost use Rattle.avr_session.specs.Actions.{OpenSession, EraseChip, WriteImage, CompareImage, SaveMemory, writes_flash, is_erase_due, erase_actions, read_back_actions, write_actions, task_actions, tasks_actions};
+ghost use Rattle.avr_session.specs.Outcomes.{IsLastAt};
 ghost use Rattle.avr_session.specs.Phases.{Does, LeavesOut};
 ghost use Rattle.avr_session.specs.Runs.{devices};
 ghost use Rattle.avr_session.specs.Session.{left_out_erase, left_out_write};
 ghost use Rattle.ghosts.specs.Stays.{Stays};
 
+use crate::outcome::fault_of;
 use crate::reports::{report_bytes, report_done, report_erased, report_opening, warn};
 use crate::saving::{Target, report_read};
 use crate::standing::{Standing, Stopped, conclude, fine_if_said};
@@ -18,7 +21,7 @@ use avr_image::Image;
 use avr_part::Mem;
 use avr_plan::{Plan, Task};
 use std::alloc::Global;
-use stk_host::{Host, Link};
+use stk_host::{Host, HostFault, Link};
 
 /// Opens a session.
 pub(crate) fn open_session<D: Desk, L: Link>(
@@ -26,6 +29,7 @@ pub(crate) fn open_session<D: Desk, L: Link>(
     desk: &mut D,
     link: &mut L,
     plan: &Plan,
+    told: &mut Option<HostFault>,
 ) -> Result<Standing, Stopped>
     requires sound { host.old.broken ≡ None }
     requires part { host.old.part ≡ plan.now.part }
@@ -33,10 +37,12 @@ pub(crate) fn open_session<D: Desk, L: Link>(
         (devices (L.view link.old) (D.view desk.old)) (devices (L.view link.new) (D.view desk.new)) result }
     ensures comes { Stays L.comes_of link.old link.new }
     ensures stays { Stays D.comes_of desk.old desk.new }
+    ensures told { IfOk result (IsLastAt plan.now.part told.new (D.view desk.new)) }
 {
     let switches = plan.switches();
     let opened = host.open(link, switches.force);
     let reported = report_opening(desk, switches.quiet, plan.part(), &opened);
+    *told = fault_of(&opened);
     conclude(&opened, reported)
 }
 
@@ -46,15 +52,18 @@ fn erase_chip<D: Desk, L: Link>(
     desk: &mut D,
     link: &mut L,
     plan: &Plan,
+    told: &mut Option<HostFault>,
 ) -> Result<Standing, Stopped>
     requires sound { host.old.broken ≡ None }
     ensures performs { Does plan.now (EraseChip ∷ []) host.old host.new
         (devices (L.view link.old) (D.view desk.old)) (devices (L.view link.new) (D.view desk.new)) result }
     ensures comes { Stays L.comes_of link.old link.new }
     ensures stays { Stays D.comes_of desk.old desk.new }
+    ensures told { IfOk result (IsLastAt plan.now.part told.new (D.view desk.new)) }
 {
     let erased = host.erase(link);
     let reported = report_erased(desk, plan.switches().quiet, plan.part(), &erased);
+    *told = fault_of(&erased);
     conclude(&erased, reported)
 }
 
@@ -94,12 +103,14 @@ pub(crate) fn erase_if_due<D: Desk, L: Link>(
     desk: &mut D,
     link: &mut L,
     plan: &Plan,
+    told: &mut Option<HostFault>,
 ) -> Result<Standing, Stopped>
     requires sound { host.old.broken ≡ None }
     ensures performs { Does plan.now (erase_actions plan.now.switches plan.now.tasks) host.old host.new
         (devices (L.view link.old) (D.view desk.old)) (devices (L.view link.new) (D.view desk.new)) result }
     ensures comes { Stays L.comes_of link.old link.new }
     ensures stays { Stays D.comes_of desk.old desk.new }
+    ensures told { IfOk result (IsLastAt plan.now.part told.new (D.view desk.new)) }
 {
     let switches = plan.switches();
     if switches.dry {
@@ -109,7 +120,7 @@ pub(crate) fn erase_if_due<D: Desk, L: Link>(
         return Ok(Standing::Fine);
     }
     if is_erase_due(switches, plan.tasks()) {
-        return erase_chip(host, desk, link, plan);
+        return erase_chip(host, desk, link, plan, told);
     }
     Ok(Standing::Fine)
 }
@@ -123,6 +134,7 @@ fn verify<D: Desk, L: Link>(
     plan: &Plan,
     mem: Mem,
     image: &Image,
+    told: &mut Option<HostFault>,
 ) -> Result<Standing, Stopped>
     requires sound { host.old.broken ≡ None }
     requires part { host.old.part ≡ plan.now.part }
@@ -131,6 +143,7 @@ fn verify<D: Desk, L: Link>(
         (devices (L.view link.old) (D.view desk.old)) (devices (L.view link.new) (D.view desk.new)) result }
     ensures comes { Stays L.comes_of link.old link.new }
     ensures stays { Stays D.comes_of desk.old desk.new }
+    ensures told { IfOk result (IsLastAt plan.now.part told.new (D.view desk.new)) }
 {
     let verified = host.verify(alloc, link, mem, image);
     let count = image.len();
@@ -143,6 +156,7 @@ fn verify<D: Desk, L: Link>(
         " bytes verified",
         &verified,
     );
+    *told = fault_of(&verified);
     conclude(&verified, reported)
 }
 
@@ -154,6 +168,7 @@ fn write<D: Desk, L: Link>(
     plan: &Plan,
     mem: Mem,
     image: &Image,
+    told: &mut Option<HostFault>,
 ) -> Result<Standing, Stopped>
     requires sound { host.old.broken ≡ None }
     requires part { host.old.part ≡ plan.now.part }
@@ -162,6 +177,7 @@ fn write<D: Desk, L: Link>(
         (devices (L.view link.old) (D.view desk.old)) (devices (L.view link.new) (D.view desk.new)) result }
     ensures comes { Stays L.comes_of link.old link.new }
     ensures stays { Stays D.comes_of desk.old desk.new }
+    ensures told { IfOk result (IsLastAt plan.now.part told.new (D.view desk.new)) }
 {
     let written = host.write(link, mem, image);
     let count = image.len();
@@ -174,6 +190,7 @@ fn write<D: Desk, L: Link>(
         " bytes written",
         &written,
     );
+    *told = fault_of(&written);
     conclude(&written, reported)
 }
 
@@ -186,6 +203,7 @@ fn read_back<D: Desk, L: Link>(
     plan: &Plan,
     mem: Mem,
     image: &Image,
+    told: &mut Option<HostFault>,
 ) -> Result<Standing, Stopped>
     requires sound { host.old.broken ≡ None }
     requires part { host.old.part ≡ plan.now.part }
@@ -194,11 +212,12 @@ fn read_back<D: Desk, L: Link>(
         (devices (L.view link.old) (D.view desk.old)) (devices (L.view link.new) (D.view desk.new)) result }
     ensures comes { Stays L.comes_of link.old link.new }
     ensures stays { Stays D.comes_of desk.old desk.new }
+    ensures told { IfOk result (IsLastAt plan.now.part told.new (D.view desk.new)) }
 {
     if plan.switches().no_verify {
         return Ok(Standing::Fine);
     }
-    verify(alloc, host, desk, link, plan, mem, image)
+    verify(alloc, host, desk, link, plan, mem, image, told)
 }
 
 /// Leaves out a write, and says so.
@@ -231,6 +250,7 @@ fn write_and_verify<D: Desk, L: Link>(
     plan: &Plan,
     mem: Mem,
     image: &Image,
+    told: &mut Option<HostFault>,
 ) -> Result<Standing, Stopped>
     requires sound { host.old.broken ≡ None }
     requires part { host.old.part ≡ plan.now.part }
@@ -239,12 +259,13 @@ fn write_and_verify<D: Desk, L: Link>(
         (devices (L.view link.old) (D.view desk.old)) (devices (L.view link.new) (D.view desk.new)) result }
     ensures comes { Stays L.comes_of link.old link.new }
     ensures stays { Stays D.comes_of desk.old desk.new }
+    ensures told { IfOk result (IsLastAt plan.now.part told.new (D.view desk.new)) }
 {
     if plan.switches().dry {
         return leave_out_write(desk, plan, mem, image);
     }
-    match write(host, desk, link, plan, mem, image)? {
-        Standing::Fine => read_back(alloc, host, desk, link, plan, mem, image),
+    match write(host, desk, link, plan, mem, image, told)? {
+        Standing::Fine => read_back(alloc, host, desk, link, plan, mem, image, told),
         fault => Ok(fault),
     }
 }
@@ -258,6 +279,7 @@ fn read<D: Desk, L: Link>(
     plan: &Plan,
     mem: Mem,
     target: Target<'_>,
+    told: &mut Option<HostFault>,
 ) -> Result<Standing, Stopped>
     requires sound { host.old.broken ≡ None }
     requires part { host.old.part ≡ plan.now.part }
@@ -265,10 +287,12 @@ fn read<D: Desk, L: Link>(
         (devices (L.view link.old) (D.view desk.old)) (devices (L.view link.new) (D.view desk.new)) result }
     ensures comes { Stays L.comes_of link.old link.new }
     ensures stays { Stays D.comes_of desk.old desk.new }
+    ensures told { IfOk result (IsLastAt plan.now.part told.new (D.view desk.new)) }
 {
     let mut bytes = Vec::new(alloc);
     let outcome = host.read(link, mem, &mut bytes);
     let reported = report_read(desk, plan, mem, target, bytes.as_slice(), &outcome);
+    *told = fault_of(&outcome);
     conclude(&outcome, reported)
 }
 
@@ -280,6 +304,7 @@ fn perform<D: Desk, L: Link>(
     link: &mut L,
     plan: &Plan,
     task: &Task,
+    told: &mut Option<HostFault>,
 ) -> Result<Standing, Stopped>
     requires sound { host.old.broken ≡ None }
     requires part { host.old.part ≡ plan.now.part }
@@ -288,10 +313,13 @@ fn perform<D: Desk, L: Link>(
         (devices (L.view link.old) (D.view desk.old)) (devices (L.view link.new) (D.view desk.new)) result }
     ensures comes { Stays L.comes_of link.old link.new }
     ensures stays { Stays D.comes_of desk.old desk.new }
+    ensures told { IfOk result (IsLastAt plan.now.part told.new (D.view desk.new)) }
 {
     match task {
-        Task::Write(mem, image) => write_and_verify(alloc, host, desk, link, plan, *mem, image),
-        Task::Verify(mem, image) => verify(alloc, host, desk, link, plan, *mem, image),
+        Task::Write(mem, image) => {
+            write_and_verify(alloc, host, desk, link, plan, *mem, image, told)
+        }
+        Task::Verify(mem, image) => verify(alloc, host, desk, link, plan, *mem, image, told),
         Task::Read {
             memory,
             format,
@@ -301,7 +329,7 @@ fn perform<D: Desk, L: Link>(
                 file: file.as_str(),
                 format: *format,
             };
-            read(alloc, host, desk, link, plan, *memory, target)
+            read(alloc, host, desk, link, plan, *memory, target, told)
         }
     }
 }
@@ -314,6 +342,7 @@ pub(crate) fn perform_all<D: Desk, L: Link>(
     link: &mut L,
     plan: &Plan,
     tasks: &[Task],
+    told: &mut Option<HostFault>,
 ) -> Result<Standing, Stopped>
     requires sound { host.old.broken ≡ None }
     requires part { host.old.part ≡ plan.now.part }
@@ -322,12 +351,13 @@ pub(crate) fn perform_all<D: Desk, L: Link>(
         (devices (L.view link.old) (D.view desk.old)) (devices (L.view link.new) (D.view desk.new)) result }
     ensures comes { Stays L.comes_of link.old link.new }
     ensures stays { Stays D.comes_of desk.old desk.new }
+    ensures told { IfOk result (IsLastAt plan.now.part told.new (D.view desk.new)) }
 {
     match tasks {
         [] => Ok(Standing::Fine),
         [task, more @ ..] => {
-            match perform(alloc, host, desk, link, plan, task)? {
-                Standing::Fine => perform_all(alloc, host, desk, link, plan, more),
+            match perform(alloc, host, desk, link, plan, task, told)? {
+                Standing::Fine => perform_all(alloc, host, desk, link, plan, more, told),
                 fault => Ok(fault),
             }
         }

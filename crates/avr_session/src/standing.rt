@@ -1,7 +1,6 @@
 //! How a session stands after a phase of it.
 ghost use Rattle.std.specs.Prelude.{◌≡◌};
 ghost use Rattle.avr_session.specs.Concluding.{conclusion, fine_if_said};
-ghost use Rattle.avr_session.specs.Session.{status_of};
 
 use stk_host::HostFault;
 
@@ -45,14 +44,4 @@ pub(crate) fn fine_if_said(said: Result<(), Stopped>) -> Result<Standing, Stoppe
 {
     said?;
     Ok(Standing::Fine)
-}
-
-/// The status of a run whose session stands so at its end.
-pub(crate) fn status_of(standing: Standing) -> u8
-    ensures { result ≡ status_of standing }
-{
-    match standing {
-        Standing::Fine => 0,
-        Standing::Faulty | Standing::Over => 1,
-    }
 }

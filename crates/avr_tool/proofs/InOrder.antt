@@ -13,7 +13,7 @@ use Rattle.stk_lines.specs.AnyTape.{first_became, other_becames, on_answer, AreH
 use Rattle.stk_emu.specs.Device.{Device, answer_frame, after_frame, after_frames, answers}
 use Rattle.stk_emu.specs.Lawful.{IsBody}
 use Rattle.stk_emu.specs.Turn.{Obeyed, after_became, IsHonest}
-use Rattle.stk_emu.proofs.Fused.{AnswersBodies}
+use Rattle.stk_emu.proofs.Bodies.{AnswersBodies}
 use Rattle.avr_tool.specs.TwoProcesses.{obeyed}
 use Rattle.avr_tool.proofs.Slots.{Slot, slots_tape, came, IsStub, AreOld, IsOwn, all_older, old_and_own, none_passed, Finds, FindsNone, Waits, Reads, reads}
 

@@ -33,7 +33,7 @@ use Rattle.avr_course.specs.Bound.{run_steps}
 use Rattle.avr_course.specs.Foretold.{EndsAsForetold}
 use Rattle.avr_course.specs.Outcome.{IsDone, MakesStrokes}
 use Rattle.avr_course.proofs.AgainHeals.{succeeds}
-use Rattle.avr_course.proofs.AnyLine.{session_leaves}
+use Rattle.avr_course.proofs.TellingTrue.{session_leaves}
 use Rattle.avr_course.proofs.AnyLineAsks.{session_asks}
 use Rattle.avr_course.proofs.AnyLineOrder.{session_makes}
 use Rattle.avr_course.proofs.FewBad.{session_ends}

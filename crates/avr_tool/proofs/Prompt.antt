@@ -12,7 +12,7 @@ use Rattle.stk_emu.specs.Along.{along, said_along, AsksBodies}
 use Rattle.stk_lines.specs.AnyTape.{first_became, other_becames, after_sent}
 use Rattle.stk_emu.specs.Device.{Device, after_frame}
 use Rattle.stk_emu.specs.Turn.{after_became}
-use Rattle.stk_emu.proofs.Fused.{AnswersBodies}
+use Rattle.stk_emu.proofs.Bodies.{AnswersBodies}
 use Rattle.avr_tool.specs.TwoProcesses.{IsPrompt, StallsBetweenAnswers, obeyed}
 use Rattle.avr_tool.proofs.InOrder.{MissesFew, one_less, others_obeyed, Brings, Comes, asked, after_is}
 

@@ -49,14 +49,15 @@ pub use laws::{
 };
 // what a run reads and writes beside its line
 pub use avr_desk::{
-    Bytes, Desk, DeskFault, FailingDesk, FileUse, MemDesk, Opening, Piece, Reading, Stream,
-    SystemDesk, Writing, print_error, print_information, print_warning, write_all,
+    Bytes, Desk, DeskCall, DeskFault, FailingDesk, FileUse, MemDesk, Opening, Piece, Reading,
+    Stream, SystemDesk, WatchDesk, WatchedDesk, Writing, print_error, print_information,
+    print_warning, write_all,
 };
 // from settings to status, over any line
 pub use avr_emulated::drive_wired;
 pub use avr_net::{accept, listen};
 pub use avr_plan::{Plan, Task, plan};
-pub use avr_session::drive;
+pub use avr_session::{Outcome, drive, drive_outcome};
 pub use of_port::{run_emu, run_net, serve, serve_net, serve_on};
 pub use program::{run_program, run_words};
 pub use running::{run, run_in_memory, run_streams, run_streams_in_memory, run_wired};
@@ -65,4 +66,7 @@ pub use avr_image::Image;
 pub use avr_part::{Chip, Mem, Part, PartFault, Parts};
 // lines
 pub use stk_emu::{Fate, Fates, FatesFault, Wired, noise_is_lawful};
-pub use stk_host::{FailingLink, Heard, Item, Link, LinkFault, StreamLink, TapeLink};
+pub use stk_host::{
+    FailingLink, Heard, HostFault, Item, Link, LinkCall, LinkFault, StreamLink, TapeLink, WatchLink,
+    WatchedLink,
+};

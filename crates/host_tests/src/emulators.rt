@@ -36,14 +36,8 @@ fn answers(
     requires { 0 < size }
 {
     let mut all = Vec::new(alloc);
-    let mut out = ArrayVec::new();
     for piece in bytes.chunks(size) {
-        let mut rest = piece;
-        for _ in 0..64 {
-            let used = emulator.feed(rest, &mut out);
-            rest = &rest[used..];
-            all.extend_from_slice(out.as_slice())?;
-        }
+        emulator.answer_all(piece, &mut all)?;
     }
     Ok(all)
 }

@@ -284,10 +284,28 @@ fn silences_ends_and_faults_of_devices(rt: HostRuntime) {
     assert!(rt; link.recv(&mut buffer) == Ok(Heard::Silence));
     assert!(rt; link.recv(&mut buffer) == Ok(Heard::Bytes(1)));
     assert!(rt; link.recv(&mut buffer) == Ok(Heard::End));
+    assert_eq!(rt; link.last_error(), None);
     assert!(rt; link.recv(&mut buffer) == Err(LinkFault::Failed));
+    assert_eq!(rt; link.last_error(), Some(ErrorKind::ConnectionReset));
     assert!(rt; link.send(&[1, 2]) == Ok(1));
+    assert_eq!(rt; link.last_error(), Some(ErrorKind::ConnectionReset));
     assert!(rt; link.send(&[1, 2]) == Err(LinkFault::Failed));
+    assert_eq!(rt; link.last_error(), Some(ErrorKind::WriteZero));
     assert!(rt; link.send(&[1, 2]) == Err(LinkFault::Failed));
+    assert_eq!(rt; link.last_error(), Some(ErrorKind::BrokenPipe));
     assert_eq!(rt; LinkFault::Failed.number(), 1);
     assert_eq!(rt; HostFault::RecvFailed.number(), 11);
+}
+
+#[test]
+fn a_refusal_has_names(rt: HostRuntime) {
+    let refused = HostFault::Refused(0x12, 0x81);
+    assert_eq!(rt; refused.command_name(), Some("CMD_CHIP_ERASE_ISP"));
+    assert_eq!(rt; refused.status_name(), Some("STATUS_RDY_BSY_TOUT"));
+    assert_eq!(rt;
+        HostFault::BadAnswer(0x1D).command_name(),
+        Some("CMD_SPI_MULTI")
+    );
+    assert_eq!(rt; HostFault::Refused(0x04, 0x01).command_name(), None);
+    assert_eq!(rt; HostFault::Refused(0x04, 0x01).status_name(), None);
 }

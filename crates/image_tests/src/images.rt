@@ -45,6 +45,39 @@ fn an_image_and_a_fault_tell_what_they_are(rt: HostRuntime) -> Result<(), Fail> 
     Ok(())
 }
 
+#[test]
+fn images_are_compared(rt: HostRuntime) -> Result<(), Fail> {
+    let alloc = rt.alloc();
+    let mut image = Image::new(alloc, 64)?;
+    assert!(rt; image == Image::new(alloc, 64)?);
+    assert!(rt; image != Image::new(alloc, 65)?);
+    image.put(8, 0xFF)?;
+    assert!(rt; image != Image::new(alloc, 64)?);
+    assert_eq!(rt; image, image.try_clone(alloc)?);
+    Ok(())
+}
+
+#[test]
+fn readers_and_writers_tell_where_they_are(rt: HostRuntime) -> Result<(), Fail> {
+    let alloc = rt.alloc();
+    let mut reader = RawReader::new(alloc, 4)?;
+    reader.feed(&[1, 2])?;
+    let shown = format!(in alloc; "{reader:?}")?;
+    assert_eq!(rt; shown.as_str(), "RawReader { fed: 2, failed: false, .. }");
+    let image = reader.finish()?;
+    let mut runs = image.runs();
+    let _ = runs.next();
+    let shown = format!(in alloc; "{runs:?}")?;
+    assert_eq!(rt; shown.as_str(), "Runs { addr: 2, .. }");
+    let writer = ListWriter::new(Base::Hex, &[1, 2]);
+    let shown = format!(in alloc; "{writer:?}")?;
+    assert_eq!(rt;
+        shown.as_str(),
+        "ListWriter { base: Hex, left: 2, ended: false, .. }"
+    );
+    Ok(())
+}
+
 /// The least key from `addr` on.
 fn first_key(map: &BTreeMap<u32, u8>, addr: u32) -> Option<u32> {
     for (key, _) in map {

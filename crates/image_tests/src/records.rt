@@ -3,7 +3,10 @@
 mod slow;
 
 use avr_image::Image;
-use avr_records::{Ending, Found, Kind, RecordFault, RecordReader, detect};
+use avr_records::{
+    Ending, Found, IhexImageWriter, IhexWriter, Kind, RecordFault, RecordReader, SrecImageWriter,
+    SrecWriter, detect, needed_size, read_record,
+};
 use slow::slow_read;
 use std::alloc::Global;
 use std::process::Abort;
@@ -322,5 +325,74 @@ fn agrees_with_the_plain_reader(rt: HostRuntime) -> Result<(), Fail> {
             }
         }
     }
+    Ok(())
+}
+
+#[test]
+fn a_size_is_told_without_an_image(rt: HostRuntime) {
+    let firmware = b":020000040800F2\n:020010000102EB\n:00000001FF\n";
+    assert_eq!(rt; needed_size(Kind::Ihex, firmware), Ok(0x0800_0012));
+    assert_eq!(rt; needed_size(Kind::Ihex, b""), Ok(0));
+    assert_eq!(rt; needed_size(Kind::Ihex, b":00000001FF\nno record\n"), Ok(0));
+    assert_eq!(rt;
+        needed_size(Kind::Srec, b"S107000001020304EE\nS9030000FC"),
+        Ok(4)
+    );
+    // the highest byte isn't the last one
+    assert_eq!(rt;
+        needed_size(Kind::Ihex, b":0100200001DE\n:0100000002FD\n"),
+        Ok(0x21)
+    );
+    // a record that goes on at the beginning of its segment
+    assert_eq!(rt;
+        needed_size(Kind::Ihex, b":020000021000EC\n:02FFFF000A0BEB\n"),
+        Ok(0x2_0000)
+    );
+    // the last address that a memory has, and the one behind it
+    assert_eq!(rt;
+        needed_size(Kind::Srec, b"S306FFFFFFFE11ED\n"),
+        Ok(0xFFFF_FFFF)
+    );
+    let past = Err(RecordFault::OutOfRange(1, 0xFFFF_FFFF));
+    assert_eq!(rt; needed_size(Kind::Srec, b"S306FFFFFFFF11EC\n"), past);
+    let sum = Err(RecordFault::BadSum(2));
+    assert_eq!(rt; needed_size(Kind::Ihex, b"\n:0400000001020304F3\n"), sum);
+}
+
+#[test]
+fn readers_and_writers_tell_where_they_are(rt: HostRuntime) -> Result<(), Fail> {
+    let alloc = rt.alloc();
+    let record = read_record(Kind::Ihex, b":0400100001020304E2")?;
+    let shown = format!(in alloc; "{record:?}")?;
+    assert_eq!(rt;
+        shown.as_str(),
+        "Record { record_type: 0, address: 16, bytes: [1, 2, 3, 4] }"
+    );
+    let mut reader = RecordReader::new(alloc, Kind::Ihex, 32)?;
+    reader.feed(b":0400100001020304E2")?;
+    let shown = format!(in alloc; "{reader:?}")?;
+    assert_eq!(rt;
+        shown.as_str(),
+        "RecordReader { kind: Ihex, fed: 19, failed: false, .. }"
+    );
+    let (image, _) = reader.finish()?;
+    let shown = format!(in alloc; "{:?}", IhexImageWriter::new(&image))?;
+    let want =
+        "IhexImageWriter { image: Image { size: 32, len: 4, .. }, addr: 0, ended: false, .. }";
+    assert_eq!(rt; shown.as_str(), want);
+    let shown = format!(in alloc; "{:?}", SrecImageWriter::new(&image))?;
+    let want =
+        "SrecImageWriter { image: Image { size: 32, len: 4, .. }, addr: 0, ended: false, .. }";
+    assert_eq!(rt; shown.as_str(), want);
+    let shown = format!(in alloc; "{:?}", IhexWriter::new(16, &[1, 2]))?;
+    assert_eq!(rt;
+        shown.as_str(),
+        "IhexWriter { addr: 16, left: 2, ended: false, .. }"
+    );
+    let shown = format!(in alloc; "{:?}", SrecWriter::new(16, &[1, 2]))?;
+    assert_eq!(rt;
+        shown.as_str(),
+        "SrecWriter { addr: 16, left: 2, ended: false, .. }"
+    );
     Ok(())
 }

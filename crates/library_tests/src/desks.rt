@@ -113,13 +113,16 @@ fn files_of_the_system(rt: HostRuntime) -> Result<(), Fail> {
     let name = format!(in alloc; "{}/avr_desk_{id}.bin", folder.display())?;
     let mut desk = SystemDesk::new(&rt, rt.stdout(), rt.stderr());
     assert!(rt; desk.open(name.as_str()) == Err(DeskFault::NotFound));
+    assert_eq!(rt; desk.last_error(), None);
     assert!(rt; !gives(&mut desk, b""));
     assert!(rt; desk.create(name.as_str()) == Ok(()));
     assert!(rt; put(&mut desk, Stream::File, b"abc") == Ok(()));
     assert!(rt; holds(alloc, &mut desk, name.as_str(), 3, b"abc"));
     fs::remove_file(&rt, name.as_str())?;
     assert!(rt; !holds(alloc, &mut desk, ".", 3, b""));
+    assert_eq!(rt; desk.last_error(), Some(ErrorKind::IsADirectory));
     assert!(rt; desk.create("/no/such/folder/x") == Err(DeskFault::Failed));
+    assert_eq!(rt; desk.last_error(), Some(ErrorKind::NotFound));
     assert!(rt; put(&mut desk, Stream::Messages, b"a message\n") == Ok(()));
     Ok(())
 }

@@ -1,7 +1,9 @@
 //! Frames of a whole session with an ATmega328P, and what no clause says.
 use arrayvec::ArrayVec;
 use std::test::Fail;
-use stk_frame::{Answer, Command, Event, FrameFault, FrameReader, put_frame};
+use stk_frame::{
+    Answer, Command, Event, FrameFault, FrameReader, command_name, put_frame, status_name,
+};
 
 /// The answers to six frames, one after another.
 const ANSWERS: [u8; 63] = [
@@ -85,4 +87,11 @@ fn a_program_command_is_read_with_its_data(rt: HostRuntime) {
         }
         _ => assert!(rt; false),
     }
+}
+
+#[test]
+fn bytes_have_names(rt: HostRuntime) {
+    assert_eq!(rt; command_name(0x10), Some("CMD_ENTER_PROGMODE_ISP"));
+    assert_eq!(rt; status_name(0x82), Some("STATUS_SET_PARAM_MISSING"));
+    assert_eq!(rt; command_name(0x00), None);
 }

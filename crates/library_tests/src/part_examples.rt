@@ -84,6 +84,8 @@ fn faults_are_told_apart(rt: HostRuntime) -> Result<(), Fail> {
     assert_eq!(rt; PartFault::Missing(Field::Signature).number(), 2);
     assert_eq!(rt; Field::FlashSize.name(), "flash_size");
     assert_eq!(rt; Field::Id.name(), "id");
+    let shown = format!(in rt.alloc(); "{} {}", Mem::Hfuse, Field::Id)?;
+    assert_eq!(rt; shown.as_str(), "hfuse id");
     Ok(())
 }
 

@@ -10,9 +10,12 @@ use Rattle.stk_frame.specs.declared.command.ReadBlock.{ReadBlock}
 use Rattle.stk_frame.specs.declared.command.ReadByte.{ReadByte}
 use Rattle.stk_frame.specs.Decoding.{command_of}
 use Rattle.stk_emu.specs.Programmer.{Programmer, Response, obey, obey_command, read_as, flash_looks, eeprom_looks, extension, at_address, for_half, word_at, byte_address, sent_to, read_flash, read_eeprom, read_byte, spi_multi}
-use Rattle.stk_emu.specs.Device.{device}
+use Rattle.stk_emu.specs.Device.{Device, device}
 use Rattle.stk_emu.specs.Lawful.{IsBody}
-use Rattle.stk_emu.proofs.Fused.{AnswersBodies}
+
+-- each answer to a body is a body that a frame can carry
+abbrev pub AnswersBodies : {P : Type 0} → Device P → Type 0
+AnswersBodies {P} m = (bytes : List ℕ) (p : P) → IsBody bytes → IsBody (m.answer bytes p)
 
 two : (x y : ℕ) → IsBody (x ∷ y ∷ [])
 two x y = record { some = omega arith; few = omega arith }

@@ -1,5 +1,5 @@
 -- What an emulator holds, what it was fed, and what it answers.
-use Rattle.std.specs.Prelude.{ℕ, List, ◌≡◌, ◌<◌, ◌≤◌, length, filter}
+use Rattle.std.specs.Prelude.{ℕ, List, ◌≡◌, ◌<◌, ◌≤◌, ◌++◌, length, filter}
 use Rattle.stk_frame.specs.Cut.{frames, is_frame}
 use Rattle.stk_frame.specs.Reader.{HoldsFrame, Stands, Fed}
 use Rattle.stk_emu.specs.Programmer.{Programmer}
@@ -28,3 +28,20 @@ pub record Answers (old : Machine) (used : List ℕ) (new : Machine) (out : List
   pub ends : 0 < length out → HoldsFrame new.held
   pub answered : out ≡ answers device found old.programmer
   pub obeyed : new.programmer ≡ after_frames device found old.programmer
+
+-- It was fed all of these bytes: whatever text it stood for, these frames end in them, and behind what a list held
+-- stand now the answers to them, in their order.
+pub record AppendsAnswers (old : Machine) (bytes : List ℕ) (new : Machine) (before after : List ℕ) : Type 0 where
+  pub found : List (List ℕ)
+  pub ends : (text : List ℕ) → Stands old.held text → frames (text ++ bytes) ≡ frames text ++ found
+  pub stands : (text : List ℕ) → Stands old.held text → Stands new.held (text ++ bytes)
+  pub appended : after ≡ before ++ answers device found old.programmer
+  pub obeyed : new.programmer ≡ after_frames device found old.programmer
+
+-- It was fed a front of these bytes and not all of them, and all answers to that front were appended.
+pub record AppendsFront (old : Machine) (bytes : List ℕ) (new : Machine) (before after : List ℕ) : Type 0 where
+  pub used : List ℕ
+  pub unused : List ℕ
+  pub bytes_are : bytes ≡ used ++ unused
+  pub some_left : 0 < length unused
+  pub appends : AppendsAnswers old used new before after

@@ -1,16 +1,18 @@
 //! The programmer behind its frames.
 
-ghost use Rattle.std.specs.Prelude.{◌≡◌, ◌<◌, ◌≤◌, ◌++◌, ◌∷◌, [], ℕ, List, length, take};
+ghost use Rattle.std.specs.Prelude.{◌≡◌, ◌<◌, ◌≤◌, ◌++◌, ◌∷◌, [], ℕ, ◌+◌, List, length, take, vec_len, vec_capacity, IfOk, OnOk, OnErr};
 ghost use Rattle.stk_frame.specs.Frame.{frame};
 ghost use Rattle.stk_frame.specs.Cut.{is_good, seq_of, body_of};
 ghost use Rattle.stk_frame.specs.Reader.{HoldsFrame, TellsEvent, frames_of_event};
 ghost use Rattle.stk_emu.specs.Programmer.{Programmer as ProgrammerState, fresh_programmer, obey};
 ghost use Rattle.stk_emu.specs.Device.{device, refusal, answer_frame, after_frame, answers, after_frames};
-ghost use Rattle.stk_emu.specs.Emulator.{Answers, IsFed, emulate};
+ghost use Rattle.stk_emu.specs.Emulator.{Answers, AppendsAnswers, AppendsFront, IsFed, emulate};
 
 use crate::programmer::{Body, Programmer};
 use arrayvec::ArrayVec;
 use avr_part::Chip;
+use std::alloc::AllocError;
+use std::fmt;
 use std::marker::Model;
 use stk_frame::protocol::{ANSWER_CKSUM_ERROR, STATUS_CKSUM_ERROR};
 use stk_frame::{Event, FrameReader, LARGEST_FRAME, put_frame};
@@ -65,6 +67,14 @@ fn answer_event(reader: &FrameReader, event: Event, programmer: &mut Programmer,
         Event::Frame => answer(reader, true, programmer, out),
         Event::Spoiled => answer(reader, false, programmer, out),
     }
+}
+
+/// Appends bytes, for which there is room.
+fn push_all(answers: &mut Vec<u8>, bytes: &[u8])
+    requires { vec_len answers.old + length bytes.now ≤ vec_capacity answers.old }
+    ensures { answers.new.items ≡ answers.old.items ++ bytes.now }
+{
+    let _there_is_room = answers.extend_from_slice(bytes);
 }
 
 /// A programmer with its part, which is fed what comes over a line and answers each frame.
@@ -125,6 +135,20 @@ impl Emulator {
         self.programmer.chip()
     }
 
+    /// The chip, as the frames so far have left it.
+    ///
+    /// ```text
+    /// let chip = Chip::fresh(alloc, Parts::none().find("t85")?)?;
+    /// let chip = Emulator::new(chip).into_chip();
+    /// assert!(rt; chip.byte(Mem::Flash, 0) == Some(0xFF));
+    /// ```
+    pub fn into_chip(self) -> Chip
+        ensures { result ≡ self.programmer.chip }
+    {
+        let Emulator { programmer, .. } = self;
+        programmer.into_chip()
+    }
+
     /// Uses bytes up to the end of the first frame that is answered, whose answer `out` becomes, and says how many.
     /// Where no frame ends all bytes are used, and `out` is empty.
     ///
@@ -150,5 +174,62 @@ impl Emulator {
         let (used, event) = self.reader.feed(piece);
         answer_event(&self.reader, event, &mut self.programmer, out);
         used
+    }
+
+    /// Uses bytes up to the end of the first frame, or all of them, appends the answer, and says how many. Where memory
+    /// is refused nothing changes.
+    fn answer_next(&mut self, bytes: &[u8], answers: &mut Vec<u8>) -> Result<usize, AllocError>
+        ensures within { IfOk result (λ n. n ≤ length bytes.now) }
+        ensures progress { IfOk result (λ n. 0 < length bytes.now → 0 < n) }
+        ensures appends { IfOk result (λ n. AppendsAnswers self.old (take n bytes.now) self.new
+            answers.old.items answers.new.items) }
+        ensures same { OnErr result (self.new ≡ self.old) }
+        ensures kept { OnErr result (answers.new.items ≡ answers.old.items) }
+    {
+        answers.reserve(LARGEST_FRAME)?;
+        let mut answer = Frame::new();
+        let used = self.feed(bytes, &mut answer);
+        push_all(answers, answer.as_slice());
+        Ok(used)
+    }
+
+    /// Uses all of these bytes, whatever frames end in them, and appends the answers to `answers`, in their order.
+    ///
+    /// `AllocError` where memory is refused: then a front of the bytes was used and not all of them, all answers to
+    /// that front were appended, and no answer in part.
+    ///
+    /// ```text
+    /// let chip = Chip::fresh(alloc, Parts::none().find("t85")?)?;
+    /// let mut emulator = Emulator::new(chip);
+    /// let mut answers = Vec::new(alloc);
+    /// let spoiled = b"\x1B\x01\x00\x01\x0E\x01\x15\x1B\x02\x00\x01\x0E\x01\x16";
+    /// emulator.answer_all(spoiled, &mut answers)?;
+    /// let refused = b"\x1B\x01\x00\x02\x0E\xB0\xC1\x67\x1B\x02\x00\x02\x0E\xB0\xC1\x64";
+    /// assert!(rt; answers.as_slice() == refused.as_slice());
+    /// ```
+    pub fn answer_all(&mut self, bytes: &[u8], answers: &mut Vec<u8>) -> Result<(), AllocError>
+        ensures appends { OnOk result (AppendsAnswers self.old bytes.now self.new
+            answers.old.items answers.new.items) }
+        ensures front { OnErr result (AppendsFront self.old bytes.now self.new
+            answers.old.items answers.new.items) }
+        // Whatever it began with and was fed: a list of all answers to that becomes one of all answers.
+        ensures fed { (p : ProgrammerState) (text : List ℕ) → IsFed p text self.old
+            → OnOk result (IsFed p (text ++ bytes.now) self.new) }
+        ensures all { (p : ProgrammerState) (text : List ℕ) → IsFed p text self.old
+            → answers.old.items ≡ emulate p text → OnOk result (answers.new.items ≡ emulate p (text ++ bytes.now)) }
+    {
+        let mut used = 0;
+        while used < bytes.len() {
+            used += self.answer_next(&bytes[used..], answers)?;
+        }
+        Ok(())
+    }
+}
+
+impl fmt::Debug for Emulator {
+    fn fmt<W: fmt::Write>(&self, f: &mut fmt::Formatter<W>) -> fmt::Result {
+        f.debug_struct("Emulator")
+            .field("part", &self.chip().part().id())
+            .finish_non_exhaustive()
     }
 }

@@ -7,7 +7,7 @@ ghost use Rattle.stk_emu.specs.Lawful.{IsLawful};
 use stk_frame::{Event, FrameReader};
 
 /// What happens to one whole frame on its way to the programmer, and to the answer on its way back.
-#[derive(Debug, Drop)]
+#[derive(Debug, Drop, PartialEq, Eq)]
 pub enum Fate {
     /// The frame is obeyed, and the answer comes.
     Good,

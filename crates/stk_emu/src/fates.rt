@@ -38,7 +38,7 @@ impl FatesFault {
 /// What happens to the first frames that are sent over a [`crate::Wired`], one after the other.
 ///
 /// Noise in place of an answer is judged when its fate is pushed, so that of all these fates it is lawful.
-#[derive(Drop)]
+#[derive(Debug, Drop)]
 pub struct Fates {
     all: Vec<Fate>,
 }

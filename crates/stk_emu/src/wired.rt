@@ -2,7 +2,7 @@
 
 ghost use Rattle.std.specs.Prelude.{◌≡◌, ◌+◌, ◌<◌, ◌≤◌, ◌++◌, ◌∷◌, [], ℕ, List, length, take, drop, vec_len, vec_capacity, Some, None, IfOk, OnOk, OnErr};
 ghost use Rattle.stk_host.specs.declared.link.Item.TheVariants as item;
-ghost use Rattle.stk_host.specs.Tape.{Tape, on_tape};
+ghost use Rattle.stk_host.specs.Tape.{Tape, on_tape, bytes_of};
 ghost use Rattle.stk_host.specs.Talk as talk;
 ghost use Rattle.ghosts.specs.Failures.{HasRisen};
 ghost use Rattle.ghosts.specs.Stays.{Stays};
@@ -16,6 +16,7 @@ use crate::segment::{ROOM, Segment, take_bytes};
 use crate::wire::Wire;
 use avr_part::Chip;
 use std::alloc::{AllocError, Global};
+use std::fmt;
 use std::marker::Model;
 use stk_frame::FrameReader;
 use stk_host::{Heard, Link, LinkFault, Log};
@@ -172,6 +173,21 @@ impl Wired {
         self.log.sent()
     }
 
+    /// The bytes heard; silences are none.
+    ///
+    /// ```text
+    /// let chip = Chip::fresh(alloc, Parts::none().find("t85")?)?;
+    /// let mut wire = Wired::new(alloc, chip, Fates::none(alloc));
+    /// wire.send(b"\x1B\x01\x00\x01\x0E\x01\x15")?;
+    /// wire.recv(&mut [0; 3])?;
+    /// assert!(rt; wire.heard() == b"\x1B\x01\x00".as_slice());
+    /// ```
+    pub fn heard(&self) -> &[u8]
+        ensures { result.now ≡ bytes_of (talk.heard self.now.talk) }
+    {
+        self.log.heard()
+    }
+
     /// Counts a failure.
     fn fail(&mut self)
         ensures same { self.new ≡ record self.old { failures = self.new.failures } }
@@ -282,5 +298,14 @@ impl Link for Wired {
                 Err(LinkFault::Failed)
             }
         }
+    }
+}
+
+impl fmt::Debug for Wired {
+    fn fmt<W: fmt::Write>(&self, f: &mut fmt::Formatter<W>) -> fmt::Result {
+        f.debug_struct("Wired")
+            .field("part", &self.chip().part().id())
+            .field("failures", &self.failures)
+            .finish_non_exhaustive()
     }
 }

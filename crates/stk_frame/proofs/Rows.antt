@@ -8,7 +8,8 @@ use Rattle.stk_frame.specs.Cut.{cut, rest, is_good}
 use Rattle.stk_frame.specs.Commands.{body, judge}
 use Rattle.stk_frame.specs.Decoding.{command_of}
 use Rattle.stk_frame.specs.HostCommands.{enter, leave, erase, program_page, program_eeprom_block, program_fuse, read_signature}
-use Rattle.std.specs.Prelude.{filter, map}
+use Rattle.std.specs.Prelude.{codes, filter, map}
+use Rattle.stk_frame.specs.Names.{command_names, name_in, status_names}
 use Rattle.stk_frame.specs.Cut.{seq_of, body_of}
 
 -- the frames of a session that only reads the signature
@@ -133,3 +134,22 @@ longer_judged = refl
 
 pub last_status_judged : judge (read_signature 0) (0x1B ∷ 0x00 ∷ 0x1E ∷ 0x80 ∷ []) ≡ Err (Status 0x80)
 last_status_judged = refl
+
+-- names
+pub erase_named : name_in command_names 0x12 ≡ Some (codes "CMD_CHIP_ERASE_ISP")
+erase_named = refl
+
+pub last_command_named : name_in command_names 0x1D ≡ Some (codes "CMD_SPI_MULTI")
+last_command_named = refl
+
+pub no_command_unnamed : name_in command_names 0x04 ≡ None
+no_command_unnamed = refl
+
+pub failed_named : name_in status_names 0xC0 ≡ Some (codes "STATUS_CMD_FAILED")
+failed_named = refl
+
+pub done_named : name_in status_names 0x00 ≡ Some (codes "STATUS_CMD_OK")
+done_named = refl
+
+pub no_status_unnamed : name_in status_names 0xC2 ≡ None
+no_status_unnamed = refl

@@ -5,3 +5,4 @@ pub mod Commands
 pub mod Decoding
 pub mod HostCommands
 pub mod Faults
+pub mod Names

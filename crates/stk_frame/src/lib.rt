@@ -26,7 +26,7 @@ pub use answer::{Answer, FrameFault, Shape};
 pub use command::{Command, Data, EnterProgmode, ProgramBlock, ReadBlock, ReadByte};
 pub use frame::put_frame;
 pub use host_command::Fuse;
-pub use protocol::{LARGEST_BODY, LARGEST_FRAME};
+pub use protocol::{LARGEST_BODY, LARGEST_FRAME, command_name, status_name};
 pub use reader::{Event, FrameReader};
 
 /// A law, and no code: whatever cuts bytes into pieces is the cutting, a frame is one good piece,

@@ -37,7 +37,7 @@ pub enum Event {
 /// assert_eq!(rt; reader.seq(), 1);
 /// assert!(rt; reader.body() == [0x01].as_slice());
 /// ```
-#[derive(Drop)]
+#[derive(Debug, Drop)]
 pub struct FrameReader {
     held: ArrayVec<u8, LARGEST_FRAME>,
 }

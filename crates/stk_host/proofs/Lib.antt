@@ -6,6 +6,7 @@ pub mod Sending
 pub mod Listens
 pub mod Reaching
 pub mod Steps
+pub mod Logic
 pub mod Ends
 pub mod Going
 pub mod Pages

@@ -8,6 +8,7 @@ use Rattle.stk_frame.specs.declared.answer.Shape.TheVariants.{Name, Bytes, Close
 use Rattle.stk_frame.specs.Commands.{body, shape, SizedBy}
 use Rattle.stk_frame.specs.Cut.{body_of}
 use Rattle.stk_frame.specs.Reader.{HoldsFrame}
+use Rattle.stk_frame.specs.Names.{command_names, name_in, status_names}
 use Rattle.stk_host.specs.declared.link.Heard.{Heard}
 use Rattle.stk_host.specs.declared.link.Heard.TheVariants as heard
 use Rattle.stk_host.specs.declared.link.Item.TheVariants as item
@@ -244,6 +245,16 @@ host_fault_number (Differs mem addr want found) = 8
 host_fault_number (ReadOnly mem) = 9
 host_fault_number Memory = 10
 host_fault_number RecvFailed = 11
+
+-- the name that AVR068 gives the command that a fault is about, and the status that it was refused with
+abbrev pub command_named : HostFault → Option (List ℕ)
+command_named (Refused command status) = name_in command_names command
+command_named (BadAnswer command) = name_in command_names command
+command_named fault = None
+
+abbrev pub status_named : HostFault → Option (List ℕ)
+status_named (Refused command status) = name_in status_names status
+status_named fault = None
 
 -- a stop, as the host tells it
 abbrev pub fault_of_stop : Stop → HostFault

@@ -13,5 +13,6 @@ pub mod Reach
 pub mod Calls
 pub mod State
 pub mod Links
+pub mod Watching
 -- inside: how things are kept, and what inner functions promise one another
 pub mod Log

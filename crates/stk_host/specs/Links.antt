@@ -1,6 +1,8 @@
 -- What the links of this crate hold, and what one call takes of it.
 use Rattle.std.specs.Prelude.{ℕ, Bool, List, [], ◌∷◌, ◌++◌, ◌≡◌, ◌≢◌, ◌==◌, ◌≤◌, ◌<◌, ◌+◌, ◌-◌, ◌^◌, replicate, take, min, Option, Some, None, Result, Err, OnErr}
 use Rattle.std.specs.Io.KnownBytes.{Keeps, Appends, Consumes, IsAtEnd}
+use Rattle.std.specs.declared.io.ErrorKind.{ErrorKind}
+use Rattle.std.specs.declared.io.ErrorKind.TheVariants.{WouldBlock, TimedOut, Interrupted}
 use Rattle.stk_host.specs.declared.link.Heard.{Heard}
 use Rattle.stk_host.specs.declared.link.Heard.TheVariants as hears
 use Rattle.stk_host.specs.declared.link.Item.{Item}
@@ -52,11 +54,13 @@ byte_of (Some Silence) = None
 byte_of (Some End) = None
 byte_of None = None
 
--- a link over a reader and a writer, how often it has failed, and what passed, which is kept for proofs alone
+-- a link over a reader and a writer, how often it has failed, the kind of the last error of theirs that it failed for,
+-- and what passed, which is kept for proofs alone
 pub record StreamState (R W : Type 0) : Type 0 where
   pub reader : R
   pub writer : W
   pub failures : ℕ
+  pub error : Option ErrorKind
   pub talk : Talk
 
 abbrev pub stream_view : {R W : Type 0} → StreamState R W → LinkView
@@ -71,6 +75,11 @@ pub record IsTrueSince {R W : Type 0} (remaining : R → Option (List ℕ)) (con
   pub gave : Consumes (remaining old.reader) (remaining new.reader) (bytes_of (heard during))
   pub took : new.failures ≡ 0 → Appends (contents old.writer) (contents new.writer) (sent during)
   pub counted : old.failures ≤ new.failures
+
+-- the kind of an error that a link fails for where it listens: no silence, and nothing that is tried again
+abbrev pub IsOfListening : Option ErrorKind → Type 0
+IsOfListening None = ⊥
+IsOfListening (Some kind) = (kind ≢ WouldBlock) × (kind ≢ TimedOut) × (kind ≢ Interrupted)
 
 -- what was heard of a reader whose bytes are known: they are its next ones, and an end comes only behind the last
 abbrev pub HearsKnown : Heard → List ℕ → Option (List ℕ) → Option (List ℕ) → Type 0

@@ -12,7 +12,7 @@ use std::marker::Model;
 /// Calls of `send` and `recv` are counted together from 1. The chosen one answers [`LinkFault::Failed`], is counted as
 /// a failure and changes nothing else; all others go to the inner link, `send` with at most `cut` bytes and `recv` with
 /// a buffer of at most `cut` bytes.
-#[derive(Drop)]
+#[derive(Debug, Drop)]
 pub struct FailingLink<L> {
     inner: L,
     due: u64,

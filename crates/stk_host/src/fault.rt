@@ -1,6 +1,6 @@
 //! Why a host could not do what was asked.
-ghost use Rattle.std.specs.Prelude.{◌≡◌};
-ghost use Rattle.stk_host.specs.Calls.{host_fault_number};
+ghost use Rattle.std.specs.Prelude.{◌≡◌, option_map};
+ghost use Rattle.stk_host.specs.Calls.{command_named, host_fault_number, status_named};
 ghost use Rattle.stk_host.specs.Operations.{host_fault};
 
 use avr_part::Mem;
@@ -117,6 +117,39 @@ impl HostFault {
             HostFault::ReadOnly(_) => 9,
             HostFault::Memory => 10,
             HostFault::RecvFailed => 11,
+        }
+    }
+    /// AVR068's name of the command that was refused or had a bad answer; None for every other fault, and where the
+    /// name of the byte isn't known.
+    ///
+    /// ```text
+    /// assert_eq!(rt; HostFault::Refused(0x12, 0xC0).command_name(), Some("CMD_CHIP_ERASE_ISP"));
+    /// assert_eq!(rt; HostFault::NoAnswer.command_name(), None);
+    /// ```
+    pub fn command_name(&self) -> Option<&'static str>
+        ensures { option_map (λ name. name.now) result ≡ command_named self.now }
+    {
+        match self {
+            HostFault::Refused(command, _) | HostFault::BadAnswer(command) => {
+                stk_frame::command_name(*command)
+            }
+            _ => None,
+        }
+    }
+
+    /// AVR068's name of the status that a command was refused with; None for every fault but [`HostFault::Refused`],
+    /// and where the name of the byte isn't known.
+    ///
+    /// ```text
+    /// assert_eq!(rt; HostFault::Refused(0x12, 0xC0).status_name(), Some("STATUS_CMD_FAILED"));
+    /// assert_eq!(rt; HostFault::BadAnswer(0x12).status_name(), None);
+    /// ```
+    pub fn status_name(&self) -> Option<&'static str>
+        ensures { option_map (λ name. name.now) result ≡ status_named self.now }
+    {
+        match self {
+            HostFault::Refused(_, status) => stk_frame::status_name(*status),
+            _ => None,
         }
     }
 }

@@ -17,6 +17,7 @@ use crate::writing::{erase_chip, write_memory};
 use avr_image::Image;
 use avr_part::{Mem, Part};
 use std::alloc::Global;
+use std::fmt;
 use std::marker::Model;
 
 /// The host's side of the STK500v2 protocol: it asks a programmer, over any link, to work on a part.
@@ -336,5 +337,14 @@ impl Host {
         let outcome = judge_end(ended);
         self.broken = lasting(&outcome);
         outcome
+    }
+}
+
+impl fmt::Debug for Host {
+    fn fmt<W: fmt::Write>(&self, f: &mut fmt::Formatter<W>) -> fmt::Result {
+        f.debug_struct("Host")
+            .field("part", &self.part.id())
+            .field("broken", &self.broken)
+            .finish_non_exhaustive()
     }
 }

@@ -18,6 +18,7 @@ mod link;
 mod log;
 mod stream_link;
 mod tape_link;
+mod watched_link;
 // a frame goes out, and its answer is listened for
 mod listen;
 // commands, attempts and steps
@@ -45,3 +46,4 @@ pub use link::{Heard, Item, Link, LinkFault, send_all};
 pub use log::Log;
 pub use stream_link::StreamLink;
 pub use tape_link::TapeLink;
+pub use watched_link::{LinkCall, WatchLink, WatchedLink};

@@ -56,6 +56,8 @@ pub enum Item {
 /// Contracts see all that passed, as one list of the pieces sent and heard in their order, and how often the link has
 /// failed, at most 2^64 - 1. A fault is answered only where that count rose or stands at this end, and no call that
 /// answers none raises it, but for a `send` that took none of some bytes.
+///
+/// For a device of one's own write an `impl Link`: `examples/library/a_link_of_ones_own.rs` is one whole.
 pub trait Link {
     /// What was sent and heard, which a link may keep for proofs alone, and how often the link has failed.
     ghost view: { Self → LinkView };

@@ -1,7 +1,7 @@
 //! A talk that is kept.
 ghost use Rattle.std.specs.Prelude.{◌≡◌, ◌<◌, ◌≤◌, ◌++◌, ◌∷◌, [], length, OnOk, OnErr};
 ghost use Rattle.stk_host.specs.declared.link.Item.TheVariants as item;
-ghost use Rattle.stk_host.specs.Tape.{on_tape};
+ghost use Rattle.stk_host.specs.Tape.{on_tape, bytes_of};
 ghost use Rattle.stk_host.specs.Talk as talk;
 
 use crate::link::Heard;
@@ -56,6 +56,13 @@ impl Log {
         ensures { result.now ≡ talk.sent self.now.talk }
     {
         self.out.as_slice()
+    }
+
+    /// The bytes heard.
+    pub fn heard(&self) -> &[u8]
+        ensures { result.now ≡ bytes_of (talk.heard self.now.talk) }
+    {
+        self.back.as_slice()
     }
 
     /// Makes room for one piece more, of at most so many bytes if it is sent. Where memory is refused nothing has

@@ -1,17 +1,17 @@
 //! A link over a reader and a writer.
-ghost use Rattle.std.specs.Prelude.{◌≡◌, ◌≢◌, ◌<◌, ◌≤◌, ◌∷◌, [], ℕ, length, take, None, IfOk, IfErr, OnErr, OnOk};
+ghost use Rattle.std.specs.Prelude.{◌≡◌, ◌≢◌, ◌<◌, ◌≤◌, ◌∷◌, [], ℕ, length, take, None, Some, IsSome, IfOk, IfErr, OnErr, OnOk};
 ghost use Rattle.std.specs.IoError.{error_kind};
 ghost use Rattle.std.specs.Io.{ReadsAtMost, WritesAtMost};
 ghost use Rattle.std.specs.Io.KnownBytes.{Keeps, Appends, Consumes, IsAtEnd};
 ghost use Rattle.ghosts.specs.Stays.{Stays};
 ghost use Rattle.stk_host.specs.Talk.{Sends, Receives, FitsBuffer};
-ghost use Rattle.stk_host.specs.Links.{StreamState, IsTrueSince, stream_view, HearsKnown, AppendsFront};
+ghost use Rattle.stk_host.specs.Links.{StreamState, IsTrueSince, stream_view, HearsKnown, AppendsFront, IsOfListening};
 
 use crate::history::History;
 use crate::link::{Heard, Link, LinkFault};
-use std::io;
 use std::io::{ErrorKind, Read, Write};
 use std::marker::Model;
+use std::{fmt, io};
 
 /// A link over a reader and a writer, as standard input and output or the two sides of a socket.
 ///
@@ -23,6 +23,7 @@ pub struct StreamLink<R, W> {
     reader: R,
     writer: W,
     failures: u64,
+    error: Option<ErrorKind>,
     history: History,
 }
 
@@ -35,6 +36,7 @@ impl<R, W> Model for StreamLink<R, W> {
       reader = link.reader;
       writer = link.writer;
       failures = link.failures;
+      error = link.error;
       talk = link.history.items;
     } };
 }
@@ -75,37 +77,39 @@ fn write_bytes<W: Write>(writer: &mut W, bytes: &[u8]) -> io::Result<usize>
 }
 
 /// Writes a front of the bytes, at least one where there is one, and flushes.
-fn put_bytes<W: Write>(writer: &mut W, bytes: &[u8]) -> Result<usize, LinkFault>
+fn put_bytes<W: Write>(writer: &mut W, bytes: &[u8]) -> io::Result<usize>
     ensures within { IfOk result (λ n. n ≤ length bytes.now) }
     ensures some { IfOk result (λ n. 0 < length bytes.now → 0 < n) }
     ensures ok { IfOk result (λ n. Appends (W.contents writer.old) (W.contents writer.new) (take n bytes.now)) }
     ensures err { OnErr result (AppendsFront (W.contents writer.old) (W.contents writer.new) bytes.now) }
 {
-    let Ok(count) = write_bytes(writer, bytes) else {
-        return Err(LinkFault::Failed);
+    let count = match write_bytes(writer, bytes) {
+        Ok(count) => count,
+        Err(error) => return Err(error),
     };
     if count == 0 && !bytes.is_empty() {
-        return Err(LinkFault::Failed);
+        return Err(io::Error::from(ErrorKind::WriteZero));
     }
     match writer.flush() {
         Ok(()) => Ok(count),
-        Err(_) => Err(LinkFault::Failed),
+        Err(error) => Err(error),
     }
 }
 
 /// Listens to a reader.
-fn hear_bytes<R: Read>(reader: &mut R, buffer: &mut [u8]) -> Result<Heard, LinkFault>
+fn hear_bytes<R: Read>(reader: &mut R, buffer: &mut [u8]) -> io::Result<Heard>
     requires { 0 < length buffer.old }
     ensures within { IfOk result (λ heard. FitsBuffer heard (length buffer.new)) }
     ensures ok { IfOk result (λ heard. HearsKnown heard buffer.new (R.remaining reader.old) (R.remaining reader.new)) }
     ensures err { OnErr result (Keeps (R.remaining reader.old) (R.remaining reader.new)) }
+    ensures fault { IfErr result (λ error. IsOfListening (Some (error_kind error))) }
 {
     match read_bytes(reader, buffer) {
         Ok(0) => Ok(Heard::End),
         Ok(count) => Ok(Heard::Bytes(count)),
         Err(error) => match error.kind() {
             ErrorKind::WouldBlock | ErrorKind::TimedOut => Ok(Heard::Silence),
-            _ => Err(LinkFault::Failed),
+            _ => Err(error),
         },
     }
 }
@@ -120,12 +124,13 @@ impl<R, W> StreamLink<R, W> {
     /// assert!(rt; link.recv(&mut buffer)? == Heard::End);
     /// ```
     pub fn new(reader: R, writer: W) -> Self
-        ensures { result ≡ record { reader = reader; writer = writer; failures = 0; talk = [] } }
+        ensures { result ≡ record { reader = reader; writer = writer; failures = 0; error = None; talk = [] } }
     {
         StreamLink {
             reader,
             writer,
             failures: 0,
+            error: None,
             history: History::new(),
         }
     }
@@ -140,6 +145,24 @@ impl<R, W> StreamLink<R, W> {
         ensures { result ≡ self.now.failures }
     {
         self.failures
+    }
+
+    /// The kind of the error for which the last call failed that did: that of the reader, of the writer or of its flush
+    /// (`BrokenPipe`: nobody reads any more), or `WriteZero` where the writer took no byte. None while no call has
+    /// failed; a call that succeeds leaves it. A silence and an end are no failures.
+    ///
+    /// ```text
+    /// let mut room = [0; 1];
+    /// let mut link = StreamLink::new(b"".as_slice(), &mut room[..]);
+    /// link.send(b"\x1B")?;
+    /// assert_eq!(rt; link.last_error(), None);
+    /// assert!(rt; link.send(b"\x1B") == Err(LinkFault::Failed));
+    /// assert_eq!(rt; link.last_error(), Some(std::io::ErrorKind::WriteZero));
+    /// ```
+    pub fn last_error(&self) -> Option<ErrorKind>
+        ensures { result ≡ self.now.error }
+    {
+        self.error
     }
 
     /// The reader and the writer, as the calls so far have left them.
@@ -176,13 +199,21 @@ impl<R: Read + Drop, W: Write + Drop> Link for StreamLink<R, W> {
             bytes.now) }
         ensures reader { self.new.reader ≡ self.old.reader }
         ensures sound { OnOk result (self.new.failures ≡ self.old.failures) }
+        // A failure has an error, and a success leaves the last one.
+        ensures fault { OnErr result (IsSome self.new.error) }
+        ensures leaves { OnOk result (self.new.error ≡ self.old.error) }
     {
-        let outcome = put_bytes(&mut self.writer, bytes);
-        match outcome {
-            Ok(count) => self.history = self.history.sent(bytes, count),
-            Err(_) => self.failures = self.failures.saturating_add(1),
+        match put_bytes(&mut self.writer, bytes) {
+            Ok(count) => {
+                self.history = self.history.sent(bytes, count);
+                Ok(count)
+            }
+            Err(error) => {
+                self.failures = self.failures.saturating_add(1);
+                self.error = Some(error.kind());
+                Err(LinkFault::Failed)
+            }
         }
-        outcome
     }
 
     fn recv(&mut self, buffer: &mut [u8]) -> Result<Heard, LinkFault>
@@ -194,12 +225,30 @@ impl<R: Read + Drop, W: Write + Drop> Link for StreamLink<R, W> {
             (R.remaining self.new.reader)) }
         ensures kept { OnErr result (Keeps (R.remaining self.old.reader) (R.remaining self.new.reader)) }
         ensures writer { self.new.writer ≡ self.old.writer }
+        // A failure has an error, which is no silence, and a success leaves the last one.
+        ensures fault { OnErr result (IsOfListening self.new.error) }
+        ensures leaves { OnOk result (self.new.error ≡ self.old.error) }
     {
-        let outcome = hear_bytes(&mut self.reader, buffer);
-        match outcome {
-            Ok(heard) => self.history = self.history.heard(&heard, buffer),
-            Err(_) => self.failures = self.failures.saturating_add(1),
+        match hear_bytes(&mut self.reader, buffer) {
+            Ok(heard) => {
+                self.history = self.history.heard(&heard, buffer);
+                Ok(heard)
+            }
+            Err(error) => {
+                self.failures = self.failures.saturating_add(1);
+                self.error = Some(error.kind());
+                Err(LinkFault::Failed)
+            }
         }
-        outcome
+    }
+}
+
+/// Shows how often the link has failed and for which error last, and neither the reader nor the writer.
+impl<R, W> fmt::Debug for StreamLink<R, W> {
+    fn fmt<F: fmt::Write>(&self, f: &mut fmt::Formatter<F>) -> fmt::Result {
+        f.debug_struct("StreamLink")
+            .field("failures", &self.failures)
+            .field("last_error", &self.error)
+            .finish_non_exhaustive()
     }
 }

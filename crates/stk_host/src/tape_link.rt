@@ -9,6 +9,7 @@ ghost use Rattle.ghosts.specs.Stays.{Stays};
 use crate::link::{Heard, Item, Link, LinkFault};
 use crate::log::Log;
 use std::alloc::Global;
+use std::fmt;
 use std::marker::Model;
 
 /// A link that gives the items of a tape in their order, and keeps what passed.
@@ -188,5 +189,16 @@ impl Link for TapeLink {
         ensures comes { Stays IsOfTape self.old self.new }
     {
         self.give(buffer)
+    }
+}
+
+impl fmt::Debug for TapeLink {
+    fn fmt<W: fmt::Write>(&self, f: &mut fmt::Formatter<W>) -> fmt::Result {
+        f.debug_struct("TapeLink")
+            .field("items", &self.items)
+            .field("at", &self.at)
+            .field("cut", &self.cut)
+            .field("failures", &self.failures)
+            .finish_non_exhaustive()
     }
 }

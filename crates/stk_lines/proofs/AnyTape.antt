@@ -9,14 +9,14 @@ use Rattle.stk_frame.specs.Cut.{frames, is_good}
 use Rattle.stk_frame.proofs.Cut.{chosen, refused}
 use Rattle.stk_frame.proofs.Laws.{frame_is_good, body_of_frame}
 use Rattle.stk_host.specs.Tape.{Tape, Reading, Answered, Silent, Ended, Babbled, answer}
-use Rattle.stk_host.specs.Dialog.{Dialog, Done, Say, Ask, Frame, played, behind, by_answer, next, frames_in, sayings}
+use Rattle.stk_host.specs.Dialog.{Dialog, Done, Say, Ask, Frame, Said, Played, played, behind, by_answer, next, frames_in, sayings}
 use Rattle.stk_emu.specs.Device.{Device, after_frame, after_frames, refusal}
 use Rattle.stk_emu.specs.Lawful.{IsBody}
 use Rattle.stk_emu.specs.Turn.{Became, Kept, Obeyed, Anew, Refusal, Nothing, Babble, Ending, Turn, Right, Wrong, after_became, after_turn, became_in, turn_reading, IsHonest}
 use Rattle.stk_emu.specs.Along.{along, said_along, AsksBodies}
 use Rattle.stk_lines.specs.AnyTape.{first_became, other_becames, on_answer, AreHonest, after_sent, turn_by, turns_from, turns_heard, GoesAs, let_through, CameThrough, became_by}
 use Rattle.stk_lines.proofs.Extending.{answer_extends}
-use Rattle.stk_emu.proofs.Fused.{none_some}
+use Rattle.stk_lines.proofs.PlayedAlong.{played_along, said_played, done_played, waits_played, none_some}
 
 -- every turn is honest
 pub turn_honest : {P : Type 0} (m : Device P) (bytes : List ℕ) (p : P) (turn : Turn) → IsHonest m bytes p (became_in turn) (turn_reading turn (m.answer bytes p))
@@ -76,21 +76,20 @@ none_asked m (Done r) p turns = refl
 none_asked m (Say e d) p turns = none_asked m d p turns
 none_asked m (Ask bytes go_on) p turns = refl
 
-abbrev result_of : {R : Type 0} → R → Option (R × ℕ × Tape) → R
-result_of other None = other
-result_of other (Some (r, seq, tape)) = r
-
 pub obeyed_frame : {P : Type 0} (m : Device P) (n : ℕ) (bytes : List ℕ) (p : P) → IsBody bytes → after_frame m (frame n bytes) p ≡ m.after bytes p
 obeyed_frame m n bytes p b = chosen (is_good (frame n bytes)) _ _ (frame_is_good n bytes b.some) ∙ ap (λ x. m.after x p) (body_of_frame n bytes)
 
--- one frame has gone out, at most
-one_at_most : {A : Type 0} (k : ℕ) (x : A) (P : ℕ → Type 0) → k ≤ 1 → P 0 → P 1 → P k
-one_at_most zero x P le none one = none
-one_at_most (suc zero) x P le none one = one
-one_at_most (suc (suc k)) x P le none one = absurd (omega (arith, le))
+-- A play over a tape is the play along these turns, of which so many are read; all frames, where it is done. Behind any
+-- first frames the programmer stands as what became of it says.
+record HeardAs {E R P : Type 0} (m : Device P) (d : Dialog E R) (n : ℕ) (tape : Tape) (p : P) (becames : List Became) (turns : List Turn) : Type 0 where
+  answered : ℕ
+  left : Tape
+  play : played d n tape ≡ played_along m answered d n p turns left
+  all : (r : R) (seq : ℕ) (rest : Tape) → (played_along m answered d n p turns left).outcome ≡ Some (r, seq, rest) → length (frames_in (played_along m answered d n p turns left).events) ≡ answered
+  programmer : (k : ℕ) → k ≤ length (frames_in (played_along m answered d n p turns left).events)
+      → (along m k d p turns).programmer ≡ after_sent m (take k (frames_in (played_along m answered d n p turns left).events)) becames p
 
 module _ {P : Type 0} (m : Device P) where
-  -- a question that waits for its answer
   module _ {E R : Type 0} (bytes : List ℕ) (go_on : Reading → Dialog E R) (n : ℕ) (tape : Tape) (p : P) (becames : List Became) (b : IsBody bytes) where
     abbrev became : Became
     became = first_became becames
@@ -98,124 +97,86 @@ module _ {P : Type 0} (m : Device P) where
     abbrev on_time : P
     on_time = after_became became (m.after bytes p) p m.reset
 
-    obeyed : after_frame m (frame n bytes) p ≡ m.after bytes p
-    obeyed = obeyed_frame m n bytes p b
+    arrives : on_time ≡ after_became became (after_frame m (frame n bytes) p) p m.reset
+    arrives = ap (λ q. after_became became q p m.reset) (sym (obeyed_frame m n bytes p b))
 
-    waiting : answer n tape ≡ None → GoesAs m (Ask bytes go_on) n tape p becames
-    waiting e =
-        let waits : played (Ask bytes go_on) n tape ≡ record { events = Frame (frame n bytes) ∷ []; outcome = None } =
-        ap (λ o. behind (Frame (frame n bytes) ∷ []) (by_answer (λ reading. played (go_on reading) (next n)) o)) e in
-        let turns = turns_heard (Ask bytes go_on) n tape becames in
-        let turns_are : turns ≡ Wrong became Nothing ∷ [] = ap (turns_from became (λ reading left. turns_heard (go_on reading) (next n) left (other_becames becames))) e in
-        record {
-          programmer = subst (λ x. (k : ℕ) → k ≤ length (frames_in x.events) → (along m k (Ask bytes go_on) p turns).programmer ≡ after_sent m (take k (frames_in x.events)) becames p) (sym waits)
-              (λ k le. one_at_most k bytes (λ j. (along m j (Ask bytes go_on) p turns).programmer ≡ after_sent m (take j (frame n bytes ∷ [])) becames p) le refl
-              (subst (λ ts. (along m 1 (Ask bytes go_on) p ts).programmer ≡ after_became became (after_frame m (frame n bytes) p) p m.reset) (sym turns_are)
-              (none_asked m (go_on Silent) on_time [] ∙ ap (λ q. after_became became q p m.reset) (sym obeyed))));
-          outcome = λ r seq left f. absurd (none_some (r, seq, left) (sym (ap (λ x. x.outcome) waits) ∙ f));
-          waits = λ none. record {
-            answered = 0;
-            one_more = ap (λ x. length (frames_in x.events)) waits;
-            said = ap (λ x. sayings x.events) waits;
-          };
-        }
+    abbrev on_asking : Option (Reading × Tape) → Played E R
+    on_asking o = behind (Frame (frame n bytes) ∷ []) (by_answer (λ reading. played (go_on reading) (next n)) o)
 
-    -- one that was answered
-    module _ (reading : Reading) (left : Tape) (e : answer n tape ≡ Some (reading, left)) (honest : IsHonest m bytes p (first_became becames) reading)
-        (goes : GoesAs m (go_on reading) (next n) left (after_became (first_became becames) (m.after bytes p) p m.reset) (other_becames becames)) where
+    -- a question that waits for its answer
+    waiting : answer n tape ≡ None → HeardAs m (Ask bytes go_on) n tape p becames (Wrong became Nothing ∷ [])
+    waiting e = record { answered = 0; left = []; play = ap on_asking e; all = λ r seq rest o. absurd (none_some (r, seq, rest) o); programmer = stands }
+      where
+        stands : (k : ℕ) → k ≤ 1 → (along m k (Ask bytes go_on) p (Wrong became Nothing ∷ [])).programmer ≡ after_sent m (take k (frame n bytes ∷ [])) becames p
+        stands zero le = refl
+        stands (suc zero) le = none_asked m (go_on Silent) on_time [] ∙ arrives
+        stands (suc (suc k)) le = absurd (omega (arith, le))
+
+    -- one that was answered, by its turn
+    module _ (turn : Turn) (later : List Turn) (left : Tape) (read : answer n tape ≡ Some (turn_reading turn (m.answer bytes p), left)) (leaves : after_turn turn (m.after bytes p) p m.reset ≡ on_time)
+        (goes : HeardAs m (go_on (turn_reading turn (m.answer bytes p))) (next n) left (after_turn turn (m.after bytes p) p m.reset) (other_becames becames) later) where
       abbrev fs : List (List ℕ)
-      fs = frames_in (played (go_on reading) (next n) left).events
+      fs = frames_in (played_along m goes.answered (go_on (turn_reading turn (m.answer bytes p))) (next n) (after_turn turn (m.after bytes p) p m.reset) later goes.left).events
 
-      abbrev later : List Turn
-      later = turns_heard (go_on reading) (next n) left (other_becames becames)
-
-      abbrev all : List Turn
-      all = turn_by became reading ∷ later
-
-      first : played (Ask bytes go_on) n tape ≡ behind (Frame (frame n bytes) ∷ []) (played (go_on reading) (next n) left)
-      first = ap (λ o. behind (Frame (frame n bytes) ∷ []) (by_answer (λ reading. played (go_on reading) (next n)) o)) e
-
-      all_are : turns_heard (Ask bytes go_on) n tape becames ≡ all
-      all_are = ap (turns_from became (λ reading left. turns_heard (go_on reading) (next n) left (other_becames becames))) e
-
-      same : (k : ℕ) → along m (suc k) (Ask bytes go_on) p all ≡ along m k (go_on reading) on_time later
-      same k =
-          let t = honest_turn m bytes p became reading honest in
-          ap (λ x. along m k (go_on x) (after_turn (turn_by became reading) (m.after bytes p) p m.reset) later) t.0 ∙ ap (λ q. along m k (go_on reading) q later) t.1
-
-      says : (k : ℕ) → said_along m (suc k) (Ask bytes go_on) p all ≡ said_along m k (go_on reading) on_time later
-      says k =
-          let t = honest_turn m bytes p became reading honest in
-          ap (λ x. said_along m k (go_on x) (after_turn (turn_by became reading) (m.after bytes p) p m.reset) later) t.0 ∙ ap (λ q. said_along m k (go_on reading) q later) t.1
-
-      stands : (k : ℕ) → k ≤ suc (length fs) → (along m k (Ask bytes go_on) p all).programmer ≡ after_sent m (take k (frame n bytes ∷ fs)) becames p
+      stands : (k : ℕ) → k ≤ suc (length fs) → (along m k (Ask bytes go_on) p (turn ∷ later)).programmer ≡ after_sent m (take k (frame n bytes ∷ fs)) becames p
       stands zero le = refl
-      stands (suc k) le =
-          ap (λ s. s.programmer) (same k)
-          ∙ (goes.programmer k (omega (arith, le)) ∙ ap (λ q. after_sent m (take k fs) (other_becames becames) (after_became became q p m.reset)) (sym obeyed))
+      stands (suc k) le = goes.programmer k (omega (arith, le)) ∙ ap (after_sent m (take k fs) (other_becames becames)) (leaves ∙ arrives)
 
-      answered_goes : GoesAs m (Ask bytes go_on) n tape p becames
-      answered_goes = record {
-        programmer = subst (λ x. (k : ℕ) → k ≤ length (frames_in x.events)
-            → (along m k (Ask bytes go_on) p (turns_heard (Ask bytes go_on) n tape becames)).programmer ≡ after_sent m (take k (frames_in x.events)) becames p) (sym first)
-            (λ k le. ap (λ ts. (along m k (Ask bytes go_on) p ts).programmer) all_are ∙ stands k le);
-        outcome = λ r seq rest f.
-            subst (λ x. ((along m (length (frames_in x.events)) (Ask bytes go_on) p (turns_heard (Ask bytes go_on) n tape becames)).dialog ≡ Done r)
-            × (sayings x.events ≡ said_along m (length (frames_in x.events)) (Ask bytes go_on) p (turns_heard (Ask bytes go_on) n tape becames))) (sym first)
-            (subst (λ ts. ((along m (suc (length fs)) (Ask bytes go_on) p ts).dialog ≡ Done r)
-            × (sayings (played (go_on reading) (next n) left).events ≡ said_along m (suc (length fs)) (Ask bytes go_on) p ts)) (sym all_are)
-            (let got = goes.outcome r seq rest (sym (ap (λ x. x.outcome) first) ∙ f) in
-            (ap (λ s. s.dialog) (same (length fs)) ∙ got.0, got.1 ∙ sym (says (length fs)))));
-        waits = λ none.
-            let w = goes.waits (sym (ap (λ x. x.outcome) first) ∙ none) in
-            record {
-              answered = suc w.answered;
-              one_more = ap (λ x. length (frames_in x.events)) first ∙ ap suc w.one_more;
-              said = ap (λ x. sayings x.events) first ∙ (w.said ∙ (sym (says w.answered) ∙ ap (λ ts. said_along m (suc w.answered) (Ask bytes go_on) p ts) (sym all_are)));
-            };
+      by_turn : HeardAs m (Ask bytes go_on) n tape p becames (turn ∷ later)
+      by_turn = record {
+        answered = suc goes.answered;
+        left = goes.left;
+        play = ap on_asking read ∙ ap (behind (Frame (frame n bytes) ∷ [])) goes.play;
+        all = λ r seq rest o. ap suc (goes.all r seq rest o);
+        programmer = stands;
       }
 
     asked : (o : Option (Reading × Tape)) → answer n tape ≡ o
-        → on_answer (λ reading left.
-        IsHonest m bytes p (first_became becames) reading
-        × GoesAs m (go_on reading) (next n) left (after_became (first_became becames) (m.after bytes p) p m.reset) (other_becames becames)) o
-        → GoesAs m (Ask bytes go_on) n tape p becames
-    asked None e h = waiting e
-    asked (Some (reading, left)) e h = answered_goes reading left e h.0 h.1
+        → ((reading : Reading) (left : Tape) → AreHonest m (go_on reading) (next n) left on_time (other_becames becames)
+        → HeardAs m (go_on reading) (next n) left on_time (other_becames becames) (turns_heard (go_on reading) (next n) left (other_becames becames)))
+        → on_answer (λ reading left. IsHonest m bytes p became reading × AreHonest m (go_on reading) (next n) left on_time (other_becames becames)) o
+        → HeardAs m (Ask bytes go_on) n tape p becames (turns_from became (λ reading left. turns_heard (go_on reading) (next n) left (other_becames becames)) o)
+    asked None e each h = waiting e
+    asked (Some (reading, left)) e each h =
+        let turn = turn_by became reading in
+        let later = turns_heard (go_on reading) (next n) left (other_becames becames) in
+        let t = honest_turn m bytes p became reading h.0 in
+        by_turn turn later left (e ∙ ap (λ x. Some (x, left)) (sym t.0)) t.1
+        (subst (λ q. HeardAs m (go_on (turn_reading turn (m.answer bytes p))) (next n) left q (other_becames becames) later) (sym t.1)
+        (subst (λ x. HeardAs m (go_on x) (next n) left on_time (other_becames becames) later) (sym t.0) (each reading left h.1)))
 
-  honest_on : {E R : Type 0} (bytes : List ℕ) (go_on : Reading → Dialog E R) (n : ℕ) (p : P) (becames : List Became) (o : Option (Reading × Tape))
-      → ((reading : Reading) (left : Tape) → AreHonest m (go_on reading) (next n) left (after_became (first_became becames) (m.after bytes p) p m.reset) (other_becames becames)
-      → GoesAs m (go_on reading) (next n) left (after_became (first_became becames) (m.after bytes p) p m.reset) (other_becames becames))
-      → on_answer (λ reading left.
-      IsHonest m bytes p (first_became becames) reading
-      × AreHonest m (go_on reading) (next n) left (after_became (first_became becames) (m.after bytes p) p m.reset) (other_becames becames)) o
-      → on_answer (λ reading left.
-      IsHonest m bytes p (first_became becames) reading
-      × GoesAs m (go_on reading) (next n) left (after_became (first_became becames) (m.after bytes p) p m.reset) (other_becames becames)) o
-  honest_on bytes go_on n p becames None each h = tt
-  honest_on bytes go_on n p becames (Some (reading, left)) each h = (h.0, each reading left h.1)
-
-  -- THE LAW
-  pub goes_as : {E R : Type 0} (d : Dialog E R) (n : ℕ) (tape : Tape) (p : P) (becames : List Became) → AsksBodies d → AreHonest m d n tape p becames → GoesAs m d n tape p becames
-  goes_as (Done r) n tape p becames asks h = record {
-    programmer = λ k le. none_sent k le;
-    outcome = λ q seq left o. (ap (λ x. Done (result_of r x)) o, refl);
-    waits = λ none. absurd (none_some (r, n, tape) (sym none));
-  }
+  heard_as : {E R : Type 0} (d : Dialog E R) (n : ℕ) (tape : Tape) (p : P) (becames : List Became) → AsksBodies d → AreHonest m d n tape p becames
+      → HeardAs m d n tape p becames (turns_heard d n tape becames)
+  heard_as (Done r) n tape p becames asks h = record { answered = 0; left = tape; play = refl; all = λ q seq rest o. refl; programmer = none_sent }
     where
       none_sent : (k : ℕ) → k ≤ 0 → p ≡ after_sent m (take k []) becames p
       none_sent zero le = refl
       none_sent (suc k) le = absurd (omega (arith, le))
-  goes_as (Say e d) n tape p becames asks h =
-      let g = goes_as d n tape p becames asks h in
+  heard_as (Say e d) n tape p becames asks h =
+      let goes = heard_as d n tape p becames asks h in
+      record { answered = goes.answered; left = goes.left; play = ap (behind (Said e ∷ [])) goes.play; all = goes.all; programmer = goes.programmer }
+  heard_as (Ask bytes go_on) n tape p becames asks h =
+      asked bytes go_on n tape p becames asks.0 (answer n tape) refl (λ reading left inner. heard_as (go_on reading) (next n) left _ (other_becames becames) (asks.1 reading) inner) h
+
+  -- THE LAW
+  pub goes_as : {E R : Type 0} (d : Dialog E R) (n : ℕ) (tape : Tape) (p : P) (becames : List Became) → AsksBodies d → AreHonest m d n tape p becames → GoesAs m d n tape p becames
+  goes_as {R = R} d n tape p becames asks h =
+      let turns = turns_heard d n tape becames in
+      let goes = heard_as d n tape p becames asks h in
+      let says : sayings (played d n tape).events ≡ said_along m goes.answered d p turns = ap (λ x. sayings x.events) goes.play ∙ said_played m goes.answered d n p turns goes.left in
       record {
-        programmer = g.programmer;
-        outcome = λ r seq left o. let got = g.outcome r seq left o in (got.0, ap (λ said. e ∷ said) got.1);
-        waits = λ none. let w = g.waits none in record { answered = w.answered; one_more = w.one_more; said = ap (λ said. e ∷ said) w.said };
+        programmer = subst (λ x. (k : ℕ) → k ≤ length (frames_in x.events) → (along m k d p turns).programmer ≡ after_sent m (take k (frames_in x.events)) becames p) (sym goes.play) goes.programmer;
+        outcome = λ r seq rest o.
+            let done : (played_along m goes.answered d n p turns goes.left).outcome ≡ Some (r, seq, rest) = sym (ap (λ x. x.outcome) goes.play) ∙ o in
+            let all : goes.answered ≡ length (frames_in (played d n tape).events) = sym (ap (λ x. length (frames_in x.events)) goes.play ∙ goes.all r seq rest done) in
+            subst (λ k. ((along m k d p turns).dialog ≡ Done r) × (sayings (played d n tape).events ≡ said_along m k d p turns)) all
+            ((done_played m goes.answered d n p turns goes.left r seq rest done).0, says);
+        waits = λ none. record {
+          answered = goes.answered;
+          one_more = ap (λ x. length (frames_in x.events)) goes.play ∙ waits_played m goes.answered d n p turns goes.left (sym (ap (λ x. x.outcome) goes.play) ∙ none);
+          said = says;
+        };
       }
-  goes_as (Ask bytes go_on) n tape p becames asks h =
-      asked bytes go_on n tape p becames asks.0 (answer n tape) refl
-      (honest_on bytes go_on n p becames (answer n tape) (λ reading left. goes_as (go_on reading) (next n) left _ (other_becames becames) (asks.1 reading)) h)
 
 -- ---- what was heard first of a tape that is honest
 

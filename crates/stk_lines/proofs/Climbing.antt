@@ -7,10 +7,8 @@ use Rattle.stk_emu.specs.Turn.{Turn}
 use Rattle.stk_emu.specs.Device.{Device}
 use Rattle.stk_emu.specs.Along.{Standing, along}
 use Rattle.stk_lines.specs.Climbs.{AllFit, AreSome, step_count, steps_done, Climbs}
-use Rattle.stk_lines.proofs.Attempts.{along_bind, onward, step_stands, Stepped, asks≢done, err≢ok}
-
-done_is : {E R : Type 0} (a b : R) → ◌≡◌ {A = Dialog E R} (Done a) (Done b) → a ≡ b
-done_is a b e = cc
+use Rattle.stk_lines.proofs.Attempts.{along_bind, onward, step_stands, Stepped, err≢ok}
+use Rattle.stk_lines.proofs.OnAnyTurn.{asks≢done, done_is}
 
 module _ {P : Type 0} (m : Device P) where
   -- a dialog that was done before its last question was done then

@@ -23,9 +23,8 @@ use Rattle.stk_emu.specs.Settled.{Ready, FitsPart}
 use Rattle.stk_emu.specs.Strokes.{struck, struck_by, IsStep, Erases, ProgramsPage, ProgramsRun, ProgramsFuse, ProgramsLock, ReadsFlash, ReadsEeprom, ReadsFuse, ReadsLock, ReadsSignature, ReadsCalibration, AreSteps}
 use Rattle.stk_emu.specs.Given.{on_data, reply_to, joined_reply, given_by, all_given}
 use Rattle.stk_lines.specs.Leads.{AreGood}
-use Rattle.stk_lines.proofs.Attempts.{along_bind, onward, step_stands, Stepped, attempt_obeys, stood_after, asks≢done}
-use Rattle.stk_lines.proofs.Gathered.{done_reply}
-use Rattle.stk_lines.proofs.Gathering.{done_outcome}
+use Rattle.stk_lines.proofs.Attempts.{along_bind, onward, step_stands, Stepped}
+use Rattle.stk_lines.proofs.OnAnyTurn.{asks≢done, done_is, try_stands}
 use Rattle.stk_lines.proofs.Beginning.{are_some}
 use Rattle.stk_lines.proofs.Climbing.{play_climbs}
 use Rattle.stk_emu.proofs.Obeying.{steady}
@@ -113,7 +112,7 @@ well size turns got then rest (inr s) = inr (record { fault = s.fault; again = s
 
 -- the frame that went wrong
 wrong : (size : ℕ) (turns : List Turn) (got : List ℕ) (then : Reply) (fault : StepFault) → 1 ≤ bad (first_turn turns) → ◌≡◌ {A = Dialog ⊥ Reply} (Done (Again fault)) (Done then) → Tried (suc size) turns got then (other_turns turns)
-wrong size turns got then fault is e = inr (record { fault = fault; again = sym (done_reply (Again fault) then e); place = 0; near = omega arith; went_wrong = is; behind_it = refl })
+wrong size turns got then fault is e = inr (record { fault = fault; again = sym (done_is (Again fault) then e); place = 0; near = omega arith; went_wrong = is; behind_it = refl })
 
 -- enough frames go well for one attempt and so many more: one frame goes well between two that go wrong, at most
 record Clear (more : ℕ) (turns : List Turn) : Type 0 where
@@ -216,7 +215,7 @@ module _ {P : Type 0} (m : Device P) where
   attempt_tried : (k : ℕ) (commands : List Command) (before : List ℕ) (p : P) (turns : List Turn) (got : List ℕ) (then : Reply) → AreSteady turns → joined_reply m commands before p ≡ Data got → (along m k (attempt commands before) p turns).dialog ≡ Done then
       → Tried (length commands) turns got then (along m k (attempt commands before) p turns).turns
   unfolding attempt exchange
-  attempt_tried k [] before p turns got then calm has e = inl (sym (done_reply (Data before) then e) ∙ has)
+  attempt_tried k [] before p turns got then calm has e = inl (sym (done_is (Data before) then e) ∙ has)
   attempt_tried zero (command ∷ commands) before p turns got then calm has e = absurd (asks≢done _ _ _ e)
   attempt_tried (suc k) (command ∷ commands) before p turns got then calm has e =
       by_turn k (first_turn turns) command then (λ bytes. attempt commands (before ++ bytes)) (λ bytes. joined_reply m commands (before ++ bytes) (m.after (body command) p)) (length commands) p turns got refl (first_steady turns calm) has
@@ -227,7 +226,7 @@ module _ {P : Type 0} (m : Device P) where
     after_try : (again : StepFault → Dialog ⊥ Outcome) (left : ℕ) (first turns : List Turn) (q : P) (o : Outcome) (then : Reply)
         → ((fault : StepFault) → Spent (length commands) first then turns → (along m left (again fault) q turns).dialog ≡ Done o → o ≡ Ok got)
         → Tried (length commands) first got then turns → (along m left (end_or_again again then) q turns).dialog ≡ Done o → o ≡ Ok got
-    after_try again left first turns q o (Data bytes) more (inl is) e = sym (done_outcome (Ok bytes) o e) ∙ ap (λ x. Ok x) (same_data bytes got is)
+    after_try again left first turns q o (Data bytes) more (inl is) e = sym (done_is (Ok bytes) o e) ∙ ap (λ x. Ok x) (same_data bytes got is)
     after_try again left first turns q o (Data bytes) more (inr s) e = absurd (again_not s.fault bytes (sym s.again))
     after_try again left first turns q o (Again fault) more (inl is) e = absurd (again_not fault got is)
     after_try again left first turns q o (Again fault) more (inr s) e = more fault s e
@@ -242,11 +241,6 @@ module _ {P : Type 0} (m : Device P) where
     on_from again left first turns q (Say s dialog) o each more e = absurd s
     on_from again left first turns q (Ask bytes go_on) o each more e = absurd (asks≢done _ _ _ e)
 
-    -- what the attempt of a try leaves
-    stood_on : (k : ℕ) (p : P) (turns : List Turn) → Before p ⊎ After p → Before (along m k (attempt commands []) p turns).programmer ⊎ After (along m k (attempt commands []) p turns).programmer
-    stood_on k p turns stood =
-        stood_after m Before After commands fits p (along m k (attempt commands []) p turns) (attempt_obeys m k commands [] p turns) stood
-
     tries_few : (k more : ℕ) (fault : StepFault) (p : P) (turns : List Turn) (o : Outcome) → length commands ≤ 2 → AreSteady turns → Before p ⊎ After p → Clear more turns
         → (along m k (tries (suc more) commands fault) p turns).dialog ≡ Done o → o ≡ Ok got
     unfolding tries
@@ -260,7 +254,7 @@ module _ {P : Type 0} (m : Device P) where
         let s = along m k (attempt commands []) p turns in
         on_from (tries (suc more) commands) s.left turns s.turns s.programmer s.dialog o
         (λ then f. attempt_tried k commands [] p turns got then calm (has p stood) f)
-        (λ then again spent f. tries_few s.left more again s.programmer s.turns o short (turns_along m AreSteady others_steady k (attempt commands []) p turns calm) (stood_on k p turns stood)
+        (λ then again spent f. tries_few s.left more again s.programmer s.turns o short (turns_along m AreSteady others_steady k (attempt commands []) p turns calm) (try_stands m commands Before After fits k p turns stood)
         (clear_behind spent.place more turns s.turns (let n = spent.near in omega (arith, n, short)) spent.behind_it spent.went_wrong clear) f)
         (sym (ap (λ z. z.dialog) (along_bind m k (attempt commands []) (end_or_again (tries (suc more) commands)) p turns)) ∙ e)
 
@@ -352,7 +346,7 @@ module _ (part : Part) (sound : IsPart part) where
   play_steady : (steps : List (List Command)) (m : Memories) (k : ℕ) (before : List ℕ) (p : Programmer) (turns : List Turn) (o : Outcome) → AreSteps part steps → FitsPart part m → Ready part m p → AreFew turns
       → (along steady k (play steps before) p turns).dialog ≡ Done o → o ≡ Ok (before ++ all_given part steps m)
   unfolding play
-  play_steady [] m k before p turns o are f s few e = sym (done_outcome (Ok before) o e) ∙ ap (λ x. Ok x) (sym (append-nil before))
+  play_steady [] m k before p turns o are f s few e = sym (done_is (Ok before) o e) ∙ ap (λ x. Ok x) (sym (append-nil before))
   play_steady (commands ∷ steps) m k before p turns o are f s few e =
       let z = along steady k (step commands) p turns in
       let bytes = given_by part commands m in

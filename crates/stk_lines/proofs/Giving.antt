@@ -37,7 +37,7 @@ use Rattle.stk_lines.proofs.Reading.{flash_block, eeprom_block}
 use Rattle.stk_lines.proofs.Striking.{address_fits}
 use Rattle.stk_lines.proofs.Outside.{step_fits, in_mode_by_data}
 use Rattle.stk_lines.proofs.ItemStrokes.{effect_sizes, flash_even}
-use Rattle.stk_lines.proofs.Gathering.{step_gives}
+use Rattle.stk_lines.proofs.OnAnyTurn.{step_along}
 
 module _ {P : Type 0} (m : Device P) where
   one_gathered : (c : Command) (p : P) (bytes : List ℕ) → reply_to m c p ≡ Data bytes → joined_reply m (c ∷ []) [] p ≡ Data bytes
@@ -237,16 +237,19 @@ module _ (part : Part) (sound : IsPart part) where
   same_data : (a b : List ℕ) → Data a ≡ Data b → a ≡ b
   same_data a b e = cc
 
-  -- over any line: what a step gives is what the memories hold
-  pub step_given : (commands : List Command) (m : Memories) (k : ℕ) (p : Programmer) (turns : List Turn) (got : List ℕ) → IsStep part commands → FitsPart part m → Settled part m p
-      → (along device k (step commands) p turns).dialog ≡ Done (Ok got) → got ≡ given_by part commands m
-  step_given commands m k p turns got is f s e =
-      let g : Gives device commands (Settled part m) (Settled part (struck part commands m)) got =
-      step_gives device (Settled part m) (Settled part (struck part commands m)) commands (step_fits part sound commands m is) k p turns got s e in
-      same_data got (given_by part commands m) (sym g.is ∙ from_either g.from g.stood g.is)
+  -- what an attempt from under either condition gives is what the memories hold
+  pub gives_given : (commands : List Command) (m : Memories) (got : List ℕ) → IsStep part commands → FitsPart part m
+      → Gives device commands (Settled part m) (Settled part (struck part commands m)) got → got ≡ given_by part commands m
+  gives_given commands m got is f g = same_data got (given_by part commands m) (sym g.is ∙ from_either g.from g.stood g.is)
     where
       from_either : (q : Programmer) → Settled part m q ⊎ Settled part (struck part commands m) q → joined_reply device commands [] q ≡ Data got → joined_reply device commands [] q ≡ Data (given_by part commands m)
       from_either q (inl t) has = step_data part sound commands m q is f (settled_ready part m q (in_mode_by_data part sound commands q got is has) t)
       from_either q (inr t) has =
           step_data part sound commands (struck part commands m) q is (struck_sizes part commands m sound f) (settled_ready part (struck part commands m) q (in_mode_by_data part sound commands q got is has) t)
           ∙ ap Data (given_same commands m is)
+
+  -- over any line
+  pub step_given : (commands : List Command) (m : Memories) (k : ℕ) (p : Programmer) (turns : List Turn) (got : List ℕ) → IsStep part commands → FitsPart part m → Settled part m p
+      → (along device k (step commands) p turns).dialog ≡ Done (Ok got) → got ≡ given_by part commands m
+  step_given commands m k p turns got is f s e =
+      gives_given commands m got is f ((step_along device commands (Settled part m) (Settled part (struck part commands m)) (step_fits part sound commands m is) p turns s).after k (Ok got) e).1

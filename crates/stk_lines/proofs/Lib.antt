@@ -1,9 +1,10 @@
 -- from the lowest up: frames over any line, attempts and steps, strokes, what is given, few bad turns
+pub mod PlayedAlong
 pub mod AnyTape
 pub mod NoFrame
 pub mod AnyRows
-pub mod AlongFates
-pub mod WireHonest
+pub mod WirePlayed
+pub mod OnAnyTurn
 pub mod Attempts
 pub mod Climbing
 pub mod Reading
@@ -14,8 +15,6 @@ pub mod Written
 pub mod PageStrokes
 pub mod RunStrokes
 pub mod ItemStrokes
-pub mod Gathered
-pub mod Gathering
 pub mod Giving
 pub mod PlayGiven
 pub mod Extending

@@ -13,7 +13,7 @@ use Rattle.stk_emu.specs.Device.{Device, refusal}
 use Rattle.stk_emu.specs.Turn.{Became, Kept, Obeyed, Anew, after_became, IsHonest}
 use Rattle.stk_lines.specs.AnyTape.{first_became, other_becames, on_answer, AreHonest, let_through, CameThrough}
 use Rattle.stk_emu.specs.Along.{AsksBodies}
-use Rattle.stk_emu.proofs.Fused.{tail_is}
+use Rattle.stk_lines.proofs.PlayedAlong.{tail_is}
 use Rattle.stk_lines.proofs.Turning.{sends_whole, frames_front}
 use Rattle.stk_lines.specs.NoFrame.{given, IsAmong, WasSent, WereSent, MakesNoFrame}
 

@@ -1,56 +1,16 @@
--- What a play of steps gives.
-use Rattle.std.proofs.Common.{◌≡◌, ℕ, zero, suc, ◌+◌, ◌-◌, ◌*◌, ◌%◌, ◌<◌, List, [], ◌∷◌, ◌++◌, length, take, drop, refl, sym, ap, ◌∙◌, append_assoc, arith, Ok, Err}
-use Rattle.std.proofs.lemmas.List.{append-nil, drop_all, length-drop, take-append-drop, take_min, drop-drop}
+-- What all blocks of a memory give.
+use Rattle.std.proofs.Common.{◌≡◌, ℕ, zero, suc, ◌+◌, ◌-◌, ◌*◌, ◌%◌, ◌<◌, List, [], ◌∷◌, ◌++◌, length, take, drop, refl, sym, ap, ◌∙◌, arith}
+use Rattle.std.proofs.lemmas.List.{drop_all, length-drop, take-append-drop, take_min, drop-drop}
 use Rattle.std.specs.Prelude.{min}
 use Rattle.avr_part.specs.declared.part.Mem.{Mem}
 use Rattle.avr_part.specs.declared.part.Mem.TheVariants.{Flash, Eeprom, Lfuse, Hfuse, Efuse, Lock, Signature, Calibration}
 use Rattle.avr_part.specs.Part.{Part, IsPart}
-use Rattle.stk_frame.specs.declared.command.Command.{Command}
-use Rattle.stk_host.specs.Dialog.{Dialog, Done, Say, Ask}
-use Rattle.stk_host.specs.Steps.{Outcome, step, if_done, play}
 use Rattle.stk_host.specs.Places.{each_from}
 use Rattle.stk_host.specs.ReadSteps.{block_count, block_size, block_steps, read_steps}
-use Rattle.stk_emu.specs.Turn.{Turn}
-use Rattle.stk_emu.specs.Programmer.{Programmer}
-use Rattle.stk_emu.specs.Device.{device}
-use Rattle.stk_emu.specs.Along.{Standing, along}
 use Rattle.stk_emu.specs.Effect.{Memories, memory_in}
-use Rattle.stk_emu.specs.Settled.{Settled, FitsPart}
-use Rattle.stk_emu.specs.Strokes.{struck, AreSteps}
+use Rattle.stk_emu.specs.Settled.{FitsPart}
 use Rattle.stk_emu.specs.Given.{all_given}
-use Rattle.stk_lines.proofs.Attempts.{along_bind, onward, step_stands, Stepped, asks≢done, err≢ok}
-use Rattle.stk_lines.proofs.Outside.{step_fits}
-use Rattle.stk_lines.proofs.Giving.{step_given, struck_sizes}
 use Rattle.stk_emu.proofs.Pages.{flash_address_back}
-
-ok_done : (a b : List ℕ) → ◌≡◌ {A = Dialog ⊥ Outcome} (Done (Ok a)) (Done (Ok b)) → a ≡ b
-ok_done a b e = cc
-
-module _ (part : Part) (sound : IsPart part) where
-  -- behind the first step
-  given_on : (left : ℕ) (turns : List Turn) (q : Programmer) (d : Dialog ⊥ Outcome) (go_on : List ℕ → Dialog ⊥ Outcome) (got : List ℕ) (claim : Type 0)
-      → ((bytes : List ℕ) → d ≡ Done (Ok bytes) → (along device left (go_on bytes) q turns).dialog ≡ Done (Ok got) → claim)
-      → (onward device (if_done go_on) left turns q d).dialog ≡ Done (Ok got) → claim
-  given_on left turns q (Done (Ok bytes)) go_on got claim more e = more bytes refl e
-  given_on left turns q (Done (Err fault)) go_on got claim more e = absurd (err≢ok fault got e)
-  given_on left turns q (Say said dialog) go_on got claim more e = absurd said
-  given_on left turns q (Ask bytes answered) go_on got claim more e = absurd (asks≢done _ _ _ e)
-
-  pub play_given : (steps : List (List Command)) (m : Memories) (k : ℕ) (before : List ℕ) (p : Programmer) (turns : List Turn) (got : List ℕ) → AreSteps part steps → FitsPart part m → Settled part m p
-      → (along device k (play steps before) p turns).dialog ≡ Done (Ok got) → got ≡ before ++ all_given part steps m
-  unfolding play
-  play_given [] m k before p turns got are f s e = sym (ok_done before got e) ∙ sym (append-nil before)
-  play_given (commands ∷ steps) m k before p turns got are f s e =
-      let z = along device k (step commands) p turns in
-      let stepped : Stepped device (Settled part m) (Settled part (struck part commands m)) z =
-      step_stands device (Settled part m) (Settled part (struck part commands m)) k commands p turns (step_fits part sound commands m are.0) s in
-      let go_on : List ℕ → Dialog ⊥ Outcome = λ bytes. play steps (before ++ bytes) in
-      given_on z.left z.turns z.programmer z.dialog go_on got (got ≡ before ++ all_given part (commands ∷ steps) m)
-      (λ bytes is done.
-      play_given steps (struck part commands m) z.left (before ++ bytes) z.programmer z.turns got are.1 (struck_sizes part commands m sound f) (stepped.whole bytes is) done
-      ∙ (append_assoc before bytes (all_given part steps (struck part commands m))
-      ∙ ap (λ bs. before ++ (bs ++ all_given part steps (struck part commands m))) (step_given part sound commands m k p turns bytes are.0 f s is)))
-      (sym (ap (λ (t : Standing ⊥ Outcome Programmer). t.dialog) (along_bind device k (step commands) (if_done go_on) p turns)) ∙ e)
 
 -- a block, and what is behind it
 block_join : (xs : List ℕ) (start size : ℕ) → length xs ≡ size → take (min 256 (size - start)) (drop start xs) ++ drop (start + 256) xs ≡ drop start xs

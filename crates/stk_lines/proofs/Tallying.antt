@@ -14,7 +14,8 @@ use Rattle.stk_lines.specs.Climbs.{step_count, steps_done, Climbs}
 use Rattle.stk_emu.specs.Strokes.{struck_by, AreSteps}
 use Rattle.stk_lines.specs.Leads.{Leads}
 use Rattle.stk_lines.specs.Tallies.{Count, with_next, then_count, Tallies, GoesOn}
-use Rattle.stk_lines.proofs.Attempts.{along_bind, onward, asks≢done, err≢ok}
+use Rattle.stk_lines.proofs.Attempts.{along_bind, onward, err≢ok}
+use Rattle.stk_lines.proofs.OnAnyTurn.{asks≢done}
 use Rattle.stk_lines.proofs.Climbing.{along_before}
 use Rattle.stk_lines.proofs.Beginning.{steps_climb}
 use Rattle.stk_lines.proofs.LeadsOn.{along_lifted, along_told}

@@ -1,5 +1,5 @@
 -- A talk in turn over a wire: nobody listens where nothing comes, and the programmer goes along with the dialog.
-use Rattle.std.proofs.Common.{◌≡◌, ℕ, ◌<◌, List, [], ◌∷◌, ◌++◌, length, take, drop, refl, sym, ap, ◌∙◌, subst, append_assoc, arith, inl, inr, Bool, true, false, Option, Some, None, length-append}
+use Rattle.std.proofs.Common.{◌≡◌, ℕ, ◌<◌, ◌≤◌, List, [], ◌∷◌, ◌++◌, length, take, drop, refl, sym, ap, ◌∙◌, subst, append_assoc, arith, inl, inr, Bool, true, false, Option, Some, None, length-append}
 use Rattle.std.proofs.lemmas.Bool.{cases_lt, lt-leb}
 use Rattle.std.proofs.lemmas.List.{append-nil, take-append-le, drop-append-le, take_all, drop_all, take-append-drop}
 use Rattle.std.specs.Prelude.{filter, ◌&&◌}
@@ -9,22 +9,24 @@ use Rattle.stk_frame.proofs.Cut.{chosen, cut_none, size_stays}
 use Rattle.stk_frame.proofs.Laws.{cut_first, frame_is_piece, frame_is_good}
 use Rattle.stk_host.specs.Tape.{Tape, Reading, answer, on_tape}
 use Rattle.stk_host.specs.Talk.{Talk, Sent, Got, sent, heard}
-use Rattle.stk_host.specs.Dialog.{Dialog, Done, Say, Ask, Event, Frame, Said, Played, played, by_answer, next, bytes_sent, frames_in}
+use Rattle.stk_host.specs.Dialog.{Dialog, Done, Say, Ask, Event, Frame, Said, Played, played, by_answer, next, bytes_sent, sayings, frames_in}
 use Rattle.stk_host.specs.Play.{Position, position, IsDue, TurnsFrom, InTurn, Plays, Breaks, IsFront, IsBegun, IsPrefixOf}
 use Rattle.stk_host.proofs.Leading.{bytes_append}
 use Rattle.stk_emu.specs.declared.fate.Fate.{Fate}
 use Rattle.stk_emu.specs.Programmer.{Programmer}
-use Rattle.stk_emu.specs.Device.{Device, device}
-use Rattle.stk_emu.specs.Wire.{AreLawful, first_fate, turn_of, turns_of, Wire, wire_behind, tape_of, fresh_wire}
+use Rattle.stk_emu.specs.Device.{device}
+use Rattle.stk_emu.specs.Wire.{AreLawful, turns_of, becames_of, fresh_wire}
 use Rattle.stk_emu.specs.Wired.{WiredState, Keeps, NeverIdle, brought}
-use Rattle.stk_emu.specs.Lawful.{IsBody, IsClear}
-use Rattle.stk_emu.specs.Along.{along, AsksBodies, Fused}
+use Rattle.stk_emu.specs.Lawful.{IsBody}
+use Rattle.stk_emu.specs.Along.{along, said_along, AsksBodies}
 use Rattle.stk_lines.specs.Leads.{GoesAlong}
-use Rattle.stk_emu.proofs.Segments.{none_clear, segment_late}
+use Rattle.stk_emu.proofs.Segments.{none_clear}
 use Rattle.stk_emu.proofs.Bodies.{answers_bodies}
 use Rattle.stk_lines.proofs.Extending.{answer_extends}
-use Rattle.stk_emu.proofs.Fused.{AnswersBodies, first_played, others_lawful, head_is, tail_is, none_some, fused}
-use Rattle.stk_emu.specs.Turn.{turn_reading}
+use Rattle.stk_lines.specs.AnyTape.{AreHonest}
+use Rattle.stk_lines.proofs.AnyTape.{honest_front}
+use Rattle.stk_lines.proofs.PlayedAlong.{played_along, said_played, done_played, waits_played}
+use Rattle.stk_lines.proofs.WirePlayed.{GoesOver, over_wire}
 
 -- whole frames
 pub record IsWhole (f : List ℕ) : Type 0 where
@@ -64,26 +66,6 @@ frames_sent [] whole = refl
 frames_sent (Frame f ∷ events) whole = frame_first f (bytes_sent events) whole.0 ∙ ap (λ fs. f ∷ fs) (frames_sent events whole.1)
 frames_sent (Said e ∷ events) whole = frames_sent events whole
 
--- a play over what a wire brings never waits for the answer to a frame that the wire was sent
-never_waits : {E R P : Type 0} (m : Device P) (answers : AnswersBodies m) (d : Dialog E R) (n : ℕ) (w : Wire P) (sent : List (List ℕ)) → AsksBodies d → IsClear n w.late → AreLawful w.fates
-    → (played d n (tape_of m sent w)).outcome ≡ None → frames_in (played d n (tape_of m sent w)).events ≡ sent → ⊥
-never_waits m answers (Done r) n w sent asks clear lawful waits e = none_some (r, n, tape_of m sent w) (sym waits)
-never_waits m answers (Say s d) n w sent asks clear lawful waits e = never_waits m answers d n w sent asks clear lawful waits e
-never_waits m answers (Ask bytes go_on) n w [] asks clear lawful waits e = nothing _ _ e
-  where
-    nothing : (f : List ℕ) (fs : List (List ℕ)) → f ∷ fs ≡ [] → ⊥
-    nothing f fs e = cc
-never_waits m answers (Ask bytes go_on) n w (f ∷ sent) asks clear lawful waits e =
-    let is : frame n bytes ≡ f = head_is (frame n bytes) f _ sent e in
-    let first = first_played m answers bytes go_on n w sent asks.0 clear lawful in
-    let at : (g : List ℕ) → g ≡ f → played (Ask bytes go_on) n (tape_of m (f ∷ sent) w) ≡ played (Ask bytes go_on) n (tape_of m (g ∷ sent) w) = λ g same. ap (λ h. played (Ask bytes go_on) n (tape_of m (h ∷ sent) w)) (sym same) in
-    never_waits m answers (go_on (turn_reading (turn_of (first_fate w.fates)) (m.answer bytes w.programmer))) (next n) (wire_behind m (frame n bytes) w) sent
-    (asks.1 (turn_reading (turn_of (first_fate w.fates)) (m.answer bytes w.programmer)))
-    (segment_late m n bytes w asks.0 (answers bytes w.programmer asks.0) clear)
-    (others_lawful w.fates lawful)
-    (sym (ap (λ p. p.outcome) (at (frame n bytes) is ∙ first)) ∙ waits)
-    (tail_is (frame n bytes) f _ sent (sym (ap (λ p. frames_in p.events) (at (frame n bytes) is ∙ first)) ∙ e))
-
 -- where something is heard, it was due
 pub due_at : {E R : Type 0} (d : Dialog E R) (n : ℕ) (tape : Tape) (bytes : List ℕ) (before after : Talk) (items : Tape) → TurnsFrom d n tape bytes (before ++ Got items ∷ after) → IsDue d n (tape ++ heard before) (bytes ++ sent before)
 due_at d n tape bytes [] after items turns = subst (λ t. IsDue d n t (bytes ++ [])) (sym (append-nil tape)) (subst (IsDue d n tape) (sym (append-nil bytes)) turns.0)
@@ -92,14 +74,17 @@ due_at d n tape bytes (Sent more ∷ before) after items turns =
 due_at d n tape bytes (Got got ∷ before) after items turns =
     subst (λ t. IsDue d n t (bytes ++ sent before)) (append_assoc tape got (heard before)) (due_at d n (tape ++ got) bytes before after items turns.1)
 
--- a talk in turn never listens where nothing waits
+-- a talk in turn never listens where nothing waits: of a play over all that was brought each question was answered
 pub never_idle : {E R : Type 0} (d : Dialog E R) (n : ℕ) (p : Programmer) (fates : List Fate) (talk : Talk) → AsksBodies d → AreLawful fates → InTurn d (position n []) talk → NeverIdle p fates talk
 never_idle d n p fates talk asks lawful turns before after items split same =
     let due : IsDue d n (heard before) (sent before) = due_at d n [] [] before after items (subst (TurnsFrom d n [] []) split turns) in
     let here : IsDue d n (brought p fates (sent before)) (sent before) = subst (λ t. IsDue d n t (sent before)) (sym same) due in
-    let events = (played d n (brought p fates (sent before))).events in
-    never_waits device answers_bodies d n (fresh_wire p fates) (frames (sent before)) asks (none_clear n) lawful here.waits
-    (sym (frames_sent events (sends_whole d n (brought p fates (sent before)) asks)) ∙ ap frames here.all_sent)
+    let play = played d n (brought p fates (sent before)) in
+    let gone : frames_in play.events ≡ frames (sent before) = sym (frames_sent play.events (sends_whole d n (brought p fates (sent before)) asks)) ∙ ap frames here.all_sent in
+    let goes = over_wire device answers_bodies d n (fresh_wire p fates) (frames (sent before)) [] asks (none_clear n) lawful (gone ∙ sym (append-nil (frames (sent before)))) in
+    let one_more = waits_played device (length (frames (sent before))) d n p (turns_of fates) [] (sym (ap (λ x. x.outcome) goes.play) ∙ here.waits) in
+    let as_many = sym (ap length gone) ∙ ap (λ x. length (frames_in x.events)) goes.play in
+    absurd (omega (arith, one_more, as_many))
 
 -- more of the tape, more frames behind those sent
 abbrev Goes : {E R : Type 0} → Dialog E R → ℕ → Tape → Tape → Type 0
@@ -182,36 +167,62 @@ module _ {E R : Type 0} (d : Dialog E R) (n : ℕ) (p : Programmer) (fates : Lis
   brings : brought p fates (sent w.talk) ≡ heard w.talk ++ w.waits
   brings = keeps.brings (never_idle d n p fates w.talk asks lawful turns)
 
-  -- from a front of the bytes of the play over what was heard
-  goes_along : IsPrefixOf (sent w.talk) (bytes_sent (played d n (heard w.talk)).events) → Fused device d n (fresh_wire p fates) (frames (sent w.talk))
+  -- what was sent is a front of what the play over what was heard sends
+  abbrev SendsFirst : Type 0
+  SendsFirst = IsPrefixOf (sent w.talk) (bytes_sent (played d n (heard w.talk)).events)
+
+  abbrev count : ℕ
+  count = length (frames (sent w.talk))
+
+  goes_along : SendsFirst → GoesOver device d n (fresh_wire p fates) (frames (sent w.talk)) p (turns_of fates)
   goes_along front =
       let f = frames_front (played d n (heard w.talk)).events (sent w.talk) front.0 (sends_whole d n (heard w.talk) asks) front.1 in
       let g = played_goes d n (heard w.talk) w.waits in
-      fused device answers_bodies d n (fresh_wire p fates) (frames (sent w.talk)) (f.0 ++ g.0) asks (none_clear n) lawful
+      over_wire device answers_bodies d n (fresh_wire p fates) (frames (sent w.talk)) (f.0 ++ g.0) asks (none_clear n) lawful
       (ap (λ t. frames_in (played d n t).events) brings ∙ (g.1 ∙ (ap (λ fs. fs ++ g.0) f.1 ∙ append_assoc (frames (sent w.talk)) f.0 g.0)))
 
+  -- what was heard is honest, by the fates of all frames that the play over it sends
+  pub honest_heard : SendsFirst → AreHonest device d n (heard w.talk) p (becames_of (length (frames_in (played d n (heard w.talk)).events)) fates)
+  honest_heard front =
+      let f = frames_front (played d n (heard w.talk)).events (sent w.talk) front.0 (sends_whole d n (heard w.talk) asks) front.1 in
+      let all = length (frames_in (played d n (heard w.talk)).events) in
+      let enough : count ≤ all = omega (arith, ap length f.1, length-append (frames (sent w.talk)) f.0) in
+      honest_front device d n (heard w.talk) w.waits p (becames_of all fates)
+      (subst (λ t. AreHonest device d n t p (becames_of all fates)) brings ((goes_along front).honest all enough))
+
   -- where the talk broke off the programmer stands along the line
-  pub broken_along : (SaidPart : E → E → Type 0) (shown : List (Event E)) → Breaks SaidPart d (position n []) w.talk shown → w.wire.programmer ≡ (along device (length (frames (sent w.talk))) d p (turns_of fates)).programmer
+  pub broken_along : (SaidPart : E → E → Type 0) (shown : List (Event E)) → Breaks SaidPart d (position n []) w.talk shown → w.wire.programmer ≡ (along device count d p (turns_of fates)).programmer
   broken_along SaidPart shown breaks =
       let front = shown_front SaidPart shown (played d n (heard w.talk)).events breaks.front in
       ap (λ x. x.programmer) keeps.stands ∙ (goes_along (front.0, ap (λ bs. bs ++ front.0) (sym breaks.all_sent) ∙ front.1)).programmer
 
-  -- where it was whole the dialog has come to the same result there, and nothing is left
-  pub whole_along : (events : List (Event E)) (r : R) (after : Position) → Plays d (position n []) w.talk events r after
-      → GoesAlong d p (turns_of fates) w r after.unread
-  whole_along events r after plays =
-      let over : played d n (heard w.talk) ≡ record { events = events; outcome = Some (r, after.next, on_tape after.unread ++ []) } =
-      ap (played d n) (sym (append-nil (heard w.talk))) ∙ plays.plays [] in
-      let f = goes_along ([], append-nil (sent w.talk) ∙ (sym plays.all_sent ∙ ap (λ x. bytes_sent x.events) (sym over))) in
-      let o = f.outcome r after.next (on_tape after.unread ++ w.waits) (ap (λ t. (played d n t).outcome) brings ∙ ap (λ x. x.outcome) (plays.plays w.waits)) in
-      let none = none_before (on_tape after.unread) w.waits o.1 in
-      record {
-        programmer = ap (λ x. x.programmer) keeps.stands ∙ f.programmer;
-        result = o.0;
-        none_left = no_bytes after.unread none.0;
-        none_waits = none.1;
-      }
-    where
-      no_bytes : (left : List ℕ) → on_tape left ≡ [] → left ≡ []
-      no_bytes [] e = refl
-      no_bytes (b ∷ left) e = cc
+  -- where it was whole the dialog has said the same and come to the same result there, and nothing is left
+  module _ (events : List (Event E)) (r : R) (after : Position) (plays : Plays d (position n []) w.talk events r after) where
+    whole_goes : GoesOver device d n (fresh_wire p fates) (frames (sent w.talk)) p (turns_of fates)
+    whole_goes = goes_along (
+      [],
+      append-nil (sent w.talk) ∙ (sym plays.all_sent
+          ∙ sym (ap (λ t. bytes_sent (played d n t).events) (sym (append-nil (heard w.talk))) ∙ ap (λ x. bytes_sent x.events) (plays.plays []))),
+    )
+
+    -- the play along the line
+    over : played_along device count d n p (turns_of fates) [] ≡ record { events = events; outcome = Some (r, after.next, on_tape after.unread ++ w.waits) }
+    over = sym whole_goes.play ∙ (ap (played d n) brings ∙ plays.plays w.waits)
+
+    pub whole_said : sayings events ≡ said_along device count d p (turns_of fates)
+    whole_said = sym (ap (λ x. sayings x.events) over) ∙ said_played device count d n p (turns_of fates) []
+
+    pub whole_along : GoesAlong d p (turns_of fates) w r after.unread
+    whole_along =
+        let o = done_played device count d n p (turns_of fates) [] r after.next (on_tape after.unread ++ w.waits) (ap (λ x. x.outcome) over) in
+        let none = none_before (on_tape after.unread) w.waits o.1 in
+        record {
+          programmer = ap (λ x. x.programmer) keeps.stands ∙ whole_goes.programmer;
+          result = o.0;
+          none_left = no_bytes after.unread none.0;
+          none_waits = none.1;
+        }
+      where
+        no_bytes : (left : List ℕ) → on_tape left ≡ [] → left ≡ []
+        no_bytes [] e = refl
+        no_bytes (b ∷ left) e = cc

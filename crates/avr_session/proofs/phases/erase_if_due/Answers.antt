@@ -2,6 +2,7 @@ use Rattle.std.proofs.Common.{◌≡◌, [], ◌∷◌, refl, false}
 use Rattle.avr_session.specs.Actions.{LeaveErase, erase_actions}
 use Rattle.avr_session.specs.Session.{left_out_erase}
 use Rattle.avr_session.proofs.Performing.{does_nothing, does_one, does_same, left_out_performs}
+use Rattle.avr_session.proofs.Outcomes.{left_out_told}
 use Rattle.avr_session.proofs.phases.erase_if_due.Goals as goal
 
 pub returns-then-switches-2-clause-performs : goal.returns-then-switches-2-clause-performs
@@ -25,3 +26,6 @@ returns-clause-performs g c =
     let is_not_due = rw (c.is_erase_due.ensures, c.switches-switches.ensures, c.tasks.ensures.value) at c.if-is_erase_due.false in
     let none : [] ≡ erase_actions c.args.plan.now.switches c.args.plan.now.tasks = rw (is_not_dry, is_not_due) refl in
     does_same c.args.plan.now _ _ none (does_nothing c.args.plan.now _ _ c.requires.sound)
+
+pub returns-then-switches-2-clause-told : goal.returns-then-switches-2-clause-told
+returns-then-switches-2-clause-told g c = left_out_told _ _ _ c.leave_out_erase.result c.leave_out_erase.ensures.leaves_out

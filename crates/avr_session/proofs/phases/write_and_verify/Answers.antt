@@ -3,6 +3,7 @@ use Rattle.std.proofs.lemmas.Result.{err_from_is_err_and}
 use Rattle.avr_session.specs.Actions.{WriteImage, LeaveWrite, read_back_actions, write_actions}
 use Rattle.avr_session.specs.Session.{left_out_write}
 use Rattle.avr_session.proofs.Performing.{left_out_performs, does_one, does_same, does_then, does_last}
+use Rattle.avr_session.proofs.Outcomes.{left_out_told}
 use Rattle.avr_session.proofs.phases.write_and_verify.Goals as goal
 
 pub returns-then-switches-clause-performs : goal.returns-then-switches-clause-performs
@@ -37,3 +38,6 @@ returns-in_default-clause-performs g c =
     let more = read_back_actions c.args.plan.now.switches c.args.mem c.args.image.now in
     let due : write ++ more ≡ write_actions c.args.plan.now.switches c.args.mem c.args.image.now = rw is_not_dry refl in
     does_same c.args.plan.now _ _ due (does_last c.args.plan.now write more (Ok c.in_ok-fault.fault) (λ e. c.in_default.not-Fine cc) c.in_ok-fault.ensures.performs)
+
+pub returns-then-switches-clause-told : goal.returns-then-switches-clause-told
+returns-then-switches-clause-told g c = left_out_told _ _ _ c.leave_out_write.result c.leave_out_write.ensures.leaves_out

@@ -7,8 +7,9 @@ pub returns-in-Ok-clause-comes : goal.returns-in-Ok-clause-comes
 returns-in-Ok-clause-comes g c = λ start since.
     let after : StreamState g.row.R.Denot g.row.W.Denot = record {
       reader = c.self.inside.reader;
-      writer = c.put_bytes-outcome.new.writer;
+      writer = c.put_bytes.new.writer;
       failures = c.self.inside.failures;
+      error = c.self.inside.error;
       talk = c.sent-self-inside.result.items;
     } in
     let bytes = take c.in-Ok.count c.args.bytes.now in

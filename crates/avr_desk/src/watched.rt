@@ -1,0 +1,192 @@
+//! A desk that is watched: who stands by is told of each call of it, as a window that shows how far a run is.
+ghost use Rattle.std.specs.Prelude.{◌≡◌, ◌≤◌, length, IfOk, IfErr};
+ghost use Rattle.avr_desk.specs.Watching.{Told, Opened, Created, Held, Released, Replaced, Read, Wrote, told_of};
+ghost use Rattle.ghosts.specs.Stays.{Stays};
+
+use crate::desk::{Desk, DeskFault};
+use crate::stream::Stream;
+
+/// A call of a desk that is over: what it was given, and what it answered.
+#[derive(Clone, Copy, Debug)]
+pub enum DeskCall<'a> {
+    /// The file of this name was opened to read.
+    Opened(&'a str, Result<(), DeskFault>),
+    /// The file of this name was created.
+    Created(&'a str, Result<(), DeskFault>),
+    /// The file of this name was held; `false`: it is held already.
+    Held(&'a str, Result<bool, DeskFault>),
+    /// What was held was released.
+    Released,
+    /// The file of this name was replaced by these bytes.
+    Replaced(&'a str, &'a [u8], Result<(), DeskFault>),
+    /// So many bytes of the open file were read, which stand at the front of this buffer.
+    Read(&'a [u8], Result<usize, DeskFault>),
+    /// So many of these bytes were written.
+    Wrote(Stream, &'a [u8], Result<usize, DeskFault>),
+}
+
+/// Who is told of the calls of a desk. A watcher can't touch the desk or what a call answers.
+///
+/// Proofs that want to know what a watcher makes of what it is told say so by `after`. For all others it is
+/// `λ call old new. Unit {0}`.
+pub trait WatchDesk {
+    /// The watcher has become this by being told of this call.
+    ghost after: { Told → Self → Self → Type 0 };
+
+    /// A call is over.
+    fn told(&mut self, call: &DeskCall<'_>)
+        ensures { after (told_of call.now) self.old self.new };
+}
+
+/// A desk and its watcher, which is told once of each call, when the desk has answered it. It is a desk as that within
+/// is: it shows the same, answers the same, and comes of the same.
+///
+/// ```text
+/// #[derive(Drop)]
+/// struct Sizes { printed: usize }
+/// impl WatchDesk for Sizes {
+///     ghost after = { λ call old new. Unit {0} };
+///     fn told(&mut self, call: &DeskCall<'_>) {
+///         if let DeskCall::Wrote(Stream::Output, _, Ok(count)) = call {
+///             self.printed = self.printed.saturating_add(*count);
+///         }
+///     }
+/// }
+/// let mut desk = WatchedDesk { desk: MemDesk::new(alloc), watcher: Sizes { printed: 0 } };
+/// write_all(&mut desk, Stream::Output, b"abc")?;
+/// assert_eq!(rt; desk.watcher.printed, 3);
+/// ```
+#[derive(Debug, Drop)]
+pub struct WatchedDesk<D, W> {
+    /// The desk within.
+    pub desk: D,
+    /// Who watches it.
+    pub watcher: W,
+}
+
+impl<D: Desk, W: WatchDesk> Desk for WatchedDesk<D, W> {
+    ghost use Rattle.avr_desk.specs.Record.{Passes, after_open, after_create, after_hold, after_read, after_replace, released, HasOpen, is_to_read, is_to_write};
+    ghost use Rattle.avr_desk.specs.Fault.{Counts, WriteCounts};
+    ghost use Rattle.avr_desk.specs.Stream.{SendsTaken};
+    ghost use Rattle.avr_desk.specs.declared.stream.Stream.TheVariants.{File, Output, Messages};
+
+    ghost view = { λ d. D.view d.desk };
+
+    ghost Start = { D.Start };
+
+    ghost comes_of = { λ start d. D.comes_of start d.desk };
+
+    fn open(&mut self, name: &str) -> Result<(), DeskFault>
+        ensures kept { Passes (after_open name.now result) (D.view self.old.desk) (D.view self.new.desk) }
+        ensures counts { Counts File (D.view self.old.desk) (D.view self.new.desk) result }
+        ensures stays { Stays D.comes_of self.old.desk self.new.desk }
+        ensures told { W.after (Opened name.now result) self.old.watcher self.new.watcher }
+    {
+        let answer = self.desk.open(name);
+        self.watcher.told(&DeskCall::Opened(name, answer));
+        answer
+    }
+
+    fn create(&mut self, name: &str) -> Result<(), DeskFault>
+        ensures kept { Passes (after_create name.now result) (D.view self.old.desk) (D.view self.new.desk) }
+        ensures counts { Counts File (D.view self.old.desk) (D.view self.new.desk) result }
+        ensures fault { IfErr result (λ e. e ≡ DeskFault.Failed) }
+        ensures stays { Stays D.comes_of self.old.desk self.new.desk }
+        ensures told { W.after (Created name.now result) self.old.watcher self.new.watcher }
+    {
+        let answer = self.desk.create(name);
+        self.watcher.told(&DeskCall::Created(name, answer));
+        answer
+    }
+
+    fn hold(&mut self, name: &str) -> Result<bool, DeskFault>
+        ensures kept { Passes (after_hold name.now result) (D.view self.old.desk) (D.view self.new.desk) }
+        ensures counts { Counts File (D.view self.old.desk) (D.view self.new.desk) result }
+        ensures fault { IfErr result (λ e. e ≡ DeskFault.Failed) }
+        ensures stays { Stays D.comes_of self.old.desk self.new.desk }
+        ensures told { W.after (Held name.now result) self.old.watcher self.new.watcher }
+    {
+        let answer = self.desk.hold(name);
+        self.watcher.told(&DeskCall::Held(name, answer));
+        answer
+    }
+
+    fn release(&mut self)
+        ensures released { D.view self.new.desk ≡ released (D.view self.old.desk) }
+        ensures stays { Stays D.comes_of self.old.desk self.new.desk }
+        ensures told { W.after Released self.old.watcher self.new.watcher }
+    {
+        self.desk.release();
+        self.watcher.told(&DeskCall::Released);
+    }
+
+    fn replace(&mut self, name: &str, bytes: &[u8]) -> Result<(), DeskFault>
+        ensures kept { Passes (after_replace name.now bytes.now result)
+            (D.view self.old.desk) (D.view self.new.desk) }
+        ensures counts { Counts File (D.view self.old.desk) (D.view self.new.desk) result }
+        ensures fault { IfErr result (λ e. e ≡ DeskFault.Failed) }
+        ensures stays { Stays D.comes_of self.old.desk self.new.desk }
+        ensures told { W.after (Replaced name.now bytes.now result) self.old.watcher self.new.watcher }
+    {
+        let answer = self.desk.replace(name, bytes);
+        self.watcher.told(&DeskCall::Replaced(name, bytes, answer));
+        answer
+    }
+
+    fn read(&mut self, buf: &mut [u8]) -> Result<usize, DeskFault>
+        ensures bound { IfOk result (λ n. n ≤ length buf.new) }
+        ensures kept { Passes (after_read buf.new result) (D.view self.old.desk) (D.view self.new.desk) }
+        ensures has_file { HasOpen is_to_read (D.view self.old.desk) result }
+        ensures counts { Counts File (D.view self.old.desk) (D.view self.new.desk) result }
+        ensures fault { IfErr result (λ e. e ≡ DeskFault.Failed) }
+        ensures stays { Stays D.comes_of self.old.desk self.new.desk }
+        ensures told { W.after (Read buf.new result) self.old.watcher self.new.watcher }
+    {
+        let answer = self.desk.read(buf);
+        self.watcher.told(&DeskCall::Read(buf, answer));
+        answer
+    }
+
+    fn write(&mut self, bytes: &[u8]) -> Result<usize, DeskFault>
+        ensures bound { IfOk result (λ n. n ≤ length bytes.now) }
+        ensures kept { SendsTaken File bytes.now (D.view self.old.desk) (D.view self.new.desk) result }
+        ensures has_file { HasOpen is_to_write (D.view self.old.desk) result }
+        ensures counts { WriteCounts File bytes.now (D.view self.old.desk) (D.view self.new.desk) result }
+        ensures fault { IfErr result (λ e. e ≡ DeskFault.Failed) }
+        ensures stays { Stays D.comes_of self.old.desk self.new.desk }
+        ensures told { W.after (Wrote File bytes.now result) self.old.watcher self.new.watcher }
+    {
+        let answer = self.desk.write(bytes);
+        self.watcher
+            .told(&DeskCall::Wrote(Stream::File, bytes, answer));
+        answer
+    }
+
+    fn out(&mut self, bytes: &[u8]) -> Result<usize, DeskFault>
+        ensures bound { IfOk result (λ n. n ≤ length bytes.now) }
+        ensures kept { SendsTaken Output bytes.now (D.view self.old.desk) (D.view self.new.desk) result }
+        ensures counts { WriteCounts Output bytes.now (D.view self.old.desk) (D.view self.new.desk) result }
+        ensures fault { IfErr result (λ e. e ≡ DeskFault.Failed) }
+        ensures stays { Stays D.comes_of self.old.desk self.new.desk }
+        ensures told { W.after (Wrote Output bytes.now result) self.old.watcher self.new.watcher }
+    {
+        let answer = self.desk.out(bytes);
+        self.watcher
+            .told(&DeskCall::Wrote(Stream::Output, bytes, answer));
+        answer
+    }
+
+    fn err(&mut self, bytes: &[u8]) -> Result<usize, DeskFault>
+        ensures bound { IfOk result (λ n. n ≤ length bytes.now) }
+        ensures kept { SendsTaken Messages bytes.now (D.view self.old.desk) (D.view self.new.desk) result }
+        ensures counts { WriteCounts Messages bytes.now (D.view self.old.desk) (D.view self.new.desk) result }
+        ensures fault { IfErr result (λ e. e ≡ DeskFault.Failed) }
+        ensures stays { Stays D.comes_of self.old.desk self.new.desk }
+        ensures told { W.after (Wrote Messages bytes.now result) self.old.watcher self.new.watcher }
+    {
+        let answer = self.desk.err(bytes);
+        self.watcher
+            .told(&DeskCall::Wrote(Stream::Messages, bytes, answer));
+        answer
+    }
+}

@@ -1,0 +1,14 @@
+use Rattle.std.proofs.Common.{◌+◌, ◌≤◌, length}
+use Rattle.avr_records.specs.Extents.{IsNear}
+use Rattle.avr_records.proofs.Extents.{Walked}
+use Rattle.avr_records.proofs.needed.needed_size.Given as goal
+
+abbrev pub invariant-loop-line : goal.invariant-loop-line
+invariant-loop-line l = record {
+  walked : Walked l.kind l.extent l.text l.rest;
+  near : IsNear l.kind l.extent;
+  room : l.extent.lines + length l.rest ≤ length l.text;
+}
+
+abbrev pub decreases-loop-line : goal.decreases-loop-line
+decreases-loop-line l = length l.rest

@@ -1,0 +1,30 @@
+use Rattle.std.proofs.Common.{[], arith, take_all}
+use Rattle.std.proofs.lemmas.Result.{err_from_is_err_and}
+use Rattle.stk_host.proofs.Sending.{behind, part_fits}
+use Rattle.stk_emu.proofs.Answering.{appends_none, appends_on, appends_front, appends_fed, appends_all}
+use Rattle.stk_emu.proofs.emulator.Emulator.answer_all.Goals as goal
+
+pub loop-used-init : goal.loop-used-init
+loop-used-init c = record { within = omega arith; appends = appends_none c.args.self.now c.args.answers.now.items }
+
+pub loop-used-preserved : goal.loop-used-preserved
+loop-used-preserved c = record {
+  within = part_fits c.args.bytes.now c.loop-used.used c.in_ok-used.field-0 c.loop-used.invariant.within c.in_ok-used.ensures.within;
+  appends = appends_on c.args.bytes.now _ c.loop-used.used c.in_ok-used.field-0 _ _ _ _ _ _ c.loop-used.invariant.appends (behind c.args.bytes.now c.loop-used.used) c.in_ok-used.ensures.appends;
+}
+
+pub returns-clause-appends : goal.returns-clause-appends
+returns-clause-appends c = rw (take_all c.loop-used.used c.args.bytes.now c.loop-used-test.false) at c.loop-used.invariant.appends
+
+pub returns-clause-fed : goal.returns-clause-fed
+returns-clause-fed c = λ p text f. appends_fed _ _ _ _ _ p text (returns-clause-appends c) f
+
+pub returns-clause-all : goal.returns-clause-all
+returns-clause-all c = λ p text f e. appends_all _ _ _ _ _ p text [] (returns-clause-appends c) f e
+
+pub returns-in_err-used-clause-front : goal.returns-in_err-used-clause-front
+returns-in_err-used-clause-front c =
+    let p = err_from_is_err_and c.from_residual.result c.from_residual.ensures.1 in
+    rw p.1
+    (rw (c.in_err-used.ensures.same, c.in_err-used.ensures.kept)
+    (appends_front c.args.bytes.now c.loop-used.used _ _ _ _ c.loop-used.invariant.appends c.loop-used-test.true))

@@ -1,0 +1,16 @@
+-- What a watcher of a link is told.
+use Rattle.std.specs.Prelude.{ℕ, List, Result}
+use Rattle.stk_host.specs.declared.link.Heard.{Heard}
+use Rattle.stk_host.specs.declared.link.LinkFault.{LinkFault}
+use Rattle.stk_host.specs.declared.watched_link.LinkCall.{LinkCall}
+use Rattle.stk_host.specs.declared.watched_link.LinkCall.TheVariants as call
+
+-- a call of a link that is over: what it was given, and what it answered
+pub data Told : Type 0 where
+  Sent : List ℕ → Result ℕ LinkFault → Told
+  Listened : List ℕ → Result Heard LinkFault → Told
+
+-- the call, by the bytes that are lent with it
+abbrev pub told_of : LinkCall → Told
+told_of (call.Sent bytes answer) = Sent bytes.now answer
+told_of (call.Listened buffer answer) = Listened buffer.now answer

@@ -1,0 +1,39 @@
+// crates: anyhow avr_part stk_emu
+//! A client of one's own that knows `Read` and `Write` and nothing of these crates, tried against an emulated programmer
+//! in place of a serial port.
+//!
+//! What it prints is of AVR068: the answer to SIGN_ON has 17 bytes, the last eight in front of the XOR are the
+//! programmer's name, and nobody speaks who wasn't asked.
+//= programmer: STK500_2
+//= nothing more
+#![tactic(auto)]
+
+use anyhow::{Result, bail};
+use avr_part::{Chip, Parts};
+use std::io::{self, ErrorKind, Read, Write};
+use stk_emu::{EmulatedPort, Emulator};
+
+/// SIGN_ON with the number 1.
+const SIGN_ON: &[u8] = b"\x1B\x01\x00\x01\x0E\x01\x14";
+
+/// The client: signs on, and gives the answer.
+fn sign_on<P: Read + Write>(port: &mut P) -> io::Result<[u8; 17]> {
+    port.write_all(SIGN_ON)?;
+    port.flush()?;
+    let mut answer = [0; 17];
+    port.read_exact(&mut answer)?;
+    Ok(answer)
+}
+
+fn main(rt: HostRuntime) -> Result<()> {
+    let chip = Chip::fresh(rt.alloc(), Parts::none().find("m328p")?)?;
+    let mut port = EmulatedPort::new(rt.alloc(), Emulator::new(chip));
+    let answer = sign_on(&mut port)?;
+    let name = std::str::from_utf8(&answer[8..16])?;
+    println!(rt; "programmer: {name}")?;
+    match port.read(&mut [0; 1]) {
+        Err(error) if error.kind() == ErrorKind::WouldBlock => println!(rt; "nothing more")?,
+        _ => bail!("an answer that nobody asked for"),
+    }
+    Ok(())
+}

@@ -1,0 +1,114 @@
+#!/usr/bin/env python3
+"""Renames a definition wherever it is meant, and nowhere else.
+
+    tools/rename.py CRATE FILE OLD NEW    the definition OLD of crates/CRATE/specs/FILE.antt (or proofs/FILE, with
+                                          proofs/ in front) becomes NEW
+
+It goes by imports: the word is changed in the file that defines it, in each definition, proof, contract and wrong body
+whose file imports it from there (or whose source does, for a wrong body), and behind the name under which a file
+imports the whole module. A file that has the word from elsewhere too is refused, and nothing is changed then. Where
+documents and READMEs have the word it is printed, as only a reader knows which one is meant.
+"""
+
+import re
+import subprocess
+import sys
+from pathlib import Path
+
+TOP = Path(__file__).resolve().parent.parent
+# what may stand in a name
+PART = r"[\w'◌]"
+
+
+def known_files(*patterns):
+    command = ["git", "-C", TOP, "ls-files", *patterns]
+    return [TOP / it for it in subprocess.run(command, capture_output=True, text=True, check=True).stdout.splitlines()]
+
+
+def word(name):
+    """The name as a whole word; a hyphen makes another one of it."""
+    return re.compile(rf"(?<!{PART})(?<!{PART}-){re.escape(name)}(?!{PART})(?!-{PART})")
+
+
+class Renaming:
+    """One definition, by its module and its old and new names."""
+
+    def __init__(self, crate, file, old, new):
+        folder, _, stem = file.rpartition("/")
+        self.home = TOP / "crates" / crate / (folder or "specs") / f"{stem}.antt"
+        self.module = f"Rattle.{crate}.{folder or 'specs'}.{stem}"
+        self.old, self.new = old, new
+
+    def names_in(self, text):
+        """The names under which a file has the definition: its own, or behind the name of the whole module."""
+        found = set()
+        for listed in re.findall(rf"{re.escape(self.module)}\.\{{([^}}]*)\}}", text):
+            if self.old in [it.split(" as ")[0].strip() for it in listed.split(",")]:
+                found.add(self.old)
+        for alias in re.findall(rf"{re.escape(self.module)} as (\w+)", text):
+            if word(f"{alias}.{self.old}").search(text):
+                found.add(f"{alias}.{self.old}")
+        return found
+
+    def has_another(self, text):
+        """Whether a file imports the same word from another module, or defines it."""
+        others = re.findall(r"Rattle\.([\w.]+)\.\{([^}]*)\}", text)
+        elsewhere = any(
+            self.old in [it.split(" as ")[-1].strip() for it in listed.split(",")] and f"Rattle.{module}" != self.module
+            for module, listed in others
+        )
+        return elsewhere or re.search(rf"^(?:\w+ )*(?:pub )?{re.escape(self.old)} :", text, re.M) is not None
+
+    def renamed(self, text, names):
+        return "\n".join(self.renamed_line(line, names) for line in text.split("\n"))
+
+    def renamed_line(self, line, names):
+        """In a comment it is the definition only where it is marked as code."""
+        for name in names:
+            new = name[: -len(self.old)] + self.new
+            if line.lstrip().startswith(("--", "//")):
+                line = line.replace(f"`{name}`", f"`{new}`")
+            else:
+                line = word(name).sub(new, line)
+        return line
+
+
+def changes(it):
+    """The new text of each file that is changed, by its path."""
+    new, refused = {}, []
+    for file in known_files("crates/*.antt", "crates/*.rt"):
+        text = file.read_text()
+        names = {it.old} if file == it.home else it.names_in(text)
+        if it.old in names and file != it.home and it.has_another(text):
+            refused.append(f"{file}: has {it.old} from elsewhere too")
+        if names:
+            new[file] = it.renamed(text, names)
+    for file in known_files("crates/*.edit"):
+        source = file.parent.parent / file.read_text().split("\n", 1)[0].removeprefix("file: ").strip()
+        if source in new:
+            text = it.renamed(file.read_text(), {it.old} if source == it.home else it.names_in(source.read_text()))
+            if text != file.read_text():
+                new[file] = text
+    return new, refused
+
+
+def main():
+    if len(sys.argv) != 5:
+        sys.exit(__doc__.strip())
+    it = Renaming(*sys.argv[1:])
+    new, refused = changes(it)
+    if refused or it.home not in new:
+        sys.exit("\n".join(refused) or f"no such file: {it.home}")
+    if not word(it.old).search(it.home.read_text()):
+        sys.exit(f"{it.home}: has no {it.old}")
+    for file, text in new.items():
+        file.write_text(text)
+        print(f"changed: {file.relative_to(TOP)}")
+    for file in known_files("*.md"):
+        for number, line in enumerate(file.read_text().splitlines(), 1):
+            if word(it.old).search(line):
+                print(f"to be looked at: {file.relative_to(TOP)}:{number}")
+
+
+if __name__ == "__main__":
+    main()
