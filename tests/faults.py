@@ -76,7 +76,7 @@ FAULTS = [*((kind, "fail") for kind in LINES), ("growth", "onwards")]
 
 # the tests that hold devices in memory, by crate and the front of their names: a desk; a tape of answers, and the wire to
 # the emulated programmer
-DEVICES = {"library_tests": "desks::", "host_tests": ""}
+DEVICES = {"test_library": "desks::", "test_host": ""}
 
 # what has to change nothing
 HARMLESS = [("read", "interrupt"), ("read", "one"), ("write", "interrupt"), ("write", "one"), ("close", "fail")]

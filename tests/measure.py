@@ -31,7 +31,7 @@ def known_files():
     crates = defaultdict(list)
     for name in listed.stdout.splitlines():
         crate = name.split("/")[1]
-        if name.endswith((".rt", ".antt")) and (TOP / name).exists() and not crate.endswith(("_tests", "acceptance")):
+        if name.endswith((".rt", ".antt")) and (TOP / name).exists() and not crate.startswith("test_"):
             crates[crate].append(name)
     return crates
 

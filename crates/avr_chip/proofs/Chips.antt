@@ -25,34 +25,40 @@ use Rattle.avr_chip.specs.Loading.{chip_or_line, judged_chip, chip_given, chip_s
 
 pub went_fresh : (part : Part) (chip : ChipState) (d : DeskView) → GivesOrMemory (Ok (fresh_state part)) (Ok chip)
     → Went (verdict_stage (Ok (fresh_state part))) d d (Made chip)
-went_fresh part chip d (inl gives) = let same : fresh_state part ≡ chip = cc in went_settled (Ok (fresh_state part)) chip d (ap Ok same)
+went_fresh part chip d (inl gives) = let same : fresh_state part ≡ chip = cc in
+    went_settled (Ok (fresh_state part)) chip d (ap Ok same)
 went_fresh part chip d (inr memory) = cc
 
 -- ---- the chip of some bytes
 
 -- a chip in place of a fault is the good one, and the test holds
-chip_is : (test : Bool) (good chip : ChipState) (n : ℕ) → (if test then Ok good else Err (BadChipFile n)) ≡ Ok chip → (test ≡ true) × (chip ≡ good)
+chip_is : (test : Bool) (good chip : ChipState) (n : ℕ) → (if test then Ok good else Err (BadChipFile n)) ≡ Ok chip
+    → (test ≡ true) × (chip ≡ good)
 chip_is true good chip n is = (refl, cc)
 chip_is false good chip n is = cc
 
 -- a fault in place of a chip says that it doesn't
-none_is : (test : Bool) (good : ChipState) (n : ℕ) (fault : PartFault) → (if test then Ok good else Err (BadChipFile n)) ≡ Err fault → test ≡ false
+none_is : (test : Bool) (good : ChipState) (n : ℕ) (fault : PartFault)
+    → (if test then Ok good else Err (BadChipFile n)) ≡ Err fault → test ≡ false
 none_is true good n fault is = cc
 none_is false good n fault is = refl
 
 right_length : (part : Part) (bytes : Bytes) (chip : ChipState) → GivesOrMemory (chip_in part bytes) (Ok chip)
     → ((length bytes == chip_file_size part) ≡ true) × (chip ≡ state_in part bytes)
-right_length part bytes chip (inl gives) = chip_is (length bytes == chip_file_size part) (state_in part bytes) chip (length bytes) (sym gives)
+right_length part bytes chip (inl gives) =
+    chip_is (length bytes == chip_file_size part) (state_in part bytes) chip (length bytes) (sym gives)
 right_length part bytes chip (inr memory) = cc
 
-pub went_chip : (part : Part) (file bytes : Bytes) (chip : ChipState) (d : DeskView) → GivesOrMemory (chip_in part bytes) (Ok chip)
+pub went_chip : (part : Part) (file bytes : Bytes) (chip : ChipState) (d : DeskView)
+    → GivesOrMemory (chip_in part bytes) (Ok chip)
     → Went (verdict_stage (chip_or_line part file bytes)) d d (Made chip)
 went_chip part file bytes chip d gives =
     let right = right_length part bytes chip gives in
     let given : chip_or_line part file bytes ≡ Ok chip = rw (right.0, right.1) refl in
     went_settled (chip_or_line part file bytes) chip d given
 
-pub chip_of_part : (part : Part) (bytes : Bytes) (chip : ChipState) → GivesOrMemory (chip_in part bytes) (Ok chip) → chip.part ≡ part
+pub chip_of_part : (part : Part) (bytes : Bytes) (chip : ChipState) → GivesOrMemory (chip_in part bytes) (Ok chip)
+    → chip.part ≡ part
 chip_of_part part bytes chip gives = ap (λ (c : ChipState). c.part) (right_length part bytes chip gives).1
 
 pub goes_wrong_length : (part : Part) (file bytes : Bytes) (n : ℕ) (old new : DeskView) (status : ℕ)
@@ -60,7 +66,8 @@ pub goes_wrong_length : (part : Part) (file bytes : Bytes) (n : ℕ) (old new : 
     → Tells old new (length_line file (length bytes) (chip_file_size part))
     → Goes (verdict_stage (chip_or_line part file bytes)) old new (Err status)
 goes_wrong_length part file bytes n old new status (inl gives) one told =
-    let wrong = none_is (length bytes == chip_file_size part) (state_in part bytes) (length bytes) (BadChipFile n) (sym gives) in
+    let wrong = none_is (length bytes == chip_file_size part) (state_in part bytes) (length bytes) (BadChipFile n)
+    (sym gives) in
     let line = length_line file (length bytes) (chip_file_size part) in
     let given : chip_or_line part file bytes ≡ Err line = rw wrong refl in
     goes_unsettled (chip_or_line part file bytes) line old new status given one told
@@ -70,7 +77,8 @@ goes_wrong_length part file bytes n old new status (inr memory) one told = cc
 
 -- the judgment of what the file gave
 goes_whole : (part : Part) (file bytes : Bytes) (ended : Bool) (old mid new : DeskView) (result : Result ChipState ℕ)
-    → Passes (with_read file bytes ended) old mid → IsWhole 4194304 (record { bytes = bytes; ended = ended }) → HasSameCounts old mid
+    → Passes (with_read file bytes ended) old mid → IsWhole 4194304 (record { bytes = bytes; ended = ended })
+    → HasSameCounts old mid
     → Goes (verdict_stage (judged_chip part file bytes)) mid new result → Goes (chip_stage part file) old new result
 goes_whole part file bytes ended old mid new result kept whole rose goes =
     let reading : Reading = record { name = file; bytes = bytes; ended = ended } in
@@ -78,8 +86,10 @@ goes_whole part file bytes ended old mid new result kept whole rose goes =
     (goes_judged file 4194304 (judged_chip part file) reading mid new result whole goes)
 
 -- to its end
-pub goes_ended : (part : Part) (file bytes : Bytes) (ended : Bool) (old mid new : DeskView) (result : Result ChipState ℕ)
-    → Passes (with_read file bytes ended) old mid → IsWhole 4194304 (record { bytes = bytes; ended = ended }) → ended ≡ true → HasSameCounts old mid
+pub goes_ended : (part : Part) (file bytes : Bytes) (ended : Bool) (old mid new : DeskView)
+    (result : Result ChipState ℕ)
+    → Passes (with_read file bytes ended) old mid → IsWhole 4194304 (record { bytes = bytes; ended = ended })
+    → ended ≡ true → HasSameCounts old mid
     → Goes (verdict_stage (chip_or_line part file bytes)) mid new result → Goes (chip_stage part file) old new result
 goes_ended part file bytes false old mid new result kept whole is rose goes = cc
 goes_ended part file bytes true old mid new result kept whole is rose goes =
@@ -88,7 +98,8 @@ goes_ended part file bytes true old mid new result kept whole is rose goes =
 
 -- or past the limit
 pub goes_past : (part : Part) (file bytes : Bytes) (ended : Bool) (old mid new : DeskView) (status : ℕ)
-    → Passes (with_read file bytes ended) old mid → IsWhole 4194304 (record { bytes = bytes; ended = ended }) → ended ≡ false → HasSameCounts old mid
+    → Passes (with_read file bytes ended) old mid → IsWhole 4194304 (record { bytes = bytes; ended = ended })
+    → ended ≡ false → HasSameCounts old mid
     → status ≡ 1 → Tells mid new (too_long_line file 4194304)
     → Goes (chip_stage part file) old new (Err status)
 goes_past part file bytes true old mid new status kept whole is rose one told = cc

@@ -19,5 +19,6 @@ replaced file bytes r =
 pub new_or_old : (old new : DeskView) (file bytes : Bytes) (result : Result ⊤ ℕ) → Saves old new file bytes result
     → (newest file None (all_files new.kept) ≡ Some bytes)
     ⊎ ((name : Bytes) → newest name None (all_files new.kept) ≡ newest name None (all_files old.kept))
-new_or_old old new file bytes (Ok done) saves = inl (ap (λ r. newest file None (all_files r)) saves.0 ∙ replaced file bytes old.kept)
+new_or_old old new file bytes (Ok done) saves =
+    inl (ap (λ r. newest file None (all_files r)) saves.0 ∙ replaced file bytes old.kept)
 new_or_old old new file bytes (Err status) saves = inr (λ name. ap (λ r. newest name None (all_files r)) saves.1.kept)

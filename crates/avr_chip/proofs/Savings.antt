@@ -12,7 +12,8 @@ use Rattle.avr_desk.specs.Said.{Tells}
 use Rattle.avr_chip.specs.Saving.{NoMemory, NotReplaced, Saves}
 
 -- memory was refused for the bytes
-pub no_memory : (old new : DeskView) (file bytes : Bytes) (status : ℕ) → status ≡ 1 → Tells (released old) new memory_line
+pub no_memory : (old new : DeskView) (file bytes : Bytes) (status : ℕ) → status ≡ 1
+    → Tells (released old) new memory_line
     → Saves old new file bytes (Err status)
 no_memory old new file bytes status one told =
     (one, record { trouble = NoMemory; told = told.told; tells = told.tells; kept = told.kept })

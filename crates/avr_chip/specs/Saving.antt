@@ -11,15 +11,15 @@ pub data SavingTrouble : Type 0 where
   NotReplaced : SavingTrouble
 
 -- The line of memory was told; or the desk failed at the file, and from then on the line of that was told.
-abbrev pub TellsTrouble : Bytes → SavingTrouble → Bytes → DeskView → DeskView → Type 0
-TellsTrouble file NoMemory told old new = TellsLine memory_line told old new
-TellsTrouble file NotReplaced told old new = TellsFailure (not_written_line file) told old new
+abbrev pub TellsSavingTrouble : Bytes → SavingTrouble → Bytes → DeskView → DeskView → Type 0
+TellsSavingTrouble file NoMemory told old new = TellsLine memory_line told old new
+TellsSavingTrouble file NotReplaced told old new = TellsFailure (not_written_line file) told old new
 
 -- Something stood in the way, and that was told; nothing else was done, and nothing is held.
 pub record Unsaved (old new : DeskView) (file : Bytes) : Type 0 where
   pub trouble : SavingTrouble
   pub told : Bytes
-  pub tells : TellsTrouble file trouble told old new
+  pub tells : TellsSavingTrouble file trouble told old new
   pub kept : Passes (after_err told) (released old) new
 
 -- The file was replaced by one of these bytes, and no call of the desk failed; or the status is 1, and it is as it was.

@@ -1,7 +1,7 @@
 //! A chip file is held for one run, and its chip is loaded.
 ghost use Rattle.std.specs.Prelude.{◌≡◌, IfOk};
 ghost use Rattle.avr_desk.specs.Fault.{Follows};
-ghost use Rattle.avr_chip.specs.Holding.{Holds, HoldsAndLoads};
+ghost use Rattle.avr_chip.specs.Holding.{HoldsFile, HoldsAndLoads};
 ghost use Rattle.ghosts.specs.Stays.{Stays};
 
 use crate::loading::load_chip;
@@ -12,7 +12,7 @@ use std::alloc::Global;
 
 /// Holds the file of this name.
 fn hold_file<D: Desk>(file: &str, desk: &mut D) -> Result<(), u8>
-    ensures holds { Holds (D.view desk.old) (D.view desk.new) file.now result }
+    ensures holds { HoldsFile (D.view desk.old) (D.view desk.new) file.now result }
     ensures rises { Follows (D.view desk.old) (D.view desk.new) }
     ensures stays { Stays D.comes_of desk.old desk.new }
 {

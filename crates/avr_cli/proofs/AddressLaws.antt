@@ -25,5 +25,6 @@ pub address_is_cut : (host port : Bytes) (number : ℕ) → host ≢ [] → port
     → port_of (codes "net:" ++ (host ++ colon ∷ port)) ≡ Ok (Network (host ++ colon ∷ port))
 address_is_cut host port number some is =
     let no_colon = digits_without_colon port (only_digits port number is) in
-    let address : is_address (host ++ colon ∷ port) ≡ true = rw (split_last-parts host port no_colon, not_empty host some, is) refl in
+    let address : is_address (host ++ colon ∷ port) ≡ true =
+    rw (split_last-parts host port no_colon, not_empty host some, is) refl in
     rw address refl

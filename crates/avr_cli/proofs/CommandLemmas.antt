@@ -22,10 +22,12 @@ pub is_free-avrstk : is_simple_and_free avrstk ≡ true
 unfolding whole_command
 is_free-avrstk = refl
 
-pub rows_given : (a b : App) (words : List Text) → a ≡ b → is_simple b ≡ true → (m : ArgMatches) → HasMatchesOf a words m
+pub rows_given : (a b : App) (words : List Text) → a ≡ b → is_simple b ≡ true → (m : ArgMatches)
+    → HasMatchesOf a words m
     → rows_of (found_of m) ≡ matches_of b words
 rows_given a b words is simple m h = (h (ap is_simple is ∙ simple)).0 ∙ ap (λ (c : App). matches_of c words) is
 
 -- one option more
-pub arg_added : {a b : Command} {x : Arg} {r : Rule} → AddsArg a x b → x.global ≡ false → rule_of x ≡ r → app_of b ≡ with_rule (app_of a) r
+pub arg_added : {a b : Command} {x : Arg} {r : Rule} → AddsArg a x b → x.global ≡ false → rule_of x ≡ r
+    → app_of b ≡ with_rule (app_of a) r
 arg_added {a} adds local is = adds.shape local ∙ ap (with_rule (app_of a)) is

@@ -1,9 +1,11 @@
+-- in the order in which to read: texts that are cut, updates and addresses; the command and what is kept of it; worked
+-- lines
+pub mod SplitLemmas
+pub mod UpdateLaws
 pub mod AddressLaws
 pub mod CommandLemmas
-pub mod SplitLemmas
 pub mod KeepingLemmas
 mod LineRows
 pub mod PortLemmas
-pub mod UpdateLaws
 mod UpdateRows
 pub mod UpdatesLemmas

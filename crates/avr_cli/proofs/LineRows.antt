@@ -89,7 +89,8 @@ pub leading_zeros : line (codes "-p m328p -P net:h:00080") ≡ asks (over (Netwo
 unfolding whole_command
 leading_zeros = refl
 
-pub served : line (codes "--serve 5000 --chip chip.bin -p m328p") ≡ asks (over (Served (codes "5000") (codes "chip.bin")))
+pub served : line (codes "--serve 5000 --chip chip.bin -p m328p")
+    ≡ asks (over (Served (codes "5000") (codes "chip.bin")))
 unfolding whole_command
 served = refl
 
@@ -110,7 +111,15 @@ sixteen_updates = refl
 -- ---- options in other forms
 
 pub glued : line (codes "-pm328p -eDVnFAqq -Pstdio:")
-    ≡ asks (switched (record { erase = true; keep_flash = true; no_verify = true; dry = true; force = true; all = true; quiet = 2 }))
+    ≡ asks (switched (record {
+      erase = true;
+      keep_flash = true;
+      no_verify = true;
+      dry = true;
+      force = true;
+      all = true;
+      quiet = 2;
+    }))
 unfolding whole_command
 glued = refl
 

@@ -20,5 +20,6 @@ too_large (c ∷ cs) h =
     let large : 65536 ≤ digits_value 10 (c ∷ cs) = omega (arith, small) in
     grind (arith, nat_tests)
 
-pub port_number-refused : {E : Type 0} (text : List ℕ) (e : E) → ParsesUnsigned 16 10 text (Err e) → IsDigits text → port_number text ≡ None
+pub port_number-refused : {E : Type 0} (text : List ℕ) (e : E) → ParsesUnsigned 16 10 text (Err e) → IsDigits text
+    → port_number text ≡ None
 port_number-refused text e h own = too_large text (parse_digits digits 16 text (Err e) h own)

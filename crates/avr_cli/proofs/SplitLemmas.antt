@@ -33,7 +33,8 @@ after_prefix-lacks (p ∷ ps) (c ∷ cs) h = ⊎_elim
     (cases_Bool (p == c))
 
 -- the clause of `strip_prefix` at a text
-pub strips_front : (front text : List ℕ) (r : Option (Bor (List ℕ))) → MatchOption r (FindsTextPrefix front text None) (λ x. StripsPrefix (FindsTextPrefix front) text x.now)
+pub strips_front : (front text : List ℕ) (r : Option (Bor (List ℕ)))
+    → MatchOption r (FindsTextPrefix front text None) (λ x. StripsPrefix (FindsTextPrefix front) text x.now)
     → option_map (λ s. s.now) r ≡ after_prefix front text
 strips_front front text None h = sym (after_prefix-lacks front text h)
 strips_front front text (Some x) h =
@@ -65,13 +66,16 @@ split_last-parts [] ys h = rw (split_last-none ys h) refl
 split_last-parts (x ∷ xs) ys h = rw (split_last-parts xs ys h) refl
 
 -- the clause of `rsplit_once` at a colon
-pub splits_last : (text : List ℕ) (r : Option (Bor (List ℕ) × Bor (List ℕ))) → MatchOption r (RFindsChar colon text None) (λ x. SplitsAroundMatch (RFindsChar colon) text x.0.now x.1.now)
+pub splits_last : (text : List ℕ) (r : Option (Bor (List ℕ) × Bor (List ℕ)))
+    → MatchOption r (RFindsChar colon text None) (λ x. SplitsAroundMatch (RFindsChar colon) text x.0.now x.1.now)
     → option_map (λ s. (s.0.now, s.1.now)) r ≡ split_last text
 splits_last text None h = sym (split_last-none text (λ i l. NoCharPasses-char colon text i h (omega arith) l))
 splits_last text (Some x) h =
     let i = h.0 in
     let j = h.1 in
     let at : drop i text ≡ colon ∷ drop j text = drop_at_char colon text i j h.2.1 (omega arith) in
-    let whole : text ≡ take i text ++ colon ∷ drop j text = sym (take-append-drop i text) ∙ ap (λ (b : List ℕ). take i text ++ b) at in
+    let whole : text ≡ take i text ++ colon ∷ drop j text =
+    sym (take-append-drop i text) ∙ ap (λ (b : List ℕ). take i text ++ b) at in
     ap₂ (λ (a b : List ℕ). Some (a, b)) h.3 h.4
-    ∙ sym (ap split_last whole ∙ split_last-parts (take i text) (drop j text) (λ k l. NoCharPasses-char colon (drop j text) k h.2.0 (omega arith) l))
+    ∙ sym (ap split_last whole ∙ split_last-parts (take i text) (drop j text)
+    (λ k l. NoCharPasses-char colon (drop j text) k h.2.0 (omega arith) l))

@@ -60,7 +60,8 @@ pub a_file_of_one_letter : update_of (codes "flash:w:i") ≡ asks Flash Write Au
 a_file_of_one_letter = refl
 
 -- two bytes make one letter behind the last colon
-pub no_letter_of_two_bytes : update_of (codes "flash:w:x:" ++ 0xC3 ∷ 0xA9 ∷ []) ≡ asks Flash Write Auto (codes "x:" ++ 0xC3 ∷ 0xA9 ∷ [])
+pub no_letter_of_two_bytes : update_of (codes "flash:w:x:" ++ 0xC3 ∷ 0xA9 ∷ [])
+    ≡ asks Flash Write Auto (codes "x:" ++ 0xC3 ∷ 0xA9 ∷ [])
 no_letter_of_two_bytes = refl
 
 pub a_colon_is_no_format : update_of (codes "flash:w:a::") ≡ Err BadFormat

@@ -11,16 +11,19 @@ abbrev pub onto : List Update → Result (List Update) SettingsFault → Result 
 onto us (Ok vs) = Ok (us ++ vs)
 onto us (Err e) = Err e
 
-onto-next : (us : List Update) (u : Update) (r : Result (List Update) SettingsFault) → onto us (r >>= (λ vs. Ok (u ∷ vs))) ≡ onto (us ++ u ∷ []) r
+onto-next : (us : List Update) (u : Update) (r : Result (List Update) SettingsFault)
+    → onto us (r >>= (λ vs. Ok (u ∷ vs))) ≡ onto (us ++ u ∷ []) r
 onto-next us u (Ok vs) = ap (λ (xs : List Update). Ok xs) (sym (append_assoc us (u ∷ []) vs))
 onto-next us u (Err e) = refl
 
 -- one more text is read
-pub read_next : (all : Result (List Update) SettingsFault) (us : List Update) (left next : List Bytes) (n : ℕ) (text : Bytes) (u : Update)
+pub read_next : (all : Result (List Update) SettingsFault) (us : List Update) (left next : List Bytes) (n : ℕ)
+    (text : Bytes) (u : Update)
     → left ≡ text ∷ next → all ≡ onto us (updates_from n left) → Ok u ≡ update_at n (update_of text)
     → all ≡ onto (us ++ u ∷ []) (updates_from (n + 1) next)
 read_next all us left next n text u split so_far is =
     so_far
     ∙ ap (λ (ts : List Bytes). onto us (updates_from n ts)) split
-    ∙ ap (λ (r : Result Update SettingsFault). onto us (r >>= (λ v. updates_from (n + 1) next >>= (λ vs. Ok (v ∷ vs))))) (sym is)
+    ∙ ap (λ (r : Result Update SettingsFault). onto us (r >>= (λ v. updates_from (n + 1) next >>= (λ vs. Ok (v ∷ vs)))))
+    (sym is)
     ∙ onto-next us u (updates_from (n + 1) next)

@@ -34,7 +34,8 @@ third_laid : (b : Option ℕ) (z o m : ℕ) → Third z o m → Third (unwrap_or
 third_laid None z o m t = t
 third_laid (Some x) z o m t = λ e. refl
 
-thirds_laid : (image : Image) (zs os ms : List ℕ) → Thirds zs os ms → Thirds (with_image image zs) (with_image image os) (with_image image ms)
+thirds_laid : (image : Image) (zs os ms : List ℕ) → Thirds zs os ms
+    → Thirds (with_image image zs) (with_image image os) (with_image image ms)
 thirds_laid [] [] [] [] t = tt
 thirds_laid (b ∷ image) [] [] [] t = tt
 thirds_laid [] (z ∷ zs) (o ∷ os) (m ∷ ms) t = t
@@ -45,7 +46,8 @@ thirds_laid image (z ∷ zs) [] ms t = absurd t
 thirds_laid image (z ∷ zs) (o ∷ os) [] t = absurd t
 
 thirds_unless : (l lo lm : Bool) → lo ≡ l → lm ≡ l → (image : Image) (zs os ms : List ℕ) → Thirds zs os ms
-    → Thirds (if l then zs else with_image image zs) (if lo then os else with_image image os) (if lm then ms else with_image image ms)
+    → Thirds (if l then zs else with_image image zs) (if lo then os else with_image image os)
+    (if lm then ms else with_image image ms)
 thirds_unless true true true e f image zs os ms t = t
 thirds_unless false false false e f image zs os ms t = thirds_laid image zs os ms t
 thirds_unless true false lm e f image zs os ms t = absurd (true≢false (sym e))
@@ -62,7 +64,8 @@ third_unless false true lm e f b z o m t = absurd (true≢false e)
 third_unless true true false e f b z o m t = absurd (true≢false (sym f))
 third_unless false false true e f b z o m t = absurd (true≢false f)
 
-same_unless : (l lo : Bool) → lo ≡ l → (image : Image) (zs os : List ℕ) → os ≡ zs → (if lo then os else and_in image os) ≡ (if l then zs else and_in image zs)
+same_unless : (l lo : Bool) → lo ≡ l → (image : Image) (zs os : List ℕ) → os ≡ zs
+    → (if lo then os else and_in image os) ≡ (if l then zs else and_in image zs)
 same_unless true true e image zs os s = s
 same_unless false false e image zs os s = ap (and_in image) s
 same_unless true false e image zs os s = absurd (true≢false (sym e))
@@ -104,7 +107,8 @@ locked_as : (a b : Memories) → a.lock ≡ b.lock → are_locked a ≡ are_lock
 locked_as a b e = ap (λ (k : ℕ). bit_at k 0 == 0) e
 
 module _ (part : Part) where
-  write_between : (mem : Mem) (image : Image) (z o m : Memories) → Between z o m → Between (effect part (Write mem image) z) (effect part (Write mem image) o) (effect part (Write mem image) m)
+  write_between : (mem : Mem) (image : Image) (z o m : Memories) → Between z o m
+      → Between (effect part (Write mem image) z) (effect part (Write mem image) o) (effect part (Write mem image) m)
   write_between Flash image z o m t = record {
     flash_o = same_unless (are_locked z) (are_locked o) (locked_as o z t.lock_o) image z.flash o.flash t.flash_o;
     flash_m = same_unless (are_locked z) (are_locked m) (locked_as m z t.lock_m) image z.flash m.flash t.flash_m;
@@ -120,7 +124,8 @@ module _ (part : Part) where
     flash_m = t.flash_m;
     lock_o = t.lock_o;
     lock_m = t.lock_m;
-    eeprom = thirds_unless (are_locked z) (are_locked o) (are_locked m) (locked_as o z t.lock_o) (locked_as m z t.lock_m) image z.eeprom o.eeprom m.eeprom t.eeprom;
+    eeprom = thirds_unless (are_locked z) (are_locked o) (are_locked m) (locked_as o z t.lock_o)
+        (locked_as m z t.lock_m) image z.eeprom o.eeprom m.eeprom t.eeprom;
     lfuse = t.lfuse;
     hfuse = t.hfuse;
     efuse = t.efuse;
@@ -131,7 +136,8 @@ module _ (part : Part) where
     lock_o = t.lock_o;
     lock_m = t.lock_m;
     eeprom = t.eeprom;
-    lfuse = third_unless (are_locked z) (are_locked o) (are_locked m) (locked_as o z t.lock_o) (locked_as m z t.lock_m) (byte_at image 0) z.lfuse o.lfuse m.lfuse t.lfuse;
+    lfuse = third_unless (are_locked z) (are_locked o) (are_locked m) (locked_as o z t.lock_o) (locked_as m z t.lock_m)
+        (byte_at image 0) z.lfuse o.lfuse m.lfuse t.lfuse;
     hfuse = t.hfuse;
     efuse = t.efuse;
   }
@@ -142,7 +148,8 @@ module _ (part : Part) where
     lock_m = t.lock_m;
     eeprom = t.eeprom;
     lfuse = t.lfuse;
-    hfuse = third_unless (are_locked z) (are_locked o) (are_locked m) (locked_as o z t.lock_o) (locked_as m z t.lock_m) (byte_at image 0) z.hfuse o.hfuse m.hfuse t.hfuse;
+    hfuse = third_unless (are_locked z) (are_locked o) (are_locked m) (locked_as o z t.lock_o) (locked_as m z t.lock_m)
+        (byte_at image 0) z.hfuse o.hfuse m.hfuse t.hfuse;
     efuse = t.efuse;
   }
   write_between Efuse image z o m t = record {
@@ -153,7 +160,8 @@ module _ (part : Part) where
     eeprom = t.eeprom;
     lfuse = t.lfuse;
     hfuse = t.hfuse;
-    efuse = third_unless (are_locked z) (are_locked o) (are_locked m) (locked_as o z t.lock_o) (locked_as m z t.lock_m) (byte_at image 0) z.efuse o.efuse m.efuse t.efuse;
+    efuse = third_unless (are_locked z) (are_locked o) (are_locked m) (locked_as o z t.lock_o) (locked_as m z t.lock_m)
+        (byte_at image 0) z.efuse o.efuse m.efuse t.efuse;
   }
   write_between Lock image z o m t = record {
     flash_o = t.flash_o;
@@ -169,40 +177,50 @@ module _ (part : Part) where
   write_between Calibration image z o m t = t
 
   -- an action that erases nothing
-  items_between : (action : Action) (more : List Action) (z o m : Memories) → has_erase (actions_items (action ∷ more)) ≡ false → Between z o m
-      → Between (effects part (action_items action) z) (effects part (action_items action) o) (effects part (action_items action) m)
+  items_between : (action : Action) (more : List Action) (z o m : Memories)
+      → has_erase (actions_items (action ∷ more)) ≡ false → Between z o m
+      → Between (effects part (action_items action) z) (effects part (action_items action) o)
+      (effects part (action_items action) m)
   items_between EraseChip more z o m none t = absurd (true≢false none)
   items_between (WriteImage mem image) more z o m none t = write_between mem image z o m t
   items_between action more z o m none t = t
 
   -- ---- comparisons
 
-  shows_between : (mem : Mem) (image : Image) (z o m : Memories) → Between z o m → Shows part mem image z → Shows part mem image o → Shows part mem image m
+  shows_between : (mem : Mem) (image : Image) (z o m : Memories) → Between z o m → Shows part mem image z
+      → Shows part mem image o → Shows part mem image m
   shows_between Flash image z o m t hz ho = subst (Holds image) (sym t.flash_m) hz
   shows_between Eeprom image z o m t hz ho = held_third image z.eeprom o.eeprom m.eeprom t.eeprom hz ho
-  shows_between Lfuse image z o m t hz ho = held_third image (z.lfuse ∷ []) (o.lfuse ∷ []) (m.lfuse ∷ []) (t.lfuse, tt) hz ho
-  shows_between Hfuse image z o m t hz ho = held_third image (z.hfuse ∷ []) (o.hfuse ∷ []) (m.hfuse ∷ []) (t.hfuse, tt) hz ho
-  shows_between Efuse image z o m t hz ho = held_third image (z.efuse ∷ []) (o.efuse ∷ []) (m.efuse ∷ []) (t.efuse, tt) hz ho
+  shows_between Lfuse image z o m t hz ho =
+      held_third image (z.lfuse ∷ []) (o.lfuse ∷ []) (m.lfuse ∷ []) (t.lfuse, tt) hz ho
+  shows_between Hfuse image z o m t hz ho =
+      held_third image (z.hfuse ∷ []) (o.hfuse ∷ []) (m.hfuse ∷ []) (t.hfuse, tt) hz ho
+  shows_between Efuse image z o m t hz ho =
+      held_third image (z.efuse ∷ []) (o.efuse ∷ []) (m.efuse ∷ []) (t.efuse, tt) hz ho
   shows_between Lock image z o m t hz ho = subst (λ (k : ℕ). Holds image (k ∷ [])) (sym t.lock_m) hz
   shows_between Signature image z o m t hz ho = hz
   shows_between Calibration image z o m t hz ho = hz
 
-  action_between : (action : Action) (z o m : Memories) → Between z o m → ActionAgrees part action z → ActionAgrees part action o → ActionAgrees part action m
+  action_between : (action : Action) (z o m : Memories) → Between z o m → ActionAgrees part action z
+      → ActionAgrees part action o → ActionAgrees part action m
   action_between (CompareImage mem image) z o m t hz ho = shows_between mem image z o m t hz ho
   action_between action z o m t hz ho = tt
 
-  no_more : (action : Action) (more : List Action) → has_erase (actions_items (action ∷ more)) ≡ false → has_erase (actions_items more) ≡ false
+  no_more : (action : Action) (more : List Action) → has_erase (actions_items (action ∷ more)) ≡ false
+      → has_erase (actions_items more) ≡ false
   no_more EraseChip more none = absurd (true≢false none)
   no_more (WriteImage mem image) more none = none
   no_more action more none = none
 
-  actions_between : (actions : List Action) (z o m : Memories) → has_erase (actions_items actions) ≡ false → Between z o m
+  actions_between : (actions : List Action) (z o m : Memories) → has_erase (actions_items actions) ≡ false
+      → Between z o m
       → ActionsAgree part actions z → ActionsAgree part actions o → ActionsAgree part actions m
   actions_between [] z o m none t hz ho = tt
   actions_between (action ∷ actions) z o m none t hz ho =
       let next = items_between action actions z o m none t in (
         action_between action z o m t hz.0 ho.0,
-        actions_between actions (effects part (action_items action) z) (effects part (action_items action) o) (effects part (action_items action) m)
+        actions_between actions (effects part (action_items action) z) (effects part (action_items action) o)
+            (effects part (action_items action) m)
             (no_more action actions none) next hz.1 ho.1,
       )
 
@@ -217,7 +235,8 @@ module _ (part : Part) where
   any_third (suc n) [] e = absurd (omega (arith, e))
   any_third (suc n) (m ∷ ms) e = (no_third m, any_third n ms (omega (arith, e)))
 
-  kept_zeros : (keeps : Bool) (n : ℕ) → keeps ≡ true → (if keeps then replicate n 0 else blank (replicate n 0)) ≡ replicate n 0
+  kept_zeros : (keeps : Bool) (n : ℕ) → keeps ≡ true
+      → (if keeps then replicate n 0 else blank (replicate n 0)) ≡ replicate n 0
   kept_zeros true n e = refl
   kept_zeros false n e = absurd (true≢false (sym e))
 
@@ -232,33 +251,42 @@ module _ (part : Part) where
   blank_as : (a b : List ℕ) (n : ℕ) → length a ≡ n → length b ≡ n → blank a ≡ blank b
   blank_as a b n e f = ap (λ (k : ℕ). replicate k 255) (e ∙ sym f)
 
-  begins_between : (m : Memories) → FitsPart part m → Between (effect part Erase (chip_of part 0)) (effect part Erase (chip_of part 255)) (effect part Erase m)
+  begins_between : (m : Memories) → FitsPart part m
+      → Between (effect part Erase (chip_of part 0)) (effect part Erase (chip_of part 255)) (effect part Erase m)
   begins_between m f =
       let n = part.eeprom_size in
       let k = part.flash_size in
-      let zeros : (if erase_keeps_eeprom part (chip_of part 0) then replicate n 0 else blank (replicate n 0)) ≡ replicate n 0 =
+      let zeros : (if erase_keeps_eeprom part (chip_of part 0) then replicate n 0 else blank (replicate n 0))
+      ≡ replicate n 0 =
       kept_zeros (erase_keeps_eeprom part (chip_of part 0)) n (ap (λ (b : ℕ). b == 0) (bit_at-zero part.eesave_bit)) in
-      let ones : (if erase_keeps_eeprom part (chip_of part 255) then replicate n 255 else blank (replicate n 255)) ≡ replicate n 255 = kept_ones (erase_keeps_eeprom part (chip_of part 255)) n in
+      let ones : (if erase_keeps_eeprom part (chip_of part 255) then replicate n 255 else blank (replicate n 255))
+      ≡ replicate n 255 = kept_ones (erase_keeps_eeprom part (chip_of part 255)) n in
       let mine = (effect part Erase m).eeprom in
       record {
-        flash_o = blank_as (replicate k 255) (replicate k 0) k (length-replicate {A = ℕ} k 255) (length-replicate {A = ℕ} k 0);
+        flash_o = blank_as (replicate k 255) (replicate k 0) k (length-replicate {A = ℕ} k 255)
+            (length-replicate {A = ℕ} k 0);
         flash_m = blank_as m.flash (replicate k 0) k f.flash (length-replicate {A = ℕ} k 0);
         lock_o = refl;
         lock_m = refl;
         eeprom = subst (λ zs. Thirds zs (effect part Erase (chip_of part 255)).eeprom mine) (sym zeros)
-            (subst (λ os. Thirds (replicate n 0) os mine) (sym ones) (any_third n mine (kept_size (erase_keeps_eeprom part m) m.eeprom n f.eeprom)));
+            (subst (λ os. Thirds (replicate n 0) os mine) (sym ones)
+            (any_third n mine (kept_size (erase_keeps_eeprom part m) m.eeprom n f.eeprom)));
         lfuse = no_third m.lfuse;
         hfuse = no_third m.hfuse;
         efuse = no_third m.efuse;
       }
 
-pub agrees_anyway : (plan : Plan) (m : Memories) → FitsPart plan.part m → has_erase (items plan) ≡ true → AgreesAnyway plan → Agrees plan m
+pub agrees_anyway : (plan : Plan) (m : Memories) → FitsPart plan.part m → has_erase (items plan) ≡ true
+    → AgreesAnyway plan → Agrees plan m
 agrees_anyway plan m f erases both =
     let part = plan.part in
     let rest = tasks_actions plan.switches plan.tasks in
     let behind : (x : Memories) → Agrees plan x → ActionsAgree part rest (effect part Erase x) =
-    λ x agree. subst (λ due. ActionsAgree part rest (effects part (erase_if due) x)) erases (tasks_agree plan x agree) in
-    plan_agrees plan m (subst (λ xs. ActionsAgree part rest (effects part xs m)) (sym (begins plan ∙ ap erase_if erases))
-    (actions_between part rest (effect part Erase (chip_of part 0)) (effect part Erase (chip_of part 255)) (effect part Erase m)
+    λ x agree. subst (λ due. ActionsAgree part rest (effects part (erase_if due) x)) erases
+    (tasks_agree plan x agree) in
+    plan_agrees plan m (subst (λ xs. ActionsAgree part rest (effects part xs m))
+    (sym (begins plan ∙ ap erase_if erases))
+    (actions_between part rest (effect part Erase (chip_of part 0)) (effect part Erase (chip_of part 255))
+    (effect part Erase m)
     (tasks_write plan.switches plan.tasks) (begins_between part m f)
     (behind (chip_of part 0) both.zeros) (behind (chip_of part 255) both.ones)))

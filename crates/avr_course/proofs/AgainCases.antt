@@ -11,26 +11,48 @@ use Rattle.avr_course.specs.Course.{course}
 
 -- four bytes of flash and two of EEPROM
 abbrev pub tiny : Part
-tiny = record { id = []; signature = 0x1E ∷ 0x95 ∷ 0x0F ∷ []; flash_size = 4; flash_page = 2; eeprom_size = 2; eeprom_page = 2; eesave_bit = 3 }
+tiny = record {
+  id = [];
+  signature = 0x1E ∷ 0x95 ∷ 0x0F ∷ [];
+  flash_size = 4;
+  flash_page = 2;
+  eeprom_size = 2;
+  eeprom_page = 2;
+  eesave_bit = 3;
+}
 
 abbrev pub erasing : Switches
-erasing = record { erase = true; keep_flash = false; no_verify = false; dry = false; force = false; all = false; quiet = 2 }
+erasing = record {
+  erase = true;
+  keep_flash = false;
+  no_verify = false;
+  dry = false;
+  force = false;
+  all = false;
+  quiet =
+      2;
+}
 
 abbrev plan_of : List Task → Plan
 plan_of tasks = record { part = tiny; tasks = tasks; switches = erasing }
 
 abbrev statuses : List Task → List ℕ
-statuses tasks = (course (plan_of tasks) (chip_of tiny 0)).status ∷ (course (plan_of tasks) (chip_of tiny 255)).status ∷ []
+statuses tasks = (course (plan_of tasks) (chip_of tiny 0)).status ∷ (course (plan_of tasks) (chip_of tiny 255)).status
+    ∷ []
 
 -- flash, EEPROM, fuses and the lock last; a gap of flash is FF
-whole : statuses (Write Flash (Some 1 ∷ Some 2 ∷ None ∷ None ∷ []) ∷ Write Eeprom (Some 3 ∷ None ∷ []) ∷ Write Hfuse (Some 0xD9 ∷ []) ∷ Write Lock (Some 0xFC ∷ []) ∷ Verify Flash (None ∷ None ∷ Some 255 ∷ None ∷ []) ∷ []) ≡ 0 ∷ 0 ∷ []
+whole : statuses (Write Flash (Some 1 ∷ Some 2 ∷ None ∷ None ∷ []) ∷ Write Eeprom (Some 3 ∷ None ∷ [])
+    ∷ Write Hfuse (Some 0xD9 ∷ []) ∷ Write Lock (Some 0xFC ∷ []) ∷ Verify Flash (None ∷ None ∷ Some 255 ∷ None ∷ [])
+    ∷ []) ≡ 0 ∷ 0 ∷ []
 whole = refl
 
 -- flash takes zeros only: a second image may clear bits of the first, and set none
-clears : statuses (Write Flash (Some 0x3F ∷ None ∷ None ∷ None ∷ []) ∷ Write Flash (Some 0x0F ∷ None ∷ None ∷ None ∷ []) ∷ []) ≡ 0 ∷ 0 ∷ []
+clears : statuses (Write Flash (Some 0x3F ∷ None ∷ None ∷ None ∷ []) ∷ Write Flash (Some 0x0F ∷ None ∷ None ∷ None ∷ [])
+    ∷ []) ≡ 0 ∷ 0 ∷ []
 clears = refl
 
-sets : statuses (Write Flash (Some 0x0F ∷ None ∷ None ∷ None ∷ []) ∷ Write Flash (Some 0x3F ∷ None ∷ None ∷ None ∷ []) ∷ []) ≡ 1 ∷ 1 ∷ []
+sets : statuses (Write Flash (Some 0x0F ∷ None ∷ None ∷ None ∷ []) ∷ Write Flash (Some 0x3F ∷ None ∷ None ∷ None ∷ [])
+    ∷ []) ≡ 1 ∷ 1 ∷ []
 sets = refl
 
 -- EEPROM that the plan doesn't write: each byte is wrong on one of the two chips
@@ -57,7 +79,12 @@ too_early = refl
 
 -- without an erase the two chips don't speak for all: a locked chip of FF keeps its FF
 abbrev unerased : Plan
-unerased = record { part = tiny; tasks = Write Flash (Some 0 ∷ None ∷ None ∷ None ∷ []) ∷ []; switches = record erasing { erase = false; keep_flash = true } }
+unerased = record {
+  part = tiny;
+  tasks = Write Flash (Some 0 ∷ None ∷ None ∷ None ∷ []) ∷ [];
+  switches =
+      record erasing { erase = false; keep_flash = true };
+}
 
 zeros_agree : (course unerased (chip_of tiny 0)).status ≡ 0
 zeros_agree = refl

@@ -30,20 +30,24 @@ two_of_all plan all = record {
   ones = all (chip_of plan.part 255) (chip_fits plan.part 255 (omega arith));
 }
 
-pub healed : (plan : Plan) (k : ℕ) (m : Memories) → IsPart plan.part → All (IsFitted plan.part) plan.tasks → FitsPart plan.part m
+pub healed : (plan : Plan) (k : ℕ) (m : Memories) → IsPart plan.part → All (IsFitted plan.part) plan.tasks
+    → FitsPart plan.part m
     → has_erase (items plan) ≡ true → AgreesAnyway plan
     → (erase_keeps_eeprom plan.part m ≡ true → AreKeeping plan.part (items plan))
     → Heals plan m (effects plan.part (take k (strokes plan)) m)
 healed plan k m sound fitted f erases both kept =
     let some = effects plan.part (take k (strokes plan)) m in
-    let again : Agrees plan some = agrees_anyway plan some (all_sizes plan.part sound (take k (strokes plan)) m f) erases both in
+    let again : Agrees plan some = agrees_anyway plan some (all_sizes plan.part sound (take k (strokes plan)) m f)
+    erases both in
     let once : Agrees plan m = agrees_anyway plan m f erases both in
     record {
       status = (course_status plan some).1 again;
-      memories = course_memories plan some again ∙ (plan_again plan k m sound fitted f (λ _. kept) ∙ sym (course_memories plan m once));
+      memories = course_memories plan some again
+          ∙ (plan_again plan k m sound fitted f (λ _. kept) ∙ sym (course_memories plan m once));
     }
 
-pub touched_healed : (plan : Plan) (before after : Memories) → IsPart plan.part → All (IsFitted plan.part) plan.tasks → FitsPart plan.part before
+pub touched_healed : (plan : Plan) (before after : Memories) → IsPart plan.part → All (IsFitted plan.part) plan.tasks
+    → FitsPart plan.part before
     → has_erase (items plan) ≡ true → AgreesAnyway plan
     → (erase_keeps_eeprom plan.part before ≡ true → AreKeeping plan.part (items plan))
     → IsTouched plan before after → Heals plan before after
@@ -51,13 +55,17 @@ touched_healed plan before after sound fitted f erases both kept touched =
     subst (Heals plan before) (sym touched.memories) (healed plan touched.count before sound fitted f erases both kept)
 
 -- a second run that did all comes to what the first one would have come to
-pub done_again : (plan : Plan) (before left after : Memories) → IsPart plan.part → All (IsFitted plan.part) plan.tasks → FitsPart plan.part before
+pub done_again : (plan : Plan) (before left after : Memories) → IsPart plan.part → All (IsFitted plan.part) plan.tasks
+    → FitsPart plan.part before
     → (has_erase (items plan) ≡ true → erase_keeps_eeprom plan.part before ≡ true → AreKeeping plan.part (items plan))
     → IsTouched plan before left → IsDone plan left after → after ≡ effects plan.part (items plan) before
 done_again plan before left after sound fitted f kept touched all =
-    all.memories ∙ (ap (effects plan.part (items plan)) touched.memories ∙ plan_again plan touched.count before sound fitted f kept)
+    all.memories ∙ (ap (effects plan.part (items plan)) touched.memories
+    ∙ plan_again plan touched.count before sound fitted f kept)
 
 -- a course that succeeds, whatever the chip was
-pub succeeds : (plan : Plan) (before : Memories) (status : ℕ) → FitsPart plan.part before → has_erase (items plan) ≡ true → AgreesAnyway plan
+pub succeeds : (plan : Plan) (before : Memories) (status : ℕ) → FitsPart plan.part before
+    → has_erase (items plan) ≡ true → AgreesAnyway plan
     → status ≡ (course plan before).status → status ≡ 0
-succeeds plan before status f erases both status_is = status_is ∙ (course_status plan before).1 (agrees_anyway plan before f erases both)
+succeeds plan before status f erases both status_is =
+    status_is ∙ (course_status plan before).1 (agrees_anyway plan before f erases both)

@@ -35,11 +35,13 @@ laid_joined (p ∷ a) [] (x ∷ xs) = refl
 laid_joined (p ∷ a) (q ∷ b) [] = refl
 laid_joined (p ∷ a) (q ∷ b) (x ∷ xs) = ap₂ (λ y ys. y ∷ ys) (joined_byte p q x) (laid_joined a b xs)
 
-laid_unless : (is_locked : Bool) (a b : Image) (xs : List ℕ) → with_image b (if is_locked then xs else with_image a xs) ≡ with_image (if is_locked then b else joined a b) xs
+laid_unless : (is_locked : Bool) (a b : Image) (xs : List ℕ)
+    → with_image b (if is_locked then xs else with_image a xs) ≡ with_image (if is_locked then b else joined a b) xs
 laid_unless true a b xs = refl
 laid_unless false a b xs = laid_joined a b xs
 
-byte_unless : (is_locked : Bool) (a b : Option ℕ) (x : ℕ) → unwrap_or b (if is_locked then x else unwrap_or a x) ≡ unwrap_or (if is_locked then b else either b a) x
+byte_unless : (is_locked : Bool) (a b : Option ℕ) (x : ℕ)
+    → unwrap_or b (if is_locked then x else unwrap_or a x) ≡ unwrap_or (if is_locked then b else either b a) x
 byte_unless true a b x = refl
 byte_unless false a b x = joined_byte a b x
 
@@ -59,7 +61,15 @@ record Net (part : Part) (items : List Item) (lock : ℕ) : Type 0 where
   last : ℕ
   flash_size : (xs : List ℕ) → length (flash xs) ≡ length xs
   is : (m : Memories) → effects part items (record m { lock = lock })
-      ≡ record { flash = flash m.flash; eeprom = with_image eeprom m.eeprom; lfuse = unwrap_or lfuse m.lfuse; hfuse = unwrap_or hfuse m.hfuse; efuse = unwrap_or efuse m.efuse; lock = last }
+      ≡ record {
+        flash = flash m.flash;
+        eeprom = with_image eeprom m.eeprom;
+        lfuse = unwrap_or lfuse m.lfuse;
+        hfuse =
+            unwrap_or hfuse m.hfuse;
+        efuse = unwrap_or efuse m.efuse;
+        lock = last;
+      }
 
 module _ (part : Part) where
   net : (items : List Item) (lock : ℕ) → has_erase items ≡ false → Net part items lock
@@ -99,7 +109,15 @@ module _ (part : Part) where
         last = n.last;
         flash_size = n.flash_size;
         is = λ m. n.is (effect part (Write Eeprom image) (record m { lock = lock }))
-            ∙ ap (λ e. record { flash = n.flash m.flash; eeprom = e; lfuse = unwrap_or n.lfuse m.lfuse; hfuse = unwrap_or n.hfuse m.hfuse; efuse = unwrap_or n.efuse m.efuse; lock = n.last })
+            ∙ ap (λ e. record {
+              flash = n.flash m.flash;
+              eeprom = e;
+              lfuse = unwrap_or n.lfuse m.lfuse;
+              hfuse =
+                  unwrap_or n.hfuse m.hfuse;
+              efuse = unwrap_or n.efuse m.efuse;
+              lock = n.last;
+            })
             (laid_unless b image n.eeprom m.eeprom);
       }
   net (Write Lfuse image ∷ items) lock w =
@@ -114,7 +132,15 @@ module _ (part : Part) where
         last = n.last;
         flash_size = n.flash_size;
         is = λ m. n.is (effect part (Write Lfuse image) (record m { lock = lock }))
-            ∙ ap (λ (e : ℕ). record { flash = n.flash m.flash; eeprom = with_image n.eeprom m.eeprom; lfuse = e; hfuse = unwrap_or n.hfuse m.hfuse; efuse = unwrap_or n.efuse m.efuse; lock = n.last })
+            ∙ ap (λ (e : ℕ). record {
+              flash = n.flash m.flash;
+              eeprom = with_image n.eeprom m.eeprom;
+              lfuse = e;
+              hfuse =
+                  unwrap_or n.hfuse m.hfuse;
+              efuse = unwrap_or n.efuse m.efuse;
+              lock = n.last;
+            })
             (byte_unless b (byte_at image 0) n.lfuse m.lfuse);
       }
   net (Write Hfuse image ∷ items) lock w =
@@ -129,7 +155,15 @@ module _ (part : Part) where
         last = n.last;
         flash_size = n.flash_size;
         is = λ m. n.is (effect part (Write Hfuse image) (record m { lock = lock }))
-            ∙ ap (λ (e : ℕ). record { flash = n.flash m.flash; eeprom = with_image n.eeprom m.eeprom; lfuse = unwrap_or n.lfuse m.lfuse; hfuse = e; efuse = unwrap_or n.efuse m.efuse; lock = n.last })
+            ∙ ap (λ (e : ℕ). record {
+              flash = n.flash m.flash;
+              eeprom = with_image n.eeprom m.eeprom;
+              lfuse =
+                  unwrap_or n.lfuse m.lfuse;
+              hfuse = e;
+              efuse = unwrap_or n.efuse m.efuse;
+              lock = n.last;
+            })
             (byte_unless b (byte_at image 0) n.hfuse m.hfuse);
       }
   net (Write Efuse image ∷ items) lock w =
@@ -144,7 +178,15 @@ module _ (part : Part) where
         last = n.last;
         flash_size = n.flash_size;
         is = λ m. n.is (effect part (Write Efuse image) (record m { lock = lock }))
-            ∙ ap (λ (e : ℕ). record { flash = n.flash m.flash; eeprom = with_image n.eeprom m.eeprom; lfuse = unwrap_or n.lfuse m.lfuse; hfuse = unwrap_or n.hfuse m.hfuse; efuse = e; lock = n.last })
+            ∙ ap (λ (e : ℕ). record {
+              flash = n.flash m.flash;
+              eeprom = with_image n.eeprom m.eeprom;
+              lfuse =
+                  unwrap_or n.lfuse m.lfuse;
+              hfuse = unwrap_or n.hfuse m.hfuse;
+              efuse = e;
+              lock = n.last;
+            })
             (byte_unless b (byte_at image 0) n.efuse m.efuse);
       }
   net (Write Lock image ∷ items) lock w =
@@ -187,14 +229,18 @@ module _ (part : Part) where
   -- ---- behind an erase
 
   eeprom_again : (before after : Bool) (image : Image) (xs : List ℕ) → (before ≡ true → after ≡ true)
-      → with_image image (if after then with_image image (if before then xs else blank xs) else blank (with_image image (if before then xs else blank xs))) ≡ with_image image (if before then xs else blank xs)
+      → with_image image (if after then with_image image (if before then xs else blank xs)
+      else blank (with_image image (if before then xs else blank xs)))
+      ≡ with_image image (if before then xs else blank xs)
   eeprom_again before true image xs kept = laid_twice image (if before then xs else blank xs)
   eeprom_again true false image xs kept = absurd (true≢false (sym (kept refl)))
   eeprom_again false false image xs kept =
-      ap (λ (n : ℕ). with_image image (replicate n 255)) (length-laid image (blank xs) ∙ length-replicate {A = ℕ} (length xs) 255)
+      ap (λ (n : ℕ). with_image image (replicate n 255))
+      (length-laid image (blank xs) ∙ length-replicate {A = ℕ} (length xs) 255)
 
   pub six : (f f' : List ℕ) (e e' : List ℕ) (l l' h h' x x' k : ℕ) → f ≡ f' → e ≡ e' → l ≡ l' → h ≡ h' → x ≡ x'
-      → ◌≡◌ {A = Memories} (record { flash = f; eeprom = e; lfuse = l; hfuse = h; efuse = x; lock = k }) (record { flash = f'; eeprom = e'; lfuse = l'; hfuse = h'; efuse = x'; lock = k })
+      → ◌≡◌ {A = Memories} (record { flash = f; eeprom = e; lfuse = l; hfuse = h; efuse = x; lock = k })
+      (record { flash = f'; eeprom = e'; lfuse = l'; hfuse = h'; efuse = x'; lock = k })
   six f f' e e' l l' h h' x x' k a b c d g =
       ap (λ z. record { flash = z; eeprom = e; lfuse = l; hfuse = h; efuse = x; lock = k }) a
       ∙ (ap (λ z. record { flash = f'; eeprom = z; lfuse = l; hfuse = h; efuse = x; lock = k }) b
@@ -203,11 +249,20 @@ module _ (part : Part) where
       ∙ ap (λ (z : ℕ). record { flash = f'; eeprom = e'; lfuse = l'; hfuse = h'; efuse = z; lock = k }) g)))
 
   abbrev made : (items : List Item) (lock : ℕ) → Net part items lock → Memories → Memories
-  made items lock n m = record { flash = n.flash m.flash; eeprom = with_image n.eeprom m.eeprom; lfuse = unwrap_or n.lfuse m.lfuse; hfuse = unwrap_or n.hfuse m.hfuse; efuse = unwrap_or n.efuse m.efuse; lock = n.last }
+  made items lock n m = record {
+    flash = n.flash m.flash;
+    eeprom = with_image n.eeprom m.eeprom;
+    lfuse =
+        unwrap_or n.lfuse m.lfuse;
+    hfuse = unwrap_or n.hfuse m.hfuse;
+    efuse = unwrap_or n.efuse m.efuse;
+    lock = n.last;
+  }
 
   made_again : (items : List Item) (n : Net part items 255) (m : Memories)
       → (erase_keeps_eeprom part m ≡ true → erase_keeps_eeprom part (made items 255 n (effect part Erase m)) ≡ true)
-      → made items 255 n (effect part Erase (made items 255 n (effect part Erase m))) ≡ made items 255 n (effect part Erase m)
+      → made items 255 n (effect part Erase (made items 255 n (effect part Erase m)))
+      ≡ made items 255 n (effect part Erase m)
   made_again items n m kept =
       let r = made items 255 n (effect part Erase m) in
       six (n.flash (blank r.flash)) r.flash
@@ -216,7 +271,8 @@ module _ (part : Part) where
       (unwrap_or n.hfuse r.hfuse) r.hfuse
       (unwrap_or n.efuse r.efuse) r.efuse
       n.last
-      (ap (λ (k : ℕ). n.flash (replicate k 255)) (n.flash_size (blank m.flash) ∙ length-replicate {A = ℕ} (length m.flash) 255))
+      (ap (λ (k : ℕ). n.flash (replicate k 255))
+      (n.flash_size (blank m.flash) ∙ length-replicate {A = ℕ} (length m.flash) 255))
       (eeprom_again (erase_keeps_eeprom part m) (erase_keeps_eeprom part r) n.eeprom m.eeprom kept)
       (laid_byte n.lfuse m.lfuse)
       (laid_byte n.hfuse m.hfuse)
@@ -228,7 +284,8 @@ module _ (part : Part) where
   erased_again items m w kept =
       let n = net items 255 w in
       let once : effects part (Erase ∷ items) m ≡ made items 255 n (effect part Erase m) = n.is (effect part Erase m) in
-      let twice : effects part (Erase ∷ items) (made items 255 n (effect part Erase m)) ≡ made items 255 n (effect part Erase (made items 255 n (effect part Erase m))) =
+      let twice : effects part (Erase ∷ items) (made items 255 n (effect part Erase m))
+      ≡ made items 255 n (effect part Erase (made items 255 n (effect part Erase m))) =
       n.is (effect part Erase (made items 255 n (effect part Erase m))) in
       ap (effects part (Erase ∷ items)) once
       ∙ (twice ∙ (made_again items n m (λ e. sym (ap (erase_keeps_eeprom part) once) ∙ kept e) ∙ sym once))
@@ -254,6 +311,7 @@ module _ (part : Part) where
       let front = take k items in
       let back = drop k items in
       let go : (x : Memories) → effects part (Erase ∷ items) x ≡ effects part back (effects part (Erase ∷ front) x) =
-      λ x. ap (λ all. effects part all (effect part Erase x)) (split k items) ∙ effects_on part front back (effect part Erase x) in
+      λ x. ap (λ all. effects part all (effect part Erase x)) (split k items)
+      ∙ effects_on part front back (effect part Erase x) in
       go (effects part (Erase ∷ front) m)
       ∙ (ap (effects part back) (erased_again front m (writes_of k items w) kept) ∙ sym (go m))

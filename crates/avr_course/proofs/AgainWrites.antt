@@ -61,12 +61,21 @@ record Free (part : Part) (items : List Item) : Type 0 where
   lock_is : (m : Memories) → (effects part items m).lock ≡ and_with lock m.lock
   shut : (m : Memories) → are_locked m ≡ true → effects part items m ≡ record m { lock = and_with lock m.lock }
   is : (m : Memories) → are_locked (effects part items m) ≡ false → effects part items m
-      ≡ record { flash = and_in flash m.flash; eeprom = with_image eeprom m.eeprom; lfuse = unwrap_or lfuse m.lfuse; hfuse = unwrap_or hfuse m.hfuse; efuse = unwrap_or efuse m.efuse; lock = and_with lock m.lock }
+      ≡ record {
+        flash = and_in flash m.flash;
+        eeprom = with_image eeprom m.eeprom;
+        lfuse = unwrap_or lfuse m.lfuse;
+        hfuse = unwrap_or hfuse m.hfuse;
+        efuse = unwrap_or efuse m.efuse;
+        lock = and_with lock m.lock;
+      }
 
 module _ (part : Part) where
-  ends_open : (items : List Item) (n : Free part items) (m : Memories) → are_locked (effects part items m) ≡ false → are_locked m ≡ false
+  ends_open : (items : List Item) (n : Free part items) (m : Memories) → are_locked (effects part items m) ≡ false
+      → are_locked m ≡ false
   ends_open items n m e = elim (cases_Bool (are_locked m)) [
-    | inl shut ↦ absurd (true≢false (sym (ap (λ (k : ℕ). bit_at k 0 == 0) (n.lock_is m) ∙ stays n.lock m.lock shut) ∙ e))
+    | inl shut ↦ absurd (true≢false (sym (ap (λ (k : ℕ). bit_at k 0 == 0) (n.lock_is m) ∙ stays n.lock m.lock shut)
+        ∙ e))
     | inr free ↦ free
   ]
 
@@ -80,7 +89,8 @@ module _ (part : Part) where
     lock = None;
     lock_is = λ m. refl;
     shut = λ m e. refl;
-    is = λ m e. six part m.flash (and_in [] m.flash) m.eeprom (with_image [] m.eeprom) m.lfuse m.lfuse m.hfuse m.hfuse m.efuse m.efuse m.lock (sym (and_none m.flash)) (sym (laid_none m.eeprom)) refl refl refl;
+    is = λ m e. six part m.flash (and_in [] m.flash) m.eeprom (with_image [] m.eeprom) m.lfuse m.lfuse m.hfuse m.hfuse
+        m.efuse m.efuse m.lock (sym (and_none m.flash)) (sym (laid_none m.eeprom)) refl refl refl;
   }
   free (Erase ∷ items) w = absurd (true≢false w)
   free (Write Flash image ∷ items) w =
@@ -93,10 +103,20 @@ module _ (part : Part) where
         efuse = n.efuse;
         lock = n.lock;
         lock_is = λ m. n.lock_is (effect part (Write Flash image) m);
-        shut = λ m e. n.shut (effect part (Write Flash image) m) e ∙ ap (λ xs. record m { flash = xs; lock = and_with n.lock m.lock }) (chosen (are_locked m) m.flash (and_in image m.flash) e);
+        shut = λ m e. n.shut (effect part (Write Flash image) m) e
+            ∙ ap (λ xs. record m { flash = xs; lock = and_with n.lock m.lock })
+            (chosen (are_locked m) m.flash (and_in image m.flash) e);
         is = λ m e. n.is (effect part (Write Flash image) m) e
-            ∙ ap (λ xs. record { flash = xs; eeprom = with_image n.eeprom m.eeprom; lfuse = unwrap_or n.lfuse m.lfuse; hfuse = unwrap_or n.hfuse m.hfuse; efuse = unwrap_or n.efuse m.efuse; lock = and_with n.lock m.lock })
-            (ap (and_in n.flash) (refused (are_locked m) m.flash (and_in image m.flash) (ends_open items n (effect part (Write Flash image) m) e)) ∙ and_anded image n.flash m.flash);
+            ∙ ap (λ xs. record {
+              flash = xs;
+              eeprom = with_image n.eeprom m.eeprom;
+              lfuse = unwrap_or n.lfuse m.lfuse;
+              hfuse = unwrap_or n.hfuse m.hfuse;
+              efuse = unwrap_or n.efuse m.efuse;
+              lock = and_with n.lock m.lock;
+            })
+            (ap (and_in n.flash) (refused (are_locked m) m.flash (and_in image m.flash)
+            (ends_open items n (effect part (Write Flash image) m) e)) ∙ and_anded image n.flash m.flash);
       }
   free (Write Eeprom image ∷ items) w =
       let n = free items w in
@@ -108,10 +128,21 @@ module _ (part : Part) where
         efuse = n.efuse;
         lock = n.lock;
         lock_is = λ m. n.lock_is (effect part (Write Eeprom image) m);
-        shut = λ m e. n.shut (effect part (Write Eeprom image) m) e ∙ ap (λ xs. record m { eeprom = xs; lock = and_with n.lock m.lock }) (chosen (are_locked m) m.eeprom (with_image image m.eeprom) e);
+        shut = λ m e. n.shut (effect part (Write Eeprom image) m) e
+            ∙ ap (λ xs. record m { eeprom = xs; lock = and_with n.lock m.lock })
+            (chosen (are_locked m) m.eeprom (with_image image m.eeprom) e);
         is = λ m e. n.is (effect part (Write Eeprom image) m) e
-            ∙ ap (λ xs. record { flash = and_in n.flash m.flash; eeprom = xs; lfuse = unwrap_or n.lfuse m.lfuse; hfuse = unwrap_or n.hfuse m.hfuse; efuse = unwrap_or n.efuse m.efuse; lock = and_with n.lock m.lock })
-            (ap (with_image n.eeprom) (refused (are_locked m) m.eeprom (with_image image m.eeprom) (ends_open items n (effect part (Write Eeprom image) m) e)) ∙ laid_joined image n.eeprom m.eeprom);
+            ∙ ap (λ xs. record {
+              flash = and_in n.flash m.flash;
+              eeprom = xs;
+              lfuse = unwrap_or n.lfuse m.lfuse;
+              hfuse =
+                  unwrap_or n.hfuse m.hfuse;
+              efuse = unwrap_or n.efuse m.efuse;
+              lock = and_with n.lock m.lock;
+            })
+            (ap (with_image n.eeprom) (refused (are_locked m) m.eeprom (with_image image m.eeprom)
+            (ends_open items n (effect part (Write Eeprom image) m) e)) ∙ laid_joined image n.eeprom m.eeprom);
       }
   free (Write Lfuse image ∷ items) w =
       let n = free items w in
@@ -123,10 +154,21 @@ module _ (part : Part) where
         efuse = n.efuse;
         lock = n.lock;
         lock_is = λ m. n.lock_is (effect part (Write Lfuse image) m);
-        shut = λ m e. n.shut (effect part (Write Lfuse image) m) e ∙ ap (λ (x : ℕ). record m { lfuse = x; lock = and_with n.lock m.lock }) (chosen (are_locked m) m.lfuse (unwrap_or (byte_at image 0) m.lfuse) e);
+        shut = λ m e. n.shut (effect part (Write Lfuse image) m) e
+            ∙ ap (λ (x : ℕ). record m { lfuse = x; lock = and_with n.lock m.lock })
+            (chosen (are_locked m) m.lfuse (unwrap_or (byte_at image 0) m.lfuse) e);
         is = λ m e. n.is (effect part (Write Lfuse image) m) e
-            ∙ ap (λ (x : ℕ). record { flash = and_in n.flash m.flash; eeprom = with_image n.eeprom m.eeprom; lfuse = x; hfuse = unwrap_or n.hfuse m.hfuse; efuse = unwrap_or n.efuse m.efuse; lock = and_with n.lock m.lock })
-            (ap (unwrap_or n.lfuse) (refused (are_locked m) m.lfuse (unwrap_or (byte_at image 0) m.lfuse) (ends_open items n (effect part (Write Lfuse image) m) e)) ∙ joined_byte (byte_at image 0) n.lfuse m.lfuse);
+            ∙ ap (λ (x : ℕ). record {
+              flash = and_in n.flash m.flash;
+              eeprom = with_image n.eeprom m.eeprom;
+              lfuse = x;
+              hfuse = unwrap_or n.hfuse m.hfuse;
+              efuse = unwrap_or n.efuse m.efuse;
+              lock = and_with n.lock m.lock;
+            })
+            (ap (unwrap_or n.lfuse) (refused (are_locked m) m.lfuse (unwrap_or (byte_at image 0) m.lfuse)
+            (ends_open items n (effect part (Write Lfuse image) m) e))
+            ∙ joined_byte (byte_at image 0) n.lfuse m.lfuse);
       }
   free (Write Hfuse image ∷ items) w =
       let n = free items w in
@@ -138,10 +180,23 @@ module _ (part : Part) where
         efuse = n.efuse;
         lock = n.lock;
         lock_is = λ m. n.lock_is (effect part (Write Hfuse image) m);
-        shut = λ m e. n.shut (effect part (Write Hfuse image) m) e ∙ ap (λ (x : ℕ). record m { hfuse = x; lock = and_with n.lock m.lock }) (chosen (are_locked m) m.hfuse (unwrap_or (byte_at image 0) m.hfuse) e);
+        shut = λ m e. n.shut (effect part (Write Hfuse image) m) e
+            ∙ ap (λ (x : ℕ). record m { hfuse = x; lock = and_with n.lock m.lock })
+            (chosen (are_locked m) m.hfuse (unwrap_or (byte_at image 0) m.hfuse) e);
         is = λ m e. n.is (effect part (Write Hfuse image) m) e
-            ∙ ap (λ (x : ℕ). record { flash = and_in n.flash m.flash; eeprom = with_image n.eeprom m.eeprom; lfuse = unwrap_or n.lfuse m.lfuse; hfuse = x; efuse = unwrap_or n.efuse m.efuse; lock = and_with n.lock m.lock })
-            (ap (unwrap_or n.hfuse) (refused (are_locked m) m.hfuse (unwrap_or (byte_at image 0) m.hfuse) (ends_open items n (effect part (Write Hfuse image) m) e)) ∙ joined_byte (byte_at image 0) n.hfuse m.hfuse);
+            ∙ ap (λ (x : ℕ). record {
+              flash = and_in n.flash m.flash;
+              eeprom = with_image n.eeprom m.eeprom;
+              lfuse =
+                  unwrap_or n.lfuse m.lfuse;
+              hfuse = x;
+              efuse = unwrap_or n.efuse m.efuse;
+              lock =
+                  and_with n.lock m.lock;
+            })
+            (ap (unwrap_or n.hfuse) (refused (are_locked m) m.hfuse (unwrap_or (byte_at image 0) m.hfuse)
+            (ends_open items n (effect part (Write Hfuse image) m) e))
+            ∙ joined_byte (byte_at image 0) n.hfuse m.hfuse);
       }
   free (Write Efuse image ∷ items) w =
       let n = free items w in
@@ -153,10 +208,23 @@ module _ (part : Part) where
         efuse = either n.efuse (byte_at image 0);
         lock = n.lock;
         lock_is = λ m. n.lock_is (effect part (Write Efuse image) m);
-        shut = λ m e. n.shut (effect part (Write Efuse image) m) e ∙ ap (λ (x : ℕ). record m { efuse = x; lock = and_with n.lock m.lock }) (chosen (are_locked m) m.efuse (unwrap_or (byte_at image 0) m.efuse) e);
+        shut = λ m e. n.shut (effect part (Write Efuse image) m) e
+            ∙ ap (λ (x : ℕ). record m { efuse = x; lock = and_with n.lock m.lock })
+            (chosen (are_locked m) m.efuse (unwrap_or (byte_at image 0) m.efuse) e);
         is = λ m e. n.is (effect part (Write Efuse image) m) e
-            ∙ ap (λ (x : ℕ). record { flash = and_in n.flash m.flash; eeprom = with_image n.eeprom m.eeprom; lfuse = unwrap_or n.lfuse m.lfuse; hfuse = unwrap_or n.hfuse m.hfuse; efuse = x; lock = and_with n.lock m.lock })
-            (ap (unwrap_or n.efuse) (refused (are_locked m) m.efuse (unwrap_or (byte_at image 0) m.efuse) (ends_open items n (effect part (Write Efuse image) m) e)) ∙ joined_byte (byte_at image 0) n.efuse m.efuse);
+            ∙ ap (λ (x : ℕ). record {
+              flash = and_in n.flash m.flash;
+              eeprom = with_image n.eeprom m.eeprom;
+              lfuse =
+                  unwrap_or n.lfuse m.lfuse;
+              hfuse = unwrap_or n.hfuse m.hfuse;
+              efuse = x;
+              lock =
+                  and_with n.lock m.lock;
+            })
+            (ap (unwrap_or n.efuse) (refused (are_locked m) m.efuse (unwrap_or (byte_at image 0) m.efuse)
+            (ends_open items n (effect part (Write Efuse image) m) e))
+            ∙ joined_byte (byte_at image 0) n.efuse m.efuse);
       }
   free (Write Lock image ∷ items) w =
       let n = free items w in
@@ -169,43 +237,89 @@ module _ (part : Part) where
         efuse = n.efuse;
         lock = both o n.lock;
         lock_is = λ m. n.lock_is (effect part (Write Lock image) m) ∙ both_byte o n.lock m.lock;
-        shut = λ m e. n.shut (effect part (Write Lock image) m) (stays o m.lock e) ∙ ap (λ (x : ℕ). record m { lock = x }) (both_byte o n.lock m.lock);
+        shut = λ m e. n.shut (effect part (Write Lock image) m) (stays o m.lock e)
+            ∙ ap (λ (x : ℕ). record m { lock = x }) (both_byte o n.lock m.lock);
         is = λ m e. n.is (effect part (Write Lock image) m) e
-            ∙ ap (λ (x : ℕ). record { flash = and_in n.flash m.flash; eeprom = with_image n.eeprom m.eeprom; lfuse = unwrap_or n.lfuse m.lfuse; hfuse = unwrap_or n.hfuse m.hfuse; efuse = unwrap_or n.efuse m.efuse; lock = x })
+            ∙ ap (λ (x : ℕ). record {
+              flash = and_in n.flash m.flash;
+              eeprom = with_image n.eeprom m.eeprom;
+              lfuse =
+                  unwrap_or n.lfuse m.lfuse;
+              hfuse = unwrap_or n.hfuse m.hfuse;
+              efuse = unwrap_or n.efuse m.efuse;
+              lock =
+                  x;
+            })
             (both_byte o n.lock m.lock);
       }
   free (Write Signature image ∷ items) w =
       let n = free items w in
-      record { flash = n.flash; eeprom = n.eeprom; lfuse = n.lfuse; hfuse = n.hfuse; efuse = n.efuse; lock = n.lock; lock_is = n.lock_is; shut = n.shut; is = n.is }
+      record {
+        flash = n.flash;
+        eeprom = n.eeprom;
+        lfuse = n.lfuse;
+        hfuse = n.hfuse;
+        efuse = n.efuse;
+        lock = n.lock;
+        lock_is = n.lock_is;
+        shut = n.shut;
+        is = n.is;
+      }
   free (Write Calibration image ∷ items) w =
       let n = free items w in
-      record { flash = n.flash; eeprom = n.eeprom; lfuse = n.lfuse; hfuse = n.hfuse; efuse = n.efuse; lock = n.lock; lock_is = n.lock_is; shut = n.shut; is = n.is }
+      record {
+        flash = n.flash;
+        eeprom = n.eeprom;
+        lfuse = n.lfuse;
+        hfuse = n.hfuse;
+        efuse = n.efuse;
+        lock = n.lock;
+        lock_is = n.lock_is;
+        shut = n.shut;
+        is = n.is;
+      }
 
-  pub written_again : (items : List Item) (m : Memories) → has_erase items ≡ false → effects part items (effects part items m) ≡ effects part items m
+  pub written_again : (items : List Item) (m : Memories) → has_erase items ≡ false
+      → effects part items (effects part items m) ≡ effects part items m
   written_again items m w =
       let n = free items w in
       let r = effects part items m in
-      let lock_again : and_with n.lock r.lock ≡ r.lock = ap (and_with n.lock) (n.lock_is m) ∙ (and_byte n.lock m.lock ∙ sym (n.lock_is m)) in
+      let lock_again : and_with n.lock r.lock ≡ r.lock =
+      ap (and_with n.lock) (n.lock_is m) ∙ (and_byte n.lock m.lock ∙ sym (n.lock_is m)) in
       elim (cases_Bool (are_locked r)) [
         | inl shut ↦ n.shut r shut ∙ ap (λ (x : ℕ). record r { lock = x }) lock_again
         | inr open_ ↦
             let once = n.is m open_ in
-            let still : are_locked (effects part items r) ≡ false = ap (λ (k : ℕ). bit_at k 0 == 0) (n.lock_is r ∙ lock_again) ∙ open_ in
+            let still : are_locked (effects part items r) ≡ false =
+            ap (λ (k : ℕ). bit_at k 0 == 0) (n.lock_is r ∙ lock_again) ∙ open_ in
             let twice = n.is r still in
             twice
-            ∙ (ap (λ (x : Memories). record { flash = and_in n.flash x.flash; eeprom = with_image n.eeprom x.eeprom; lfuse = unwrap_or n.lfuse x.lfuse; hfuse = unwrap_or n.hfuse x.hfuse; efuse = unwrap_or n.efuse x.efuse; lock = and_with n.lock x.lock }) once
-            ∙ (seven (and_in_twice n.flash m.flash) (laid_twice n.eeprom m.eeprom) (laid_byte n.lfuse m.lfuse) (laid_byte n.hfuse m.hfuse) (laid_byte n.efuse m.efuse) (and_byte n.lock m.lock)
+            ∙ (ap (λ (x : Memories). record {
+              flash = and_in n.flash x.flash;
+              eeprom = with_image n.eeprom x.eeprom;
+              lfuse = unwrap_or n.lfuse x.lfuse;
+              hfuse = unwrap_or n.hfuse x.hfuse;
+              efuse = unwrap_or n.efuse x.efuse;
+              lock = and_with n.lock x.lock;
+            }) once
+            ∙ (seven (and_in_twice n.flash m.flash) (laid_twice n.eeprom m.eeprom) (laid_byte n.lfuse m.lfuse)
+            (laid_byte n.hfuse m.hfuse) (laid_byte n.efuse m.efuse) (and_byte n.lock m.lock)
             ∙ sym once))
       ]
     where
       seven : {f f' e e' : List ℕ} {l l' h h' x x' k k' : ℕ} → f ≡ f' → e ≡ e' → l ≡ l' → h ≡ h' → x ≡ x' → k ≡ k'
-          → ◌≡◌ {A = Memories} (record { flash = f; eeprom = e; lfuse = l; hfuse = h; efuse = x; lock = k }) (record { flash = f'; eeprom = e'; lfuse = l'; hfuse = h'; efuse = x'; lock = k' })
+          → ◌≡◌ {A = Memories} (record { flash = f; eeprom = e; lfuse = l; hfuse = h; efuse = x; lock = k })
+          (record { flash = f'; eeprom = e'; lfuse = l'; hfuse = h'; efuse = x'; lock = k' })
       seven {f} {f'} {e} {e'} {l} {l'} {h} {h'} {x} {x'} {k} {k'} a b c d g i =
-          six part f f' e e' l l' h h' x x' k a b c d g ∙ ap (λ (z : ℕ). record { flash = f'; eeprom = e'; lfuse = l'; hfuse = h'; efuse = x'; lock = z }) i
+          six part f f' e e' l l' h h' x x' k a b c d g
+          ∙ ap (λ (z : ℕ). record { flash = f'; eeprom = e'; lfuse = l'; hfuse = h'; efuse = x'; lock = z }) i
 
-  pub first_writes_again : (k : ℕ) (items : List Item) (m : Memories) → has_erase items ≡ false → effects part items (effects part (take k items) m) ≡ effects part items m
+  pub first_writes_again : (k : ℕ) (items : List Item) (m : Memories) → has_erase items ≡ false
+      → effects part items (effects part (take k items) m) ≡ effects part items m
   first_writes_again k items m w =
       let front = take k items in
       let back = drop k items in
-      let go : (x : Memories) → effects part items x ≡ effects part back (effects part front x) = λ x. ap (λ all. effects part all x) (split part k items) ∙ effects_on part front back x in
-      go (effects part front m) ∙ (ap (effects part back) (written_again front m (writes_of part k items w)) ∙ sym (go m))
+      let go : (x : Memories) → effects part items x ≡ effects part back (effects part front x) =
+      λ x. ap (λ all. effects part all x) (split part k items) ∙ effects_on part front back x in
+      go (effects part front m) ∙ (ap (effects part back) (written_again front m (writes_of part k items w))
+      ∙ sym (go m))

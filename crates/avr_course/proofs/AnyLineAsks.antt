@@ -44,7 +44,8 @@ asks_light (Ask asked answered) f = (
 
 commands_light : (commands : List Command) → AreSendable commands → weighed unsendable (map body commands) ≡ 0
 commands_light [] s = omega arith
-commands_light (command ∷ commands) s = let first = light (body command) s.0 in let more = commands_light commands s.1 in omega (arith, first, more)
+commands_light (command ∷ commands) s = let first = light (body command) s.0 in let more =
+    commands_light commands s.1 in omega (arith, first, more)
 
 steps_light : (steps : List (List Command)) → EachSendable steps → weighed unsendable (bodies_in steps) ≡ 0
 steps_light [] s = omega arith
@@ -64,7 +65,10 @@ reads_sendable place = (record { some = omega arith; few = omega arith }, tt)
 opening_sendable : EachSendable opening_steps
 opening_sendable = (
   (record { some = omega arith; few = omega arith }, tt),
-  ((record { some = omega arith; few = omega arith }, tt), (reads_sendable 0, (reads_sendable 1, (reads_sendable 2, tt)))),
+  (
+    (record { some = omega arith; few = omega arith }, tt),
+    (reads_sendable 0, (reads_sendable 1, (reads_sendable 2, tt))),
+  ),
 )
 
 closing_sendable : EachSendable closing_steps
@@ -76,25 +80,31 @@ module _ (part : Part) (sound : IsPart part) where
   action_sendable EraseChip fits = all_sendable part sound erasing_steps (item_are_steps part sound Erase tt)
   action_sendable LeaveErase fits = tt
   action_sendable (WriteImage mem image) fits =
-      all_sendable part sound (write_steps part mem image) (write_are_steps part sound mem image (let size = fits.0 in omega (arith, size)))
+      all_sendable part sound (write_steps part mem image)
+      (write_are_steps part sound mem image (let size = fits.0 in omega (arith, size)))
   action_sendable (LeaveWrite mem image) fits = tt
-  action_sendable (CompareImage mem image) fits = all_sendable part sound (read_steps part mem) (read_are_steps part sound mem)
-  action_sendable (SaveMemory mem format file) fits = all_sendable part sound (read_steps part mem) (read_are_steps part sound mem)
+  action_sendable (CompareImage mem image) fits =
+      all_sendable part sound (read_steps part mem) (read_are_steps part sound mem)
+  action_sendable (SaveMemory mem format file) fits =
+      all_sendable part sound (read_steps part mem) (read_are_steps part sound mem)
 
   actions_sendable : (actions : List Action) → AllFitActions part actions → EachSendable (actions_steps part actions)
   actions_sendable [] fits = tt
   actions_sendable (action ∷ actions) fits =
-      both_sendable (action_steps part action) (actions_steps part actions) (action_sendable action fits.0) (actions_sendable actions fits.1)
+      both_sendable (action_steps part action) (actions_steps part actions) (action_sendable action fits.0)
+      (actions_sendable actions fits.1)
 
 run_sendable : (plan : Plan) → IsPart plan.part → All (IsFitted plan.part) plan.tasks → EachSendable (run_steps plan)
 run_sendable plan sound fitted =
     let later = actions_steps plan.part (work plan) in
     both_sendable (opening_steps ++ later) closing_steps
-    (both_sendable opening_steps later opening_sendable (actions_sendable plan.part sound (work plan) (work_fits plan fitted))) closing_sendable
+    (both_sendable opening_steps later opening_sendable
+    (actions_sendable plan.part sound (work plan) (work_fits plan fitted))) closing_sendable
 
 -- every question of a session
 pub session_asks : (plan : Plan) → IsPart plan.part → All (IsFitted plan.part) plan.tasks → AsksBodies (session plan)
 session_asks plan sound fitted =
     let none = steps_light (run_steps plan) (run_sendable plan sound fitted) in
     let nothing : 4 * weighed unsendable (bodies_in (run_steps plan)) ≡ 0 = omega (arith, none) in
-    asks_light (session plan) (subst (λ n. WeighsAtMost unsendable n (session plan)) nothing (session_weighs unsendable plan))
+    asks_light (session plan) (subst (λ n. WeighsAtMost unsendable n (session plan)) nothing
+    (session_weighs unsendable plan))

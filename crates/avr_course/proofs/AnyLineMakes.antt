@@ -39,12 +39,15 @@ pub record Struck (part : Part) (items : List Item) (m : Memories) (j : ℕ) (q 
   pub stands : Idle part (struck_by part j (all_steps part items) m) q
 
 -- a phase that makes the strokes of these items in their order, and where it is fine all have come to data
-pub record Makes (part : Part) (m : Memories) (items : List Item) (d : Dialog Saying Standing) (made : Count Programmer) (p : Programmer) (turns : List Turn) : Type 0 where
+pub record Makes (part : Part) (m : Memories) (items : List Item) (d : Dialog Saying Standing) (made : Count Programmer)
+    (p : Programmer) (turns : List Turn) : Type 0 where
   pub tally : Tallies device d made (Struck part items m) p turns
-  pub complete : (k : ℕ) → (along device k d p turns).dialog ≡ Done Fine → made k p turns ≡ length (all_steps part items)
+  pub complete : (k : ℕ) → (along device k d p turns).dialog ≡ Done Fine
+      → made k p turns ≡ length (all_steps part items)
 
 -- a count in other words
-pub tallies_same : {E R : Type 0} (d : Dialog E R) (made other : Count Programmer) (At : ℕ → Programmer → Type 0) (p : Programmer) (turns : List Turn)
+pub tallies_same : {E R : Type 0} (d : Dialog E R) (made other : Count Programmer) (At : ℕ → Programmer → Type 0)
+    (p : Programmer) (turns : List Turn)
     → ((k : ℕ) → made k p turns ≡ other k p turns)
     → Tallies device d made At p turns → Tallies device d other At p turns
 tallies_same d made other At p turns same t = record {
@@ -60,7 +63,8 @@ struck_none part zero m = refl
 struck_none part (suc count) m = refl
 
 -- nothing is made where the memories stay
-pub makes_none : (part : Part) (m : Memories) (d : Dialog Saying Standing) (p : Programmer) (turns : List Turn) (After : Standing → Programmer → Type 0)
+pub makes_none : (part : Part) (m : Memories) (d : Dialog Saying Standing) (p : Programmer) (turns : List Turn)
+    (After : Standing → Programmer → Type 0)
     → Leads device d p turns (Rests part [] m) After → Makes part m [] d none_made p turns
 makes_none part m d p turns After l = record {
   tally = record {
@@ -68,17 +72,23 @@ makes_none part m d p turns After l = record {
     none = refl;
     at_least = λ k. omega arith;
     at_most = λ k. omega arith;
-    stands = λ k. let r = l.during k in record { few = omega arith; stands = subst (λ z. Idle part z (along device k d p turns).programmer) (struck_none part r.count m) r.stands };
+    stands = λ k. let r = l.during k in record {
+      few = omega arith;
+      stands = subst (λ z. Idle part z (along device k d p turns).programmer)
+          (struck_none part r.count m) r.stands;
+    };
   };
   complete = λ k e. refl;
 }
 
 -- counted past the last step nothing is struck
-struck_min : (part : Part) (count : ℕ) (steps : List (List Command)) (m : Memories) → struck_by part (min count (length steps)) steps m ≡ struck_by part count steps m
+struck_min : (part : Part) (count : ℕ) (steps : List (List Command)) (m : Memories)
+    → struck_by part (min count (length steps)) steps m ≡ struck_by part count steps m
 struck_min part zero steps m = ap (λ n. struck_by part n steps m) (let e : min 0 (length steps) ≡ 0 = omega arith in e)
 struck_min part (suc count) [] m = ap (λ n. struck_by part n [] m) (let e : min (suc count) 0 ≡ 0 = omega arith in e)
 struck_min part (suc count) (commands ∷ steps) m =
-    ap (λ n. struck_by part n (commands ∷ steps) m) (let e : min (suc count) (suc (length steps)) ≡ suc (min count (length steps)) = omega arith in e)
+    ap (λ n. struck_by part n (commands ∷ steps) m)
+    (let e : min (suc count) (suc (length steps)) ≡ suc (min count (length steps)) = omega arith in e)
     ∙ struck_min part count steps (struck part commands m)
 
 counted_most : (d : Dialog ⊥ Outcome) (n total : ℕ) → n ≤ total → step_count d n ≤ suc total
@@ -87,15 +97,18 @@ counted_most (Done (Err fault)) n total l = omega arith
 counted_most (Say s d) n total l = absurd s
 counted_most (Ask bytes go_on) n total l = omega arith
 
-steps_most : (steps : List (List Command)) (k : ℕ) (p : Programmer) (turns : List Turn) → steps_done device steps k p turns ≤ length steps
+steps_most : (steps : List (List Command)) (k : ℕ) (p : Programmer) (turns : List Turn)
+    → steps_done device steps k p turns ≤ length steps
 steps_most [] k p turns = omega arith
 steps_most (commands ∷ steps) k p turns =
     let s = along device k (step commands) p turns in
-    counted_most s.dialog (steps_done device steps s.left s.programmer s.turns) (length steps) (steps_most steps s.left s.programmer s.turns)
+    counted_most s.dialog (steps_done device steps s.left s.programmer s.turns) (length steps)
+    (steps_most steps s.left s.programmer s.turns)
 
 module _ (part : Part) (sound : IsPart part) where
   -- the steps of items
-  module _ (m : Memories) (items : List Item) (judge : List ℕ → Result ⊤ HostFault) (outcome_says : Result ⊤ HostFault → List Saying) (p : Programmer) (turns : List Turn)
+  module _ (m : Memories) (items : List Item) (judge : List ℕ → Result ⊤ HostFault)
+      (outcome_says : Result ⊤ HostFault → List Saying) (p : Programmer) (turns : List Turn)
       (are : AreSteps part (all_steps part items)) (settled : Settled part m p) where
     abbrev steps : List (List Command)
     steps = all_steps part items
@@ -103,16 +116,20 @@ module _ (part : Part) (sound : IsPart part) where
     abbrev told : Dialog Saying Standing
     told = reported (operation steps judge) outcome_says
 
-    played : Tallies device (play steps []) (steps_done device steps) (λ j. Settled part (struck_by part j steps m)) p turns
+    played : Tallies device (play steps []) (steps_done device steps) (λ j. Settled part (struck_by part j steps m)) p
+        turns
     played = (tallies_play part steps m [] p turns sound are settled).0
 
     moved : (k : ℕ) → (along device k (play steps []) p turns).programmer ≡ (along device k told p turns).programmer
-    moved k = sym (reported_programmer device (operation steps judge) outcome_says k p turns ∙ operation_programmer device steps judge k p turns)
+    moved k = sym (reported_programmer device (operation steps judge) outcome_says k p turns
+        ∙ operation_programmer device steps judge k p turns)
 
-    stands : (k : ℕ) (q : Programmer) → Settled part (struck_by part (played.count k) steps m) q → Struck part items m (min (played.count k) (length steps)) q
+    stands : (k : ℕ) (q : Programmer) → Settled part (struck_by part (played.count k) steps m) q
+        → Struck part items m (min (played.count k) (length steps)) q
     stands k q at = record {
       few = omega arith;
-      stands = subst (λ z. Idle part z q) (sym (struck_min part (played.count k) steps m)) (settled_idle part (struck_by part (played.count k) steps m) q at);
+      stands = subst (λ z. Idle part z q) (sym (struck_min part (played.count k) steps m))
+          (settled_idle part (struck_by part (played.count k) steps m) q at);
     }
 
     told_tally : Tallies device told (steps_done device steps) (Struck part items m) p turns
@@ -121,10 +138,12 @@ module _ (part : Part) (sound : IsPart part) where
       none = let e = played.none in omega (arith, e);
       at_least = λ k. let l = played.at_least k in let most = steps_most steps k p turns in omega (arith, l, most);
       at_most = λ k. let l = played.at_most k in omega (arith, l);
-      stands = λ k. subst (Struck part items m (min (played.count k) (length steps))) (moved k) (stands k (along device k (play steps []) p turns).programmer (played.stands k));
+      stands = λ k. subst (Struck part items m (min (played.count k) (length steps))) (moved k)
+          (stands k (along device k (play steps []) p turns).programmer (played.stands k));
     }
 
-    all_done : (k : ℕ) → (along device k told p turns).dialog ≡ Done Fine → steps_done device steps k p turns ≡ length steps
+    all_done : (k : ℕ) → (along device k told p turns).dialog ≡ Done Fine
+        → steps_done device steps k p turns ≡ length steps
     all_done k e =
         let ok = reported_fine device (operation steps judge) outcome_says k p turns e in
         let got = operation_ok device steps judge k p turns ok.0 ok.1 in
@@ -142,10 +161,12 @@ module _ (part : Part) (sound : IsPart part) where
   behind_is [] count = omega arith
   behind_is (commands ∷ steps) count = let e = behind_is steps count in omega (arith, e)
 
-  size_on : (xs ys : List Item) → length (all_steps part (xs ++ ys)) ≡ length (all_steps part xs) + length (all_steps part ys)
+  size_on : (xs ys : List Item) → length (all_steps part (xs ++ ys))
+      ≡ length (all_steps part xs) + length (all_steps part ys)
   size_on xs ys = ap length (all_on part xs ys) ∙ length-append (all_steps part xs) (all_steps part ys)
 
-  struck_first : (xs ys : List Item) (m : Memories) (j : ℕ) (q : Programmer) → Struck part xs m j q → Struck part (xs ++ ys) m j q
+  struck_first : (xs ys : List Item) (m : Memories) (j : ℕ) (q : Programmer) → Struck part xs m j q
+      → Struck part (xs ++ ys) m j q
   struck_first xs ys m j q s =
       let size = size_on xs ys in
       let few = s.few in
@@ -154,10 +175,12 @@ module _ (part : Part) (sound : IsPart part) where
         few = omega (arith, size, few);
         stands = subst (λ z. Idle part z q)
             (sym (ap (λ all. struck_by part j all m) (all_on part xs ys)
-            ∙ (ap (λ n. struck_by part n (steps ++ all_steps part ys) m) (sym (front_is j steps s.few)) ∙ struck_front part j steps (all_steps part ys) m))) s.stands;
+            ∙ (ap (λ n. struck_by part n (steps ++ all_steps part ys) m) (sym (front_is j steps s.few))
+            ∙ struck_front part j steps (all_steps part ys) m))) s.stands;
       }
 
-  struck_next : (xs ys : List Item) (m : Memories) (made j : ℕ) (q : Programmer) → AllFitItems part xs → FitsPart part m → made ≡ length (all_steps part xs)
+  struck_next : (xs ys : List Item) (m : Memories) (made j : ℕ) (q : Programmer) → AllFitItems part xs → FitsPart part m
+      → made ≡ length (all_steps part xs)
       → Struck part ys (effects part xs m) j q
       → Struck part (xs ++ ys) m (made + j) q
   struck_next xs ys m made j q fits f whole s =
@@ -170,14 +193,18 @@ module _ (part : Part) (sound : IsPart part) where
         stands = subst (λ z. Idle part z q)
             (sym (ap (λ all. struck_by part (made + j) all m) (all_on part xs ys)
             ∙ (ap (λ n. struck_by part n (steps ++ all_steps part ys) m) past
-            ∙ (struck_behind part j steps (all_steps part ys) m ∙ ap (struck_by part j (all_steps part ys)) (all_struck part sound xs m fits f))))) s.stands;
+            ∙ (struck_behind part j steps (all_steps part ys) m
+            ∙ ap (struck_by part j (all_steps part ys)) (all_struck part sound xs m fits f))))) s.stands;
       }
 
   -- one phase, and the next one unless there was a fault
-  module _ (m : Memories) (xs ys : List Item) (Check : Type 0) (d next : Dialog Saying Standing) (made later : Count Programmer) (p : Programmer) (turns : List Turn)
+  module _ (m : Memories) (xs ys : List Item) (Check : Type 0) (d next : Dialog Saying Standing)
+      (made later : Count Programmer) (p : Programmer) (turns : List Turn)
       (fits : AllFitItems part xs) (f : FitsPart part m)
-      (leads : Leads device d p turns (Rests part (all_steps part xs) m) (Comes part m xs Check)) (first : Makes part m xs d made p turns)
-      (more : (q : Programmer) (fs : List Turn) → Settled part (effects part xs m) q → Makes part (effects part xs m) ys next later q fs) where
+      (leads : Leads device d p turns (Rests part (all_steps part xs) m) (Comes part m xs Check))
+      (first : Makes part m xs d made p turns)
+      (more : (q : Programmer) (fs : List Turn) → Settled part (effects part xs m) q
+      → Makes part (effects part xs m) ys next later q fs) where
     abbrev after : Standing → Count Programmer
     after = made_unless_fault later
 
@@ -192,15 +219,18 @@ module _ (part : Part) (sound : IsPart part) where
         let all = first.complete k e in
         omega (arith, few, l, all)
 
-    sharp : (k l : ℕ) → (along device k d p turns).dialog ≡ Done Fine → (along device k d p turns).left ≡ suc l → first.tally.count k ≤ made (k - 1) p turns
+    sharp : (k l : ℕ) → (along device k d p turns).dialog ≡ Done Fine → (along device k d p turns).left ≡ suc l
+        → first.tally.count k ≤ made (k - 1) p turns
     sharp zero l e n = absurd (let z = none_left device d p turns in omega (arith, z, n))
     sharp (suc k) l e n =
         let back : suc k - 1 ≡ k = omega arith in
-        let all : made k p turns ≡ length (all_steps part xs) = first.complete k (ap (λ z. z.dialog) (along_before device k l d p turns Fine e n)) in
+        let all : made k p turns ≡ length (all_steps part xs) =
+        first.complete k (ap (λ z. z.dialog) (along_before device k l d p turns Fine e n)) in
         let made_all = whole (suc k) e in
         subst (λ i. first.tally.count (suc k) ≤ made i p turns) (sym back) (omega (arith, all, made_all))
 
-    abbrev nothing_more : (n : ℕ) (s : Standing) (q : Programmer) (fs : List Turn) → At n q → Tallies {E = Saying} device (Done s) none_made (λ j. At (n + j)) q fs
+    abbrev nothing_more : (n : ℕ) (s : Standing) (q : Programmer) (fs : List Turn) → At n q
+        → Tallies {E = Saying} device (Done s) none_made (λ j. At (n + j)) q fs
     nothing_more n s q fs at = record {
       count = λ k. 0;
       none = refl;
@@ -210,15 +240,19 @@ module _ (part : Part) (sound : IsPart part) where
     }
 
     abbrev GoesFrom : ℕ → Standing → Type 0
-    GoesFrom k s = GoesOn device At (along device k d p turns) (first.tally.count k) (made (k - 1) p turns) (unless_fault next s) (after s)
+    GoesFrom k s = GoesOn device At (along device k d p turns) (first.tally.count k) (made (k - 1) p turns)
+        (unless_fault next s) (after s)
 
     -- the next one goes on
-    goes_fine : (k : ℕ) → (along device k d p turns).dialog ≡ Done Fine → Settled part (effects part xs m) (along device k d p turns).programmer → GoesFrom k Fine
+    goes_fine : (k : ℕ) → (along device k d p turns).dialog ≡ Done Fine
+        → Settled part (effects part xs m) (along device k d p turns).programmer → GoesFrom k Fine
     goes_fine k e settled =
         let s = along device k d p turns in
         record {
-          rest = tallies_wider device next later (Struck part ys (effects part xs m)) (λ j. At (first.tally.count k + j)) s.programmer s.turns
-              (λ j q struck. struck_next xs ys m (first.tally.count k) j q fits f (whole k e) struck) (more s.programmer s.turns settled).tally;
+          rest = tallies_wider device next later (Struck part ys (effects part xs m))
+              (λ j. At (first.tally.count k + j)) s.programmer s.turns
+              (λ j q struck. struck_next xs ys m (first.tally.count k) j q fits f (whole k e) struck)
+              (more s.programmer s.turns settled).tally;
           sharp = inl (λ l n. sharp k l e n);
         }
 
@@ -226,7 +260,8 @@ module _ (part : Part) (sound : IsPart part) where
     goes_faulty k =
         let s = along device k d p turns in
         record {
-          rest = nothing_more (first.tally.count k) Faulty s.programmer s.turns (struck_first xs ys m (first.tally.count k) s.programmer (first.tally.stands k));
+          rest = nothing_more (first.tally.count k) Faulty s.programmer s.turns
+              (struck_first xs ys m (first.tally.count k) s.programmer (first.tally.stands k));
           sharp = inr (λ l. refl);
         }
 
@@ -234,11 +269,13 @@ module _ (part : Part) (sound : IsPart part) where
     goes_over k =
         let s = along device k d p turns in
         record {
-          rest = nothing_more (first.tally.count k) Over s.programmer s.turns (struck_first xs ys m (first.tally.count k) s.programmer (first.tally.stands k));
+          rest = nothing_more (first.tally.count k) Over s.programmer s.turns
+              (struck_first xs ys m (first.tally.count k) s.programmer (first.tally.stands k));
           sharp = inr (λ l. refl);
         }
 
-    goes_on : (k : ℕ) (s : Standing) → (along device k d p turns).dialog ≡ Done s → Comes part m xs Check s (along device k d p turns).programmer → GoesFrom k s
+    goes_on : (k : ℕ) (s : Standing) → (along device k d p turns).dialog ≡ Done s
+        → Comes part m xs Check s (along device k d p turns).programmer → GoesFrom k s
     goes_on k Fine e came = goes_fine k e came.0
     goes_on k Faulty e rests = goes_faulty k
     goes_on k Over e rests = goes_over k
@@ -250,18 +287,21 @@ module _ (part : Part) (sound : IsPart part) where
       none = first.tally.none;
       at_least = first.tally.at_least;
       at_most = first.tally.at_most;
-      stands = λ k. struck_first xs ys m (first.tally.count k) (along device k d p turns).programmer (first.tally.stands k);
+      stands = λ k. struck_first xs ys m (first.tally.count k) (along device k d p turns).programmer
+          (first.tally.stands k);
     }
 
     tally : Tallies device (d >>= unless_fault next) (then_count device d made after) At p turns
-    tally = tallies_bind device d (unless_fault next) made after At p turns among (λ k s e. goes_on k s e (leads.after k s e))
+    tally = tallies_bind device d (unless_fault next) made after At p turns among
+        (λ k s e. goes_on k s e (leads.after k s e))
 
     abbrev Ends : ℕ → Dialog Saying Standing → Type 0
     Ends k x = let s = along device k d p turns in
         (onward device (unless_fault next) s.left s.turns s.programmer x).dialog ≡ Done Fine
         → with_next x (made k p turns) (λ a. after a s.left s.programmer s.turns) ≡ length (all_steps part (xs ++ ys))
 
-    complete_fine : (k : ℕ) (s : Standing) → (along device k d p turns).dialog ≡ Done s → Comes part m xs Check s (along device k d p turns).programmer → Ends k (Done s)
+    complete_fine : (k : ℕ) (s : Standing) → (along device k d p turns).dialog ≡ Done s
+        → Comes part m xs Check s (along device k d p turns).programmer → Ends k (Done s)
     complete_fine k Fine e came = λ done.
         let t = along device k d p turns in
         let all = first.complete k e in
@@ -279,5 +319,6 @@ module _ (part : Part) (sound : IsPart part) where
     pub makes_then : Makes part m (xs ++ ys) (d >>= unless_fault next) (then_count device d made after) p turns
     makes_then = record {
       tally = tally;
-      complete = λ k e. complete_from k (along device k d p turns).dialog refl (sym (ap (λ z. z.dialog) (along_bind device k d (unless_fault next) p turns)) ∙ e);
+      complete = λ k e. complete_from k (along device k d p turns).dialog refl
+          (sym (ap (λ z. z.dialog) (along_bind device k d (unless_fault next) p turns)) ∙ e);
     }

@@ -41,7 +41,8 @@ use Rattle.avr_course.proofs.AnyLineMakes.{Struck, Makes, tallies_same, makes_no
 
 -- a phase makes the strokes of these items, from a programmer in programming mode with these memories
 abbrev Strikes : Part → Memories → List Item → Count Programmer → Dialog Saying Standing → Type 0
-Strikes part m items made d = (p : Programmer) (turns : List Turn) → Settled part m p → Makes part m items d made p turns
+Strikes part m items made d = (p : Programmer) (turns : List Turn) → Settled part m p
+    → Makes part m items d made p turns
 
 nothing_after : (x : Dialog Saying Standing) (n : ℕ) → with_next x n (λ s. 0) ≡ n
 nothing_after (Done s) n = omega arith
@@ -49,51 +50,70 @@ nothing_after (Say s d) n = refl
 nothing_after (Ask bytes go_on) n = refl
 
 -- nothing is made where there are no items
-makes_quiet : (part : Part) (sound : IsPart part) (m : Memories) (Check : Type 0) (d : Dialog Saying Standing) → FitsPart part m → Goes part sound Anything (Settled part m) m [] Check d → Strikes part m [] none_made d
-makes_quiet part sound m Check d f goes p turns settled = makes_none part m d p turns (Comes part m [] Check) (goes_leads part sound Anything m [] Check d p turns tt f goes settled)
+makes_quiet : (part : Part) (sound : IsPart part) (m : Memories) (Check : Type 0) (d : Dialog Saying Standing)
+    → FitsPart part m → Goes part sound Anything (Settled part m) m [] Check d → Strikes part m [] none_made d
+makes_quiet part sound m Check d f goes p turns settled =
+    makes_none part m d p turns (Comes part m [] Check)
+    (goes_leads part sound Anything m [] Check d p turns tt f goes settled)
 
 module _ (part : Part) (sound : IsPart part) (s : Switches) where
   makes_writing : (mem : Mem) (image : Image) (m : Memories) → length image ≤ size_of mem part → is_writable mem ≡ true
-      → Strikes part m (Write mem image ∷ []) (action_made part (WriteImage mem image)) (phase part s (WriteImage mem image))
+      → Strikes part m (Write mem image ∷ []) (action_made part (WriteImage mem image))
+      (phase part s (WriteImage mem image))
   makes_writing mem image m fits can p turns settled = by_kind (is_writable mem) can
     where
       only : write_steps part mem image ++ [] ≡ write_steps part mem image
       only = append-nil (write_steps part mem image)
 
       by_kind : (b : Bool) → b ≡ true
-          → Makes part m (Write mem image ∷ []) (reported (if b then operation (write_steps part mem image) no_result else Done (Err (ReadOnly mem))) (written_says s.quiet part mem image))
+          → Makes part m (Write mem image ∷ []) (reported
+          (if b then operation (write_steps part mem image) no_result else Done (Err (ReadOnly mem)))
+          (written_says s.quiet part mem image))
           (action_made part (WriteImage mem image)) p turns
       by_kind true e =
-          subst (λ steps. Makes part m (Write mem image ∷ []) (reported (operation steps no_result) (written_says s.quiet part mem image)) (action_made part (WriteImage mem image)) p turns) only
-          (makes_items part sound m (Write mem image ∷ []) no_result (written_says s.quiet part mem image) p turns (subst (AreSteps part) (sym only) (write_are_steps part sound mem image fits)) settled)
+          subst (λ steps. Makes part m (Write mem image ∷ [])
+          (reported (operation steps no_result) (written_says s.quiet part mem image))
+          (action_made part (WriteImage mem image)) p turns) only
+          (makes_items part sound m (Write mem image ∷ []) no_result (written_says s.quiet part mem image) p turns
+          (subst (AreSteps part) (sym only) (write_are_steps part sound mem image fits)) settled)
       by_kind false e = absurd cc
 
   makes_phase : (action : Action) (m : Memories) → FitsAction part action → FitsPart part m
       → Strikes part m (action_items action) (action_made part action) (phase part s action)
   makes_phase EraseChip m fits f = λ p turns settled.
-      makes_items part sound m (Erase ∷ []) no_result (erased_says s.quiet part) p turns (item_are_steps part sound Erase tt) settled
-  makes_phase (WriteImage mem image) m fits f = makes_writing mem image m (let size = fits.0 in omega (arith, size)) fits.1
-  makes_phase action m fits f = makes_quiet part sound m (ActionAgrees part action m) (phase part s action) f (goes_phase part sound Anything s action m fits f (any_phase part sound s action m))
+      makes_items part sound m (Erase ∷ []) no_result (erased_says s.quiet part) p turns
+      (item_are_steps part sound Erase tt) settled
+  makes_phase (WriteImage mem image) m fits f =
+      makes_writing mem image m (let size = fits.0 in omega (arith, size)) fits.1
+  makes_phase action m fits f = makes_quiet part sound m (ActionAgrees part action m) (phase part s action) f
+      (goes_phase part sound Anything s action m fits f (any_phase part sound s action m))
 
   makes_phases : (actions : List Action) (m : Memories) → AllFitActions part actions → FitsPart part m
       → Strikes part m (actions_items actions) (actions_made part s actions) (phases part s actions)
-  makes_phases [] m fits f p turns settled = makes_quiet part sound m ⊤ (Done Fine) f (goes_saying part sound Anything m [] (λ q s. tt)) p turns settled
+  makes_phases [] m fits f p turns settled =
+      makes_quiet part sound m ⊤ (Done Fine) f (goes_saying part sound Anything m [] (λ q s. tt)) p turns settled
   makes_phases (action ∷ actions) m fits f p turns settled =
       let items = action_items action in
       let left = effects part items m in
-      makes_then part sound m items (actions_items actions) (ActionAgrees part action m) (phase part s action) (phases part s actions) (action_made part action) (actions_made part s actions) p turns
+      makes_then part sound m items (actions_items actions) (ActionAgrees part action m) (phase part s action)
+      (phases part s actions) (action_made part action) (actions_made part s actions) p turns
       (action_items_fit part action fits.0) f
-      (goes_leads part sound Anything m items (ActionAgrees part action m) (phase part s action) p turns (action_items_fit part action fits.0) f
-      (goes_phase part sound Anything s action m fits.0 f (any_phase part sound s action m)) settled) (makes_phase action m fits.0 f p turns settled)
+      (goes_leads part sound Anything m items (ActionAgrees part action m) (phase part s action) p turns
+      (action_items_fit part action fits.0) f
+      (goes_phase part sound Anything s action m fits.0 f (any_phase part sound s action m)) settled)
+      (makes_phase action m fits.0 f p turns settled)
       (λ q fs there. makes_phases actions left fits.1 (effects_sizes part sound items m f) q fs there)
 
 -- the end keeps the memories
-ending_keeps : (part : Part) (sound : IsPart part) (s : Switches) (before : Memories) (standing : Standing) (p : Programmer) (turns : List Turn) → Idle part before p
+ending_keeps : (part : Part) (sound : IsPart part) (s : Switches) (before : Memories) (standing : Standing)
+    (p : Programmer) (turns : List Turn) → Idle part before p
     → Leads device (ending part s standing) p turns (Idle part before) (λ t q. Idle part before q)
 ending_keeps part sound s before standing p turns idle =
-    leads device (λ t q x. (x.0, x.0)) (goes_ending part sound Anything s (λ r q c. any_sayings (closed_says s.quiet part r) q) before standing p idle)
+    leads device (λ t q x. (x.0, x.0)) (goes_ending part sound Anything s
+    (λ r q c. any_sayings (closed_says s.quiet part r) q) before standing p idle)
 
-module _ (plan : Plan) (sound : IsPart plan.part) (fitted : All (IsFitted plan.part) plan.tasks) (m : Memories) (f : FitsPart plan.part m) (p : Programmer) (turns : List Turn)
+module _ (plan : Plan) (sound : IsPart plan.part) (fitted : All (IsFitted plan.part) plan.tasks) (m : Memories)
+    (f : FitsPart plan.part m) (p : Programmer) (turns : List Turn)
     (idle : Idle plan.part m p) where
   abbrev all_phases : Dialog Saying Standing
   all_phases = phases plan.part plan.switches (actions plan)
@@ -104,15 +124,20 @@ module _ (plan : Plan) (sound : IsPart plan.part) (fitted : All (IsFitted plan.p
       let s = plan.switches in
       let opened = phase part s OpenSession in
       let opens =
-      goes_leads part sound Anything m [] ⊤ opened p turns tt f (goes_opening part sound Anything s m f (any_says part sound (opening_says s.quiet part) [] (Ok part.signature) m)) idle in
-      makes_then part sound m [] (actions_items (work plan)) ⊤ opened (phases part s (work plan)) none_made (actions_made part s (work plan)) p turns tt f
-      opens (makes_none part m opened p turns (Comes part m [] ⊤) opens) (λ q fs there. makes_phases part sound s (work plan) m (work_fits plan fitted) f q fs there)
+      goes_leads part sound Anything m [] ⊤ opened p turns tt f
+      (goes_opening part sound Anything s m f (any_says part sound (opening_says s.quiet part) []
+      (Ok part.signature) m)) idle in
+      makes_then part sound m [] (actions_items (work plan)) ⊤ opened (phases part s (work plan)) none_made
+      (actions_made part s (work plan)) p turns tt f
+      opens (makes_none part m opened p turns (Comes part m [] ⊤) opens)
+      (λ q fs there. makes_phases part sound s (work plan) m (work_fits plan fitted) f q fs there)
 
   abbrev At : ℕ → Programmer → Type 0
   At = Struck plan.part (items plan) m
 
   ends : (k : ℕ) (s : Standing) → (along device k all_phases p turns).dialog ≡ Done s
-      → GoesOn device At (along device k all_phases p turns) (makes_actions.tally.count k) (made_by plan (k - 1) p turns) (ending plan.part plan.switches s) none_made
+      → GoesOn device At (along device k all_phases p turns) (makes_actions.tally.count k)
+      (made_by plan (k - 1) p turns) (ending plan.part plan.switches s) none_made
   ends k s e =
       let part = plan.part in
       let z = along device k all_phases p turns in
@@ -126,7 +151,8 @@ module _ (plan : Plan) (sound : IsPart plan.part) (fitted : All (IsFitted plan.p
           none = refl;
           at_least = λ l. omega arith;
           at_most = λ l. omega arith;
-          stands = λ l. subst (λ i. At i (along device l (ending part plan.switches s) z.programmer z.turns).programmer) (let same : made ≡ made + 0 = omega arith in same)
+          stands = λ l. subst (λ i. At i (along device l (ending part plan.switches s) z.programmer z.turns).programmer)
+              (let same : made ≡ made + 0 = omega arith in same)
               (record { few = struck.few; stands = keeps.during l });
         };
         sharp = inr (λ l. refl);
@@ -136,12 +162,16 @@ module _ (plan : Plan) (sound : IsPart plan.part) (fitted : All (IsFitted plan.p
   unfolding session
   session_tallies =
       tallies_told device (playing plan) status_of (made_by plan) At p turns
-      (tallies_same (playing plan) (then_count device all_phases (made_by plan) (λ t. none_made)) (made_by plan) At p turns
+      (tallies_same (playing plan) (then_count device all_phases (made_by plan) (λ t. none_made)) (made_by plan) At p
+      turns
       (λ k. nothing_after (along device k all_phases p turns).dialog (made_by plan k p turns))
-      (tallies_bind device all_phases (ending plan.part plan.switches) (made_by plan) (λ t. none_made) At p turns makes_actions.tally (λ k s e. ends k s e)))
+      (tallies_bind device all_phases (ending plan.part plan.switches) (made_by plan) (λ t. none_made) At p turns
+      makes_actions.tally (λ k s e. ends k s e)))
 
   -- so many strokes of the plan, in their order
-  pub session_makes : Tallies device (session plan) (made_by plan) (λ j q. memories_of q.chip ≡ effects plan.part (take j (strokes plan)) m) p turns
+  pub session_makes : Tallies device (session plan) (made_by plan)
+      (λ j q. memories_of q.chip ≡ effects plan.part (take j (strokes plan)) m) p turns
   session_makes =
-      tallies_wider device (session plan) (made_by plan) At (λ j q. memories_of q.chip ≡ effects plan.part (take j (strokes plan)) m) p turns
+      tallies_wider device (session plan) (made_by plan) At
+      (λ j q. memories_of q.chip ≡ effects plan.part (take j (strokes plan)) m) p turns
       (λ j q struck. struck.stands.memories ∙ items_counted plan.part (items plan) j m) session_tallies

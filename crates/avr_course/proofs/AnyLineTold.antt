@@ -23,17 +23,20 @@ done_same a b e = cc
 pub says≢done : {E R : Type 0} (e : E) (d : Dialog E R) (r : R) → ◌≡◌ {A = Dialog E R} (Say e d) (Done r) → ⊥
 says≢done e d r s = cc
 
-pub none_left : {E R P : Type 0} (m : Device P) (d : Dialog E R) (p : P) (turns : List Turn) → (along m 0 d p turns).left ≡ 0
+pub none_left : {E R P : Type 0} (m : Device P) (d : Dialog E R) (p : P) (turns : List Turn)
+    → (along m 0 d p turns).left ≡ 0
 none_left m (Done r) p turns = refl
 none_left m (Say s d) p turns = none_left m d p turns
 none_left m (Ask bytes go_on) p turns = refl
 
 module _ {P : Type 0} (m : Device P) where
-  pub says_programmer : {R : Type 0} (k : ℕ) (sayings : List Saying) (r : R) (p : P) (turns : List Turn) → (along m k (says sayings (Done r)) p turns).programmer ≡ p
+  pub says_programmer : {R : Type 0} (k : ℕ) (sayings : List Saying) (r : R) (p : P) (turns : List Turn)
+      → (along m k (says sayings (Done r)) p turns).programmer ≡ p
   says_programmer k [] r p turns = refl
   says_programmer k (saying ∷ sayings) r p turns = says_programmer k sayings r p turns
 
-  pub says_dialog : {R : Type 0} (k : ℕ) (sayings : List Saying) (r : R) (p : P) (turns : List Turn) → (along m k (says sayings (Done r)) p turns).dialog ≡ Done r
+  pub says_dialog : {R : Type 0} (k : ℕ) (sayings : List Saying) (r : R) (p : P) (turns : List Turn)
+      → (along m k (says sayings (Done r)) p turns).dialog ≡ Done r
   says_dialog k [] r p turns = refl
   says_dialog k (saying ∷ sayings) r p turns = says_dialog k sayings r p turns
 
@@ -41,19 +44,23 @@ module _ {P : Type 0} (m : Device P) where
     abbrev telling : Result A HostFault → Dialog Saying Standing
     telling outcome = says (outcome_says outcome) (Done (standing outcome))
 
-    on_programmer : (left : ℕ) (turns : List Turn) (p : P) (d : Dialog Saying (Result A HostFault)) → (onward m telling left turns p d).programmer ≡ p
+    on_programmer : (left : ℕ) (turns : List Turn) (p : P) (d : Dialog Saying (Result A HostFault))
+        → (onward m telling left turns p d).programmer ≡ p
     on_programmer left turns p (Done outcome) = says_programmer left (outcome_says outcome) (standing outcome) p turns
     on_programmer left turns p (Say s d) = refl
     on_programmer left turns p (Ask bytes go_on) = refl
 
     -- what is said moves nothing
-    pub reported_programmer : (k : ℕ) (p : P) (turns : List Turn) → (along m k (reported call outcome_says) p turns).programmer ≡ (along m k call p turns).programmer
+    pub reported_programmer : (k : ℕ) (p : P) (turns : List Turn)
+        → (along m k (reported call outcome_says) p turns).programmer ≡ (along m k call p turns).programmer
     reported_programmer k p turns =
         let s = along {E = Saying} m k (lifted call) p turns in
         ap (λ z. z.programmer) (along_bind m k (lifted call) telling p turns)
-        ∙ (on_programmer s.left s.turns s.programmer s.dialog ∙ ap (λ z. z.programmer) (along_lifted {E = Saying} m k call p turns))
+        ∙ (on_programmer s.left s.turns s.programmer s.dialog
+        ∙ ap (λ z. z.programmer) (along_lifted {E = Saying} m k call p turns))
 
-    on_fine : (left : ℕ) (turns : List Turn) (p : P) (d : Dialog ⊥ (Result A HostFault)) → (onward m telling left turns p (lifted d)).dialog ≡ Done Fine → (a : A) × (d ≡ Done (Ok a))
+    on_fine : (left : ℕ) (turns : List Turn) (p : P) (d : Dialog ⊥ (Result A HostFault))
+        → (onward m telling left turns p (lifted d)).dialog ≡ Done Fine → (a : A) × (d ≡ Done (Ok a))
     on_fine left turns p (Done (Ok a)) e = (a, refl)
     on_fine left turns p (Done (Err fault)) e =
         absurd (after_fault A (λ s. s ≡ Fine → ⊥) fault faulty_fine over_fine
@@ -62,20 +69,26 @@ module _ {P : Type 0} (m : Device P) where
     on_fine left turns p (Ask bytes go_on) e = absurd (asks≢done _ _ _ e)
 
     -- where it is fine the call has succeeded
-    pub reported_fine : (k : ℕ) (p : P) (turns : List Turn) → (along m k (reported call outcome_says) p turns).dialog ≡ Done Fine → (a : A) × ((along m k call p turns).dialog ≡ Done (Ok a))
+    pub reported_fine : (k : ℕ) (p : P) (turns : List Turn)
+        → (along m k (reported call outcome_says) p turns).dialog ≡ Done Fine
+        → (a : A) × ((along m k call p turns).dialog ≡ Done (Ok a))
     reported_fine k p turns e =
         let s = along m k call p turns in
         on_fine s.left s.turns s.programmer s.dialog
-        (sym (ap (λ z. (onward m telling z.left z.turns z.programmer z.dialog).dialog) (along_lifted {E = Saying} m k call p turns))
+        (sym (ap (λ z. (onward m telling z.left z.turns z.programmer z.dialog).dialog)
+        (along_lifted {E = Saying} m k call p turns))
         ∙ (sym (ap (λ z. z.dialog) (along_bind m k (lifted call) telling p turns)) ∙ e))
 
   module _ {A : Type 0} (steps : List (List Command)) (judge : List ℕ → Result A HostFault) where
     -- an operation is its steps, judged
-    pub operation_programmer : (k : ℕ) (p : P) (turns : List Turn) → (along m k (operation steps judge) p turns).programmer ≡ (along m k (play steps []) p turns).programmer
+    pub operation_programmer : (k : ℕ) (p : P) (turns : List Turn)
+        → (along m k (operation steps judge) p turns).programmer ≡ (along m k (play steps []) p turns).programmer
     unfolding operation
     operation_programmer k p turns = ap (λ z. z.programmer) (along_told m k (play steps []) (judged_by judge) p turns)
 
-    judged_ok : (d : Dialog ⊥ Outcome) (a : A) → ◌≡◌ {A = Dialog ⊥ (Result A HostFault)} (d >>= (λ o. Done (judged_by judge o))) (Done (Ok a)) → (got : List ℕ) × (d ≡ Done (Ok got))
+    judged_ok : (d : Dialog ⊥ Outcome) (a : A)
+        → ◌≡◌ {A = Dialog ⊥ (Result A HostFault)} (d >>= (λ o. Done (judged_by judge o))) (Done (Ok a))
+        → (got : List ℕ) × (d ≡ Done (Ok got))
     judged_ok (Done (Ok got)) a e = (got, refl)
     judged_ok (Done (Err fault)) a e = absurd (err≢ok (host_fault fault) a (done_same _ _ e))
       where
@@ -85,7 +98,9 @@ module _ {P : Type 0} (m : Device P) where
     judged_ok (Ask bytes go_on) a e = absurd (asks≢done _ _ _ e)
 
     -- where it succeeds they came to data
-    pub operation_ok : (k : ℕ) (p : P) (turns : List Turn) (a : A) → (along m k (operation steps judge) p turns).dialog ≡ Done (Ok a)
+    pub operation_ok : (k : ℕ) (p : P) (turns : List Turn) (a : A)
+        → (along m k (operation steps judge) p turns).dialog ≡ Done (Ok a)
         → (got : List ℕ) × ((along m k (play steps []) p turns).dialog ≡ Done (Ok got))
     unfolding operation
-    operation_ok k p turns a e = judged_ok (along m k (play steps []) p turns).dialog a (sym (ap (λ z. z.dialog) (along_told m k (play steps []) (judged_by judge) p turns)) ∙ e)
+    operation_ok k p turns a e = judged_ok (along m k (play steps []) p turns).dialog a
+        (sym (ap (λ z. z.dialog) (along_told m k (play steps []) (judged_by judge) p turns)) ∙ e)

@@ -39,17 +39,20 @@ module _ (part : Part) where
   erase_fits s tasks = by_switches s.dry s.erase (is_erase_due s tasks)
     where
       by_switches : (dry erase due : Bool)
-          → AllFitActions part (if dry then (if erase then LeaveErase ∷ [] else []) else if due then EraseChip ∷ [] else [])
+          → AllFitActions part (if dry then (if erase then LeaveErase ∷ [] else []) else if due then EraseChip ∷ []
+          else [])
       by_switches true true due = (tt, tt)
       by_switches true false due = tt
       by_switches false erase true = (tt, tt)
       by_switches false erase false = tt
 
-  write_fits : (s : Switches) (mem : Mem) (image : Image) → IsFitted part (Write mem image) → AllFitActions part (write_actions s mem image)
+  write_fits : (s : Switches) (mem : Mem) (image : Image) → IsFitted part (Write mem image)
+      → AllFitActions part (write_actions s mem image)
   write_fits s mem image fitted = by_switches s.dry s.no_verify
     where
       by_switches : (dry unverified : Bool)
-          → AllFitActions part (if dry then LeaveWrite mem image ∷ [] else WriteImage mem image ∷ (if unverified then [] else CompareImage mem image ∷ []))
+          → AllFitActions part (if dry then LeaveWrite mem image ∷ []
+          else WriteImage mem image ∷ (if unverified then [] else CompareImage mem image ∷ []))
       by_switches true unverified = (tt, tt)
       by_switches false true = (fitted, tt)
       by_switches false false = (fitted, (fitted.0, tt))
@@ -59,10 +62,12 @@ module _ (part : Part) where
   task_fits s (Verify mem image) fitted = (fitted, tt)
   task_fits s (Read mem format file) fitted = (tt, tt)
 
-  pub tasks_fit : (s : Switches) (tasks : List Task) → All (IsFitted part) tasks → AllFitActions part (tasks_actions s tasks)
+  pub tasks_fit : (s : Switches) (tasks : List Task) → All (IsFitted part) tasks
+      → AllFitActions part (tasks_actions s tasks)
   tasks_fit s [] fitted = tt
   tasks_fit s (task ∷ tasks) fitted =
-      both_fit (task_actions s task) (tasks_actions s tasks) (task_fits s task (All-head (IsFitted part) task tasks fitted))
+      both_fit (task_actions s task) (tasks_actions s tasks)
+      (task_fits s task (All-head (IsFitted part) task tasks fitted))
       (tasks_fit s tasks (All-tail (IsFitted part) task tasks fitted))
 
   -- so their items do
@@ -74,10 +79,12 @@ module _ (part : Part) where
   pub items_fit : (actions : List Action) → AllFitActions part actions → AllFitItems part (actions_items actions)
   items_fit [] fits = tt
   items_fit (action ∷ actions) fits =
-      fits_on part (action_items action) (actions_items actions) (action_items_fit action fits.0) (items_fit actions fits.1)
+      fits_on part (action_items action) (actions_items actions) (action_items_fit action fits.0)
+      (items_fit actions fits.1)
 
 pub work_fits : (plan : Plan) → All (IsFitted plan.part) plan.tasks → AllFitActions plan.part (work plan)
 work_fits plan fitted =
     let part = plan.part in
     let s = plan.switches in
-    both_fit part (erase_actions s plan.tasks) (tasks_actions s plan.tasks) (erase_fits part s plan.tasks) (tasks_fit part s plan.tasks fitted)
+    both_fit part (erase_actions s plan.tasks) (tasks_actions s plan.tasks) (erase_fits part s plan.tasks)
+    (tasks_fit part s plan.tasks fitted)

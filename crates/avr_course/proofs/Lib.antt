@@ -1,9 +1,14 @@
--- the session action by action over any line; what it tells, sends and leaves; a second run
+-- in the order in which to read: the session action by action over any line; what it tells, sends and leaves; a second
+-- run
 pub mod Standings
 pub mod PlanItems
-pub mod AnyLineAsks
 pub mod AnyLineSteps
 pub mod Fitting
+pub mod Weighing
+pub mod AnyLineAsks
+pub mod Ends
+pub mod Following
+pub mod FewBadCalls
 pub mod AnyLinePhases
 pub mod AnyLine
 pub mod AnyLineTold
@@ -11,9 +16,6 @@ pub mod AnyLineMakes
 pub mod AnyLineOrder
 pub mod RunBound
 pub mod ListenBound
-pub mod Ends
-pub mod Following
-pub mod FewBadCalls
 pub mod FewBad
 pub mod TellingTrue
 pub mod SaidToFault
@@ -21,16 +23,15 @@ pub mod ToldOnTape
 pub mod ToldOnWire
 pub mod WrittenCourse
 pub mod WrittenImages
-pub mod WrittenRuns
 pub mod AgainNet
 pub mod AgainWrites
 pub mod AgainStrokes
+pub mod WrittenRuns
 pub mod AgainAgrees
 pub mod AgainHeals
 pub mod AgainCases
 pub mod AgainRows
 pub mod ToldRows
-pub mod Weighing
 pub mod FramesWeighed
 pub mod Wiring
 pub mod FlashBytes

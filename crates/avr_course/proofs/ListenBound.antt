@@ -74,7 +74,8 @@ record Drops (n : ℕ) (tape left : Tape) : Type 0 where
 drops : (n : ℕ) (tape : Tape) → n ≤ length (bytes_in tape) → Drops n tape (drop n tape)
 drops zero tape le = record { silent = refl; bytes = omega arith }
 drops (suc n) [] le = absurd (omega (arith, le))
-drops (suc n) (Byte b ∷ tape) le = let d = drops n tape (omega (arith, le)) in let bytes = d.bytes in record { silent = d.silent; bytes = omega (arith, bytes) }
+drops (suc n) (Byte b ∷ tape) le = let d = drops n tape (omega (arith, le)) in let bytes = d.bytes in
+    record { silent = d.silent; bytes = omega (arith, bytes) }
 drops (suc n) (Silence ∷ tape) le = absurd (omega (arith, le))
 drops (suc n) (End ∷ tape) le = absurd (omega (arith, le))
 
@@ -86,85 +87,111 @@ abbrev left_of : Option (Reading × Tape) → Tape
 left_of None = []
 left_of (Some (reading, left)) = left
 
-further_within : (a n : ℕ) (o : Option (List ℕ × ℕ)) (body : List ℕ) (used : ℕ) → ((b : List ℕ) (u : ℕ) → o ≡ Some (b, u) → u ≤ n) → further a o ≡ Some (body, used) → used ≤ a + n
+further_within : (a n : ℕ) (o : Option (List ℕ × ℕ)) (body : List ℕ) (used : ℕ)
+    → ((b : List ℕ) (u : ℕ) → o ≡ Some (b, u) → u ≤ n) → further a o ≡ Some (body, used) → used ≤ a + n
 further_within a n None body used each e = absurd (cc)
-further_within a n (Some (b, u)) body used each e = let l = each b u refl in let same : a + u ≡ used = ap used_of e in omega (arith, l, same)
+further_within a n (Some (b, u)) body used each e = let l = each b u refl in let same : a + u ≡ used = ap used_of e in
+    omega (arith, l, same)
 
 -- an answer ends within what was looked at
-found_within : (seq : ℕ) (pieces : List (List ℕ)) (body : List ℕ) (used : ℕ) → first_answer seq pieces ≡ Some (body, used) → used ≤ length (concat pieces)
+found_within : (seq : ℕ) (pieces : List (List ℕ)) (body : List ℕ) (used : ℕ)
+    → first_answer seq pieces ≡ Some (body, used) → used ≤ length (concat pieces)
 found_within seq [] body used e = absurd (cc)
 found_within seq (x ∷ xs) body used e = elim (cases_Bool (is_answer seq x)) [
   | inl is_it ↦
-      let same : length x ≡ used = ap used_of (sym (chosen (is_answer seq x) (Some (body_of x, length x)) (further (length x) (first_answer seq xs)) is_it) ∙ e) in
+      let same : length x ≡ used = ap used_of (sym
+      (chosen (is_answer seq x) (Some (body_of x, length x)) (further (length x) (first_answer seq xs)) is_it)
+      ∙ e) in
       rw (length-append x (concat xs)) (omega (arith, same))
   | inr is_not ↦
-      let l = further_within (length x) (length (concat xs)) (first_answer seq xs) body used (λ b u f. found_within seq xs b u f)
-      (sym (refused (is_answer seq x) (Some (body_of x, length x)) (further (length x) (first_answer seq xs)) is_not) ∙ e) in
+      let l = further_within (length x) (length (concat xs)) (first_answer seq xs) body used
+      (λ b u f. found_within seq xs b u f)
+      (sym (refused (is_answer seq x) (Some (body_of x, length x)) (further (length x) (first_answer seq xs)) is_not)
+      ∙ e) in
       rw (length-append x (concat xs)) (omega (arith, l))
 ]
 
 cut_within : (bytes : List ℕ) → length (concat (cut bytes)) ≤ length bytes
 cut_within bytes =
-    let all : length (concat (cut bytes)) + length (rest bytes) ≡ length bytes = sym (length-append (concat (cut bytes)) (rest bytes)) ∙ ap length (cut_joined bytes) in
+    let all : length (concat (cut bytes)) + length (rest bytes) ≡ length bytes =
+    sym (length-append (concat (cut bytes)) (rest bytes)) ∙ ap length (cut_joined bytes) in
     omega (arith, all)
 
-stopped_costs : (tape : Tape) (reading : Reading) (left : Tape) → silence_or_end tape ≡ Some (reading, left) → (silences tape ≤ suc (silences left)) × (bytes_on tape ≡ bytes_on left)
+stopped_costs : (tape : Tape) (reading : Reading) (left : Tape) → silence_or_end tape ≡ Some (reading, left)
+    → (silences tape ≤ suc (silences left)) × (bytes_on tape ≡ bytes_on left)
 stopped_costs [] reading left e = absurd (cc)
 stopped_costs (Byte b ∷ tape) reading left e = absurd (cc)
 stopped_costs (Silence ∷ tape) reading left e =
-    subst (λ t. (silences (Silence ∷ tape) ≤ suc (silences t)) × (bytes_on (Silence ∷ tape) ≡ bytes_on t)) (ap left_of e) (omega arith, refl)
+    subst (λ t. (silences (Silence ∷ tape) ≤ suc (silences t)) × (bytes_on (Silence ∷ tape) ≡ bytes_on t))
+    (ap left_of e) (omega arith, refl)
 stopped_costs (End ∷ tape) reading left e =
-    subst (λ t. (silences (End ∷ tape) ≤ suc (silences t)) × (bytes_on (End ∷ tape) ≡ bytes_on t)) (ap left_of e) (omega arith, refl)
+    subst (λ t. (silences (End ∷ tape) ≤ suc (silences t)) × (bytes_on (End ∷ tape) ≡ bytes_on t)) (ap left_of e)
+    (omega arith, refl)
 
 dropped_costs : (n : ℕ) (tape left : Tape) → n ≤ limit → Drops n tape left → Costs tape left
-dropped_costs n tape left few d = let silent = d.silent in let bytes = d.bytes in record { silent = omega (arith, silent); bytes = omega (arith, bytes, few) }
+dropped_costs n tape left few d = let silent = d.silent in let bytes = d.bytes in
+    record { silent = omega (arith, silent); bytes = omega (arith, bytes, few) }
 
-read_costs : (tape : Tape) (bytes : List ℕ) (found : Option (List ℕ × ℕ)) (reading : Reading) (left : Tape) → length bytes ≤ limit → length bytes ≤ length (bytes_in tape)
-    → ((body : List ℕ) (used : ℕ) → found ≡ Some (body, used) → used ≤ length bytes) → read_to found bytes tape ≡ Some (reading, left) → Costs tape left
+read_costs : (tape : Tape) (bytes : List ℕ) (found : Option (List ℕ × ℕ)) (reading : Reading) (left : Tape)
+    → length bytes ≤ limit → length bytes ≤ length (bytes_in tape)
+    → ((body : List ℕ) (used : ℕ) → found ≡ Some (body, used) → used ≤ length bytes)
+    → read_to found bytes tape ≡ Some (reading, left) → Costs tape left
 read_costs tape bytes (Some (body, used)) reading left few within each e =
     let inside = each body used refl in
-    subst (Costs tape) (ap left_of e) (dropped_costs used tape (drop used tape) (omega (arith, inside, few)) (drops used tape (omega (arith, inside, within))))
+    subst (Costs tape) (ap left_of e) (dropped_costs used tape (drop used tape) (omega (arith, inside, few))
+    (drops used tape (omega (arith, inside, within))))
 read_costs tape bytes None reading left few within each e = elim (cases_Bool (nat_le limit (length bytes))) [
   | inl full ↦
       let enough : limit ≤ length bytes = leb-true limit (length bytes) full in
-      let is : drop limit tape ≡ left = ap left_of (sym (chosen (nat_le limit (length bytes)) (Some (Babbled, drop limit tape)) (silence_or_end (drop (length bytes) tape)) full) ∙ e) in
-      subst (Costs tape) is (dropped_costs limit tape (drop limit tape) (omega arith) (drops limit tape (omega (arith, enough, within))))
+      let is : drop limit tape ≡ left = ap left_of
+      (sym (chosen (nat_le limit (length bytes)) (Some (Babbled, drop limit tape))
+      (silence_or_end (drop (length bytes) tape)) full) ∙ e) in
+      subst (Costs tape) is (dropped_costs limit tape (drop limit tape) (omega arith)
+      (drops limit tape (omega (arith, enough, within))))
   | inr part ↦
       let d = drops (length bytes) tape within in
       let silent = d.silent in
       let some = d.bytes in
-      let s = stopped_costs (drop (length bytes) tape) reading left (sym (refused (nat_le limit (length bytes)) (Some (Babbled, drop limit tape)) (silence_or_end (drop (length bytes) tape)) part) ∙ e) in
+      let s = stopped_costs (drop (length bytes) tape) reading left
+      (sym (refused (nat_le limit (length bytes)) (Some (Babbled, drop limit tape))
+      (silence_or_end (drop (length bytes) tape)) part) ∙ e) in
       let s0 = s.0 in
       let s1 = s.1 in
       record { silent = omega (arith, silent, s0); bytes = omega (arith, some, s1, few) }
 ]
 
-answer_costs : (seq : ℕ) (tape : Tape) (reading : Reading) (left : Tape) → answer seq tape ≡ Some (reading, left) → Costs tape left
+answer_costs : (seq : ℕ) (tape : Tape) (reading : Reading) (left : Tape) → answer seq tape ≡ Some (reading, left)
+    → Costs tape left
 unfolding answer
 answer_costs seq tape reading left e =
     let bytes = take limit (bytes_in tape) in
     let cut_few = cut_within bytes in
-    read_costs tape bytes (first_answer seq (cut bytes)) reading left (take_few limit (bytes_in tape)) (take_within limit (bytes_in tape))
+    read_costs tape bytes (first_answer seq (cut bytes)) reading left (take_few limit (bytes_in tape))
+    (take_within limit (bytes_in tape))
     (λ body used f. let inside = found_within seq (cut bytes) body used f in omega (arith, inside, cut_few)) e
 
 -- ---- where it waits for more
 
-all_waiting : (tape : Tape) → silence_or_end (drop (length (bytes_in tape)) tape) ≡ None → (silences tape ≡ 0) × (bytes_on tape ≡ length (bytes_in tape))
+all_waiting : (tape : Tape) → silence_or_end (drop (length (bytes_in tape)) tape) ≡ None
+    → (silences tape ≡ 0) × (bytes_on tape ≡ length (bytes_in tape))
 all_waiting [] e = (refl, refl)
 all_waiting (Byte b ∷ tape) e = let more = all_waiting tape e in let bytes = more.1 in (more.0, omega (arith, bytes))
 all_waiting (Silence ∷ tape) e = absurd (cc)
 all_waiting (End ∷ tape) e = absurd (cc)
 
-read_waits : (tape : Tape) (found : Option (List ℕ × ℕ)) → read_to found (take limit (bytes_in tape)) tape ≡ None → (silences tape ≡ 0) × (bytes_on tape < limit)
+read_waits : (tape : Tape) (found : Option (List ℕ × ℕ)) → read_to found (take limit (bytes_in tape)) tape ≡ None
+    → (silences tape ≡ 0) × (bytes_on tape < limit)
 read_waits tape (Some (body, used)) e = absurd (cc)
 read_waits tape None e =
     let bytes = take limit (bytes_in tape) in
     elim (cases_Bool (nat_le limit (length bytes))) [
-      | inl full ↦ let no_none = sym (chosen (nat_le limit (length bytes)) (Some (Babbled, drop limit tape)) (silence_or_end (drop (length bytes) tape)) full) ∙ e in absurd (cc)
+      | inl full ↦ let no_none = sym (chosen (nat_le limit (length bytes)) (Some (Babbled, drop limit tape))
+          (silence_or_end (drop (length bytes) tape)) full) ∙ e in absurd (cc)
       | inr part ↦
           let few : length bytes < limit = leb-false limit (length bytes) part in
           let whole : length bytes ≡ length (bytes_in tape) = take_short limit (bytes_in tape) few in
-          let none = sym (refused (nat_le limit (length bytes)) (Some (Babbled, drop limit tape)) (silence_or_end (drop (length bytes) tape)) part) ∙ e in
+          let none = sym (refused (nat_le limit (length bytes)) (Some (Babbled, drop limit tape))
+          (silence_or_end (drop (length bytes) tape)) part) ∙ e in
           let w = all_waiting tape (subst (λ (n : ℕ). silence_or_end (drop n tape) ≡ None) whole none) in
           let bytes_are = w.1 in
           (w.0, omega (arith, bytes_are, whole, few))
@@ -177,17 +204,22 @@ answer_waits_for seq tape e = read_waits tape (first_answer seq (cut (take limit
 -- ---- a play
 
 record Listens {E R : Type 0} (p : Played E R) (tape : Tape) : Type 0 where
-  waiting : p.outcome ≡ None → (silences tape < length (frames_in p.events)) × (bytes_on tape < limit * length (frames_in p.events))
+  waiting : p.outcome ≡ None → (silences tape < length (frames_in p.events))
+      × (bytes_on tape < limit * length (frames_in p.events))
   done : (r : R) (seq : ℕ) (left : Tape) → p.outcome ≡ Some (r, seq, left)
-      → (silences tape ≤ length (frames_in p.events) + silences left) × (bytes_on tape ≤ limit * length (frames_in p.events) + bytes_on left)
+      → (silences tape ≤ length (frames_in p.events) + silences left)
+      × (bytes_on tape ≤ limit * length (frames_in p.events) + bytes_on left)
 
 abbrev rest_of : {R : Type 0} → Option (R × ℕ × Tape) → Tape
 rest_of None = []
 rest_of (Some (r, seq, left)) = left
 
-listens_asked : {E R : Type 0} (f : List ℕ) (go_on : Reading → Tape → Played E R) (tape : Tape) (got : Option (Reading × Tape))
-    → (got ≡ None → (silences tape ≡ 0) × (bytes_on tape < limit)) → ((reading : Reading) (left : Tape) → got ≡ Some (reading, left) → Costs tape left)
-    → ((reading : Reading) (left : Tape) → Listens (go_on reading left) left) → Listens (behind (Frame f ∷ []) (by_answer go_on got)) tape
+listens_asked : {E R : Type 0} (f : List ℕ) (go_on : Reading → Tape → Played E R) (tape : Tape)
+    (got : Option (Reading × Tape))
+    → (got ≡ None → (silences tape ≡ 0) × (bytes_on tape < limit))
+    → ((reading : Reading) (left : Tape) → got ≡ Some (reading, left) → Costs tape left)
+    → ((reading : Reading) (left : Tape) → Listens (go_on reading left) left)
+    → Listens (behind (Frame f ∷ []) (by_answer go_on got)) tape
 listens_asked f go_on tape None waits costs more = record {
   waiting = λ e. let w = waits refl in let w0 = w.0 in let w1 = w.1 in (omega (arith, w0), omega (arith, w1));
   done = λ r seq left e. absurd (cc);
@@ -197,29 +229,39 @@ listens_asked f go_on tape (Some (reading, rest)) waits costs more =
     let silent = c.silent in
     let bytes = c.bytes in
     record {
-      waiting = λ e. let w = (more reading rest).waiting e in let w0 = w.0 in let w1 = w.1 in (omega (arith, silent, w0), omega (arith, bytes, w1));
-      done = λ r seq left e. let w = (more reading rest).done r seq left e in let w0 = w.0 in let w1 = w.1 in (omega (arith, silent, w0), omega (arith, bytes, w1));
+      waiting = λ e. let w = (more reading rest).waiting e in let w0 = w.0 in let w1 = w.1 in
+          (omega (arith, silent, w0), omega (arith, bytes, w1));
+      done = λ r seq left e. let w = (more reading rest).done r seq left e in let w0 = w.0 in let w1 = w.1 in
+          (omega (arith, silent, w0), omega (arith, bytes, w1));
     }
 
 listens : {E R : Type 0} (d : Dialog E R) (seq : ℕ) (tape : Tape) → Listens (played d seq tape) tape
 listens (Done r) seq tape = record {
   waiting = λ e. absurd (cc);
-  done = λ s n left e. subst (λ t. (silences tape ≤ 0 + silences t) × (bytes_on tape ≤ limit * 0 + bytes_on t)) (ap rest_of e) (omega arith, omega arith);
+  done = λ s n left e. subst (λ t. (silences tape ≤ 0 + silences t) × (bytes_on tape ≤ limit * 0 + bytes_on t))
+      (ap rest_of e) (omega arith, omega arith);
 }
-listens (Say s d) seq tape = let more = listens d seq tape in record { waiting = λ e. more.waiting e; done = λ r n left e. more.done r n left e }
+listens (Say s d) seq tape = let more = listens d seq tape in
+    record { waiting = λ e. more.waiting e; done = λ r n left e. more.done r n left e }
 listens (Ask body answered) seq tape =
-    listens_asked (frame seq body) (λ reading. played (answered reading) (next seq)) tape (answer seq tape) (λ e. answer_waits_for seq tape e) (λ reading left e. answer_costs seq tape reading left e)
+    listens_asked (frame seq body) (λ reading. played (answered reading) (next seq)) tape (answer seq tape)
+    (λ e. answer_waits_for seq tape e) (λ reading left e. answer_costs seq tape reading left e)
     (λ reading left. listens (answered reading) (next seq) left)
 
 -- ---- a talk
 
-turn_at : {E R : Type 0} (d : Dialog E R) (seq : ℕ) (tape : Tape) (bytes : List ℕ) (before after : Talk) (items : Tape) → TurnsFrom d seq tape bytes (before ++ Got items ∷ after)
+turn_at : {E R : Type 0} (d : Dialog E R) (seq : ℕ) (tape : Tape) (bytes : List ℕ) (before after : Talk) (items : Tape)
+    → TurnsFrom d seq tape bytes (before ++ Got items ∷ after)
     → IsDue d seq (tape ++ heard before) (bytes ++ sent before)
-turn_at d seq tape bytes [] after items turns = subst (λ t. IsDue d seq t (bytes ++ [])) (sym (append-nil tape)) (subst (λ b. IsDue d seq tape b) (sym (append-nil bytes)) turns.0)
+turn_at d seq tape bytes [] after items turns =
+    subst (λ t. IsDue d seq t (bytes ++ [])) (sym (append-nil tape))
+    (subst (λ b. IsDue d seq tape b) (sym (append-nil bytes)) turns.0)
 turn_at d seq tape bytes (Sent more ∷ before) after items turns =
-    subst (λ b. IsDue d seq (tape ++ heard before) b) (append_assoc bytes more (sent before)) (turn_at d seq tape (bytes ++ more) before after items turns)
+    subst (λ b. IsDue d seq (tape ++ heard before) b) (append_assoc bytes more (sent before))
+    (turn_at d seq tape (bytes ++ more) before after items turns)
 turn_at d seq tape bytes (Got some ∷ before) after items turns =
-    subst (λ t. IsDue d seq t (bytes ++ sent before)) (append_assoc tape some (heard before)) (turn_at d seq (tape ++ some) bytes before after items turns.1)
+    subst (λ t. IsDue d seq t (bytes ++ sent before)) (append_assoc tape some (heard before))
+    (turn_at d seq (tape ++ some) bytes before after items turns.1)
 
 pub listens_at_most : {E R : Type 0} (n : ℕ) (d : Dialog E R) → AsksAtMost n d → AsksBodies d → ListensAtMost n d
 listens_at_most {E = E} {R = R} n d most bodies = record {
@@ -227,12 +269,16 @@ listens_at_most {E = E} {R = R} n d most bodies = record {
   wherever = λ first before after items turns. wherever first before after items turns;
 }
   where
-    whole : (first : Position) (talk : Talk) (events : List (Event E)) (result : R) (last : Position) → Plays d first talk events result last
-        → (length (frames_in events) ≤ n) × ((silences (heard talk) ≤ length (frames_in events)) × (length first.unread + bytes_on (heard talk) ≤ limit * length (frames_in events) + length last.unread))
+    whole : (first : Position) (talk : Talk) (events : List (Event E)) (result : R) (last : Position)
+        → Plays d first talk events result last
+        → (length (frames_in events) ≤ n) × ((silences (heard talk) ≤ length (frames_in events))
+        × (length first.unread + bytes_on (heard talk) ≤ limit * length (frames_in events) + length last.unread))
     whole first talk events result last p =
         let tape = on_tape first.unread ++ (heard talk ++ []) in
-        let same : length (frames_in (played d first.next tape).events) ≡ length (frames_in events) = ap (λ x. length (frames_in x.events)) (p.plays []) in
-        let l = (listens d first.next tape).done result last.next (on_tape last.unread ++ []) (ap (λ x. x.outcome) (p.plays [])) in
+        let same : length (frames_in (played d first.next tape).events) ≡ length (frames_in events) =
+        ap (λ x. length (frames_in x.events)) (p.plays []) in
+        let l = (listens d first.next tape).done result last.next (on_tape last.unread ++ [])
+        (ap (λ x. x.outcome) (p.plays [])) in
         let l0 = l.0 in
         let l1 = l.1 in
         let sends = sends_most n d first.next tape most in
@@ -245,16 +291,23 @@ listens_at_most {E = E} {R = R} n d most bodies = record {
         let b1 = bytes_append (heard talk) [] in
         let b2 = all_bytes first.unread in
         let b3 = bytes_append (on_tape last.unread) [] in
-        let b4 = all_bytes last.unread in
-        (omega (arith, sends, same), (omega (arith, l0, same, a0, a1, a2, a3, a4), omega (arith, l1, same, b0, b1, b2, b3, b4)))
+        let b4 = all_bytes last.unread in (
+          omega (arith, sends, same),
+          (
+            omega (arith, l0, same, a0, a1, a2, a3, a4),
+            omega (arith, l1, same, b0, b1, b2, b3, b4),
+          ),
+        )
 
     wherever : (first : Position) (before after : Talk) (items : Tape) → InTurn d first (before ++ Got items ∷ after)
-        → (length (frames (sent before)) ≤ n) × ((silences (heard before) < length (frames (sent before))) × (length first.unread + bytes_on (heard before) < limit * length (frames (sent before))))
+        → (length (frames (sent before)) ≤ n) × ((silences (heard before) < length (frames (sent before)))
+        × (length first.unread + bytes_on (heard before) < limit * length (frames (sent before))))
     wherever first before after items turns =
         let tape = on_tape first.unread ++ heard before in
         let due = turn_at d first.next (on_tape first.unread) [] before after items turns in
         let same : length (frames_in (played d first.next tape).events) ≡ length (frames (sent before)) =
-        sym (ap length (frames_sent (played d first.next tape).events (sends_whole d first.next tape bodies))) ∙ ap (λ b. length (frames b)) due.all_sent in
+        sym (ap length (frames_sent (played d first.next tape).events (sends_whole d first.next tape bodies)))
+        ∙ ap (λ b. length (frames b)) due.all_sent in
         let l = (listens d first.next tape).waiting due.waits in
         let l0 = l.0 in
         let l1 = l.1 in
@@ -265,5 +318,7 @@ listens_at_most {E = E} {R = R} n d most bodies = record {
         let b2 = all_bytes first.unread in
         (omega (arith, sends, same), (omega (arith, l0, same, a0, a2), omega (arith, l1, same, b0, b2)))
 
-pub session_listens : (plan : Plan) → IsPart plan.part → All (IsFitted plan.part) plan.tasks → ListensAtMost (4 * commands_in (run_steps plan)) (session plan)
-session_listens plan sound fitted = listens_at_most (4 * commands_in (run_steps plan)) (session plan) (session_most plan) (session_asks plan sound fitted)
+pub session_listens : (plan : Plan) → IsPart plan.part → All (IsFitted plan.part) plan.tasks
+    → ListensAtMost (4 * commands_in (run_steps plan)) (session plan)
+session_listens plan sound fitted = listens_at_most (4 * commands_in (run_steps plan)) (session plan)
+    (session_most plan) (session_asks plan sound fitted)

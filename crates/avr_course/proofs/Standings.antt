@@ -7,7 +7,8 @@ use Rattle.avr_session.specs.declared.standing.Standing.TheVariants.{Fine, Fault
 use Rattle.avr_session.specs.Session.{standing, status_of}
 
 -- after a fault a session is faulty or over
-pub after_fault : (A : Type 0) (P : Standing → Type 0) (fault : HostFault) → P Faulty → P Over → P (standing {A = A} (Err fault))
+pub after_fault : (A : Type 0) (P : Standing → Type 0) (fault : HostFault) → P Faulty → P Over
+    → P (standing {A = A} (Err fault))
 after_fault A P NoAnswer faulty over = faulty
 after_fault A P LinkEnded faulty over = over
 after_fault A P SendFailed faulty over = faulty

@@ -40,15 +40,18 @@ use Rattle.avr_course.proofs.FewBadCalls.{bytes_same}
 use Rattle.avr_course.proofs.Fitting.{FitsAction, AllFitActions, work, work_fits}
 use Rattle.avr_course.proofs.PlanItems.{items_on, erase_first}
 
-hold_on : (T : Saying → Programmer → Type 0) (xs ys : List Saying) (q : Programmer) → AllTrue T xs q → AllTrue T ys q → AllTrue T (xs ++ ys) q
+hold_on : (T : Saying → Programmer → Type 0) (xs ys : List Saying) (q : Programmer) → AllTrue T xs q → AllTrue T ys q
+    → AllTrue T (xs ++ ys) q
 hold_on T [] ys q f g = g
 hold_on T (x ∷ xs) ys q f g = (f.0, hold_on T xs ys q f.1 g)
 
-hold_unless : (T : Saying → Programmer → Type 0) (b : Bool) (x : Saying) (q : Programmer) → T x q → AllTrue T (if b then [] else x ∷ []) q
+hold_unless : (T : Saying → Programmer → Type 0) (b : Bool) (x : Saying) (q : Programmer) → T x q
+    → AllTrue T (if b then [] else x ∷ []) q
 hold_unless T true x q t = tt
 hold_unless T false x q t = (t, tt)
 
-hold_not : (T : Saying → Programmer → Type 0) (b : Bool) (xs : List Saying) (q : Programmer) → b ≡ true → AllTrue T (if b then [] else xs) q
+hold_not : (T : Saying → Programmer → Type 0) (b : Bool) (xs : List Saying) (q : Programmer) → b ≡ true
+    → AllTrue T (if b then [] else xs) q
 hold_not T true xs q e = tt
 hold_not T false xs q e = absurd (cc)
 
@@ -56,18 +59,22 @@ module _ (plan : Plan) (sound : IsPart plan.part) (m0 : Memories) (f0 : FitsPart
   abbrev T : Saying → Programmer → Type 0
   T saying q = IsTrue plan m0 (memories_of q.chip) saying
 
-  informs_hold : (quiet : ℕ) (pieces : List Bytes) (q : Programmer) → T (Line (information pieces)) q → AllTrue T (informs quiet pieces) q
+  informs_hold : (quiet : ℕ) (pieces : List Bytes) (q : Programmer) → T (Line (information pieces)) q
+      → AllTrue T (informs quiet pieces) q
   informs_hold quiet pieces q t = hold_unless T (nat_lt 0 quiet) (Line (information pieces)) q t
 
-  counts_hold : (mem : Mem) (count : ℕ) (done_text : Bytes) (q : Programmer) → T (count_line mem count done_text) q → AllTrue T (bytes_say plan.switches.quiet mem count done_text) q
-  counts_hold mem count done_text q t = informs_hold plan.switches.quiet (name_of mem ∷ codes ": " ∷ decimal count ∷ done_text ∷ []) q t
+  counts_hold : (mem : Mem) (count : ℕ) (done_text : Bytes) (q : Programmer) → T (count_line mem count done_text) q
+      → AllTrue T (bytes_say plan.switches.quiet mem count done_text) q
+  counts_hold mem count done_text q t = informs_hold plan.switches.quiet
+      (name_of mem ∷ codes ": " ∷ decimal count ∷ done_text ∷ []) q t
 
   failed : (fault : StepFault) (q : Programmer) → AllTrue T (Line (fault_line plan.part (host_fault fault)) ∷ []) q
   failed fault q = (StepFailed fault refl, tt)
 
   -- ---- the opening
 
-  no_signature : (quiet : ℕ) (fault : StepFault) (q : Programmer) → AllTrue T (opening_says quiet plan.part (Err (host_fault fault))) q
+  no_signature : (quiet : ℕ) (fault : StepFault) (q : Programmer)
+      → AllTrue T (opening_says quiet plan.part (Err (host_fault fault))) q
   no_signature quiet of_step.NoAnswer q = failed of_step.NoAnswer q
   no_signature quiet of_step.LinkEnded q = failed of_step.LinkEnded q
   no_signature quiet of_step.Babble q = failed of_step.Babble q
@@ -82,31 +89,41 @@ module _ (plan : Plan) (sound : IsPart plan.part) (m0 : Memories) (f0 : FitsPart
 
   -- ---- the actions behind it
 
-  compared_now : (mem : Mem) (image : Image) (q : Programmer) → Contains (actions plan) (CompareImage mem image) → (r : Result ⊤ HostFault) → comparison mem image (memory_in plan.part mem (memories_of q.chip)) ≡ r
+  compared_now : (mem : Mem) (image : Image) (q : Programmer) → Contains (actions plan) (CompareImage mem image)
+      → (r : Result ⊤ HostFault) → comparison mem image (memory_in plan.part mem (memories_of q.chip)) ≡ r
       → AllTrue T (verified_says plan.switches.quiet plan.part mem image r) q
   compared_now mem image q has (Ok a) e =
       counts_hold mem (byte_count image) (codes " bytes verified") q
       (BytesVerified mem image has refl
-      (no_difference 0 image (memory_in plan.part mem (memories_of q.chip)) (none_differs mem (difference_from 0 image (memory_in plan.part mem (memories_of q.chip))) a e)))
+      (no_difference 0 image (memory_in plan.part mem (memories_of q.chip))
+      (none_differs mem (difference_from 0 image (memory_in plan.part mem (memories_of q.chip))) a e)))
   compared_now mem image q has (Err fault) e = (Differed mem image fault has refl e, tt)
 
-  saved_now : (b : Bool) (mem : Mem) (format : Format) (file : Bytes) (q : Programmer) → Contains (actions plan) (SaveMemory mem format file) → (text : Bytes) → text ≡ file_text format (kept_in plan mem (memories_of q.chip))
+  saved_now : (b : Bool) (mem : Mem) (format : Format) (file : Bytes) (q : Programmer)
+      → Contains (actions plan) (SaveMemory mem format file) → (text : Bytes)
+      → text ≡ file_text format (kept_in plan mem (memories_of q.chip))
       → AllTrue T (if b then Outs text ∷ [] else Creates file ∷ Writes text ∷ []) q
   saved_now true mem format file q has text e = (BytesSaved mem format file has (inr (inr (ap Outs e))), tt)
-  saved_now false mem format file q has text e = (BytesSaved mem format file has (inl refl), (BytesSaved mem format file has (inr (inl (ap Writes e))), tt))
+  saved_now false mem format file q has text e =
+      (BytesSaved mem format file has (inl refl), (BytesSaved mem format file has (inr (inl (ap Writes e))), tt))
 
-  written_now : (mem : Mem) (image : Image) (first later : List Item) (q : Programmer) → items plan ≡ first ++ Write mem image ∷ later
-      → Settled plan.part (effects plan.part (Write mem image ∷ []) (effects plan.part first m0)) q → AllTrue T (written_says plan.switches.quiet plan.part mem image (Ok tt)) q
+  written_now : (mem : Mem) (image : Image) (first later : List Item) (q : Programmer)
+      → items plan ≡ first ++ Write mem image ∷ later
+      → Settled plan.part (effects plan.part (Write mem image ∷ []) (effects plan.part first m0)) q
+      → AllTrue T (written_says plan.switches.quiet plan.part mem image (Ok tt)) q
   written_now mem image first later q order s =
       counts_hold mem (byte_count image) (codes " bytes written") q
-      (BytesWritten mem image first later refl order (s.memories ∙ sym (effects_on plan.part first (Write mem image ∷ []) m0)))
+      (BytesWritten mem image first later refl order
+      (s.memories ∙ sym (effects_on plan.part first (Write mem image ∷ []) m0)))
 
-  phase_true : (action : Action) (done later : List Action) → FitsAction plan.part action → actions plan ≡ done ++ action ∷ later
+  phase_true : (action : Action) (done later : List Action) → FitsAction plan.part action
+      → actions plan ≡ done ++ action ∷ later
       → PhaseTrue plan.part sound T plan.switches action (effects plan.part (actions_items done) m0)
   phase_true action done later fits order = by_kind action fits here among
     where
       here : Contains (actions plan) action
-      here = subst (λ all. Contains all action) (sym order) (Contains-append_right done (action ∷ later) action (0, omega arith, refl))
+      here = subst (λ all. Contains all action) (sym order)
+          (Contains-append_right done (action ∷ later) action (0, omega arith, refl))
 
       among : items plan ≡ actions_items done ++ (action_items action ++ actions_items later)
       among = ap actions_items order ∙ items_on done (action ∷ later)
@@ -114,38 +131,51 @@ module _ (plan : Plan) (sound : IsPart plan.part) (m0 : Memories) (f0 : FitsPart
       m : Memories
       m = effects plan.part (actions_items done) m0
 
-      by_kind : (a : Action) → FitsAction plan.part a → Contains (actions plan) a → items plan ≡ actions_items done ++ (action_items a ++ actions_items later) → PhaseTrue plan.part sound T plan.switches a m
+      by_kind : (a : Action) → FitsAction plan.part a → Contains (actions plan) a
+          → items plan ≡ actions_items done ++ (action_items a ++ actions_items later)
+          → PhaseTrue plan.part sound T plan.switches a m
       by_kind OpenSession fits has order = absurd fits
       by_kind EraseChip fits has order = (
         λ q s.
             informs_hold plan.switches.quiet (codes "chip erased" ∷ []) q
-            (ChipErased has refl (s.memories ∙ ap (λ xs. effect plan.part Erase (effects plan.part xs m0)) (erase_first plan (actions_items done) (actions_items later) order))),
+            (ChipErased has refl (s.memories ∙ ap (λ xs. effect plan.part Erase (effects plan.part xs m0))
+            (erase_first plan (actions_items done) (actions_items later) order))),
         failed,
       )
       by_kind LeaveErase fits has order = λ q s.
-          hold_unless T (nat_lt 1 plan.switches.quiet) (Line (warning (codes "chip not erased because of -n" ∷ []))) q (EraseLeftOut has refl)
-      by_kind (WriteImage mem image) fits has order = (λ q s. written_now mem image (actions_items done) (actions_items later) q order s, failed)
-      by_kind (LeaveWrite mem image) fits has order = λ q s. counts_hold mem (byte_count image) (codes " bytes not written") q (WriteLeftOut mem image has refl)
+          hold_unless T (nat_lt 1 plan.switches.quiet) (Line (warning (codes "chip not erased because of -n" ∷ []))) q
+          (EraseLeftOut has refl)
+      by_kind (WriteImage mem image) fits has order =
+          (λ q s. written_now mem image (actions_items done) (actions_items later) q order s, failed)
+      by_kind (LeaveWrite mem image) fits has order =
+          λ q s. counts_hold mem (byte_count image) (codes " bytes not written") q (WriteLeftOut mem image has refl)
       by_kind (CompareImage mem image) fits has order = (
         λ q s.
-            subst (λ z. AllTrue T (verified_says plan.switches.quiet plan.part mem image (comparison mem image (memory_in plan.part mem z))) q) s.memories
+            subst (λ z. AllTrue T (verified_says plan.switches.quiet plan.part mem image
+            (comparison mem image (memory_in plan.part mem z))) q) s.memories
             (compared_now mem image q has (comparison mem image (memory_in plan.part mem (memories_of q.chip))) refl),
         failed,
       )
       by_kind (SaveMemory mem format file) fits has order = (
         λ q s.
             subst (λ z. AllTrue T (read_says plan.switches mem format file (memory_in plan.part mem z)) q) s.memories
-            (hold_on T (saving_says file (file_text format (kept_in plan mem (memories_of q.chip)))) (bytes_say plan.switches.quiet mem (length (kept_in plan mem (memories_of q.chip))) (codes " bytes read")) q
-            (saved_now (bytes_eq file (codes "-")) mem format file q has (file_text format (kept_in plan mem (memories_of q.chip))) refl)
-            (counts_hold mem (length (kept_in plan mem (memories_of q.chip))) (codes " bytes read") q (BytesRead mem format file has refl))),
+            (hold_on T (saving_says file (file_text format (kept_in plan mem (memories_of q.chip))))
+            (bytes_say plan.switches.quiet mem (length (kept_in plan mem (memories_of q.chip)))
+            (codes " bytes read")) q
+            (saved_now (bytes_eq file (codes "-")) mem format file q has
+            (file_text format (kept_in plan mem (memories_of q.chip))) refl)
+            (counts_hold mem (length (kept_in plan mem (memories_of q.chip))) (codes " bytes read") q
+            (BytesRead mem format file has refl))),
         failed,
       )
 
   -- the memories behind one more action
   one_more : (done : List Action) (action : Action)
-      → effects plan.part (actions_items (done ++ action ∷ [])) m0 ≡ effects plan.part (action_items action) (effects plan.part (actions_items done) m0)
+      → effects plan.part (actions_items (done ++ action ∷ [])) m0
+      ≡ effects plan.part (action_items action) (effects plan.part (actions_items done) m0)
   one_more done action =
-      ap (λ xs. effects plan.part xs m0) (items_on done (action ∷ []) ∙ ap (λ xs. actions_items done ++ xs) (append-nil (action_items action)))
+      ap (λ xs. effects plan.part xs m0) (items_on done (action ∷ [])
+      ∙ ap (λ xs. actions_items done ++ xs) (append-nil (action_items action)))
       ∙ effects_on plan.part (actions_items done) (action_items action) m0
 
   phases_true : (later done : List Action) → AllFitActions plan.part later → actions plan ≡ done ++ later
@@ -153,27 +183,40 @@ module _ (plan : Plan) (sound : IsPart plan.part) (m0 : Memories) (f0 : FitsPart
   phases_true [] done fit order = tt
   phases_true (action ∷ later) done fit order = (
     phase_true action done later fit.0 order,
-    subst (PhasesTrue plan.part sound T plan.switches later) (one_more done action) (phases_true later (done ++ action ∷ []) fit.1 (order ∙ sym (append_assoc done (action ∷ []) later))),
+    subst (PhasesTrue plan.part sound T plan.switches later) (one_more done action)
+        (phases_true later (done ++ action ∷ []) fit.1 (order ∙ sym (append_assoc done (action ∷ []) later))),
   )
 
   -- ---- the end
 
-  closed_true : (r : Result ⊤ HostFault) (q : Programmer) → IsClosed r → AllTrue T (closed_says plan.switches.quiet plan.part r) q
-  closed_true r q (inl e) = subst (λ x. AllTrue T (closed_says plan.switches.quiet plan.part x) q) (sym e) (informs_hold plan.switches.quiet (codes "done" ∷ []) q (SessionDone refl))
-  closed_true r q (inr broke) = subst (λ x. AllTrue T (closed_says plan.switches.quiet plan.part x) q) (sym broke.1) (failed broke.0 q)
+  closed_true : (r : Result ⊤ HostFault) (q : Programmer) → IsClosed r
+      → AllTrue T (closed_says plan.switches.quiet plan.part r) q
+  closed_true r q (inl e) = subst (λ x. AllTrue T (closed_says plan.switches.quiet plan.part x) q) (sym e)
+      (informs_hold plan.switches.quiet (codes "done" ∷ []) q (SessionDone refl))
+  closed_true r q (inr broke) = subst (λ x. AllTrue T (closed_says plan.switches.quiet plan.part x) q) (sym broke.1)
+      (failed broke.0 q)
 
   -- a session
-  pub session_tells : All (IsFitted plan.part) plan.tasks → (k : ℕ) (p : Programmer) (turns : List Turn) → Idle plan.part m0 p
+  pub session_tells : All (IsFitted plan.part) plan.tasks → (k : ℕ) (p : Programmer) (turns : List Turn)
+      → Idle plan.part m0 p
       → TellsTrue device (λ q saying. IsTrue plan m0 (memories_of q.chip) saying) k (session plan) p turns
   session_tells fitted k p turns idle =
-      true_along device (λ bytes q. IsTouched plan m0 (memories_of q.chip)) (λ q saying. T saying q) (Left plan sound fitted m0 f0) k (session plan) p turns
-      (session_goes plan sound fitted m0 f0 T (λ q s. own_signature plan.switches.quiet q, no_signature plan.switches.quiet)
+      true_along device (λ bytes q. IsTouched plan m0 (memories_of q.chip)) (λ q saying. T saying q)
+      (Left plan sound fitted m0 f0) k (session plan) p turns
+      (session_goes plan sound fitted m0 f0 T (
+        λ q s. own_signature plan.switches.quiet q,
+        no_signature plan.switches.quiet,
+      )
       (phases_true (work plan) (OpenSession ∷ []) (work_fits plan fitted) refl) closed_true p idle).holds
 
 -- what a session leaves
-pub session_leaves : (plan : Plan) (sound : IsPart plan.part) (fitted : All (IsFitted plan.part) plan.tasks) (m : Memories) (f : FitsPart plan.part m) (p : Programmer) (turns : List Turn)
-    → Idle plan.part m p → Leads device (session plan) p turns (λ q. IsTouched plan m (memories_of q.chip)) (λ status q. status ≡ 0 → IsDone plan m (memories_of q.chip))
+pub session_leaves : (plan : Plan) (sound : IsPart plan.part) (fitted : All (IsFitted plan.part) plan.tasks)
+    (m : Memories) (f : FitsPart plan.part m) (p : Programmer) (turns : List Turn)
+    → Idle plan.part m p → Leads device (session plan) p turns (λ q. IsTouched plan m (memories_of q.chip))
+    (λ status q. status ≡ 0 → IsDone plan m (memories_of q.chip))
 session_leaves plan sound fitted m f p turns idle =
     leads device (λ r q x. x)
-    (session_goes plan sound fitted m f (T plan sound m f) (λ q s. own_signature plan sound m f plan.switches.quiet q, no_signature plan sound m f plan.switches.quiet)
-    (phases_true plan sound m f (work plan) (OpenSession ∷ []) (work_fits plan fitted) refl) (closed_true plan sound m f) p idle)
+    (session_goes plan sound fitted m f (T plan sound m f)
+    (λ q s. own_signature plan sound m f plan.switches.quiet q, no_signature plan sound m f plan.switches.quiet)
+    (phases_true plan sound m f (work plan) (OpenSession ∷ []) (work_fits plan fitted) refl)
+    (closed_true plan sound m f) p idle)

@@ -16,14 +16,18 @@ module _ {P : Type 0} (m : Device P) where
   abbrev AlwaysTrue : {E R : Type 0} → (P → E → Type 0) → Dialog E R → P → Type 0
   AlwaysTrue T d p = (k : ℕ) (turns : List Turn) → TellsTrue m T k d p turns
 
-  asked : {E R : Type 0} (T : P → E → Type 0) (bytes : List ℕ) (go_on : Reading → Dialog E R) (n : ℕ) (tape : Tape) (p : P) (becames : List Became) (o : Option (Reading × Tape)) → answer n tape ≡ o → IsBody bytes
+  asked : {E R : Type 0} (T : P → E → Type 0) (bytes : List ℕ) (go_on : Reading → Dialog E R) (n : ℕ) (tape : Tape)
+      (p : P) (becames : List Became) (o : Option (Reading × Tape)) → answer n tape ≡ o → IsBody bytes
       → AlwaysTrue T (Ask bytes go_on) p
-      → ((reading : Reading) (left : Tape) (q : P) → AlwaysTrue T (go_on reading) q → AreHonest m (go_on reading) (next n) left q (other_becames becames)
+      → ((reading : Reading) (left : Tape) (q : P) → AlwaysTrue T (go_on reading) q
+      → AreHonest m (go_on reading) (next n) left q (other_becames becames)
       → SaidTrueBy m T (played (go_on reading) (next n) left).events (other_becames becames) q)
       → on_answer (λ reading left.
       IsHonest m bytes p (first_became becames) reading
-      × AreHonest m (go_on reading) (next n) left (after_became (first_became becames) (m.after bytes p) p m.reset) (other_becames becames)) o
-      → SaidTrueBy m T (Frame (frame n bytes) ∷ (by_answer (λ reading. played (go_on reading) (next n)) o).events) becames p
+      × AreHonest m (go_on reading) (next n) left (after_became (first_became becames) (m.after bytes p) p m.reset)
+      (other_becames becames)) o
+      → SaidTrueBy m T (Frame (frame n bytes) ∷ (by_answer (λ reading. played (go_on reading) (next n)) o).events)
+      becames p
   asked T bytes go_on n tape p becames None e b tells each h = tt
   asked T bytes go_on n tape p becames (Some (reading, left)) e b tells each h =
       let became = first_became becames in
@@ -31,12 +35,19 @@ module _ {P : Type 0} (m : Device P) where
       let t = honest_turn m bytes p became reading h.0 in
       let inner : AlwaysTrue T (go_on reading) q =
       λ k turns. subst (λ r. TellsTrue m T k (go_on reading) r turns) t.1
-      (subst (λ x. TellsTrue m T k (go_on x) (after_turn (turn_by became reading) (m.after bytes p) p m.reset) turns) t.0 (tells (suc k) (turn_by became reading ∷ turns))) in
-      subst (λ r. SaidTrueBy m T (played (go_on reading) (next n) left).events (other_becames becames) (after_became became r p m.reset)) (sym (obeyed_frame m n bytes p b))
+      (subst (λ x. TellsTrue m T k (go_on x) (after_turn (turn_by became reading) (m.after bytes p) p m.reset) turns)
+      t.0 (tells (suc k) (turn_by became reading ∷ turns))) in
+      subst (λ r. SaidTrueBy m T (played (go_on reading) (next n) left).events (other_becames becames)
+      (after_became became r p m.reset)) (sym (obeyed_frame m n bytes p b))
       (each reading left q inner h.1)
 
-  pub told_any : {E R : Type 0} (T : P → E → Type 0) (d : Dialog E R) (n : ℕ) (tape : Tape) (p : P) (becames : List Became) → AsksBodies d → AlwaysTrue T d p → AreHonest m d n tape p becames → SaidTrueBy m T (played d n tape).events becames p
+  pub told_any : {E R : Type 0} (T : P → E → Type 0) (d : Dialog E R) (n : ℕ) (tape : Tape) (p : P)
+      (becames : List Became) → AsksBodies d → AlwaysTrue T d p → AreHonest m d n tape p becames
+      → SaidTrueBy m T (played d n tape).events becames p
   told_any T (Done r) n tape p becames asks tells h = tt
-  told_any T (Say e d) n tape p becames asks tells h = ((tells 0 []).0, told_any T d n tape p becames asks (λ k turns. (tells k turns).1) h)
+  told_any T (Say e d) n tape p becames asks tells h =
+      ((tells 0 []).0, told_any T d n tape p becames asks (λ k turns. (tells k turns).1) h)
   told_any T (Ask bytes go_on) n tape p becames asks tells h =
-      asked T bytes go_on n tape p becames (answer n tape) refl asks.0 tells (λ reading left q inner honest. told_any T (go_on reading) (next n) left q (other_becames becames) (asks.1 reading) inner honest) h
+      asked T bytes go_on n tape p becames (answer n tape) refl asks.0 tells
+      (λ reading left q inner honest. told_any T (go_on reading) (next n) left q (other_becames becames)
+      (asks.1 reading) inner honest) h

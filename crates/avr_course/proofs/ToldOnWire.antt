@@ -14,9 +14,12 @@ module _ {E P : Type 0} (m : Device P) (T : P → E → Type 0) where
   said_front (Said e ∷ x) y w all = (all.0, said_front x y w all.1)
 
   -- by what becomes of the programmer as the fates are
-  pub by_wire : (events : List (Event E)) (w : Wire P) → SaidTrueBy m T events (becames_of (length (frames_in events)) w.fates) w.programmer → SaidTrue m T events w
+  pub by_wire : (events : List (Event E)) (w : Wire P)
+      → SaidTrueBy m T events (becames_of (length (frames_in events)) w.fates) w.programmer → SaidTrue m T events w
   by_wire [] w told = tt
   by_wire (Frame bytes ∷ events) w told =
       by_wire events (wire_behind m bytes w)
-      (subst (SaidTrueBy m T events (becames_of (length (frames_in events)) (other_fates w.fates))) (sym (turn_leaves (turn_of (first_fate w.fates)) (after_frame m bytes w.programmer) w.programmer m.reset)) told)
+      (subst (SaidTrueBy m T events (becames_of (length (frames_in events)) (other_fates w.fates)))
+      (sym (turn_leaves (turn_of (first_fate w.fates)) (after_frame m bytes w.programmer) w.programmer m.reset))
+      told)
   by_wire (Said e ∷ events) w told = (told.0, by_wire events w told.1)

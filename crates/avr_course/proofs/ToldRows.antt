@@ -44,23 +44,29 @@ joined [] [] [] (x ∷ d) e l = ap (λ t. x ∷ t) (joined [] [] [] d e l)
 joined [] [] [] [] e l = ap (λ t. t ++ l) (append-nil e)
 
 -- the line of a memory ends as its words do
-line_ends : (mem : Mem) (count : ℕ) (words : Bytes) → 10 ≤ length (reverse (words ++ 10 ∷ [])) → ends (count_line mem count words) ≡ take 10 (reverse (words ++ 10 ∷ []))
+line_ends : (mem : Mem) (count : ℕ) (words : Bytes) → 10 ≤ length (reverse (words ++ 10 ∷ []))
+    → ends (count_line mem count words) ≡ take 10 (reverse (words ++ 10 ∷ []))
 line_ends mem count words enough =
     let front : List ℕ = codes "avrstk: " ++ (name_of mem ++ (codes ": " ++ decimal count)) in
-    ap (λ bytes. take 10 (reverse bytes)) (joined (codes "avrstk: ") (name_of mem) (codes ": ") (decimal count) words (10 ∷ []))
+    ap (λ bytes. take 10 (reverse bytes)) (joined (codes "avrstk: ") (name_of mem) (codes ": ") (decimal count) words
+    (10 ∷ []))
     ∙ (ap (take 10) (reverse-append front (words ++ 10 ∷ []))
     ∙ take-append-le 10 (reverse (words ++ 10 ∷ [])) (reverse front) enough)
 
-verified_ends : (mem : Mem) (count : ℕ) → ends (count_line mem count (codes " bytes verified")) ≡ take 10 (reverse (codes " bytes verified" ++ 10 ∷ []))
+verified_ends : (mem : Mem) (count : ℕ) → ends (count_line mem count (codes " bytes verified"))
+    ≡ take 10 (reverse (codes " bytes verified" ++ 10 ∷ []))
 verified_ends mem count = line_ends mem count (codes " bytes verified") (omega arith)
 
-read_ends : (mem : Mem) (count : ℕ) → ends (count_line mem count (codes " bytes read")) ≡ take 10 (reverse (codes " bytes read" ++ 10 ∷ []))
+read_ends : (mem : Mem) (count : ℕ) → ends (count_line mem count (codes " bytes read"))
+    ≡ take 10 (reverse (codes " bytes read" ++ 10 ∷ []))
 read_ends mem count = line_ends mem count (codes " bytes read") (omega arith)
 
-written_ends : (mem : Mem) (count : ℕ) → ends (count_line mem count (codes " bytes written")) ≡ take 10 (reverse (codes " bytes written" ++ 10 ∷ []))
+written_ends : (mem : Mem) (count : ℕ) → ends (count_line mem count (codes " bytes written"))
+    ≡ take 10 (reverse (codes " bytes written" ++ 10 ∷ []))
 written_ends mem count = line_ends mem count (codes " bytes written") (omega arith)
 
-left_ends : (mem : Mem) (count : ℕ) → ends (count_line mem count (codes " bytes not written")) ≡ take 10 (reverse (codes " bytes not written" ++ 10 ∷ []))
+left_ends : (mem : Mem) (count : ℕ) → ends (count_line mem count (codes " bytes not written"))
+    ≡ take 10 (reverse (codes " bytes not written" ++ 10 ∷ []))
 left_ends mem count = line_ends mem count (codes " bytes not written") (omega arith)
 
 -- an erase opens the lock
@@ -74,17 +80,22 @@ no_more : (a b x y : Item) (z : Item) (rest later : List Item) → a ∷ b ∷ [
 no_more a b x y z [] later e = cc
 no_more a b x y z (w ∷ rest) later e = cc
 
-not_begun : (mem : Mem) (bytes : Image) (first later : List Item) → items plan ≡ first ++ Write mem bytes ∷ later → zeros ≡ effects tiny (first ++ Write mem bytes ∷ []) zeros → ⊥
+not_begun : (mem : Mem) (bytes : Image) (first later : List Item) → items plan ≡ first ++ Write mem bytes ∷ later
+    → zeros ≡ effects tiny (first ++ Write mem bytes ∷ []) zeros → ⊥
 not_begun mem bytes [] later order now =
     let same : Erase ≡ Write mem bytes = first_item Erase (Write Eeprom image) (Write mem bytes) later order in
     cc
 not_begun mem bytes (x ∷ []) later order now =
     let one : Erase ≡ x = first_item Erase (Write Eeprom image) x (Write mem bytes ∷ later) order in
-    let two : Write Eeprom image ≡ Write mem bytes = second_item Erase (Write Eeprom image) x (Write mem bytes) later order in
-    let whole : zeros ≡ effects tiny (Erase ∷ Write Eeprom image ∷ []) zeros = now ∙ (ap (λ y. effects tiny (y ∷ Write mem bytes ∷ []) zeros) (sym one) ∙ ap (λ w. effects tiny (Erase ∷ w ∷ []) zeros) (sym two)) in
+    let two : Write Eeprom image ≡ Write mem bytes =
+    second_item Erase (Write Eeprom image) x (Write mem bytes) later order in
+    let whole : zeros ≡ effects tiny (Erase ∷ Write Eeprom image ∷ []) zeros =
+    now ∙ (ap (λ y. effects tiny (y ∷ Write mem bytes ∷ []) zeros) (sym one)
+    ∙ ap (λ w. effects tiny (Erase ∷ w ∷ []) zeros) (sym two)) in
     let lock : 0 ≡ 255 = ap (λ (m : Memories). m.lock) whole in
     cc
-not_begun mem bytes (x ∷ y ∷ rest) later order now = no_more Erase (Write Eeprom image) x y (Write mem bytes) rest later order
+not_begun mem bytes (x ∷ y ∷ rest) later order now =
+    no_more Erase (Write Eeprom image) x y (Write mem bytes) rest later order
 
 -- the byte of a line at this place, and whether it is a line
 abbrev byte : ℕ → Saying → ℕ
@@ -94,7 +105,8 @@ byte place (Creates name) = 0
 byte place (Writes bytes) = 0
 byte place (Outs bytes) = 0
 
-not_saved : (line file text : Bytes) → (Line line ≡ Creates file) ⊎ ((Line line ≡ Writes text) ⊎ (Line line ≡ Outs text)) → ⊥
+not_saved : (line file text : Bytes) → (Line line ≡ Creates file)
+    ⊎ ((Line line ≡ Writes text) ⊎ (Line line ≡ Outs text)) → ⊥
 not_saved line file text (inl a) = cc
 not_saved line file text (inr (inl b)) = cc
 not_saved line file text (inr (inr c)) = cc
@@ -105,11 +117,17 @@ never_written (SignatureRead e) = let clash : 101 ≡ 100 = ap (byte 8) e in ome
 never_written (ChipErased has e now) = let clash : 101 ≡ 99 = ap (byte 8) e in omega (arith, clash)
 never_written (EraseLeftOut has e) = let clash : 101 ≡ 119 = ap (byte 8) e in omega (arith, clash)
 never_written (BytesWritten mem bytes first later e order now) = not_begun mem bytes first later order now
-never_written (WriteLeftOut mem bytes has e) = let clash : 115 ≡ 116 = ap (λ l. slice_index l 9) (sym (written_ends Eeprom 1) ∙ (ap ends e ∙ left_ends mem (byte_count bytes))) in omega (arith, clash)
-never_written (BytesVerified mem bytes has e shows) = let clash : 110 ≡ 100 = ap (λ l. slice_index l 1) (sym (written_ends Eeprom 1) ∙ (ap ends e ∙ verified_ends mem (byte_count bytes))) in omega (arith, clash)
+never_written (WriteLeftOut mem bytes has e) = let clash : 115 ≡ 116 =
+    ap (λ l. slice_index l 9) (sym (written_ends Eeprom 1) ∙ (ap ends e ∙ left_ends mem (byte_count bytes))) in
+    omega (arith, clash)
+never_written (BytesVerified mem bytes has e shows) = let clash : 110 ≡ 100 =
+    ap (λ l. slice_index l 1) (sym (written_ends Eeprom 1) ∙ (ap ends e ∙ verified_ends mem (byte_count bytes))) in
+    omega (arith, clash)
 never_written (Differed mem bytes fault has e differs) = let clash : 101 ≡ 114 = ap (byte 9) e in omega (arith, clash)
 never_written (BytesSaved mem format file has e) = not_saved _ file _ e
-never_written (BytesRead mem format file has e) = let clash : 110 ≡ 100 = ap (λ l. slice_index l 1) (sym (written_ends Eeprom 1) ∙ (ap ends e ∙ read_ends mem (length (kept_in plan mem zeros)))) in omega (arith, clash)
+never_written (BytesRead mem format file has e) = let clash : 110 ≡ 100 =
+    ap (λ l. slice_index l 1) (sym (written_ends Eeprom 1)
+    ∙ (ap ends e ∙ read_ends mem (length (kept_in plan mem zeros)))) in omega (arith, clash)
 never_written (StepFailed fault e) = let clash : 101 ≡ 114 = ap (byte 9) e in omega (arith, clash)
 never_written (SessionDone e) = let clash : 101 ≡ 100 = ap (byte 8) e in omega (arith, clash)
 
@@ -119,10 +137,13 @@ never_erased (SignatureRead e) = let clash : 99 ≡ 100 = ap (byte 8) e in omega
 never_erased (ChipErased has e now) = let lock : 0 ≡ 255 = ap (λ (m : Memories). m.lock) now in omega (arith, lock)
 never_erased (EraseLeftOut has e) = let clash : 99 ≡ 119 = ap (byte 8) e in omega (arith, clash)
 never_erased (BytesWritten mem bytes first later e order now) = not_begun mem bytes first later order now
-never_erased (WriteLeftOut mem bytes has e) = let clash : 100 ≡ 110 = ap (λ l. slice_index l 1) (ap ends e ∙ left_ends mem (byte_count bytes)) in omega (arith, clash)
-never_erased (BytesVerified mem bytes has e shows) = let clash : 115 ≡ 105 = ap (λ l. slice_index l 3) (ap ends e ∙ verified_ends mem (byte_count bytes)) in omega (arith, clash)
+never_erased (WriteLeftOut mem bytes has e) = let clash : 100 ≡ 110 =
+    ap (λ l. slice_index l 1) (ap ends e ∙ left_ends mem (byte_count bytes)) in omega (arith, clash)
+never_erased (BytesVerified mem bytes has e shows) = let clash : 115 ≡ 105 =
+    ap (λ l. slice_index l 3) (ap ends e ∙ verified_ends mem (byte_count bytes)) in omega (arith, clash)
 never_erased (Differed mem bytes fault has e differs) = let clash : 99 ≡ 101 = ap (byte 8) e in omega (arith, clash)
 never_erased (BytesSaved mem format file has e) = not_saved _ file _ e
-never_erased (BytesRead mem format file has e) = let clash : 101 ≡ 97 = ap (λ l. slice_index l 2) (ap ends e ∙ read_ends mem (length (kept_in plan mem zeros))) in omega (arith, clash)
+never_erased (BytesRead mem format file has e) = let clash : 101 ≡ 97 =
+    ap (λ l. slice_index l 2) (ap ends e ∙ read_ends mem (length (kept_in plan mem zeros))) in omega (arith, clash)
 never_erased (StepFailed fault e) = let clash : 99 ≡ 101 = ap (byte 8) e in omega (arith, clash)
 never_erased (SessionDone e) = let clash : 99 ≡ 100 = ap (byte 8) e in omega (arith, clash)

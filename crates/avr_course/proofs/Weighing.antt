@@ -45,7 +45,8 @@ module _ (w : Weight) where
 
   bodies_append : (xs ys : List (List Command)) → bodies_in (xs ++ ys) ≡ bodies_in xs ++ bodies_in ys
   bodies_append [] ys = refl
-  bodies_append (commands ∷ xs) ys = ap (λ bodies. map body commands ++ bodies) (bodies_append xs ys) ∙ sym (append_assoc (map body commands) (bodies_in xs) (bodies_in ys))
+  bodies_append (commands ∷ xs) ys = ap (λ bodies. map body commands ++ bodies) (bodies_append xs ys)
+      ∙ sym (append_assoc (map body commands) (bodies_in xs) (bodies_in ys))
 
   -- the weight of a step's commands, and of all steps'
   abbrev of_step : List Command → ℕ
@@ -73,7 +74,8 @@ module _ (w : Weight) where
 
   -- ---- steps
 
-  by_reply : {After : Reply → ℕ → Type 0} (go_on : List ℕ → Dialog ⊥ Reply) (reply : Reply) (left : ℕ) → ((bytes : List ℕ) → Call After (go_on bytes) left)
+  by_reply : {After : Reply → ℕ → Type 0} (go_on : List ℕ → Dialog ⊥ Reply) (reply : Reply) (left : ℕ)
+      → ((bytes : List ℕ) → Call After (go_on bytes) left)
       → ((other : Reply) → After other left) → Call After (with_data go_on reply) left
   by_reply go_on (Data bytes) left each stop = each bytes
   by_reply go_on (Again fault) left each stop = done (stop (Again fault))
@@ -86,21 +88,27 @@ module _ (w : Weight) where
       ask (omega (arith, le))
       (λ reading.
       by_reply (λ bytes. attempt commands (before ++ bytes)) (reading_reply command reading) (left - w (body command))
-      (λ bytes. attempt_spends commands (before ++ bytes) k (left - w (body command)) (omega (arith, le))) (λ other. omega (arith, le)))
+      (λ bytes. attempt_spends commands (before ++ bytes) k (left - w (body command)) (omega (arith, le)))
+      (λ other. omega (arith, le)))
 
   step_spends : (commands : List Command) → Spends (4 * of_step commands) (step commands)
   step_spends commands k left le =
-      attempts (budget w) (λ asked left. w asked ≤ left) commands (λ more t. more * of_step commands + k ≤ t) (λ outcome t. k ≤ t)
-      (λ more t e. let size = suc-mul more (of_step commands) in wider (λ asked t e. e) (λ e t f. f) (settled more) (attempt_spends commands [] (more * of_step commands + k) t (omega (arith, e, size))))
+      attempts (budget w) (λ asked left. w asked ≤ left) commands (λ more t. more * of_step commands + k ≤ t)
+      (λ outcome t. k ≤ t)
+      (λ more t e. let size = suc-mul more (of_step commands) in
+      wider (λ asked t e. e) (λ e t f. f) (settled more)
+      (attempt_spends commands [] (more * of_step commands + k) t (omega (arith, e, size))))
       (λ fault t e. omega (arith, e)) 4 NoAnswer left le
     where
-      settled : (more : ℕ) (reply : Reply) (t : ℕ) → more * of_step commands + k ≤ t → OnReply (λ t. more * of_step commands + k ≤ t) (λ outcome t. k ≤ t) reply t
+      settled : (more : ℕ) (reply : Reply) (t : ℕ) → more * of_step commands + k ≤ t
+          → OnReply (λ t. more * of_step commands + k ≤ t) (λ outcome t. k ≤ t) reply t
       settled more (Data bytes) t e = omega (arith, e)
       settled more (Again fault) t e = e
       settled more (Stop fault) t e = omega (arith, e)
 
   -- a step, and then the dialog that its data choose
-  then_spends : (commands : List Command) (steps : List (List Command)) (go_on : List ℕ → Dialog ⊥ Outcome) → ((bytes : List ℕ) → Spends (4 * total steps) (go_on bytes))
+  then_spends : (commands : List Command) (steps : List (List Command)) (go_on : List ℕ → Dialog ⊥ Outcome)
+      → ((bytes : List ℕ) → Spends (4 * total steps) (go_on bytes))
       → Spends (4 * total (commands ∷ steps)) (step commands >>= if_done go_on)
   then_spends commands steps go_on each k left le =
       let size = weighed_append (map body commands) (bodies_in steps) in
@@ -113,11 +121,13 @@ module _ (w : Weight) where
   play_spends : (steps : List (List Command)) (before : List ℕ) → Spends (4 * total steps) (play steps before)
   unfolding play
   play_spends [] before = λ k left le. done (omega (arith, le))
-  play_spends (commands ∷ steps) before = then_spends commands steps (λ bytes. play steps (before ++ bytes)) (λ bytes. play_spends steps (before ++ bytes))
+  play_spends (commands ∷ steps) before = then_spends commands steps (λ bytes. play steps (before ++ bytes))
+      (λ bytes. play_spends steps (before ++ bytes))
 
   -- ---- operations
 
-  operation_spends : {A : Type 0} (steps : List (List Command)) (judge : List ℕ → Result A HostFault) → Spends (4 * total steps) (operation steps judge)
+  operation_spends : {A : Type 0} (steps : List (List Command)) (judge : List ℕ → Result A HostFault)
+      → Spends (4 * total steps) (operation steps judge)
   unfolding operation
   operation_spends steps judge k left le = told (judged_by judge) (play_spends steps [] k left le) (λ o t e. e)
 
@@ -125,53 +135,69 @@ module _ (w : Weight) where
   unfolding opening handshake
   opening_spends signature force k left le =
       told (signature_judged signature force)
-      (then_spends (SignOn ∷ []) ((enter ∷ []) ∷ signature_steps) (λ name. step (enter ∷ []) >>= if_done (λ nothing. play signature_steps []))
-      (λ name. then_spends (enter ∷ []) signature_steps (λ nothing. play signature_steps []) (λ nothing. play_spends signature_steps [])) k left le)
+      (then_spends (SignOn ∷ []) ((enter ∷ []) ∷ signature_steps)
+      (λ name. step (enter ∷ []) >>= if_done (λ nothing. play signature_steps []))
+      (λ name. then_spends (enter ∷ []) signature_steps (λ nothing. play signature_steps [])
+      (λ nothing. play_spends signature_steps [])) k left le)
       (λ o t e. e)
 
   closing_spends : Spends (4 * total closing_steps) closing
   unfolding closing
   closing_spends k left le =
-      let size = weighed_append (map body (leave ∷ [])) [] in told without_bytes (step_spends (leave ∷ []) k left (omega (arith, le, size))) (λ o t e. e)
+      let size = weighed_append (map body (leave ∷ [])) [] in
+      told without_bytes (step_spends (leave ∷ []) k left (omega (arith, le, size))) (λ o t e. e)
 
   -- a memory that can't be written is asked nothing
-  writing_spends : (part : Part) (mem : Mem) (image : List (Option ℕ)) → Spends (4 * total (write_steps part mem image)) (writing part mem image)
+  writing_spends : (part : Part) (mem : Mem) (image : List (Option ℕ))
+      → Spends (4 * total (write_steps part mem image)) (writing part mem image)
   writing_spends part mem image = by_kind (is_writable mem)
     where
-      by_kind : (b : Bool) → Spends (4 * total (write_steps part mem image)) (if b then operation (write_steps part mem image) no_result else Done (Err (ReadOnly mem)))
+      by_kind : (b : Bool) → Spends (4 * total (write_steps part mem image))
+          (if b then operation (write_steps part mem image) no_result else Done (Err (ReadOnly mem)))
       by_kind true = operation_spends (write_steps part mem image) no_result
       by_kind false = λ k left le. done (omega (arith, le))
 
   -- ---- the phases of a session
 
-  says_costs : (sayings : List Saying) (s : Standing) (k left : ℕ) → k ≤ left → Phase (λ r rest. k ≤ rest) (says sayings (Done s)) left
+  says_costs : (sayings : List Saying) (s : Standing) (k left : ℕ) → k ≤ left
+      → Phase (λ r rest. k ≤ rest) (says sayings (Done s)) left
   says_costs [] s k left le = done le
   says_costs (saying ∷ sayings) s k left le = say tt (says_costs sayings s k left le)
 
-  reported_costs : {A : Type 0} (n : ℕ) (operation : Dialog ⊥ (Result A HostFault)) (tells : Result A HostFault → List Saying) → Spends n operation → Costs n (reported operation tells)
-  reported_costs n operation tells asks k left le = bind (call (asks k left le)) (λ r t e. says_costs (tells r) (standing r) k t e)
+  reported_costs : {A : Type 0} (n : ℕ) (operation : Dialog ⊥ (Result A HostFault))
+      (tells : Result A HostFault → List Saying) → Spends n operation → Costs n (reported operation tells)
+  reported_costs n operation tells asks k left le =
+      bind (call (asks k left le)) (λ r t e. says_costs (tells r) (standing r) k t e)
 
   module _ (part : Part) (s : Switches) where
     phase_costs : (action : Action) → Costs (4 * total (action_steps part action)) (phase part s action)
     phase_costs OpenSession =
-        reported_costs (4 * total opening_steps) (opening part.signature s.force) (opening_says s.quiet part) (opening_spends part.signature s.force)
-    phase_costs EraseChip = reported_costs (4 * total erasing_steps) erasing (erased_says s.quiet part) (operation_spends erasing_steps no_result)
+        reported_costs (4 * total opening_steps) (opening part.signature s.force) (opening_says s.quiet part)
+        (opening_spends part.signature s.force)
+    phase_costs EraseChip = reported_costs (4 * total erasing_steps) erasing (erased_says s.quiet part)
+        (operation_spends erasing_steps no_result)
     phase_costs LeaveErase = λ k left le. says_costs (left_out_erase s.quiet) Fine k left (omega (arith, le))
     phase_costs (WriteImage mem image) =
-        reported_costs (4 * total (write_steps part mem image)) (writing part mem image) (written_says s.quiet part mem image) (writing_spends part mem image)
-    phase_costs (LeaveWrite mem image) = λ k left le. says_costs (left_out_write s.quiet mem image) Fine k left (omega (arith, le))
+        reported_costs (4 * total (write_steps part mem image)) (writing part mem image)
+        (written_says s.quiet part mem image) (writing_spends part mem image)
+    phase_costs (LeaveWrite mem image) = λ k left le. says_costs (left_out_write s.quiet mem image) Fine k left
+        (omega (arith, le))
     phase_costs (CompareImage mem image) =
-        reported_costs (4 * total (read_steps part mem)) (verifying part mem image) (verified_says s.quiet part mem image) (operation_spends (read_steps part mem) (comparison mem image))
+        reported_costs (4 * total (read_steps part mem)) (verifying part mem image)
+        (verified_says s.quiet part mem image) (operation_spends (read_steps part mem) (comparison mem image))
     phase_costs (SaveMemory mem format file) =
-        reported_costs (4 * total (read_steps part mem)) (reading part mem) (fault_or part (read_says s mem format file)) (operation_spends (read_steps part mem) Ok)
+        reported_costs (4 * total (read_steps part mem)) (reading part mem)
+        (fault_or part (read_says s mem format file)) (operation_spends (read_steps part mem) Ok)
 
     phases_cost : (actions : List Action) → Costs (4 * total (actions_steps part actions)) (phases part s actions)
     phases_cost [] k left le = done (omega (arith, le))
     phases_cost (action ∷ actions) k left le =
         let size = total_on (action_steps part action) (actions_steps part actions) in
-        bind (phase_costs action (4 * total (actions_steps part actions) + k) left (omega (arith, le, size))) (after (phases_cost actions))
+        bind (phase_costs action (4 * total (actions_steps part actions) + k) left (omega (arith, le, size)))
+        (after (phases_cost actions))
       where
-        after : Costs (4 * total (actions_steps part actions)) (phases part s actions) → (at : Standing) (t : ℕ) → 4 * total (actions_steps part actions) + k ≤ t
+        after : Costs (4 * total (actions_steps part actions)) (phases part s actions) → (at : Standing) (t : ℕ)
+            → 4 * total (actions_steps part actions) + k ≤ t
             → Phase (λ r rest. k ≤ rest) (unless_fault (phases part s actions) at) t
         after more Fine t e = more k t e
         after more Faulty t e = done (omega (arith, e))
@@ -179,7 +205,8 @@ module _ (w : Weight) where
 
     ending_costs : (at : Standing) → Costs (4 * total closing_steps) (ending part s at)
     ending_costs Fine = reported_costs (4 * total closing_steps) closing (closed_says s.quiet part) closing_spends
-    ending_costs Faulty = λ k left le. told (λ closed. Over) (reported_costs (4 * total closing_steps) closing (λ _. []) closing_spends k left le) (λ a t e. e)
+    ending_costs Faulty = λ k left le. told (λ closed. Over)
+        (reported_costs (4 * total closing_steps) closing (λ _. []) closing_spends k left le) (λ a t e. e)
     ending_costs Over = λ k left le. done (omega (arith, le))
 
   pub session_weighs : (plan : Plan) → WeighsAtMost w (4 * total (run_steps plan)) (session plan)
@@ -190,5 +217,6 @@ module _ (w : Weight) where
       let n = 4 * total closing_steps in
       let size = total_on (actions_steps part (actions plan)) closing_steps in
       (told {After = λ r rest. Unit {0}} status_of
-      (bind (phases_cost part s (actions plan) n (4 * total (run_steps plan)) (omega (arith, size))) (λ at t e. ending_costs part s at 0 t (omega (arith, e))))
+      (bind (phases_cost part s (actions plan) n (4 * total (run_steps plan)) (omega (arith, size)))
+      (λ at t e. ending_costs part s at 0 t (omega (arith, e))))
       (λ at t e. tt)).holds

@@ -56,8 +56,10 @@ all_passed old new during silent e = sym (e ∙ ap (λ (t : Talk). t ++ during) 
 one_no : ◌≡◌ {A = ℕ} 1 0 → ⊥
 one_no e = cc
 
-module _ (plan : Plan) (w v : WiredState) (fresh : IsFresh w) (stays : Stays ComesOf w v) (is_sound : IsSoundChip w.wire.programmer.chip)
-    (part_is : w.wire.programmer.chip.part ≡ plan.part) (fitted : All (IsFitted plan.part) plan.tasks) (old now : DeskView) (status : ℕ) where
+module _ (plan : Plan) (w v : WiredState) (fresh : IsFresh w) (stays : Stays ComesOf w v)
+    (is_sound : IsSoundChip w.wire.programmer.chip)
+    (part_is : w.wire.programmer.chip.part ≡ plan.part) (fitted : All (IsFitted plan.part) plan.tasks)
+    (old now : DeskView) (status : ℕ) where
   abbrev begun : Programmer
   begun = fresh_programmer w.wire.programmer.chip
 
@@ -93,26 +95,33 @@ module _ (plan : Plan) (w v : WiredState) (fresh : IsFresh w) (stays : Stays Com
   keeps : Keeps begun w.wire.fates v
   keeps = stays (record { programmer = begun; fates = w.wire.fates }) fresh.begins
 
-  leads : Leads device (session plan) begun (turns_of w.wire.fates) (λ q. IsTouched plan before (memories_of q.chip)) (λ status q. status ≡ 0 → IsDone plan before (memories_of q.chip))
+  leads : Leads device (session plan) begun (turns_of w.wire.fates) (λ q. IsTouched plan before (memories_of q.chip))
+      (λ status q. status ≡ 0 → IsDone plan before (memories_of q.chip))
   leads = session_leaves plan sound fitted before sizes begun (turns_of w.wire.fates) idle
 
   -- a run that was played whole went along the line to its status
   module _ (whole : Whole) where
     plays : Plays (session plan) start v.talk whole.1.events status whole.0
-    plays = subst (λ talk. Plays (session plan) start talk whole.1.events status whole.0) (all_passed w.talk v.talk whole.1.during fresh.silent whole.1.grows) whole.1.plays
+    plays = subst (λ talk. Plays (session plan) start talk whole.1.events status whole.0)
+        (all_passed w.talk v.talk whole.1.during fresh.silent whole.1.grows) whole.1.plays
 
     goes : GoesAlong (session plan) begun (turns_of w.wire.fates) v status whole.0.unread
-    goes = whole_along (session plan) 1 begun w.wire.fates v asks fresh.lawful keeps plays.in_turn whole.1.events status whole.0 plays
+    goes = whole_along (session plan) 1 begun w.wire.fates v asks fresh.lawful keeps plays.in_turn whole.1.events status
+        whole.0 plays
 
     says : sayings whole.1.events ≡ said_along device count (session plan) begun (turns_of w.wire.fates)
-    says = whole_said (session plan) 1 begun w.wire.fates v asks fresh.lawful keeps plays.in_turn whole.1.events status whole.0 plays
+    says = whole_said (session plan) 1 begun w.wire.fates v asks fresh.lawful keeps plays.in_turn whole.1.events status
+        whole.0 plays
 
     ran_done : status ≡ 0 → IsDone plan before after
-    ran_done zero = subst (λ (q : Programmer). IsDone plan before (memories_of q.chip)) (sym goes.programmer) (leads.after count status goes.result zero)
+    ran_done zero = subst (λ (q : Programmer). IsDone plan before (memories_of q.chip)) (sym goes.programmer)
+        (leads.after count status goes.result zero)
 
     -- it has the course that it came to along the line
-    has_course : Came status (course plan before).status (said_along device count (session plan) begun (turns_of w.wire.fates)) (course plan before).says
-        (memories_of (along device count (session plan) begun (turns_of w.wire.fates)).programmer.chip ≡ (course plan before).memories) → IsCourse plan before after old now status
+    has_course : Came status (course plan before).status
+        (said_along device count (session plan) begun (turns_of w.wire.fates)) (course plan before).says
+        (memories_of (along device count (session plan) begun (turns_of w.wire.fates)).programmer.chip
+        ≡ (course plan before).memories) → IsCourse plan before after old now status
     has_course c = record {
       said = whole.1.kept ∙ ap (λ said. after_all said old.kept) (says ∙ c.sayings);
       status_is = c.result;
@@ -120,23 +129,28 @@ module _ (plan : Plan) (w v : WiredState) (fresh : IsFresh w) (stays : Stays Com
     }
 
     ran_success : status ≡ 0 → IsCourse plan before after old now status
-    ran_success zero = has_course (session_succeeds plan sound fitted before sizes count status begun (turns_of w.wire.fates) idle goes.result zero)
+    ran_success zero = has_course (session_succeeds plan sound fitted before sizes count status begun
+        (turns_of w.wire.fates) idle goes.result zero)
 
     ran_few : AreFew (turns_of w.wire.fates) → IsCourse plan before after old now status
-    ran_few few = has_course (session_ends plan sound fitted before begun (turns_of w.wire.fates) sizes idle few count status goes.result)
+    ran_few few = has_course (session_ends plan sound fitted before begun (turns_of w.wire.fates) sizes idle few count
+        status goes.result)
 
     ran_front : IsPrefixOf (sent v.talk) (bytes_sent (played (session plan) 1 (heard v.talk)).events)
     ran_front =
-        let over = ap (λ t. bytes_sent (played (session plan) 1 t).events) (sym (append-nil (heard v.talk))) ∙ ap (λ x. bytes_sent x.events) (plays.plays []) in
+        let over = ap (λ t. bytes_sent (played (session plan) 1 t).events) (sym (append-nil (heard v.talk)))
+        ∙ ap (λ x. bytes_sent x.events) (plays.plays []) in
         ([], append-nil (sent v.talk) ∙ (sym plays.all_sent ∙ sym over))
 
   -- one that stopped stands on the line all the same
   module _ (stopped : Stopped plan w v old now) where
     breaks : Breaks SaidPart (session plan) start v.talk stopped.shown
-    breaks = subst (λ talk. Breaks SaidPart (session plan) start talk stopped.shown) (all_passed w.talk v.talk stopped.during fresh.silent stopped.grows) stopped.breaks
+    breaks = subst (λ talk. Breaks SaidPart (session plan) start talk stopped.shown)
+        (all_passed w.talk v.talk stopped.during fresh.silent stopped.grows) stopped.breaks
 
     broke_stands : v.wire.programmer ≡ (along device count (session plan) begun (turns_of w.wire.fates)).programmer
-    broke_stands = broken_along (session plan) 1 begun w.wire.fates v asks fresh.lawful keeps breaks.in_turn SaidPart stopped.shown breaks
+    broke_stands = broken_along (session plan) 1 begun w.wire.fates v asks fresh.lawful keeps breaks.in_turn SaidPart
+        stopped.shown breaks
 
     broke_front : IsPrefixOf (sent v.talk) (bytes_sent (played (session plan) 1 (heard v.talk)).events)
     broke_front =
@@ -171,13 +185,16 @@ module _ (plan : Plan) (w v : WiredState) (fresh : IsFresh w) (stays : Stays Com
       }
 
   -- over a line on which few frames go wrong
-  goes_well : Either → AreFew (turns_of w.wire.fates) → IsCourse plan before after old now status ⊎ Stopped plan w v old now
+  goes_well : Either → AreFew (turns_of w.wire.fates)
+      → IsCourse plan before after old now status ⊎ Stopped plan w v old now
   goes_well (inl whole) few = inl (ran_few whole few)
   goes_well (inr broke) few = inr broke.0
 
   -- and whatever the chip was, where the plan erases and agrees on a chip of 00 and on one of FF
-  succeeds_again : Either → AreFew (turns_of w.wire.fates) → has_erase (items plan) ≡ true → AgreesAnyway plan → (status ≡ 0) ⊎ Stopped plan w v old now
-  succeeds_again (inl whole) few erases both = inl (succeeds plan before status sizes erases both (ran_few whole few).status_is)
+  succeeds_again : Either → AreFew (turns_of w.wire.fates) → has_erase (items plan) ≡ true → AgreesAnyway plan
+      → (status ≡ 0) ⊎ Stopped plan w v old now
+  succeeds_again (inl whole) few erases both =
+      inl (succeeds plan before status sizes erases both (ran_few whole few).status_is)
   succeeds_again (inr broke) few erases both = inr broke.0
 
   -- and whatever was told was true then
@@ -190,21 +207,27 @@ module _ (plan : Plan) (w v : WiredState) (fresh : IsFresh w) (stays : Stays Com
 
   -- the wire as it was when it began
   as_begun : line.fresh_wire begun w.wire.fates ≡ w.wire
-  as_begun = sym (fresh.begins.stands ∙ ap (λ talk. line.wire_after device (frames (sent talk)) (line.fresh_wire begun w.wire.fates)) fresh.silent)
+  as_begun = sym (fresh.begins.stands ∙ ap
+      (λ talk. line.wire_after device (frames (sent talk)) (line.fresh_wire begun w.wire.fates)) fresh.silent)
 
-  honest : (runs : Either) → AreHonest device (session plan) 1 (heard v.talk) begun (becames_of (length (frames_in (played (session plan) 1 (heard v.talk)).events)) w.wire.fates)
-  honest runs = honest_heard (session plan) 1 begun w.wire.fates v asks fresh.lawful keeps (in_turn runs) (is_front runs)
+  honest : (runs : Either) → AreHonest device (session plan) 1 (heard v.talk) begun
+      (becames_of (length (frames_in (played (session plan) 1 (heard v.talk)).events)) w.wire.fates)
+  honest runs = honest_heard (session plan) 1 begun w.wire.fates v asks fresh.lawful keeps (in_turn runs)
+      (is_front runs)
 
   tells : Either → WereTrue plan w (played (session plan) 1 (heard v.talk)).events
   tells runs =
       let becames = becames_of (length (frames_in (played (session plan) 1 (heard v.talk)).events)) w.wire.fates in
       subst (SaidTrue device IsSaidTrue (played (session plan) 1 (heard v.talk)).events) as_begun
       (by_wire device IsSaidTrue (played (session plan) 1 (heard v.talk)).events (line.fresh_wire begun w.wire.fates)
-      (told_any device IsSaidTrue (session plan) 1 (heard v.talk) begun becames asks (λ k turns. session_tells plan sound before sizes fitted k begun turns idle) (honest runs)))
+      (told_any device IsSaidTrue (session plan) 1 (heard v.talk) begun becames asks
+      (λ k turns. session_tells plan sound before sizes fitted k begun turns idle) (honest runs)))
 
   foretells : Either → IsForetold plan before (sayings (played (session plan) 1 (heard v.talk)).events)
   foretells runs =
-      foretold_on_tape plan sound fitted before sizes begun (heard v.talk) (becames_of (length (frames_in (played (session plan) 1 (heard v.talk)).events)) w.wire.fates) idle (honest runs)
+      foretold_on_tape plan sound fitted before sizes begun (heard v.talk)
+      (becames_of (length (frames_in (played (session plan) 1 (heard v.talk)).events)) w.wire.fates) idle
+      (honest runs)
 
   pub over_any_line : Either → OverAnyLine plan w v old now status
   over_any_line runs = record {
@@ -212,8 +235,10 @@ module _ (plan : Plan) (w v : WiredState) (fresh : IsFresh w) (stays : Stays Com
     done = is_done runs;
     images = λ zero verified. run_written plan before after fitted verified (is_done runs zero) sound sizes;
     strokes = makes runs;
-    untouched = λ none. ap (λ x. memories_of x.programmer.chip) (keeps.stands ∙ (ap (λ fs. line.wire_after device fs (line.fresh_wire begun w.wire.fates)) none ∙ as_begun));
-    four = λ weight. front_weighs weight (4 * weighed weight (bodies_in (run_steps plan))) (session plan) 1 (heard v.talk) (sent v.talk) asks (session_weighs weight plan) (is_front runs);
+    untouched = λ none. ap (λ x. memories_of x.programmer.chip)
+        (keeps.stands ∙ (ap (λ fs. line.wire_after device fs (line.fresh_wire begun w.wire.fates)) none ∙ as_begun));
+    four = λ weight. front_weighs weight (4 * weighed weight (bodies_in (run_steps plan))) (session plan) 1
+        (heard v.talk) (sent v.talk) asks (session_weighs weight plan) (is_front runs);
     believable = tells runs;
     foretold = foretells runs;
     few_bad = goes_well runs;
@@ -221,14 +246,20 @@ module _ (plan : Plan) (w v : WiredState) (fresh : IsFresh w) (stays : Stays Com
   }
 
 -- what was told is a front of what the session tells over what was heard
-module _ (plan : Plan) (w v : WiredState) (d e : DeskView) (status : ℕ) (silent : w.talk ≡ []) (over : OverAnyLine plan w v d e status) where
-  pub played_truly : (whole : IsPlayed (session plan) (devices (wired_view w) d) (devices (wired_view v) e) status) → WereTrue plan w whole.1.events
+module _ (plan : Plan) (w v : WiredState) (d e : DeskView) (status : ℕ) (silent : w.talk ≡ [])
+    (over : OverAnyLine plan w v d e status) where
+  pub played_truly : (whole : IsPlayed (session plan) (devices (wired_view w) d) (devices (wired_view v) e) status)
+      → WereTrue plan w whole.1.events
   played_truly whole =
-      let over_heard = ap (λ t. (played (session plan) 1 t).events) (ap heard (sym (all_passed w.talk v.talk whole.1.during silent whole.1.grows)) ∙ sym (append-nil (heard whole.1.during))) in
+      let over_heard = ap (λ t. (played (session plan) 1 t).events)
+      (ap heard (sym (all_passed w.talk v.talk whole.1.during silent whole.1.grows))
+      ∙ sym (append-nil (heard whole.1.during))) in
       subst (WereTrue plan w) (over_heard ∙ ap (λ x. x.events) (whole.1.plays.plays [])) over.believable
 
   pub stopped_truly : (stopped : Stopped plan w v d e) → WereTrue plan w stopped.breaks.front.whole
   stopped_truly stopped =
-      let over_heard = ap (λ t. (played (session plan) 1 t).events) (ap heard (sym (all_passed w.talk v.talk stopped.during silent stopped.grows))) in
-      said_front device (λ q saying. IsTrue plan (memories w) (memories_of q.chip) saying) stopped.breaks.front.whole stopped.breaks.front.later w.wire
+      let over_heard = ap (λ t. (played (session plan) 1 t).events)
+      (ap heard (sym (all_passed w.talk v.talk stopped.during silent stopped.grows))) in
+      said_front device (λ q saying. IsTrue plan (memories w) (memories_of q.chip) saying) stopped.breaks.front.whole
+      stopped.breaks.front.later w.wire
       (subst (WereTrue plan w) (over_heard ∙ stopped.breaks.front.events_are) over.believable)

@@ -25,7 +25,8 @@ record Turns (c : Course) (Agree : Type 0) (left : Memories) : Type 0 where
   memories : c.standing ≡ Fine → c.memories ≡ left
 
 -- one course after another
-turns_on : (first : Course) (next : Memories → Course) (A B : Type 0) (between left : Memories) (s : Standing) → first.standing ≡ s
+turns_on : (first : Course) (next : Memories → Course) (A B : Type 0) (between left : Memories) (s : Standing)
+    → first.standing ≡ s
     → Turns first A between → Turns (next between) B left → Turns (then_from first s next) (A × B) left
 turns_on first next A B between left Fine e turns more =
     let there : first.memories ≡ between = turns.memories e in
@@ -60,31 +61,36 @@ turns_fine : (c : Course) → c.standing ≡ Fine → Turns c ⊤ c.memories
 turns_fine c is = record { if_fine = λ f. tt; is_fine = λ agree. is; memories = λ f. refl }
 
 module _ (part : Part) (s : Switches) where
-  turns_action : (action : Action) (m : Memories) → Turns (action_course part s action m) (ActionAgrees part action m) (effects part (action_items action) m)
+  turns_action : (action : Action) (m : Memories)
+      → Turns (action_course part s action m) (ActionAgrees part action m) (effects part (action_items action) m)
   turns_action OpenSession m = turns_fine (action_course part s OpenSession m) refl
   turns_action EraseChip m = turns_fine (action_course part s EraseChip m) refl
   turns_action LeaveErase m = turns_fine (action_course part s LeaveErase m) refl
   turns_action (WriteImage mem image) m = turns_fine (action_course part s (WriteImage mem image) m) refl
   turns_action (LeaveWrite mem image) m = turns_fine (action_course part s (LeaveWrite mem image) m) refl
   turns_action (CompareImage mem image) m = record {
-    if_fine = λ f. no_difference 0 image (memory_in part mem m) (no_difference_if_fine mem (difference_from 0 image (memory_in part mem m)) f);
+    if_fine = λ f. no_difference 0 image (memory_in part mem m)
+        (no_difference_if_fine mem (difference_from 0 image (memory_in part mem m)) f);
     is_fine = λ shows. ap (λ d. standing (differs mem d)) (held_same 0 image (memory_in part mem m) shows);
     memories = λ f. refl;
   }
   turns_action (SaveMemory mem format file) m = turns_fine (action_course part s (SaveMemory mem format file) m) refl
 
-  turns_actions : (actions : List Action) (m : Memories) → Turns (actions_course part s actions m) (ActionsAgree part actions m) (effects part (actions_items actions) m)
+  turns_actions : (actions : List Action) (m : Memories)
+      → Turns (actions_course part s actions m) (ActionsAgree part actions m) (effects part (actions_items actions) m)
   turns_actions [] m = record { if_fine = λ f. tt; is_fine = λ agree. refl; memories = λ f. refl }
   turns_actions (action ∷ actions) m =
       let after = effects part (action_items action) m in
       subst (Turns (actions_course part s (action ∷ actions) m) (ActionsAgree part (action ∷ actions) m))
       (sym (effects_on part (action_items action) (actions_items actions) m))
-      (turns_then (action_course part s action m) (actions_course part s actions) (ActionAgrees part action m) (ActionsAgree part actions after) after (effects part (actions_items actions) after)
+      (turns_then (action_course part s action m) (actions_course part s actions) (ActionAgrees part action m)
+      (ActionsAgree part actions after) after (effects part (actions_items actions) after)
       (turns_action action m) (turns_actions actions after))
 
 -- ---- the whole
 
-turns_working : (plan : Plan) (m : Memories) → Turns (working_course plan m) (Agrees plan m) (effects plan.part (items plan) m)
+turns_working : (plan : Plan) (m : Memories)
+    → Turns (working_course plan m) (Agrees plan m) (effects plan.part (items plan) m)
 turns_working plan m = turns_actions plan.part plan.switches (actions plan) m
 
 fine_of_status : (s : Standing) → status_of s ≡ 0 → s ≡ Fine
@@ -94,8 +100,11 @@ fine_of_status Over e = absurd (let no : ⊥ = omega (arith, e) in no)
 
 pub course_status : (plan : Plan) (m : Memories) → (course plan m).status ≡ 0 ↔ Agrees plan m
 course_status plan m =
-    let turns = turns_working plan m in
-    (λ e. turns.if_fine (fine_of_status (working_course plan m).standing e), λ agree. ap status_of (turns.is_fine agree))
+    let turns = turns_working plan m in (
+      λ e. turns.if_fine (fine_of_status (working_course plan m).standing e),
+      λ agree. ap status_of (turns.is_fine agree),
+    )
 
-pub course_memories : (plan : Plan) (m : Memories) → Agrees plan m → (course plan m).memories ≡ effects plan.part (items plan) m
+pub course_memories : (plan : Plan) (m : Memories) → Agrees plan m
+    → (course plan m).memories ≡ effects plan.part (items plan) m
 course_memories plan m agree = let turns = turns_working plan m in turns.memories (turns.is_fine agree)

@@ -10,3 +10,26 @@ pub mod Told
 pub mod Outcome
 pub mod Again
 pub mod AnyLine
+-- of the crates below, what public contracts name
+pub use Rattle.avr_desk.specs.Record
+pub use Rattle.avr_desk.specs.Said
+pub use Rattle.avr_image.specs.Image
+pub use Rattle.avr_part.specs.Part
+pub use Rattle.avr_plan.specs.Plan
+pub use Rattle.avr_session.specs.Actions
+pub use Rattle.avr_session.specs.Runs
+pub use Rattle.avr_session.specs.Session
+pub use Rattle.avr_session.specs.Stopping
+pub use Rattle.stk_emu.specs.Along
+pub use Rattle.stk_emu.specs.Device
+pub use Rattle.stk_emu.specs.Effect
+pub use Rattle.stk_emu.specs.Programmer
+pub use Rattle.stk_emu.specs.Settled
+pub use Rattle.stk_emu.specs.Turn
+pub use Rattle.stk_emu.specs.Wired
+pub use Rattle.stk_host.specs.Dialog
+pub use Rattle.stk_host.specs.Tape
+pub use Rattle.stk_lines.specs.AnyTape
+pub use Rattle.stk_lines.specs.Few
+pub use Rattle.stk_lines.specs.Leads
+pub use Rattle.stk_lines.specs.Tallies

@@ -6,7 +6,8 @@ use Rattle.avr_desk.specs.declared.desk.DeskFault.{DeskFault}
 use Rattle.avr_desk.specs.declared.stream.Stream.{Stream}
 
 -- bytes were taken
-pub taken_uncounted : (stream : Stream) (bytes : Bytes) (old new : DeskView) (n : ℕ) → (n ≡ 0 → ⊥) → WriteCounts stream bytes old new (Ok n) → HasSameCounts old new
+pub taken_uncounted : (stream : Stream) (bytes : Bytes) (old new : DeskView) (n : ℕ) → (n ≡ 0 → ⊥)
+    → WriteCounts stream bytes old new (Ok n) → HasSameCounts old new
 taken_uncounted stream bytes old new n some counts = counts.otherwise (λ none. some (ok_is none.0))
   where
     answer : ℕ → Result ℕ DeskFault

@@ -17,7 +17,8 @@ use Rattle.avr_desk.specs.Stage.{Made, verdict_stage, content_stage, file_stage}
 -- the judgment of what the file gave
 pub goes_whole : {A : Type 0} (name : Bytes) (limit : ℕ) (judge : Bytes → Result A Bytes) (bytes : Bytes) (ended : Bool)
     (old mid new : DeskView) (result : Result A ℕ)
-    → Passes (with_read name bytes ended) old mid → IsWhole limit (record { bytes = bytes; ended = ended }) → HasSameCounts old mid
+    → Passes (with_read name bytes ended) old mid → IsWhole limit (record { bytes = bytes; ended = ended })
+    → HasSameCounts old mid
     → Goes (verdict_stage (judge bytes)) mid new result → Goes (file_stage name limit judge) old new result
 goes_whole name limit judge bytes ended old mid new result kept whole same goes =
     let reading : Reading = record { name = name; bytes = bytes; ended = ended } in
@@ -26,13 +27,15 @@ goes_whole name limit judge bytes ended old mid new result kept whole same goes 
 
 pub went_whole : {A : Type 0} (name : Bytes) (limit : ℕ) (judge : Bytes → Result A Bytes) (bytes : Bytes) (ended : Bool)
     (old mid : DeskView) (a : A)
-    → Passes (with_read name bytes ended) old mid → IsWhole limit (record { bytes = bytes; ended = ended }) → HasSameCounts old mid
+    → Passes (with_read name bytes ended) old mid → IsWhole limit (record { bytes = bytes; ended = ended })
+    → HasSameCounts old mid
     → Went (verdict_stage (judge bytes)) mid mid (Made a) → Went (file_stage name limit judge) old mid (Made a)
 went_whole name limit judge bytes ended old mid a kept whole same went =
     goes_whole name limit judge bytes ended old mid mid (Ok a) kept whole same went
 
 -- any fault of the reading
-pub goes_file_fault : {A : Type 0} (name : Bytes) (limit : ℕ) (judge : Bytes → Result A Bytes) (fault : FileFault) (old mid new : DeskView)
+pub goes_file_fault : {A : Type 0} (name : Bytes) (limit : ℕ) (judge : Bytes → Result A Bytes) (fault : FileFault)
+    (old mid new : DeskView)
     (status : ℕ)
     → FileBreaks name old mid fault → Follows old mid → IsCounted old mid fault → status ≡ 1
     → Tells mid new (file_fault_line name fault)
@@ -41,8 +44,11 @@ goes_file_fault {A} name limit judge file_fault.Absent old mid new status breaks
     goes_opened name (content_stage name limit judge) (Absent name) old mid new (Err status) refl breaks counted
     (goes_refused {A = A} mid new (not_opened_line name) status one told)
 goes_file_fault name limit judge file_fault.NotOpened old mid new status breaks rose counted one told =
-    goes_broken name (content_stage name limit judge) file_fault.NotOpened old mid new status (λ e. cc) breaks rose counted one told
+    goes_broken name (content_stage name limit judge) file_fault.NotOpened old mid new status (λ e. cc) breaks rose
+    counted one told
 goes_file_fault name limit judge file_fault.NotRead old mid new status breaks rose counted one told =
-    goes_broken name (content_stage name limit judge) file_fault.NotRead old mid new status (λ e. cc) breaks rose counted one told
+    goes_broken name (content_stage name limit judge) file_fault.NotRead old mid new status (λ e. cc) breaks rose
+    counted one told
 goes_file_fault name limit judge file_fault.Memory old mid new status breaks rose counted one told =
-    goes_broken name (content_stage name limit judge) file_fault.Memory old mid new status (λ e. cc) breaks rose counted one told
+    goes_broken name (content_stage name limit judge) file_fault.Memory old mid new status (λ e. cc) breaks rose counted
+    one told

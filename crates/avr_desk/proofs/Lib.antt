@@ -1,3 +1,5 @@
+-- in the order in which to read: bytes sent and read, names and uses of files, counts; lines; stages of openings, and
+-- where one broke off; what the desks keep
 pub mod Sending
 pub mod ReadingLemmas
 pub mod NamedLemmas

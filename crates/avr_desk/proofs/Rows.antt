@@ -27,7 +27,8 @@ silent failures = showing nothing_kept failures 0
 abbrev done : Result (Unit {0}) DeskFault
 done = Ok tt
 
--- a failure that is counted behind a success, behind a file that isn't there, behind a byte that was taken, or behind want of
+-- a failure that is counted behind a success, behind a file that isn't there, behind a byte that was taken, or behind
+-- want of
 -- memory
 pub no_count_behind_success : Counts File (silent 0) (silent 1) done → ⊥
 no_count_behind_success counts = let e : 1 ≡ 0 = counts.1.0 in omega (arith, e)
@@ -83,7 +84,8 @@ front_or_end (suc n) e = absurd (cc)
 abbrev output_of : Record → Bytes
 output_of r = r.output
 
-pub no_end_before_a_fault : SendsTaken Output whole (showing nothing_kept 0 0) (showing (after_out end nothing_kept) 1 0) (Err Failed) → ⊥
+pub no_end_before_a_fault : SendsTaken Output whole (showing nothing_kept 0 0)
+    (showing (after_out end nothing_kept) 1 0) (Err Failed) → ⊥
 no_end_before_a_fault sent = front_or_end sent.0 (ap output_of sent.2)
 
 -- a line cut short where only a file failed
@@ -95,7 +97,8 @@ no_line_cut_by_a_file (inr (part, (failures, unsaid))) = let e : 0 ≡ 1 = unsai
 abbrev byte : List ℕ
 byte = 1 ∷ []
 
-pub no_message_in_the_output : SendsTaken Messages byte (showing nothing_kept 0 0) (showing (after_out byte nothing_kept) 0 0) (Ok 1) → ⊥
+pub no_message_in_the_output : SendsTaken Messages byte (showing nothing_kept 0 0)
+    (showing (after_out byte nothing_kept) 0 0) (Ok 1) → ⊥
 no_message_in_the_output sent = let e : byte ≡ [] = ap output_of sent in absurd (cc)
 
 -- a writer that took other bytes
@@ -172,7 +175,8 @@ no_made_file_overlooked are =
     let e : Some byte ≡ None = are.0 in
     absurd (cc)
 
-pub no_older_contents : AreTrue one_there [] (Created (record { name = name; bytes = end }) ∷ Opened (found_as byte) ∷ []) → ⊥
+pub no_older_contents : AreTrue one_there []
+    (Created (record { name = name; bytes = end }) ∷ Opened (found_as byte) ∷ []) → ⊥
 no_older_contents are =
     let e : Some end ≡ Some (byte ++ are.0.unread) = are.0.whole in
     absurd (cc)

@@ -15,5 +15,6 @@ after_append [] y r = refl
 after_append (saying ∷ x) y r = after_append x y (after saying r)
 
 -- some sayings, and then others
-pub kept_append : (x y : List Saying) (a b c : Record) → b ≡ after_all x a → c ≡ after_all y b → c ≡ after_all (x ++ y) a
+pub kept_append : (x y : List Saying) (a b c : Record) → b ≡ after_all x a → c ≡ after_all y b
+    → c ≡ after_all (x ++ y) a
 kept_append x y a b c e f = kept_on (after_all x) (after_all y) (after_all (x ++ y)) a b c (after_append x y) e f

@@ -13,7 +13,8 @@ pub keeps : (a : Option Bytes) → Keeps a a
 keeps None = tt
 keeps (Some x) = refl
 
-pub kept_nothing : (a b c : Option Bytes) (n : ℕ) (bytes : Bytes) → Keeps a b → n ≡ 0 → Appends b c (take n bytes) → Keeps a c
+pub kept_nothing : (a b c : Option Bytes) (n : ℕ) (bytes : Bytes) → Keeps a b → n ≡ 0 → Appends b c (take n bytes)
+    → Keeps a c
 kept_nothing None b c n bytes p e q = tt
 kept_nothing (Some x) None c n bytes p e q = absurd p
 kept_nothing (Some x) (Some y) None n bytes p e q = absurd q

@@ -35,23 +35,29 @@ pub failed_since : (a b c : DeskView) → HasSameCounts a b → HasFailedAt File
 failed_since a b c same failed = (subst (λ n. HasRisen n c.failures) same.0 failed.0, failed.1 ∙ same.1)
 
 pub unsaid_since : (a b c : DeskView) → HasSameCounts a b → HasFailedToSay b c → HasFailedToSay a c
-unsaid_since a b c same failed = (subst (λ n. HasRisen n c.failures) same.0 failed.0, subst (λ n. HasRisen n c.unsaid) same.1 failed.1)
+unsaid_since a b c same failed = (
+  subst (λ n. HasRisen n c.failures) same.0 failed.0,
+  subst (λ n. HasRisen n c.unsaid) same.1 failed.1,
+)
 
 -- a desk whose count stood has not failed in between
 pub not_failed : (a b c d : DeskView) → Follows a b → Follows c d → HasStood a.failures d.failures → HasFailed b c → ⊥
 not_failed a b c d first last = stood_has_not_risen a.failures b.failures c.failures d.failures first.0 last.0
 
 -- a failed call is counted
-pub failed_by : (stream : Stream) (old new : DeskView) (result : Result (Unit {0}) DeskFault) (fault : DeskFault) → result ≡ Err fault → IfErr result (λ e. e ≡ Failed)
+pub failed_by : (stream : Stream) (old new : DeskView) (result : Result (Unit {0}) DeskFault) (fault : DeskFault)
+    → result ≡ Err fault → IfErr result (λ e. e ≡ Failed)
     → Counts stream old new result → HasFailedAt stream old new
 failed_by stream old new (Ok done) fault is only counts = cc
 failed_by stream old new (Err NotFound) fault is only counts = cc
 failed_by stream old new (Err Failed) fault is only counts = counts.1
 
 -- a line that was printed, or a front of it
-pub tells_line : (old new : DeskView) (line : List ℕ) (printed : Result (Unit {0}) DeskFault) → IsPrinted old new line printed
+pub tells_line : (old new : DeskView) (line : List ℕ) (printed : Result (Unit {0}) DeskFault)
+    → IsPrinted old new line printed
     → Counts Messages old new printed → IfErr printed (λ e. e ≡ Failed) → Tells old new line
-tells_line old new line (Ok done) is counts only = record { told = line; tells = inl (refl, counts.1); kept = is; follows = counts.0 }
+tells_line old new line (Ok done) is counts only =
+    record { told = line; tells = inl (refl, counts.1); kept = is; follows = counts.0 }
 tells_line old new line (Err NotFound) is counts only = cc
 tells_line old new line (Err Failed) is counts only = record {
   told = take is.0 line;
@@ -61,11 +67,13 @@ tells_line old new line (Err Failed) is counts only = record {
 }
 
 -- what was told since then was told since before, where no failure was counted
-pub tells_since : (line told : List ℕ) (a b c : DeskView) → HasSameCounts a b → TellsLine line told b c → TellsLine line told a c
+pub tells_since : (line told : List ℕ) (a b c : DeskView) → HasSameCounts a b → TellsLine line told b c
+    → TellsLine line told a c
 tells_since line told a b c first (inl whole) = inl (whole.0, same_on a b c first whole.1)
 tells_since line told a b c first (inr part) = inr (part.0, unsaid_since a b c first part.1)
 
-pub failure_since : (line told : List ℕ) (a b c : DeskView) → HasSameCounts a b → TellsFailure line told b c → TellsFailure line told a c
+pub failure_since : (line told : List ℕ) (a b c : DeskView) → HasSameCounts a b → TellsFailure line told b c
+    → TellsFailure line told a c
 failure_since line told a b c first failure = record {
   between = failure.between;
   failed = failed_since a b failure.between first failure.failed;
@@ -75,7 +83,8 @@ failure_since line told a b c first failure = record {
 }
 
 -- The desk failed, and from then on that was told.
-pub failure_told : (old mid new : DeskView) (line : List ℕ) → Follows old mid → HasFailedAt File old mid → (told : Tells mid new line)
+pub failure_told : (old mid new : DeskView) (line : List ℕ) → Follows old mid → HasFailedAt File old mid
+    → (told : Tells mid new line)
     → TellsFailure line told.told old new
 failure_told old mid new line rose failed told = record {
   between = mid;

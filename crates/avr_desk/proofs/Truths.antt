@@ -25,9 +25,11 @@ use Rattle.avr_desk.specs.declared.record.Writing.{Writing}
 pub true_append : (stock : Stock) (made : List Writing) (first last : List FileUse) → AreTrue stock made first
     → AreTrue stock (made ++ files_among first) last → AreTrue stock made (first ++ last)
 true_append stock made [] last are behind = subst (λ fs. AreTrue stock fs last) (append-nil made) behind
-true_append stock made (Opened opening ∷ first) last are behind = (are.0, true_append stock made first last are.1 behind)
+true_append stock made (Opened opening ∷ first) last are behind =
+    (are.0, true_append stock made first last are.1 behind)
 true_append stock made (Created file ∷ first) last are behind =
-    true_append stock (made ++ file ∷ []) first last are (subst (λ fs. AreTrue stock fs last) (sym (append_assoc made (file ∷ []) (files_among first))) behind)
+    true_append stock (made ++ file ∷ []) first last are
+    (subst (λ fs. AreTrue stock fs last) (sym (append_assoc made (file ∷ []) (files_among first))) behind)
 
 -- the later ones were true by the files of both
 pub true_behind : (stock : Stock) (made : List Writing) (first last : List FileUse) → AreTrue stock made (first ++ last)
@@ -35,17 +37,20 @@ pub true_behind : (stock : Stock) (made : List Writing) (first last : List FileU
 true_behind stock made [] last are = subst (λ fs. AreTrue stock fs last) (sym (append-nil made)) are
 true_behind stock made (Opened opening ∷ first) last are = true_behind stock made first last are.1
 true_behind stock made (Created file ∷ first) last are =
-    subst (λ fs. AreTrue stock fs last) (append_assoc made (file ∷ []) (files_among first)) (true_behind stock (made ++ file ∷ []) first last are)
+    subst (λ fs. AreTrue stock fs last) (append_assoc made (file ∷ []) (files_among first))
+    (true_behind stock (made ++ file ∷ []) first last are)
 
 -- what is open is a use too
-of_open : (stock : Stock) (m : Memory) (o : Open) → IsOpenTrue stock m o → AreTrue stock (files_among m.kept.uses) (use_of o)
+of_open : (stock : Stock) (m : Memory) (o : Open) → IsOpenTrue stock m o
+    → AreTrue stock (files_among m.kept.uses) (use_of o)
 of_open stock m Closed is = tt
 of_open stock m (ToRead x) is = (subst (λ stood. IsRead stood x.bytes x.ended) (sym is.0) is.1, tt)
 of_open stock m (ToWrite x) is = tt
 
 -- so all openings were true, by the files that had been made
 pub all_true : (stock : Stock) (m : Memory) → HoldsTrue stock m → AreTrue stock [] (all_uses m.kept)
-all_true stock m holds = true_append stock [] m.kept.uses (use_of m.kept.current) holds.uses (of_open stock m m.kept.current holds.current)
+all_true stock m holds = true_append stock [] m.kept.uses (use_of m.kept.current) holds.uses
+    (of_open stock m m.kept.current holds.current)
 
 -- what a new desk has is what it begins with
 pub begins_true : (m : Memory) → m.kept ≡ nothing_kept → HoldsTrue (stock_of m) m
@@ -94,18 +99,22 @@ put_by_true more old new input stored uses behind current = λ stock holds. reco
 }
 
 -- what a name stands for is what it stood for, of all files
-stands : (stock : Stock) (m : Memory) (name : Bytes) → HoldsTrue stock m → contents name m ≡ stood_for stock (all_files m.kept) name
+stands : (stock : Stock) (m : Memory) (name : Bytes) → HoldsTrue stock m
+    → contents name m ≡ stood_for stock (all_files m.kept) name
 stands stock m name holds = ap (λ (s : Stock). stood_for s (all_files m.kept) name) holds.began
 
 -- a change of what is kept, where there was memory for it, and none where there was not
-changed_true : (ok : Bool) (change : Record → Record) (old new : Memory) → new.input ≡ old.input → new.stored ≡ old.stored → new.opened ≡ old.opened
-    → new.kept ≡ (if ok then change old.kept else old.kept) → (new.kept ≡ change old.kept → Stays HoldsTrue old new) → Stays HoldsTrue old new
+changed_true : (ok : Bool) (change : Record → Record) (old new : Memory) → new.input ≡ old.input
+    → new.stored ≡ old.stored → new.opened ≡ old.opened
+    → new.kept ≡ (if ok then change old.kept else old.kept) → (new.kept ≡ change old.kept → Stays HoldsTrue old new)
+    → Stays HoldsTrue old new
 changed_true true change old new input stored opened kept done = done kept
 changed_true false change old new input stored opened kept done =
     same_true old new input stored opened (ap (λ (r : Record). r.uses) kept) (ap (λ (r : Record). r.current) kept)
 
 -- a file is created
-pub created_true : (ok : Bool) (file : Writing) (old new : Memory) → new.input ≡ old.input → new.stored ≡ old.stored → new.opened ≡ old.opened
+pub created_true : (ok : Bool) (file : Writing) (old new : Memory) → new.input ≡ old.input → new.stored ≡ old.stored
+    → new.opened ≡ old.opened
     → new.kept ≡ (if ok then with_open (ToWrite file) old.kept else old.kept) → Stays HoldsTrue old new
 created_true ok file old new input stored opened kept =
     changed_true ok (with_open (ToWrite file)) old new input stored opened kept (λ is.
@@ -113,7 +122,8 @@ created_true ok file old new input stored opened kept =
     (λ stock holds. tt) (λ stock. subst (λ (r : Record). IsOpenTrue stock new r.current) (sym is) tt))
 
 -- or made whole
-pub replaced_true : (ok : Bool) (file : Writing) (old new : Memory) → new.input ≡ old.input → new.stored ≡ old.stored → new.opened ≡ old.opened
+pub replaced_true : (ok : Bool) (file : Writing) (old new : Memory) → new.input ≡ old.input → new.stored ≡ old.stored
+    → new.opened ≡ old.opened
     → new.kept ≡ (if ok then with_replaced file.name file.bytes old.kept else old.kept) → Stays HoldsTrue old new
 replaced_true ok file old new input stored opened kept =
     changed_true ok (with_replaced file.name file.bytes) old new input stored opened kept (λ is.
@@ -121,7 +131,8 @@ replaced_true ok file old new input stored opened kept =
     (λ stock holds. tt) (λ stock. subst (λ (r : Record). IsOpenTrue stock new r.current) (sym is) tt))
 
 -- no file of this name is there
-pub absent_true : (ok : Bool) (name own : Bytes) (old new : Memory) → own ≡ name → None ≡ contents name old → new.input ≡ old.input → new.stored ≡ old.stored → new.opened ≡ old.opened
+pub absent_true : (ok : Bool) (name own : Bytes) (old new : Memory) → own ≡ name → None ≡ contents name old
+    → new.input ≡ old.input → new.stored ≡ old.stored → new.opened ≡ old.opened
     → new.kept ≡ (if ok then with_absent own old.kept else old.kept) → Stays HoldsTrue old new
 absent_true ok name own old new same none input stored opened kept =
     changed_true ok (with_absent own) old new input stored opened kept (λ is.
@@ -130,15 +141,20 @@ absent_true ok name own old new same none input stored opened kept =
     (λ stock. subst (λ (r : Record). IsOpenTrue stock new r.current) (sym is) tt))
 
 -- a file is opened that has these bytes
-pub opened_true : (ok : Bool) (name own bytes first : Bytes) (old new : Memory) → ok ≡ true → own ≡ name → first ≡ [] → new.opened ≡ bytes → Some bytes ≡ contents name old → new.input ≡ old.input → new.stored ≡ old.stored
-    → new.kept ≡ (if ok then with_open (ToRead (record { name = own; bytes = first; ended = false })) old.kept else old.kept) → Stays HoldsTrue old new
+pub opened_true : (ok : Bool) (name own bytes first : Bytes) (old new : Memory) → ok ≡ true → own ≡ name → first ≡ []
+    → new.opened ≡ bytes → Some bytes ≡ contents name old → new.input ≡ old.input → new.stored ≡ old.stored
+    → new.kept ≡ (if ok then with_open (ToRead (record { name = own; bytes = first; ended = false })) old.kept
+    else old.kept) → Stays HoldsTrue old new
 opened_true true name own bytes first old new ok same none has there input stored kept = λ stock holds. record {
   began = stock_same old new input stored ∙ holds.began;
   uses = subst (λ (r : Record). AreTrue stock [] r.uses) (sym kept) (all_true stock old holds);
   current = subst (λ (r : Record). IsOpenTrue stock new r.current) (sym kept) (
-    ap (λ (r : Record). stood_for stock (files_among r.uses) own) kept ∙ ap (λ fs. stood_for stock fs own) (files_used old.kept)
-        ∙ ap (stood_for stock (all_files old.kept)) same ∙ sym (stands stock old name holds) ∙ sym there ∙ ap (λ (b : Bytes). Some b) (sym has),
-    subst (λ b. IsRead (Some new.opened) b false) (sym none) (record { unread = new.opened; whole = refl; ends = λ e. absurd (cc) }),
+    ap (λ (r : Record). stood_for stock (files_among r.uses) own) kept
+        ∙ ap (λ fs. stood_for stock fs own) (files_used old.kept)
+        ∙ ap (stood_for stock (all_files old.kept)) same ∙ sym (stands stock old name holds) ∙ sym there
+        ∙ ap (λ (b : Bytes). Some b) (sym has),
+    subst (λ b. IsRead (Some new.opened) b false) (sym none)
+        (record { unread = new.opened; whole = refl; ends = λ e. absurd (cc) }),
   );
 }
 opened_true false name own bytes first old new ok same none has there input stored kept = absurd (cc)
@@ -148,12 +164,15 @@ pub from_inside : (inside now new : Memory) → inside ≡ now → Stays HoldsTr
 from_inside inside now new is stays = λ stock holds. stays stock (subst (HoldsTrue stock) (sym is) holds)
 
 -- bytes of the open file are read, or its end is seen, for which there has to be room
-module _ (old new : Memory) (ends : Bool) (n room : ℕ) (whole gave next piece : Bytes) (whole_is : whole ≡ old.opened) (gave_is : gave ≡ bytes_given old.kept.current)
+module _ (old new : Memory) (ends : Bool) (n room : ℕ) (whole gave next piece : Bytes) (whole_is : whole ≡ old.opened)
+    (gave_is : gave ≡ bytes_given old.kept.current)
     (next_is : next ≡ take room (drop (length gave) whole)) (count : n ≡ length next)
-    (took : piece ≡ next) (ended : ends ≡ (n == 0 && not (room == 0))) (input : new.input ≡ old.input) (stored : new.stored ≡ old.stored)
+    (took : piece ≡ next) (ended : ends ≡ (n == 0 && not (room == 0))) (input : new.input ≡ old.input)
+    (stored : new.stored ≡ old.stored)
     (opened : new.opened ≡ old.opened) where
   given : next ≡ take room (unread_bytes old)
-  given = next_is ∙ ap (λ (b : Bytes). take room (drop (length gave) b)) whole_is ∙ ap (λ (b : Bytes). take room (drop (length b) old.opened)) gave_is
+  given = next_is ∙ ap (λ (b : Bytes). take room (drop (length gave) b)) whole_is
+      ∙ ap (λ (b : Bytes). take room (drop (length b) old.opened)) gave_is
 
   nothing_left : (behind : Bytes) → length behind ≡ 0 → behind ≡ []
   nothing_left [] none = refl
@@ -164,11 +183,13 @@ module _ (old new : Memory) (ends : Bool) (n room : ℕ) (whole gave next piece 
 
   at_end : (behind : Bytes) → unread_bytes old ≡ behind → (n == 0 && not (room == 0)) ≡ true → behind ≡ []
   at_end behind rest end =
-      let fit : n ≡ length (take room behind) = count ∙ ap length given ∙ ap (λ (b : Bytes). length (take room b)) rest in
+      let fit : n ≡ length (take room behind) =
+      count ∙ ap length given ∙ ap (λ (b : Bytes). length (take room b)) rest in
       let few : length behind ≡ 0 = grind (arith, nat_tests, common_steps, end, fit) in
       nothing_left behind few
 
-  ended_front : (was : Bool) (behind : Bytes) → unread_bytes old ≡ behind → (was ≡ true → behind ≡ []) → (was || ends) ≡ true → drop room behind ≡ []
+  ended_front : (was : Bool) (behind : Bytes) → unread_bytes old ≡ behind → (was ≡ true → behind ≡ [])
+      → (was || ends) ≡ true → drop room behind ≡ []
   ended_front true behind rest before now = drop_none room behind (before refl)
   ended_front false behind rest before now = drop_none room behind (at_end behind rest (sym ended ∙ now))
 
@@ -176,34 +197,42 @@ module _ (old new : Memory) (ends : Bool) (n room : ℕ) (whole gave next piece 
       → IsRead (Some old.opened) (x.bytes ++ piece) (x.ended || ends)
   front_on x given_is is =
       let all : old.opened ≡ x.bytes ++ is.unread = let e = is.whole in cc in
-      let rest : unread_bytes old ≡ is.unread = ap (λ (b : Bytes). drop (length b) old.opened) given_is ∙ ap (λ (b : Bytes). drop (length x.bytes) b) all ∙ drop-append_seam x.bytes is.unread in
+      let rest : unread_bytes old ≡ is.unread =
+      ap (λ (b : Bytes). drop (length b) old.opened) given_is ∙ ap (λ (b : Bytes). drop (length x.bytes) b) all
+      ∙ drop-append_seam x.bytes is.unread in
       let part : piece ≡ take room is.unread = took ∙ given ∙ ap (λ (b : Bytes). take room b) rest in
       record {
         unread = drop room is.unread;
-        whole = ap (λ (b : Bytes). Some b) (all ∙ ap (λ (b : Bytes). x.bytes ++ b) (sym (take-append-drop room is.unread))
+        whole = ap (λ (b : Bytes). Some b) (all ∙ ap (λ (b : Bytes). x.bytes ++ b)
+            (sym (take-append-drop room is.unread))
             ∙ sym (append_assoc x.bytes (take room is.unread) (drop room is.unread))
             ∙ ap (λ (b : Bytes). (x.bytes ++ b) ++ drop room is.unread) (sym part));
         ends = ended_front x.ended is.unread rest is.ends;
       }
 
-  open_on : (stock : Stock) (o : Open) → new.kept.uses ≡ old.kept.uses → old.kept.current ≡ o → IsOpenTrue stock old o → IsOpenTrue stock new (noted piece ends o)
+  open_on : (stock : Stock) (o : Open) → new.kept.uses ≡ old.kept.uses → old.kept.current ≡ o → IsOpenTrue stock old o
+      → IsOpenTrue stock new (noted piece ends o)
   open_on stock Closed uses is held = tt
   open_on stock (ToRead x) uses is held = (
     ap (λ us. stood_for stock (files_among us) x.name) uses ∙ held.0 ∙ ap (λ (b : Bytes). Some b) (sym opened),
-    subst (λ (b : Bytes). IsRead (Some b) (x.bytes ++ piece) (x.ended || ends)) (sym opened) (front_on x (ap bytes_given is) held.1),
+    subst (λ (b : Bytes). IsRead (Some b) (x.bytes ++ piece) (x.ended || ends)) (sym opened)
+        (front_on x (ap bytes_given is) held.1),
   )
   open_on stock (ToWrite x) uses is held = tt
 
-  pub read_true : (ok : Bool) → new.kept ≡ (if ok then after_reading piece ends old.kept else old.kept) → Stays HoldsTrue old new
-  read_true ok kept = changed_true ok (after_reading piece ends) old new input stored opened kept (λ is stock holds. record {
-    began = stock_same old new input stored ∙ holds.began;
-    uses = subst (λ (r : Record). AreTrue stock [] r.uses) (sym is) holds.uses;
-    current = subst (λ (r : Record). IsOpenTrue stock new r.current) (sym is)
-        (open_on stock old.kept.current (ap (λ (r : Record). r.uses) is) refl holds.current);
-  })
+  pub read_true : (ok : Bool) → new.kept ≡ (if ok then after_reading piece ends old.kept else old.kept)
+      → Stays HoldsTrue old new
+  read_true ok kept = changed_true ok (after_reading piece ends) old new input stored opened kept
+      (λ is stock holds. record {
+        began = stock_same old new input stored ∙ holds.began;
+        uses = subst (λ (r : Record). AreTrue stock [] r.uses) (sym is) holds.uses;
+        current = subst (λ (r : Record). IsOpenTrue stock new r.current) (sym is)
+            (open_on stock old.kept.current (ap (λ (r : Record). r.uses) is) refl holds.current);
+      })
 
 -- bytes are written to the open file
-pub written_true : (bytes : Bytes) (old new : Memory) → new.input ≡ old.input → new.stored ≡ old.stored → new.opened ≡ old.opened
+pub written_true : (bytes : Bytes) (old new : Memory) → new.input ≡ old.input → new.stored ≡ old.stored
+    → new.opened ≡ old.opened
     → new.kept.uses ≡ old.kept.uses → new.kept.current ≡ written_on bytes old.kept.current → Stays HoldsTrue old new
 written_true bytes old new input stored opened uses current = λ stock holds. record {
   began = stock_same old new input stored ∙ holds.began;

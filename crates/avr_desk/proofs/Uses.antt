@@ -14,7 +14,8 @@ files_append [] last = refl
 files_append (Opened opening ∷ first) last = files_append first last
 files_append (Created file ∷ first) last = ap (λ (fs : List Writing). file ∷ fs) (files_append first last)
 
-pub openings_append : (first last : List FileUse) → openings_among (first ++ last) ≡ openings_among first ++ openings_among last
+pub openings_append : (first last : List FileUse)
+    → openings_among (first ++ last) ≡ openings_among first ++ openings_among last
 openings_append [] last = refl
 openings_append (Opened opening ∷ first) last = ap (λ (os : List Opening). opening ∷ os) (openings_append first last)
 openings_append (Created file ∷ first) last = openings_append first last
@@ -32,10 +33,12 @@ opening_used (ToRead x) = refl
 opening_used (ToWrite x) = refl
 
 pub files_used : (r : Record) → files_among (all_uses r) ≡ all_files r
-files_used r = files_append r.uses (use_of r.current) ∙ ap (λ (fs : List Writing). files_among r.uses ++ fs) (file_used r.current)
+files_used r = files_append r.uses (use_of r.current)
+    ∙ ap (λ (fs : List Writing). files_among r.uses ++ fs) (file_used r.current)
 
 pub openings_used : (r : Record) → openings_among (all_uses r) ≡ all_openings r
-openings_used r = openings_append r.uses (use_of r.current) ∙ ap (λ (os : List Opening). openings_among r.uses ++ os) (opening_used r.current)
+openings_used r = openings_append r.uses (use_of r.current)
+    ∙ ap (λ (os : List Opening). openings_among r.uses ++ os) (opening_used r.current)
 
 -- ---- it is put by
 
@@ -46,17 +49,21 @@ pub openings_opened : (o : Open) (r : Record) → all_openings (with_open o r) �
 openings_opened o r = ap (λ (os : List Opening). os ++ opening_of o) (openings_used r)
 
 pub absent_used : (name : Bytes) (r : Record) → files_among (all_uses r ++ Opened (Absent name) ∷ []) ≡ all_files r
-absent_used name r = files_append (all_uses r) (Opened (Absent name) ∷ []) ∙ append-nil (files_among (all_uses r)) ∙ files_used r
+absent_used name r = files_append (all_uses r) (Opened (Absent name) ∷ []) ∙ append-nil (files_among (all_uses r))
+    ∙ files_used r
 
 pub files_absent : (name : Bytes) (r : Record) → all_files (with_absent name r) ≡ all_files r
 files_absent name r = append-nil (files_among (all_uses r ++ Opened (Absent name) ∷ [])) ∙ absent_used name r
 
-pub openings_absent : (name : Bytes) (r : Record) → all_openings (with_absent name r) ≡ all_openings r ++ Absent name ∷ []
+pub openings_absent : (name : Bytes) (r : Record)
+    → all_openings (with_absent name r) ≡ all_openings r ++ Absent name ∷ []
 openings_absent name r =
-    append-nil (openings_among (all_uses r ++ Opened (Absent name) ∷ [])) ∙ openings_append (all_uses r) (Opened (Absent name) ∷ [])
+    append-nil (openings_among (all_uses r ++ Opened (Absent name) ∷ []))
+    ∙ openings_append (all_uses r) (Opened (Absent name) ∷ [])
     ∙ ap (λ (os : List Opening). os ++ Absent name ∷ []) (openings_used r)
 
-pub files_replaced : (name bytes : Bytes) (r : Record) → all_files (with_replaced name bytes r) ≡ all_files r ++ record { name = name; bytes = bytes } ∷ []
+pub files_replaced : (name bytes : Bytes) (r : Record)
+    → all_files (with_replaced name bytes r) ≡ all_files r ++ record { name = name; bytes = bytes } ∷ []
 files_replaced name bytes r =
     let own : Writing = record { name = name; bytes = bytes } in
     append-nil (files_among (all_uses r ++ Created own ∷ [])) ∙ files_append (all_uses r) (Created own ∷ [])

@@ -16,3 +16,6 @@ pub mod Stage
 pub mod Playing
 -- inside: how things are kept, and what inner functions promise one another
 pub mod Standing
+-- of the crates below, what public contracts name
+pub use Rattle.ghosts.specs.Failures
+pub use Rattle.ghosts.specs.Stays

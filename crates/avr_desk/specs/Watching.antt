@@ -7,21 +7,21 @@ use Rattle.avr_desk.specs.declared.watched.DeskCall.{DeskCall}
 use Rattle.avr_desk.specs.declared.watched.DeskCall.TheVariants as call
 
 -- a call of a desk that is over: what it was given, and what it answered
-pub data Told : Type 0 where
-  Opened : Bytes → Result ⊤ DeskFault → Told
-  Created : Bytes → Result ⊤ DeskFault → Told
-  Held : Bytes → Result Bool DeskFault → Told
-  Released : Told
-  Replaced : Bytes → Bytes → Result ⊤ DeskFault → Told
-  Read : Bytes → Result ℕ DeskFault → Told
-  Wrote : Stream → Bytes → Result ℕ DeskFault → Told
+pub data ToldOfDesk : Type 0 where
+  Opened : Bytes → Result ⊤ DeskFault → ToldOfDesk
+  Created : Bytes → Result ⊤ DeskFault → ToldOfDesk
+  Held : Bytes → Result Bool DeskFault → ToldOfDesk
+  Released : ToldOfDesk
+  Replaced : Bytes → Bytes → Result ⊤ DeskFault → ToldOfDesk
+  Read : Bytes → Result ℕ DeskFault → ToldOfDesk
+  Wrote : Stream → Bytes → Result ℕ DeskFault → ToldOfDesk
 
 -- the call, by the bytes that are lent with it
-abbrev pub told_of : DeskCall → Told
-told_of (call.Opened name answer) = Opened name.now answer
-told_of (call.Created name answer) = Created name.now answer
-told_of (call.Held name answer) = Held name.now answer
-told_of call.Released = Released
-told_of (call.Replaced name bytes answer) = Replaced name.now bytes.now answer
-told_of (call.Read buffer answer) = Read buffer.now answer
-told_of (call.Wrote stream bytes answer) = Wrote stream bytes.now answer
+abbrev pub desk_told : DeskCall → ToldOfDesk
+desk_told (call.Opened name answer) = Opened name.now answer
+desk_told (call.Created name answer) = Created name.now answer
+desk_told (call.Held name answer) = Held name.now answer
+desk_told call.Released = Released
+desk_told (call.Replaced name bytes answer) = Replaced name.now bytes.now answer
+desk_told (call.Read buffer answer) = Read buffer.now answer
+desk_told (call.Wrote stream bytes answer) = Wrote stream bytes.now answer

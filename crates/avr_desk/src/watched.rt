@@ -1,6 +1,6 @@
 //! A desk that is watched: who stands by is told of each call of it, as a window that shows how far a run is.
 ghost use Rattle.std.specs.Prelude.{◌≡◌, ◌≤◌, length, IfOk, IfErr};
-ghost use Rattle.avr_desk.specs.Watching.{Told, Opened, Created, Held, Released, Replaced, Read, Wrote, told_of};
+ghost use Rattle.avr_desk.specs.Watching.{ToldOfDesk, Opened, Created, Held, Released, Replaced, Read, Wrote, desk_told};
 ghost use Rattle.ghosts.specs.Stays.{Stays};
 
 use crate::desk::{Desk, DeskFault};
@@ -31,11 +31,11 @@ pub enum DeskCall<'a> {
 /// `λ call old new. Unit {0}`.
 pub trait WatchDesk {
     /// The watcher has become this by being told of this call.
-    ghost after: { Told → Self → Self → Type 0 };
+    ghost after: { ToldOfDesk → Self → Self → Type 0 };
 
     /// A call is over.
     fn told(&mut self, call: &DeskCall<'_>)
-        ensures { after (told_of call.now) self.old self.new };
+        ensures { after (desk_told call.now) self.old self.new };
 }
 
 /// A desk and its watcher, which is told once of each call, when the desk has answered it. It is a desk as that within

@@ -1,3 +1,5 @@
+-- in the order in which to read: bits and fields of an image; texts and numbers; bytes laid down, walks and runs,
+-- address by address
 pub mod Rows
 pub mod Masks
 pub mod Shown

@@ -70,7 +70,8 @@ value_is (Some m) n e = elim (cases_eq m n) [
 ]
 
 read_back : (base : Base) (n : ℕ) → n < 256 → value_of (number_text base n) ≡ Some n
-read_back base n l = value_is (value_of (number_text base n)) n (both (is_value (value_of (number_text base n)) n) (is_solid (number_text base n)) (good base n l)).0
+read_back base n l = value_is (value_of (number_text base n)) n
+    (both (is_value (value_of (number_text base n)) n) (is_solid (number_text base n)) (good base n l)).0
 
 solid : (base : Base) (n : ℕ) → n < 256 → is_solid (number_text base n) ≡ true
 solid base n l = (both (is_value (value_of (number_text base n)) n) (is_solid (number_text base n)) (good base n l)).1
@@ -81,7 +82,8 @@ not_true : (b : Bool) → not b ≡ true → b ≡ false
 not_true true e = absurd (cc e)
 not_true false e = refl
 
-split-clean : (text : List ℕ) → list_all (λ c. not (is_separator c)) text ≡ true → slice_split is_separator text ≡ text ∷ []
+split-clean : (text : List ℕ) → list_all (λ c. not (is_separator c)) text ≡ true
+    → slice_split is_separator text ≡ text ∷ []
 split-clean [] all = refl
 split-clean (c ∷ text) all =
     let parts = both (not (is_separator c)) (list_all (λ c. not (is_separator c)) text) all in
@@ -100,21 +102,26 @@ AreBytes (b ∷ bytes) = (b < 256) × AreBytes bytes
 
 split-line : (base : Base) (b : ℕ) (bytes : List ℕ) → b < 256 → AreBytes bytes
     → slice_split is_separator (list_line base (b ∷ bytes)) ≡ map (number_text base) (b ∷ bytes)
-split-line base b [] l all = split-clean (number_text base b) (both (nat_lt 0 (length (number_text base b))) _ (solid base b l)).1
+split-line base b [] l all = split-clean (number_text base b)
+    (both (nat_lt 0 (length (number_text base b))) _ (solid base b l)).1
 split-line base b (next ∷ bytes) l all =
-    split-comma (number_text base b) (list_line base (next ∷ bytes)) (both (nat_lt 0 (length (number_text base b))) _ (solid base b l)).1
+    split-comma (number_text base b) (list_line base (next ∷ bytes))
+    (both (nat_lt 0 (length (number_text base b))) _ (solid base b l)).1
     ∙ ap (λ (more : List (List ℕ)). number_text base b ∷ more) (split-line base next bytes all.0 all.1)
 
 none-empty : (base : Base) (bytes : List ℕ) → AreBytes bytes
     → filter (λ piece. nat_lt 0 (length piece)) (map (number_text base) bytes) ≡ map (number_text base) bytes
 none-empty base [] all = refl
 none-empty base (b ∷ bytes) all =
-    let some : nat_lt 0 (length (number_text base b)) ≡ true = (both (nat_lt 0 (length (number_text base b))) _ (solid base b all.0)).0 in
+    let some : nat_lt 0 (length (number_text base b)) ≡ true =
+    (both (nat_lt 0 (length (number_text base b))) _ (solid base b all.0)).0 in
     rw some (ap (λ (more : List (List ℕ)). number_text base b ∷ more) (none-empty base bytes all.1))
 
-pieces-line : (base : Base) (b : ℕ) (bytes : List ℕ) → b < 256 → AreBytes bytes → pieces (list_line base (b ∷ bytes)) ≡ map (number_text base) (b ∷ bytes)
+pieces-line : (base : Base) (b : ℕ) (bytes : List ℕ) → b < 256 → AreBytes bytes
+    → pieces (list_line base (b ∷ bytes)) ≡ map (number_text base) (b ∷ bytes)
 pieces-line base b bytes l all =
-    ap (filter (λ piece. nat_lt 0 (length piece))) (split-line base b bytes l all) ∙ none-empty base (b ∷ bytes) (l, all)
+    ap (filter (λ piece. nat_lt 0 (length piece))) (split-line base b bytes l all)
+    ∙ none-empty base (b ∷ bytes) (l, all)
 
 -- ---- their values
 
@@ -138,7 +145,8 @@ are_bytes [] all = tt
 are_bytes (b ∷ bytes) all = (all 0 0 (omega arith), are_bytes bytes (λ k d l. all (suc k) d (omega (arith, l))))
 
 pub list-reads-back : (base : Base) (bytes : List ℕ) (size : ℕ) → 0 < length bytes → length bytes ≤ size
-    → ((k d : ℕ) → k < length bytes → get_or bytes k d < 256) → values (list_line base bytes) size ≡ Ok (from_zero bytes size)
+    → ((k d : ℕ) → k < length bytes → get_or bytes k d < 256)
+    → values (list_line base bytes) size ≡ Ok (from_zero bytes size)
 list-reads-back base [] size some room all = absurd (omega (arith, some))
 list-reads-back base (b ∷ bytes) size some room all =
     let are = are_bytes (b ∷ bytes) all in

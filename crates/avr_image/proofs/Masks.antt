@@ -51,7 +51,8 @@ pub next_is : (n from : ℕ) → n < 2 ^ 64 → from < 64 → NextOne n from (tr
 next_is n from fits f = elim (cases_eq (above n from) 0) [
   | inl none ↦ rw (none, trailing_of_zero) (next_of_none n from f none)
   | inr some ↦
-      let found = bit_at-trailing_zeros w64 (above n from) (omega (arith, some)) (omega (arith, and_le_l n ((2 ^ 64 - 1) * 2 ^ from % 2 ^ 64), fits)) in
+      let found = bit_at-trailing_zeros w64 (above n from) (omega (arith, some))
+      (omega (arith, and_le_l n ((2 ^ 64 - 1) * 2 ^ from % 2 ^ 64), fits)) in
       next_of_some n from _ f found.0 found.1 found.2
 ]
 
@@ -68,7 +69,8 @@ other_bit n i fits l =
 
 -- a run of ones
 pub ones_are : (low high i : ℕ) → low < 64 → high ≤ 64 → i < 64
-    → eqb (bit_at (bit_and ((2 ^ 64 - 1) * 2 ^ low % 2 ^ 64) ((2 ^ 64 - 1) / 2 ^ (64 - high))) i) 1 ≡ is_within low high i
+    → eqb (bit_at (bit_and ((2 ^ 64 - 1) * 2 ^ low % 2 ^ 64) ((2 ^ 64 - 1) / 2 ^ (64 - high))) i) 1
+    ≡ is_within low high i
 ones_are low high i a b l =
     let left = (2 ^ 64 - 1) * 2 ^ low % 2 ^ 64 in
     let right = (2 ^ 64 - 1) / 2 ^ (64 - high) in
@@ -137,20 +139,24 @@ in_word at stop k l room same = elim (cases_lt k at) [
   | inl low ↦ within_low (at % 64) _ (k % 64) (omega (arith, low, same)) ∙ sym (within_low at stop k low)
   | inr high ↦ elim (cases_lt k stop) [
     | inl inside ↦
-        within_yes (at % 64) (stop - at / 64 * 64) (k % 64) (omega (arith, high, same)) (omega (arith, inside, same)) ∙ sym (within_yes at stop k high inside)
+        within_yes (at % 64) (stop - at / 64 * 64) (k % 64) (omega (arith, high, same)) (omega (arith, inside, same))
+        ∙ sym (within_yes at stop k high inside)
     | inr past ↦
-        within_high (at % 64) (stop - at / 64 * 64) (k % 64) (omega (arith, past, same, room)) ∙ sym (within_high at stop k past)
+        within_high (at % 64) (stop - at / 64 * 64) (k % 64) (omega (arith, past, same, room))
+        ∙ sym (within_high at stop k past)
   ]
 ]
 
 -- one word of a span
 pub span_word : (words : List ℕ) (at stop bits k : ℕ) → at < stop → stop ≤ at / 64 * 64 + 64 → at / 64 < length words
     → ((i : ℕ) → i < 64 → eqb (bit_at bits i) 1 ≡ is_within (at % 64) (stop - at / 64 * 64) i)
-    → is_present (set words (at / 64) (bit_or (get_or words (at / 64) 0) bits)) k ≡ (is_within at stop k || is_present words k)
+    → is_present (set words (at / 64) (bit_or (get_or words (at / 64) 0) bits)) k
+    ≡ (is_within at stop k || is_present words k)
 span_word words at stop bits k l room within ones = elim (cases_eq (k / 64) (at / 64)) [
   | inl same ↦
       let here = get_or-set_same words (at / 64) (bit_or (get_or words (at / 64) 0) bits) 0 within in
-      let span : eqb (bit_at bits (k % 64)) 1 ≡ is_within at stop k = ones (k % 64) (omega arith) ∙ in_word at stop k l room same in
+      let span : eqb (bit_at bits (k % 64)) 1 ≡ is_within at stop k =
+      ones (k % 64) (omega arith) ∙ in_word at stop k l room same in
       rw (same, here) (one_of_two (get_or words (at / 64) 0) bits (k % 64) ∙ rw span refl)
   | inr differ ↦
       let there = get_or-set_other words (at / 64) (k / 64) (bit_or (get_or words (at / 64) 0) bits) 0 differ in
@@ -162,14 +168,24 @@ span_word words at stop bits k l room within ones = elim (cases_eq (k / 64) (at 
 ]
 
 -- two spans, the one behind the other
-pub spans_join : (from at stop k : ℕ) (b : Bool) → from ≤ at → at ≤ stop → (is_within at stop k || (is_within from at k || b)) ≡ (is_within from stop k || b)
+pub spans_join : (from at stop k : ℕ) (b : Bool) → from ≤ at → at ≤ stop
+    → (is_within at stop k || (is_within from at k || b)) ≡ (is_within from stop k || b)
 spans_join from at stop k b le more = elim (cases_lt k from) [
-  | inl low ↦ rw (within_low at stop k (omega (arith, low, le)), within_low from at k low, within_low from stop k low) refl
+  | inl low ↦ rw (within_low at stop k (omega (arith, low, le)), within_low from at k low, within_low from stop k low)
+      refl
   | inr after ↦ elim (cases_lt k at) [
-    | inl first ↦ rw (within_low at stop k first, within_yes from at k after first, within_yes from stop k after (omega (arith, first, more))) refl
+    | inl first ↦ rw (
+      within_low at stop k first,
+      within_yes from at k after first,
+      within_yes from stop k after (omega (arith, first, more)),
+    ) refl
     | inr second ↦ elim (cases_lt k stop) [
       | inl inside ↦ rw (within_yes at stop k second inside, within_yes from stop k after inside) refl
-      | inr past ↦ rw (within_high at stop k past, within_high from at k (omega (arith, second)), within_high from stop k past) refl
+      | inr past ↦ rw (
+        within_high at stop k past,
+        within_high from at k (omega (arith, second)),
+        within_high from stop k past,
+      ) refl
     ]
   ]
 ]
@@ -180,6 +196,7 @@ no_span from k b = elim (cases_lt k from) [
   | inr high ↦ rw (within_high from from k high) refl
 ]
 
-pub same_place : (words words' : List ℕ) (wanted : Bool) (from from' end end' place place' : ℕ) → words ≡ words' → from ≡ from' → end ≡ end' → place ≡ place'
+pub same_place : (words words' : List ℕ) (wanted : Bool) (from from' end end' place place' : ℕ) → words ≡ words'
+    → from ≡ from' → end ≡ end' → place ≡ place'
     → FirstPlace words wanted from end place → FirstPlace words' wanted from' end' place'
 same_place words words' wanted from from' end end' place place' a b c d found = rw (← a, ← b, ← c, ← d) found

@@ -12,7 +12,8 @@ use Rattle.avr_image.specs.Values.{is_digit_of}
 
 -- ---- read
 
-same_cap : (a b base digit : ℕ) → 1 ≤ base → min a 256 ≡ min b 256 → min (a * base + digit) 256 ≡ min (b * base + digit) 256
+same_cap : (a b base digit : ℕ) → 1 ≤ base → min a 256 ≡ min b 256
+    → min (a * base + digit) 256 ≡ min (b * base + digit) 256
 same_cap a b base digit some same = elim (cases_lt a 256) [
   | inl small ↦ let equal : a ≡ b = omega (arith, same, small) in ap (λ (n : ℕ). min (n * base + digit) 256) equal
   | inr large ↦
@@ -21,13 +22,17 @@ same_cap a b base digit some same = elim (cases_lt a 256) [
       omega (arith, same, large, more, too)
 ]
 
-capped : (base a b : ℕ) (digits : List ℕ) → 1 ≤ base → min a 256 ≡ min b 256 → min (digits_value_after base a digits) 256 ≡ min (digits_value_after base b digits) 256
+capped : (base a b : ℕ) (digits : List ℕ) → 1 ≤ base → min a 256 ≡ min b 256
+    → min (digits_value_after base a digits) 256 ≡ min (digits_value_after base b digits) 256
 capped base a b [] some same = same
 capped base a b (c ∷ digits) some same =
-    capped base (a * base + digit_value c) (b * base + digit_value c) digits some (same_cap a b base (digit_value c) some same)
+    capped base (a * base + digit_value c) (b * base + digit_value c) digits some
+    (same_cap a b base (digit_value c) some same)
 
-pub value-step : (base value digit i : ℕ) (digits : List ℕ) → 1 ≤ base → i < length digits → digit ≡ digit_value (get_or digits i 0)
-    → min (digits_value_after base (min (value * base + digit) 256) (drop (i + 1) digits)) 256 ≡ min (digits_value_after base value (drop i digits)) 256
+pub value-step : (base value digit i : ℕ) (digits : List ℕ) → 1 ≤ base → i < length digits
+    → digit ≡ digit_value (get_or digits i 0)
+    → min (digits_value_after base (min (value * base + digit) 256) (drop (i + 1) digits)) 256
+    ≡ min (digits_value_after base value (drop i digits)) 256
 value-step base value digit i digits some l here =
     capped base (min (value * base + digit) 256) (value * base + digit) (drop (i + 1) digits) some (omega arith)
     ∙ ap (λ (d : ℕ). min (digits_value_after base (value * base + d) (drop (i + 1) digits)) 256) here
@@ -39,9 +44,11 @@ digits-step base i digits l here = sym (ap (list_all (is_digit_of base)) (drop_m
 
 -- ---- written
 
-pub written-step : (radix rest at next glyph : ℕ) (buffer : List ℕ) → at ≡ next + 1 → next < length buffer → glyph ≡ digit_glyph false (rest % radix)
+pub written-step : (radix rest at next glyph : ℕ) (buffer : List ℕ) → at ≡ next + 1 → next < length buffer
+    → glyph ≡ digit_glyph false (rest % radix)
     → digits_onto (56 + at) radix false rest (drop at buffer)
-    ≡ cond (eqb (rest / radix) 0) (drop next (set buffer next glyph)) (digits_onto (56 + next) radix false (rest / radix) (drop next (set buffer next glyph)))
+    ≡ cond (eqb (rest / radix) 0) (drop next (set buffer next glyph))
+    (digits_onto (56 + next) radix false (rest / radix) (drop next (set buffer next glyph)))
 written-step radix rest at next glyph buffer step l here =
     let fuel : 56 + at ≡ suc (56 + next) = omega (arith, step) in
     let grown : drop next (set buffer next glyph) ≡ digit_glyph false (rest % radix) ∷ drop at buffer =
@@ -60,7 +67,8 @@ digit_left radix rest at next low step l =
 pub record IsWritten (radix byte rest at : ℕ) (buffer : List ℕ) : Type 0 where
   pub joined : digits_onto (56 + at) radix false rest (drop at buffer) ≡ digits radix false byte
 
-pub none_written : (radix byte at : ℕ) (buffer : List ℕ) → at ≡ 8 → length buffer ≡ 8 → IsWritten radix byte byte at buffer
+pub none_written : (radix byte at : ℕ) (buffer : List ℕ) → at ≡ 8 → length buffer ≡ 8
+    → IsWritten radix byte byte at buffer
 unfolding digits
 none_written radix byte at buffer start size = record {
   joined =

@@ -5,7 +5,8 @@ use Rattle.avr_image.specs.Overlap.{AreDisjoint, hold_both}
 use Rattle.avr_image.proofs.Shown.{byte_at-past}
 
 -- behind its end an image holds nothing
-pub disjoint_within : (first second : List (Option ℕ)) → ((addr : ℕ) → addr < length first → hold_both first second addr ≡ false)
+pub disjoint_within : (first second : List (Option ℕ))
+    → ((addr : ℕ) → addr < length first → hold_both first second addr ≡ false)
     → AreDisjoint first second
 disjoint_within first second within addr =
     elim (cases_lt addr (length first)) [

@@ -7,13 +7,16 @@ use Rattle.avr_image.specs.Raw.{HoldsText}
 use Rattle.avr_image.specs.declared.fault.ImageFault.{ImageFault}
 use Rattle.avr_image.proofs.Laying.{from_zero-laid, fits_within, length-laid_over}
 
-pub ok_chosen : (b : Bool) (n end : ℕ) (fault : ImageFault) → ◌≡◌ {A = Result ℕ ImageFault} (Ok end) (cond b (Ok n) (Err fault)) → (b ≡ true) × (end ≡ n)
+pub ok_chosen : (b : Bool) (n end : ℕ) (fault : ImageFault)
+    → ◌≡◌ {A = Result ℕ ImageFault} (Ok end) (cond b (Ok n) (Err fault)) → (b ≡ true) × (end ≡ n)
 ok_chosen true n end fault e = (refl, cc)
 ok_chosen false n end fault e = cc
 
-pub stands-fed : (image after : List (Option ℕ)) (fed end : ℕ) (failed : Bool) (text piece : List ℕ) (fault : ImageFault)
+pub stands-fed : (image after : List (Option ℕ)) (fed end : ℕ) (failed : Bool) (text piece : List ℕ)
+    (fault : ImageFault)
     → HoldsText (record { image = image; fed = fed; failed = failed }) text
-    → ◌≡◌ {A = Result ℕ ImageFault} (Ok end) (cond (fits fed piece (length image)) (Ok (fed + length piece)) (Err fault))
+    → ◌≡◌ {A = Result ℕ ImageFault} (Ok end)
+    (cond (fits fed piece (length image)) (Ok (fed + length piece)) (Err fault))
     → after ≡ laid_over image (enumerate_from fed piece)
     → HoldsText (record { image = after; fed = end; failed = failed }) (text ++ piece)
 stands-fed image after fed end failed text piece fault stands judged laid =

@@ -59,7 +59,8 @@ raw_within = refl
 pub laid_twice : image_of_pairs 3 ((1, 7) ∷ (2, 8) ∷ (1, 9) ∷ []) ≡ None ∷ Some 9 ∷ Some 8 ∷ []
 laid_twice = refl
 
-pub laid_over : over (image_of_pairs 3 ((1, 7) ∷ (2, 8) ∷ [])) (image_of_pairs 3 ((1, 9) ∷ [])) ≡ None ∷ Some 9 ∷ Some 8 ∷ []
+pub laid_over : over (image_of_pairs 3 ((1, 7) ∷ (2, 8) ∷ [])) (image_of_pairs 3 ((1, 9) ∷ []))
+    ≡ None ∷ Some 9 ∷ Some 8 ∷ []
 laid_over = refl
 
 pub first : first_from (None ∷ Some 9 ∷ None ∷ Some 8 ∷ []) 2 ≡ Some 3

@@ -40,18 +40,21 @@ runs-begin addr [] = tt
 runs-begin addr (None ∷ image) = begins-down addr (runs (addr + 1) image) (runs-begin (addr + 1) image)
 runs-begin addr (Some b ∷ image) = begins-onto addr b (runs (addr + 1) image)
 
-onto-apart : (addr b : ℕ) (cut : List (ℕ × List ℕ)) → Begins (addr + 1 + 1) cut → onto_runs addr b cut ≡ (addr, b ∷ []) ∷ cut
+onto-apart : (addr b : ℕ) (cut : List (ℕ × List ℕ)) → Begins (addr + 1 + 1) cut
+    → onto_runs addr b cut ≡ (addr, b ∷ []) ∷ cut
 onto-apart addr b [] at = refl
 onto-apart addr b ((next, bytes) ∷ more) at =
     let test : (next == addr + 1) ≡ false = grind (arith, nat_tests, at) in
     rw test refl
 
-onto-joins : (addr b : ℕ) (bytes : List ℕ) (more : List (ℕ × List ℕ)) → onto_runs addr b ((addr + 1, bytes) ∷ more) ≡ (addr, b ∷ bytes) ∷ more
+onto-joins : (addr b : ℕ) (bytes : List ℕ) (more : List (ℕ × List ℕ))
+    → onto_runs addr b ((addr + 1, bytes) ∷ more) ≡ (addr, b ∷ bytes) ∷ more
 onto-joins addr b bytes more =
     let test : (addr + 1 == addr + 1) ≡ true = grind (arith, nat_tests) in
     rw test refl
 
-pub runs-lead : (addr b : ℕ) (image : List (Option ℕ)) → runs addr (Some b ∷ image) ≡ (addr, b ∷ lead image) ∷ runs (addr + 1 + length (lead image)) (after image)
+pub runs-lead : (addr b : ℕ) (image : List (Option ℕ))
+    → runs addr (Some b ∷ image) ≡ (addr, b ∷ lead image) ∷ runs (addr + 1 + length (lead image)) (after image)
 runs-lead addr b [] = refl
 runs-lead addr b (None ∷ image) =
     onto-apart addr b (runs (addr + 1 + 1) image) (runs-begin (addr + 1 + 1) image)
@@ -87,7 +90,8 @@ pub record Next (addr place : ℕ) (image : List (Option ℕ)) : Type 0 where
   pub same : runs addr image ≡ runs place (drop (place - addr) image)
   pub some : 0 < length (lead (drop (place - addr) image))
 
-pub walk-next : (addr place : ℕ) (image : List (Option ℕ)) → position_from is_some addr image ≡ Some place → Next addr place image
+pub walk-next : (addr place : ℕ) (image : List (Option ℕ)) → position_from is_some addr image ≡ Some place
+    → Next addr place image
 walk-next addr place [] is = absurd (cc is)
 walk-next addr place (None ∷ image) is =
     let more = walk-next (addr + 1) place image is in
@@ -102,22 +106,27 @@ walk-next addr place (Some b ∷ image) is =
     let none : place - addr ≡ 0 = omega (arith, here) in
     record {
       from = omega (arith, here);
-      same = ap (λ (n : ℕ). runs n (Some b ∷ image)) here ∙ ap (λ (n : ℕ). runs place (drop n (Some b ∷ image))) (sym none);
+      same = ap (λ (n : ℕ). runs n (Some b ∷ image)) here
+          ∙ ap (λ (n : ℕ). runs place (drop n (Some b ∷ image))) (sym none);
       some = rw none (omega arith);
     }
 
-drop-next : (image xs : List (Option ℕ)) (place : ℕ) (x : Option ℕ) → drop place image ≡ x ∷ xs → drop (place + 1) image ≡ xs
+drop-next : (image xs : List (Option ℕ)) (place : ℕ) (x : Option ℕ) → drop place image ≡ x ∷ xs
+    → drop (place + 1) image ≡ xs
 drop-next image xs place x is = sym (drop-drop 1 place image) ∙ ap (drop 1) is
 
-pub filled-lead : (image xs : List (Option ℕ)) (n place : ℕ) → drop place image ≡ xs → n ≤ length (lead xs) → filled_bytes image place n ≡ take n (lead xs)
+pub filled-lead : (image xs : List (Option ℕ)) (n place : ℕ) → drop place image ≡ xs → n ≤ length (lead xs)
+    → filled_bytes image place n ≡ take n (lead xs)
 filled-lead image xs zero place is l = refl
 filled-lead image [] (suc n) place is l = absurd (omega (arith, l))
 filled-lead image (None ∷ xs) (suc n) place is l = absurd (omega (arith, l))
 filled-lead image (Some b ∷ xs) (suc n) place is l =
     let here : byte_at image place ≡ Some b =
-    ap (byte_at image) (sym (add-zero place)) ∙ sym (get_or-drop place image 0 None) ∙ ap (λ (zs : List (Option ℕ)). byte_at zs 0) is in
+    ap (byte_at image) (sym (add-zero place)) ∙ sym (get_or-drop place image 0 None)
+    ∙ ap (λ (zs : List (Option ℕ)). byte_at zs 0) is in
     ap (λ (byte : Option ℕ). or_blank byte ∷ filled_bytes image (place + 1) n) here
-    ∙ ap (λ (more : List ℕ). b ∷ more) (filled-lead image xs n (place + 1) (drop-next image xs place (Some b) is) (omega (arith, l)))
+    ∙ ap (λ (more : List ℕ). b ∷ more) (filled-lead image xs n (place + 1) (drop-next image xs place (Some b) is)
+    (omega (arith, l)))
 
 pub prefix-lead : (k : ℕ) (image : List (Option ℕ)) → prefix_len is_some (take k image) ≡ min k (length (lead image))
 prefix-lead zero image = omega arith
@@ -147,13 +156,15 @@ laid-held front [] addr at = refl
 laid-held front (None ∷ image) addr at =
     let gap : List (Option ℕ) = None ∷ [] in
     let next : length (front ++ gap) ≡ addr + 1 = length-append front gap ∙ omega (arith, at) in
-    ap (λ (whole : List (Option ℕ)). fold put whole (held_places (addr + 1) image)) (sym (append_assoc front (None ∷ []) (empty (length image))))
+    ap (λ (whole : List (Option ℕ)). fold put whole (held_places (addr + 1) image))
+    (sym (append_assoc front (None ∷ []) (empty (length image))))
     ∙ laid-held (front ++ None ∷ []) image (addr + 1) next
     ∙ append_assoc front (None ∷ []) image
 laid-held front (Some b ∷ image) addr at =
     let next : length (front ++ Some b ∷ []) ≡ addr + 1 = length-append front (Some b ∷ []) ∙ omega (arith, at) in
     ap (λ (whole : List (Option ℕ)). fold put whole (held_places (addr + 1) image))
-    (set_at front None (empty (length image)) (Some b) addr at ∙ sym (append_assoc front (Some b ∷ []) (empty (length image))))
+    (set_at front None (empty (length image)) (Some b) addr at
+    ∙ sym (append_assoc front (Some b ∷ []) (empty (length image))))
     ∙ laid-held (front ++ Some b ∷ []) image (addr + 1) next
     ∙ append_assoc front (Some b ∷ []) image
 
@@ -163,7 +174,8 @@ laid-image image = laid-held [] image 0 refl
 
 -- ---- its runs hold them
 
-onto-holds : (addr b : ℕ) (more : List (ℕ × List ℕ)) → flat_map places_of (onto_runs addr b more) ≡ (addr, b) ∷ flat_map places_of more
+onto-holds : (addr b : ℕ) (more : List (ℕ × List ℕ))
+    → flat_map places_of (onto_runs addr b more) ≡ (addr, b) ∷ flat_map places_of more
 onto-holds addr b [] = refl
 onto-holds addr b ((next, bytes) ∷ more) = elim (cases_eq next (addr + 1)) [
   | inl same ↦
@@ -176,7 +188,8 @@ pub runs-hold : (addr : ℕ) (image : List (Option ℕ)) → flat_map places_of 
 runs-hold addr [] = refl
 runs-hold addr (None ∷ image) = runs-hold (addr + 1) image
 runs-hold addr (Some b ∷ image) =
-    onto-holds addr b (runs (addr + 1) image) ∙ ap (λ (places : List (ℕ × ℕ)). (addr, b) ∷ places) (runs-hold (addr + 1) image)
+    onto-holds addr b (runs (addr + 1) image)
+    ∙ ap (λ (places : List (ℕ × ℕ)). (addr, b) ∷ places) (runs-hold (addr + 1) image)
 
 pub runs_image : (image : List (Option ℕ)) → image_of_pairs (length image) (flat_map places_of (runs 0 image)) ≡ image
 runs_image image = ap (image_of_pairs (length image)) (runs-hold 0 image) ∙ laid-image image
@@ -200,13 +213,15 @@ pub length-filled : (image : List (Option ℕ)) (start n : ℕ) → length (fill
 length-filled image start zero = refl
 length-filled image start (suc n) = ap suc (length-filled image (start + 1) n)
 
-drop-filled : (image : List (Option ℕ)) (i start n : ℕ) → drop i (filled_bytes image start n) ≡ filled_bytes image (start + i) (n - i)
+drop-filled : (image : List (Option ℕ)) (i start n : ℕ)
+    → drop i (filled_bytes image start n) ≡ filled_bytes image (start + i) (n - i)
 drop-filled image zero start n = ap₂ (λ (s k : ℕ). filled_bytes image s k) (sym (add-zero start)) (omega arith)
 drop-filled image (suc i) start zero = let none : zero - suc i ≡ zero = omega arith in rw none refl
 drop-filled image (suc i) start (suc n) =
     drop-filled image i (start + 1) n ∙ ap₂ (λ (s k : ℕ). filled_bytes image s k) (omega arith) (omega arith)
 
-take-filled : (image : List (Option ℕ)) (k start n : ℕ) → k ≤ n → take k (filled_bytes image start n) ≡ filled_bytes image start k
+take-filled : (image : List (Option ℕ)) (k start n : ℕ) → k ≤ n
+    → take k (filled_bytes image start n) ≡ filled_bytes image start k
 take-filled image zero start n l = refl
 take-filled image (suc k) start zero l = absurd (omega (arith, l))
 take-filled image (suc k) start (suc n) l =
@@ -222,11 +237,13 @@ range-filled image place end rises within =
 
 -- the run that is found is the first of those left
 pub record Stepped (addr place end : ℕ) (image : List (Option ℕ)) : Type 0 where
-  pub is : runs addr (drop addr image) ≡ (place, slice_range (filled_bytes image 0 (length image)) place end) ∷ runs end (drop end image)
+  pub is : runs addr (drop addr image) ≡ (place, slice_range (filled_bytes image 0 (length image)) place end)
+      ∷ runs end (drop end image)
   pub rises : place < end
   pub within : end ≤ length image
 
-pub next_run : (addr place end : ℕ) (image : List (Option ℕ)) → first_from image addr ≡ Some place → end ≡ run_end image place (length image)
+pub next_run : (addr place end : ℕ) (image : List (Option ℕ)) → first_from image addr ≡ Some place
+    → end ≡ run_end image place (length image)
     → Stepped addr place end image
 next_run addr place end image found is =
     let next = walk-next addr place (drop addr image) found in
@@ -236,7 +253,8 @@ next_run addr place end image found is =
     let run : ℕ = length (lead (drop place image)) in
     let short = lead-short (drop place image) in
     let left = length-drop place image in
-    let far : end ≡ place + min (length image - place) run = is ∙ ap (λ (k : ℕ). place + k) (prefix-lead (length image - place) (drop place image)) in
+    let far : end ≡ place + min (length image - place) run =
+    is ∙ ap (λ (k : ℕ). place + k) (prefix-lead (length image - place) (drop place image)) in
     let ends : place + run ≡ end = omega (arith, far, short, left) in
     let rises : place < end = omega (arith, ends, some) in
     let within : end ≤ length image = omega (arith, ends, short, left, some) in
@@ -250,7 +268,8 @@ next_run addr place end image found is =
       is =
           next.same ∙ ap (runs place) there ∙ runs-first place (drop place image) some
           ∙ ap (λ (bytes : List ℕ). (place, bytes) ∷ runs (place + run) (after (drop place image))) bytes_are
-          ∙ ap₂ (λ (n : ℕ) (image' : List (Option ℕ)). (place, slice_range (filled_bytes image 0 (length image)) place end) ∷ runs n image') ends behind;
+          ∙ ap₂ (λ (n : ℕ) (image' : List (Option ℕ)).
+          (place, slice_range (filled_bytes image 0 (length image)) place end) ∷ runs n image') ends behind;
       rises = rises;
       within = within;
     }
@@ -262,7 +281,8 @@ abbrev pub EndBy : ℕ → List (ℕ × List ℕ) → Type 0
 EndBy size [] = Unit {0}
 EndBy size (run ∷ more) = (run.0 + length run.1 ≤ size) × EndBy size more
 
-onto-end : (size addr b : ℕ) (more : List (ℕ × List ℕ)) → addr < size → EndBy size more → EndBy size (onto_runs addr b more)
+onto-end : (size addr b : ℕ) (more : List (ℕ × List ℕ)) → addr < size → EndBy size more
+    → EndBy size (onto_runs addr b more)
 onto-end size addr b [] inside all = (omega (arith, inside), tt)
 onto-end size addr b ((next, bytes) ∷ more) inside all = elim (cases_eq next (addr + 1)) [
   | inl same ↦
@@ -277,19 +297,17 @@ pub runs-end : (size addr : ℕ) (image : List (Option ℕ)) → addr + length i
 runs-end size addr [] room = tt
 runs-end size addr (None ∷ image) room = runs-end size (addr + 1) image (omega (arith, room))
 runs-end size addr (Some b ∷ image) room =
-    onto-end size addr b (runs (addr + 1) image) (omega (arith, room)) (runs-end size (addr + 1) image (omega (arith, room)))
+    onto-end size addr b (runs (addr + 1) image) (omega (arith, room))
+    (runs-end size (addr + 1) image (omega (arith, room)))
 
 -- an image laid over one of its size, run by run
-pub runs-over : (image other : List (Option ℕ)) → length other ≡ length image → laid_over image (flat_map places_of (runs 0 other)) ≡ over image other
+pub runs-over : (image other : List (Option ℕ)) → length other ≡ length image
+    → laid_over image (flat_map places_of (runs 0 other)) ≡ over image other
 runs-over image other same =
     ap (laid_over image) (runs-hold 0 other)
     ∙ laid_over_laid image (held_places 0 other)
     ∙ ap (λ (n : ℕ). over image (image_of_pairs n (held_places 0 other))) (sym same)
     ∙ ap (over image) (laid-image other)
-
-pub run-laid : (image : List (Option ℕ)) (addr : ℕ) (bytes : List ℕ) (more : List (ℕ × List ℕ))
-    → laid_over image (flat_map places_of ((addr, bytes) ∷ more)) ≡ laid_over (laid_over image (enumerate_from addr bytes)) (flat_map places_of more)
-run-laid image addr bytes more = laid_over-append image (enumerate_from addr bytes) (flat_map places_of more)
 
 -- ---- no byte at all
 
@@ -303,12 +321,14 @@ count-least n [] = omega arith
 count-least n (None ∷ image) = let more = count-least (n + 0) image in omega (arith, more)
 count-least n (Some b ∷ image) = let more = count-least (n + 1) image in omega (arith, more)
 
-pub some-held : (addr place : ℕ) (image : List (Option ℕ)) → position_from is_some addr image ≡ Some place → 0 < byte_count image
+pub some-held : (addr place : ℕ) (image : List (Option ℕ)) → position_from is_some addr image ≡ Some place
+    → 0 < byte_count image
 some-held addr place [] some = absurd (cc some)
 some-held addr place (None ∷ image) some = some-held (addr + 1) place image some
 some-held addr place (Some b ∷ image) some = count-least 1 image
 
-pub empty-held : (image : List (Option ℕ)) (found : Option ℕ) (none : Bool) → found ≡ first_from image 0 → is_some found ≡ not none → none ≡ (byte_count image == 0)
+pub empty-held : (image : List (Option ℕ)) (found : Option ℕ) (none : Bool) → found ≡ first_from image 0
+    → is_some found ≡ not none → none ≡ (byte_count image == 0)
 empty-held image None true is told =
     let none : byte_count image ≡ 0 = none-held 0 image (sym is) in
     let test : (byte_count image == 0) ≡ true = grind (arith, nat_tests, none) in
@@ -326,20 +346,25 @@ gives_byte : (byte : Option ℕ) → is_some byte ≡ true → byte ≡ Some (or
 gives_byte None some = absurd (cc some)
 gives_byte (Some b) some = refl
 
-longest_run : (addr place end : ℕ) (image : List (Option ℕ)) → (addr ≡ 0) ⊎ (byte_at image addr ≡ None) → first_from image addr ≡ Some place
-    → end ≡ run_end image place (length image) → IsLongestRun image (place, slice_range (filled_bytes image 0 (length image)) place end)
+longest_run : (addr place end : ℕ) (image : List (Option ℕ)) → (addr ≡ 0) ⊎ (byte_at image addr ≡ None)
+    → first_from image addr ≡ Some place
+    → end ≡ run_end image place (length image)
+    → IsLongestRun image (place, slice_range (filled_bytes image 0 (length image)) place end)
 longest_run addr place end image gap found is =
     let next = next_held image addr place found in
     let stepped = next_run addr place end image found is in
-    let run : IsByteRun image place (length image) end = rw is (run_ends image place (length image) (omega (arith, next.within))) in
+    let run : IsByteRun image place (length image) end =
+    rw is (run_ends image place (length image) (omega (arith, next.within))) in
     let cut = range-filled image place end (omega (arith, stepped.rises)) stepped.within in
     let bytes = is_filled image place (end - place) in
-    let size : length (slice_range (filled_bytes image 0 (length image)) place end) ≡ end - place = ap length cut ∙ bytes.size in
+    let size : length (slice_range (filled_bytes image 0 (length image)) place end) ≡ end - place =
+    ap length cut ∙ bytes.size in
     record {
       some = omega (arith, size, stepped.rises);
       bytes = λ i l.
           gives_byte (byte_at image (place + i)) (run.held (place + i) (omega arith) (omega (arith, l, size)))
-          ∙ ap (λ (b : ℕ). Some b) (sym (ap (λ (xs : List ℕ). get_or xs i 0) cut ∙ bytes.byte i (omega (arith, l, size))));
+          ∙ ap (λ (b : ℕ). Some b) (sym (ap (λ (xs : List ℕ). get_or xs i 0) cut
+          ∙ bytes.byte i (omega (arith, l, size))));
       before = λ k at. elim (cases_lt k addr) [
         | inl low ↦ elim gap [
           | inl zero_is ↦ absurd (omega (arith, low, zero_is))
@@ -352,27 +377,32 @@ longest_run addr place end image gap found is =
         | inr from ↦ next.gap k from (omega (arith, at))
       ];
       behind =
-          let there : place + length (slice_range (filled_bytes image 0 (length image)) place end) ≡ end = omega (arith, size, stepped.rises) in
+          let there : place + length (slice_range (filled_bytes image 0 (length image)) place end) ≡ end =
+          omega (arith, size, stepped.rises) in
           rw there (elim (cases_lt end (length image)) [
             | inl inside ↦ run.stop inside
             | inr past ↦ byte_at-past image end past
           ]);
     }
 
-none-behind : (addr place end : ℕ) (image : List (Option ℕ)) → IsLongestRun image (place, slice_range (filled_bytes image 0 (length image)) place end)
+none-behind : (addr place end : ℕ) (image : List (Option ℕ))
+    → IsLongestRun image (place, slice_range (filled_bytes image 0 (length image)) place end)
     → place < end → end ≤ length image → byte_at image end ≡ None
 none-behind addr place end image longest rises within =
     let cut = range-filled image place end (omega (arith, rises)) within in
-    let there : place + length (slice_range (filled_bytes image 0 (length image)) place end) ≡ end = omega (arith, ap length cut, length-filled image place (end - place), rises) in
+    let there : place + length (slice_range (filled_bytes image 0 (length image)) place end) ≡ end =
+    omega (arith, ap length cut, length-filled image place (end - place), rises) in
     rw there at longest.behind
 
 all-cons : {X : Type 0} (P : X → Type 0) (x : X) (xs : List X) → P x → All P xs → All P (x ∷ xs)
 all-cons P x xs first rest zero d l = first
 all-cons P x xs first rest (suc k) d l = rest k d (omega (arith, l))
 
-longest-from : (n addr : ℕ) (image : List (Option ℕ)) → length image ≤ addr + n → (addr ≡ 0) ⊎ (byte_at image addr ≡ None)
+longest-from : (n addr : ℕ) (image : List (Option ℕ)) → length image ≤ addr + n
+    → (addr ≡ 0) ⊎ (byte_at image addr ≡ None)
     → (found : Option ℕ) → first_from image addr ≡ found → All (IsLongestRun image) (runs addr (drop addr image))
-longest-from n addr image room gap None found = rw (walk-none addr (drop addr image) found) (λ k d l. absurd (omega (arith, l)))
+longest-from n addr image room gap None found =
+    rw (walk-none addr (drop addr image) found) (λ k d l. absurd (omega (arith, l)))
 longest-from zero addr image room gap (Some place) found =
     let next = next_held image addr place found in
     absurd (omega (arith, next.after, next.within, room))
@@ -398,7 +428,8 @@ held_in [] = 0
 held_in (None ∷ image) = held_in image
 held_in (Some b ∷ image) = suc (held_in image)
 
-first_counted : (byte : Option ℕ) (image : List (Option ℕ)) → held_in (byte ∷ image) ≡ cond (is_some byte) (1 + held_in image) (held_in image)
+first_counted : (byte : Option ℕ) (image : List (Option ℕ))
+    → held_in (byte ∷ image) ≡ cond (is_some byte) (1 + held_in image) (held_in image)
 first_counted None image = refl
 first_counted (Some b) image = omega arith
 
@@ -419,7 +450,8 @@ held_by-onto addr b ((next, bytes) ∷ more) = elim (cases_eq next (addr + 1)) [
 held_by-each : (addr : ℕ) (image : List (Option ℕ)) → held_by (runs addr image) ≡ held_in image
 held_by-each addr [] = refl
 held_by-each addr (None ∷ image) = held_by-each (addr + 1) image
-held_by-each addr (Some b ∷ image) = held_by-onto addr b (runs (addr + 1) image) ∙ ap suc (held_by-each (addr + 1) image)
+held_by-each addr (Some b ∷ image) = held_by-onto addr b (runs (addr + 1) image)
+    ∙ ap suc (held_by-each (addr + 1) image)
 
 pub held_by-runs : (addr : ℕ) (image : List (Option ℕ)) → held_by (runs addr image) ≡ byte_count image
 held_by-runs addr image = held_by-each addr image ∙ held_is_counted image

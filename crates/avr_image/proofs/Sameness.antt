@@ -16,5 +16,6 @@ byte_decides (Some a) (Some b) =
 pub same_decides : (first second : List (Option ℕ)) → Decides (is_same first second) (first ≡ second)
 same_decides = pointwise_decides byte_decides
 
-pub same_answer : (told : Bool) (first second : List (Option ℕ)) → (IsTrue told ↔ (first ≡ second)) → told ≡ is_same first second
+pub same_answer : (told : Bool) (first second : List (Option ℕ)) → (IsTrue told ↔ (first ≡ second))
+    → told ≡ is_same first second
 same_answer told first second is = one_answer told (is_same first second) is (same_decides first second)

@@ -5,7 +5,8 @@ use Rattle.std.proofs.lemmas.List.{append-nil, length-append, nil_from_length}
 use Rattle.std.specs.Io.KnownBytes.{Appends}
 
 -- what came, and what is left, is the whole
-pub goes_on : (text piece old left whole : List ℕ) → text ++ old ≡ whole → old ≡ piece ++ left → (text ++ piece) ++ left ≡ whole
+pub goes_on : (text piece old left whole : List ℕ) → text ++ old ≡ whole → old ≡ piece ++ left
+    → (text ++ piece) ++ left ≡ whole
 goes_on text piece old left whole so_far split =
     append_assoc text piece left ∙ ap (λ (xs : List ℕ). text ++ xs) (sym split) ∙ so_far
 
@@ -35,5 +36,7 @@ piece_written old now new piece before left whole written split more = record {
   split = goes_on written.front piece before left whole written.split split;
 }
 
-pub all_written : (old now : Option (List ℕ)) (left whole : List ℕ) → Written old now left whole → length left ≡ 0 → Appends old now whole
-all_written old now left whole written none = subst (Appends old now) (is_whole written.front left whole written.split none) written.appended
+pub all_written : (old now : Option (List ℕ)) (left whole : List ℕ) → Written old now left whole → length left ≡ 0
+    → Appends old now whole
+all_written old now left whole written none =
+    subst (Appends old now) (is_whole written.front left whole written.split none) written.appended

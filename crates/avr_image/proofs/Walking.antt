@@ -18,7 +18,8 @@ record Found {X : Type 0} (p : X → Bool) (xs : List X) (d : X) (place : ℕ) :
   here : p (get_or xs place d) ≡ true
   before : (k : ℕ) → k < place → p (get_or xs k d) ≡ false
 
-found_later : {X : Type 0} (p : X → Bool) (x : X) (xs : List X) (d : X) (place : ℕ) → p x ≡ false → Found p xs d place → Found p (x ∷ xs) d (suc place)
+found_later : {X : Type 0} (p : X → Bool) (x : X) (xs : List X) (d : X) (place : ℕ) → p x ≡ false → Found p xs d place
+    → Found p (x ∷ xs) d (suc place)
 found_later p x xs d place first found = record {
   within = omega (arith, found.within);
   here = found.here;
@@ -29,20 +30,30 @@ found_later p x xs d place first found = record {
     later zero l = first
     later (suc k) l = found.before k (omega (arith, l))
 
-found_at : {X : Type 0} (p : X → Bool) (xs : List X) (d : X) (i n : ℕ) → position_from p i xs ≡ Some n → (place : ℕ) × (n ≡ i + place) × Found p xs d place
+found_at : {X : Type 0} (p : X → Bool) (xs : List X) (d : X) (i n : ℕ) → position_from p i xs ≡ Some n
+    → (place : ℕ) × (n ≡ i + place) × Found p xs d place
 found_at p [] d i n e = cc
 found_at p (x ∷ xs) d i n e = elim (cases_Bool (p x)) [
   | inl passes ↦
       let same : Some i ≡ Some n = rw passes at e in
-      let here : i ≡ n = cc in
-      (0, omega (arith, here), record { within = omega arith; here = passes; before = λ k l. absurd (omega (arith, l)) })
+      let here : i ≡ n = cc in (
+        0,
+        omega (arith, here),
+        record {
+          within = omega arith;
+          here = passes;
+          before =
+              λ k l. absurd (omega (arith, l));
+        },
+      )
   | inr fails ↦
       let rest : position_from p (i + 1) xs ≡ Some n = rw fails at e in
       let found = found_at p xs d (i + 1) n rest in
       (suc found.0, omega (arith, found.1), found_later p x xs d found.0 fails found.2)
 ]
 
-none_found : {X : Type 0} (p : X → Bool) (xs : List X) (d : X) (i : ℕ) → position_from p i xs ≡ None → (k : ℕ) → k < length xs → p (get_or xs k d) ≡ false
+none_found : {X : Type 0} (p : X → Bool) (xs : List X) (d : X) (i : ℕ) → position_from p i xs ≡ None → (k : ℕ)
+    → k < length xs → p (get_or xs k d) ≡ false
 none_found p [] d i e k l = absurd (omega (arith, l))
 none_found p (x ∷ xs) d i e zero l = elim (cases_Bool (p x)) [
   | inl passes ↦ let bad : Some i ≡ None = rw passes at e in cc
@@ -55,20 +66,25 @@ none_found p (x ∷ xs) d i e (suc k) l = elim (cases_Bool (p x)) [
       none_found p xs d (i + 1) rest k (omega (arith, l))
 ]
 
-pub next_held : (image : List (Option ℕ)) (addr place : ℕ) → first_from image addr ≡ Some place → IsNextHeld image addr place
+pub next_held : (image : List (Option ℕ)) (addr place : ℕ) → first_from image addr ≡ Some place
+    → IsNextHeld image addr place
 next_held image addr place e =
     let found = found_at is_some (drop addr image) None addr place e in
     let left = length-drop addr image in
     record {
       after = omega (arith, found.1);
       within = omega (arith, found.1, found.2.within, left);
-      held = ap (λ (k : ℕ). is_some (byte_at image k)) found.1 ∙ sym (ap is_some (get_or-drop addr image found.0 None)) ∙ found.2.here;
+      held = ap (λ (k : ℕ). is_some (byte_at image k)) found.1 ∙ sym (ap is_some (get_or-drop addr image found.0 None))
+          ∙ found.2.here;
       gap = λ k a l.
           let there : addr + (k - addr) ≡ k = omega (arith, a) in
-          none_is (byte_at image k) (sym (ap is_some (get_or-drop addr image (k - addr) None ∙ ap (byte_at image) there)) ∙ found.2.before (k - addr) (omega (arith, found.1, l, a)));
+          none_is (byte_at image k) (sym (ap is_some
+          (get_or-drop addr image (k - addr) None ∙ ap (byte_at image) there))
+          ∙ found.2.before (k - addr) (omega (arith, found.1, l, a)));
     }
 
-pub none_held : (image : List (Option ℕ)) (addr : ℕ) → first_from image addr ≡ None → (k : ℕ) → addr ≤ k → byte_at image k ≡ None
+pub none_held : (image : List (Option ℕ)) (addr : ℕ) → first_from image addr ≡ None → (k : ℕ) → addr ≤ k
+    → byte_at image k ≡ None
 none_held image addr e k a = elim (cases_lt k (length image)) [
   | inl inside ↦
       let there : addr + (k - addr) ≡ k = omega (arith, a) in
@@ -91,10 +107,12 @@ run_ends image addr end room =
       bound = omega (arith, fits, row_len, room);
       held = λ k a l.
           let there : addr + (k - addr) ≡ k = omega (arith, a) in
-          sym (ap is_some (at (k - addr) (omega (arith, l, a, fits, row_len)) ∙ ap (byte_at image) there)) ∙ prefix_len_passes is_some row (k - addr) None (omega (arith, l, a));
+          sym (ap is_some (at (k - addr) (omega (arith, l, a, fits, row_len)) ∙ ap (byte_at image) there))
+          ∙ prefix_len_passes is_some row (k - addr) None (omega (arith, l, a));
       stop = λ l. elim (cases_lt (addr + len) (length image)) [
         | inl inside ↦
-            none_is (byte_at image (addr + len)) (sym (ap is_some (at len (omega (arith, l)))) ∙ prefix_len_stops is_some row None (omega (arith, row_len, left, inside, l)))
+            none_is (byte_at image (addr + len)) (sym (ap is_some (at len (omega (arith, l))))
+            ∙ prefix_len_stops is_some row None (omega (arith, row_len, left, inside, l)))
         | inr past ↦ byte_at-past image (addr + len) past
       ];
     }
@@ -105,6 +123,7 @@ is_filled image start (suc n) =
     let rest = is_filled image (start + 1) n in
     record { size = ap suc rest.size; byte = one rest }
   where
-    one : IsFilled image (start + 1) n (filled_bytes image (start + 1) n) → (i : ℕ) → i < suc n → get_or (filled_bytes image start (suc n)) i 0 ≡ or_blank (byte_at image (start + i))
+    one : IsFilled image (start + 1) n (filled_bytes image (start + 1) n) → (i : ℕ) → i < suc n
+        → get_or (filled_bytes image start (suc n)) i 0 ≡ or_blank (byte_at image (start + i))
     one rest zero l = ap (λ (k : ℕ). or_blank (byte_at image k)) (omega arith)
     one rest (suc i) l = rest.byte i (omega (arith, l)) ∙ ap (λ (k : ℕ). or_blank (byte_at image k)) (omega arith)

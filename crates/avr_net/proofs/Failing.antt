@@ -11,7 +11,8 @@ once : (n : ℕ) → (n ≡ 0) ⊎ HasRisen 0 n → n ≤ 1
 once n (inl none) = omega (arith, none)
 once n (inr rises) = omega (arith, rises)
 
-pub fails_once : (settings : Settings) (old new : DeskView) (status : ℕ) → (plays : PlaysOverNet settings old new status) → plays.link_failures ≤ 1
+pub fails_once : (settings : Settings) (old new : DeskView) (status : ℕ)
+    → (plays : PlaysOverNet settings old new status) → plays.link_failures ≤ 1
 fails_once settings old new status plays =
     once plays.link_failures (session.fails_once plays.plan (devices (connection [] 0) plays.planned_desk)
     (devices (connection plays.talk plays.link_failures) new) status plays.runs)

@@ -45,17 +45,21 @@ place_on word i half inside =
 -- one byte more
 paste_on : (p : ℕ) (d : ℕ) (ds xs : List ℕ) → p < length xs → pasted (suc p) ds (set xs p d) ≡ pasted p (d ∷ ds) xs
 paste_on p d ds xs inside =
-    ap₂ (λ front back. front ++ (ds ++ back)) (take-suc-set xs p d inside) (drop-set-lt (suc p + length ds) xs p d (omega arith))
+    ap₂ (λ front back. front ++ (ds ++ back)) (take-suc-set xs p d inside)
+    (drop-set-lt (suc p + length ds) xs p d (omega arith))
     ∙ (append_assoc (take p xs) (d ∷ []) (ds ++ drop (suc p + length ds) xs)
-    ∙ ap (λ k. take p xs ++ (d ∷ (ds ++ drop k xs))) (let e : suc p + length ds ≡ p + suc (length ds) = omega arith in e))
+    ∙ ap (λ k. take p xs ++ (d ∷ (ds ++ drop k xs)))
+    (let e : suc p + length ds ≡ p + suc (length ds) = omega arith in e))
 
-pub loaded_at_once : (word i half : ℕ) (bytes : List ℕ) (s : ChipState) → s.part.flash_page / 2 ≡ half → ((x : ℕ) → x % 256 % half ≡ x % half)
+pub loaded_at_once : (word i half : ℕ) (bytes : List ℕ) (s : ChipState) → s.part.flash_page / 2 ≡ half
+    → ((x : ℕ) → x % 256 % half ≡ x % half)
     → word % half * 2 + i + length bytes ≤ half * 2 → half * 2 ≤ length s.flash_buffer
     → loaded_in_turn word i bytes s ≡ record s { flash_buffer = pasted (word % half * 2 + i) bytes s.flash_buffer }
 loaded_at_once word i half [] s is wraps inside long =
     let p = word % half * 2 + i in
     ap (λ b. record s { flash_buffer = b })
-    (sym (ap (λ k. take p s.flash_buffer ++ drop k s.flash_buffer) (let e : p + 0 ≡ p = omega arith in e) ∙ take-append-drop p s.flash_buffer))
+    (sym (ap (λ k. take p s.flash_buffer ++ drop k s.flash_buffer) (let e : p + 0 ≡ p = omega arith in e)
+    ∙ take-append-drop p s.flash_buffer))
 loaded_at_once word i half (d ∷ ds) s is wraps inside long =
     let p = word % half * 2 + i in
     let s₂ : ChipState = record s { flash_buffer = set s.flash_buffer p d } in
@@ -90,7 +94,8 @@ wraps_in_page : (half : ℕ) → 256 % (half * 2) ≡ 0 → (x : ℕ) → x % 25
 wraps_in_page half whole x =
     mod-mod_of_dvd half x (dvd_trans half (dvd-mul_right half 2) (dvd_of_mod-eq-zero (half * 2) whole))
 
-pub block_loaded : (word place : ℕ) (bytes : List ℕ) (s : ChipState) → IsSoundChip s → is_in_page word (length bytes) s ≡ true
+pub block_loaded : (word place : ℕ) (bytes : List ℕ) (s : ChipState) → IsSoundChip s
+    → is_in_page word (length bytes) s ≡ true
     → place ≡ word % (s.part.flash_page / 2) * 2
     → record s { flash_buffer = pasted place bytes s.flash_buffer } ≡ loaded_in_turn word 0 bytes s
 block_loaded word place bytes s sound inside at =
@@ -106,7 +111,8 @@ block_loaded word place bytes s sound inside at =
 
 flash_even : (part : Part) → IsPart part → part.flash_size % 2 ≡ 0
 flash_even part sound =
-    mod-eq-zero_of_dvd 2 (dvd_trans 2 (dvd_of_mod-eq-zero 2 sound.flash_halves) (dvd_of_mod-eq-zero part.flash_page sound.flash_pages))
+    mod-eq-zero_of_dvd 2 (dvd_trans 2 (dvd_of_mod-eq-zero 2 sound.flash_halves)
+    (dvd_of_mod-eq-zero part.flash_page sound.flash_pages))
 
 right : (a b : Bool) → (a && b) ≡ true → b ≡ true
 right true b e = e

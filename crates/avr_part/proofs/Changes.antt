@@ -37,7 +37,9 @@ pub overlaid_is : (start : ℕ) (loads : List (Option ℕ)) (i x y : ℕ) → (i
 overlaid_is start loads i x y before within after = grind (arith, nat_tests)
 
 -- a list with one value at each place
-pub all_same : (xs : List (Option ℕ)) (v : Option ℕ) → ((i : ℕ) (d : Option ℕ) → i < length xs → get_or xs i d ≡ v) → xs ≡ replicate (length xs) v
+pub all_same : (xs : List (Option ℕ)) (v : Option ℕ) → ((i : ℕ) (d : Option ℕ) → i < length xs → get_or xs i d ≡ v)
+    → xs ≡ replicate (length xs) v
 all_same [] v each = refl
 all_same (x ∷ xs) v each =
-    ap₂ (λ (z : Option ℕ) (zs : List (Option ℕ)). z ∷ zs) (each 0 v (omega arith)) (all_same xs v (λ i d l. each (suc i) d (omega arith)))
+    ap₂ (λ (z : Option ℕ) (zs : List (Option ℕ)). z ∷ zs) (each 0 v (omega arith))
+    (all_same xs v (λ i d l. each (suc i) d (omega arith)))

@@ -12,21 +12,28 @@ use Rattle.avr_part.specs.ChipFile.{chip_file, chip_file_size, chip_in, state_in
 flash_part : (flash eeprom fuses : List ℕ) (n : ℕ) → length flash ≡ n → take n (flash ++ eeprom ++ fuses) ≡ flash
 flash_part flash eeprom fuses n e = ap (take n) (append_assoc flash eeprom fuses) ∙ take_at flash (eeprom ++ fuses) n e
 
-eeprom_part : (flash eeprom fuses : List ℕ) (n m : ℕ) → length flash ≡ n → length eeprom ≡ m → take m (drop n (flash ++ eeprom ++ fuses)) ≡ eeprom
+eeprom_part : (flash eeprom fuses : List ℕ) (n m : ℕ) → length flash ≡ n → length eeprom ≡ m
+    → take m (drop n (flash ++ eeprom ++ fuses)) ≡ eeprom
 eeprom_part flash eeprom fuses n m e f =
     ap (λ (xs : List ℕ). take m (drop n xs)) (append_assoc flash eeprom fuses)
     ∙ (ap (take m) (drop_at flash (eeprom ++ fuses) n e) ∙ take_at eeprom fuses m f)
 
-fuse_part : (flash eeprom fuses : List ℕ) (at k : ℕ) → at ≡ length flash + length eeprom + k → get_or (flash ++ eeprom ++ fuses) at 0 ≡ get_or fuses k 0
+fuse_part : (flash eeprom fuses : List ℕ) (at k : ℕ) → at ≡ length flash + length eeprom + k
+    → get_or (flash ++ eeprom ++ fuses) at 0 ≡ get_or fuses k 0
 fuse_part flash eeprom fuses at k e =
-    ap (λ (i : ℕ). get_or (flash ++ eeprom ++ fuses) i 0) (let at_is : at ≡ length (flash ++ eeprom) + k = rw length-append e in at_is)
+    ap (λ (i : ℕ). get_or (flash ++ eeprom ++ fuses) i 0)
+    (let at_is : at ≡ length (flash ++ eeprom) + k = rw length-append e in at_is)
     ∙ get_or-append-add (flash ++ eeprom) fuses k 0
 
 file_length : (s : ChipState) → IsSoundChip s → length (chip_file s) ≡ chip_file_size s.part
 file_length s sound =
     let flash = sound.flash_size in
     let eeprom = sound.eeprom_size in
-    omega (arith, length-append (s.flash ++ s.eeprom) (s.lfuse ∷ s.hfuse ∷ s.efuse ∷ s.lock ∷ []), length-append s.flash s.eeprom)
+    omega (
+      arith,
+      length-append (s.flash ++ s.eeprom) (s.lfuse ∷ s.hfuse ∷ s.efuse ∷ s.lock ∷ []),
+      length-append s.flash s.eeprom,
+    )
 
 chosen : {A : Type 0} (test : Bool) (x y : A) → test ≡ true → cond test x y ≡ x
 chosen test x y e = ap (λ (b : Bool). cond b x y) e
@@ -63,10 +70,12 @@ written_again p bytes e =
     let rest = drop n bytes in
     let fuses = drop m rest in
     let at : (k : ℕ) → get_or bytes (n + m + k) 0 ≡ get_or fuses k 0 =
-    λ k. sym (get_or-drop m rest k 0 ∙ (get_or-drop n bytes (m + k) 0 ∙ ap (λ (i : ℕ). get_or bytes i 0) (omega arith))) in
+    λ k. sym (get_or-drop m rest k 0 ∙ (get_or-drop n bytes (m + k) 0
+    ∙ ap (λ (i : ℕ). get_or bytes i 0) (omega arith))) in
     let first : get_or bytes (n + m) 0 ≡ get_or fuses 0 0 = ap (λ (i : ℕ). get_or bytes i 0) (omega arith) ∙ at 0 in
     let count : length fuses ≡ 4 = omega (arith, length-drop m rest, length-drop n bytes) in
-    let listed : fuses ≡ get_or bytes (n + m) 0 ∷ get_or bytes (n + m + 1) 0 ∷ get_or bytes (n + m + 2) 0 ∷ get_or bytes (n + m + 3) 0 ∷ [] =
+    let listed : fuses ≡ get_or bytes (n + m) 0 ∷ get_or bytes (n + m + 1) 0 ∷ get_or bytes (n + m + 2) 0
+    ∷ get_or bytes (n + m + 3) 0 ∷ [] =
     four_bytes fuses count ∙ rw (first, at 1, at 2, at 3) in
     ap (λ (xs : List ℕ). take n bytes ++ take m rest ++ xs) (sym listed)
     ∙ (append_assoc (take n bytes) (take m rest) fuses

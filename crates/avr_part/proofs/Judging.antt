@@ -13,18 +13,22 @@ abbrev pub onto : List Part → Result (List Part) FileFault → Result (List Pa
 onto ps (Ok qs) = Ok (ps ++ qs)
 onto ps (Err e) = Err e
 
-pub onto-next : (ps : List Part) (p : Part) (r : Result (List Part) FileFault) → onto ps (r >>= (λ qs. Ok (p ∷ qs))) ≡ onto (ps ++ p ∷ []) r
+pub onto-next : (ps : List Part) (p : Part) (r : Result (List Part) FileFault)
+    → onto ps (r >>= (λ qs. Ok (p ∷ qs))) ≡ onto (ps ++ p ∷ []) r
 onto-next ps p (Ok qs) = ap (λ (xs : List Part). Ok xs) (sym (append_assoc ps (p ∷ []) qs))
 onto-next ps p (Err e) = refl
 
 -- one more member is judged
-pub judged_next : (all : Result (List Part) FileFault) (ps : List Part) (left next : List (String Global × Value)) (k : String Global) (v : Value) (p : Part)
-    → left ≡ (k, v) ∷ next → all ≡ onto ps (parts_in (members_view left)) → Ok p ≡ in_part (string_bytes k) (part_of (string_bytes k) (view v))
+pub judged_next : (all : Result (List Part) FileFault) (ps : List Part) (left next : List (String Global × Value))
+    (k : String Global) (v : Value) (p : Part)
+    → left ≡ (k, v) ∷ next → all ≡ onto ps (parts_in (members_view left))
+    → Ok p ≡ in_part (string_bytes k) (part_of (string_bytes k) (view v))
     → all ≡ onto (ps ++ p ∷ []) (parts_in (members_view next))
 judged_next all ps left next k v p split so_far is =
     so_far
     ∙ ap (λ (es : List (String Global × Value)). onto ps (parts_in (members_view es))) split
-    ∙ ap (λ (r : Result Part FileFault). onto ps (r >>= (λ part. parts_in (members_view next) >>= (λ parts. Ok (part ∷ parts))))) (sym is)
+    ∙ ap (λ (r : Result Part FileFault). onto ps
+    (r >>= (λ part. parts_in (members_view next) >>= (λ parts. Ok (part ∷ parts))))) (sym is)
     ∙ onto-next ps p (parts_in (members_view next))
 
 -- bytes that are text, and bytes that are none

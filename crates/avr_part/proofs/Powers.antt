@@ -31,7 +31,8 @@ all_pages = refl
 
 page_of_power : (n : ℕ) → is_power_of_two n ≡ true → n ≤ 256 → is_page n ≡ true
 page_of_power n power most =
-    ap (λ (b : Bool). cond b (is_page n) true) (let e : true ≡ is_power_of_two n = cc in e) ∙ below page_if_power 257 n all_pages (omega arith)
+    ap (λ (b : Bool). cond b (is_page n) true) (let e : true ≡ is_power_of_two n = cc in e)
+    ∙ below page_if_power 257 n all_pages (omega arith)
 
 pub power_divides : (n : ℕ) → is_power_of_two n ≡ true → n ≤ 256 → 256 % n ≡ 0
 power_divides n power most =
@@ -39,7 +40,8 @@ power_divides n power most =
 
 pub power_is_even : (n : ℕ) → is_power_of_two n ≡ true → n ≤ 256 → 2 ≤ n → n % 2 ≡ 0
 power_is_even n power most some =
-    elim (or_cases (nat_lt n 2) (n % 2 == 0) (and_parts (256 % n == 0) (nat_lt n 2 || n % 2 == 0) (page_of_power n power most)).1) [
+    elim (or_cases (nat_lt n 2) (n % 2 == 0)
+    (and_parts (256 % n == 0) (nat_lt n 2 || n % 2 == 0) (page_of_power n power most)).1) [
       | inl small ↦ absurd (omega (arith, ltb-true n 2 small))
       | inr even ↦ eqb-true (n % 2) 0 even
     ]

@@ -98,11 +98,13 @@ unfolding tiny
 eeprom_kept = refl
 
 -- an erase keeps the EEPROM where the EESAVE bit is 0
-eeprom_saved : out (eeprom_written ++ four 0xAC 0xA8 0 0xF7 ∷ four 0xAC 0x80 0 0 ∷ []) (four 0xA0 0 1 0) ≡ four 0 0xA0 0 0x33
+eeprom_saved : out (eeprom_written ++ four 0xAC 0xA8 0 0xF7 ∷ four 0xAC 0x80 0 0 ∷ []) (four 0xA0 0 1 0)
+    ≡ four 0 0xA0 0 0x33
 unfolding tiny
 eeprom_saved = refl
 
-eeprom_erased : out (eeprom_written ++ four 0xAC 0xA8 0 0xFF ∷ four 0xAC 0x80 0 0 ∷ []) (four 0xA0 0 1 0) ≡ four 0 0xA0 0 0xFF
+eeprom_erased : out (eeprom_written ++ four 0xAC 0xA8 0 0xFF ∷ four 0xAC 0x80 0 0 ∷ []) (four 0xA0 0 1 0)
+    ≡ four 0 0xA0 0 0xFF
 unfolding tiny
 eeprom_erased = refl
 
@@ -111,7 +113,8 @@ lock_written : out (four 0xAC 0xE0 0 0xFC ∷ four 0xAC 0xE0 0 0xFF ∷ []) (fou
 unfolding tiny
 lock_written = refl
 
-lock_erased : out (four 0xAC 0xE0 0 0xFC ∷ four 0xAC 0xE0 0 0xFF ∷ four 0xAC 0x80 0 0 ∷ []) (four 0x58 0 0 0) ≡ four 0 0x58 0 0xFF
+lock_erased : out (four 0xAC 0xE0 0 0xFC ∷ four 0xAC 0xE0 0 0xFF ∷ four 0xAC 0x80 0 0 ∷ []) (four 0x58 0 0 0)
+    ≡ four 0 0x58 0 0xFF
 unfolding tiny
 lock_erased = refl
 
@@ -120,7 +123,8 @@ locked : out (four 0xAC 0xE0 0 0xFE ∷ four 0xC0 0 0 0x11 ∷ []) (four 0xA0 0 
 unfolding tiny
 locked = refl
 
-unlocked : out (four 0xAC 0xE0 0 0xFE ∷ four 0xC0 0 0 0x11 ∷ four 0xAC 0x80 0 0 ∷ four 0xC0 0 0 0x11 ∷ []) (four 0xA0 0 0 0) ≡ four 0 0xA0 0 0x11
+unlocked : out (four 0xAC 0xE0 0 0xFE ∷ four 0xC0 0 0 0x11 ∷ four 0xAC 0x80 0 0 ∷ four 0xC0 0 0 0x11 ∷ [])
+    (four 0xA0 0 0 0) ≡ four 0 0xA0 0 0x11
 unfolding tiny
 unlocked = refl
 
@@ -160,12 +164,16 @@ no_toml : parts_of (codes "parts = [") ≡ Err (of_file NotToml)
 unfolding is_utf8 chars toml_on_literals
 no_toml = refl
 
-one_part : parts_of (codes "[parts.m328p]\nsignature = \"1E950F\"\nflash_size = 32768\nflash_page = 128\neeprom_size = 1024\neeprom_page = 4\neesave_bit = 3\n") ≡ Ok (m328p ∷ [])
+one_part : parts_of
+    (codes
+    "[parts.m328p]\nsignature = \"1E950F\"\nflash_size = 32768\nflash_page = 128\neeprom_size = 1024\neeprom_page = 4\neesave_bit = 3\n") ≡ Ok (m328p ∷ [])
 unfolding is_utf8 chars toml_on_literals hex_on_literals lib.Count.ones
 one_part = refl
 
 -- of two parts the second one is at fault; and a part that is at fault is told
-second_part : parts_of (codes "[parts.a1]\nsignature = \"1E950F\"\nflash_size = 32768\nflash_page = 128\neeprom_size = 1024\neeprom_page = 4\neesave_bit = 3\n[parts.b1]\n")
+second_part : parts_of
+    (codes
+    "[parts.a1]\nsignature = \"1E950F\"\nflash_size = 32768\nflash_page = 128\neeprom_size = 1024\neeprom_page = 4\neesave_bit = 3\n[parts.b1]\n")
     ≡ Err (record { part = Some (codes "b1"); fault = Missing field.Signature })
 unfolding is_utf8 chars toml_on_literals hex_on_literals lib.Count.ones
 second_part = refl
@@ -178,18 +186,24 @@ none_else : (r : Result (List Part) FileFault) (id : List ℕ) (one other : Part
     → r ≡ Err (record { part = Some id; fault = one }) → r ≡ Err (of_file other) → ⊥
 none_else r id one other is of_none = let same : Some id ≡ None = ap blamed (sym is ∙ of_none) in absurd (cc same)
 
-short_signature : parts_of (codes "[parts.x]\nsignature = \"1E95\"") ≡ Err (record { part = Some (codes "x"); fault = BadValue field.Signature })
+short_signature : parts_of (codes "[parts.x]\nsignature = \"1E95\"")
+    ≡ Err (record { part = Some (codes "x"); fault = BadValue field.Signature })
 unfolding is_utf8 chars toml_on_literals hex_on_literals
 short_signature = refl
 
-odd_sizes : parts_of (codes "[parts.x]\nsignature = \"1E950F\"\nflash_size = 1000\nflash_page = 128\neeprom_size = 1024\neeprom_page = 4\neesave_bit = 3\n") ≡ Err (record { part = Some (codes "x"); fault = BadSizes })
+odd_sizes : parts_of
+    (codes
+    "[parts.x]\nsignature = \"1E950F\"\nflash_size = 1000\nflash_page = 128\neeprom_size = 1024\neeprom_page = 4\neesave_bit = 3\n") ≡ Err (record { part = Some (codes "x"); fault = BadSizes })
 unfolding is_utf8 chars toml_on_literals hex_on_literals lib.Count.ones
 odd_sizes = refl
 
-no_page : parts_of (codes "[parts.x]\nsignature = \"1E950F\"\nflash_size = 32768\nflash_page = 128\neeprom_size = 1024\n") ≡ Err (record { part = Some (codes "x"); fault = Missing field.EepromPage })
+no_page : parts_of
+    (codes "[parts.x]\nsignature = \"1E950F\"\nflash_size = 32768\nflash_page = 128\neeprom_size = 1024\n")
+    ≡ Err (record { part = Some (codes "x"); fault = Missing field.EepromPage })
 unfolding is_utf8 chars toml_on_literals hex_on_literals lib.Count.ones
 no_page = refl
 
-too_large : parts_of (codes "[parts.x]\nsignature = \"1E950F\"\nflash_size = 262400\nflash_page = 256\n") ≡ Err (record { part = Some (codes "x"); fault = BadValue field.FlashSize })
+too_large : parts_of (codes "[parts.x]\nsignature = \"1E950F\"\nflash_size = 262400\nflash_page = 256\n")
+    ≡ Err (record { part = Some (codes "x"); fault = BadValue field.FlashSize })
 unfolding is_utf8 chars toml_on_literals hex_on_literals
 too_large = refl

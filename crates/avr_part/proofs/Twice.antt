@@ -25,44 +25,57 @@ erased_twice s =
     (blank-blank s.flash)
     (kept_or_changed (keeps_eeprom s) blank s.eeprom (blank-blank s.eeprom))
 
-changed-changed : (k : ℕ) (f : ℕ → ℕ → ℕ) (xs : List ℕ) → ((i x : ℕ) → f i (f i x) ≡ f i x) → map_indexed_from k f (map_indexed_from k f xs) ≡ map_indexed_from k f xs
+changed-changed : (k : ℕ) (f : ℕ → ℕ → ℕ) (xs : List ℕ) → ((i x : ℕ) → f i (f i x) ≡ f i x)
+    → map_indexed_from k f (map_indexed_from k f xs) ≡ map_indexed_from k f xs
 changed-changed k f [] each = refl
 changed-changed k f (x ∷ xs) each = ap₂ (λ (z : ℕ) (zs : List ℕ). z ∷ zs) (each k x) (changed-changed (suc k) f xs each)
 
-twice_within : (inside : Bool) (f : ℕ → ℕ) (x : ℕ) → f (f x) ≡ f x → cond inside (f (cond inside (f x) x)) (cond inside (f x) x) ≡ cond inside (f x) x
+twice_within : (inside : Bool) (f : ℕ → ℕ) (x : ℕ) → f (f x) ≡ f x
+    → cond inside (f (cond inside (f x) x)) (cond inside (f x) x) ≡ cond inside (f x) x
 twice_within true f x twice = twice
 twice_within false f x twice = refl
 
-anded-anded : (start : ℕ) (page : List ℕ) (i x : ℕ) → byte_and_page start page i (byte_and_page start page i x) ≡ byte_and_page start page i x
+anded-anded : (start : ℕ) (page : List ℕ) (i x : ℕ)
+    → byte_and_page start page i (byte_and_page start page i x) ≡ byte_and_page start page i x
 anded-anded start page i x =
     let y = slice_index page (i - start) in
-    twice_within (is_in_span start (length page) i) (λ (z : ℕ). bit_and z y) x (and_assoc y x y ∙ ap (bit_and x) (and_self y))
+    twice_within (is_in_span start (length page) i) (λ (z : ℕ). bit_and z y) x
+    (and_assoc y x y ∙ ap (bit_and x) (and_self y))
 
 laid_twice : (o : Option ℕ) (x : ℕ) → unwrap_or o (unwrap_or o x) ≡ unwrap_or o x
 laid_twice None x = refl
 laid_twice (Some y) x = refl
 
-overlaid-overlaid : (start : ℕ) (loads : List (Option ℕ)) (i x : ℕ) → overlaid start loads i (overlaid start loads i x) ≡ overlaid start loads i x
+overlaid-overlaid : (start : ℕ) (loads : List (Option ℕ)) (i x : ℕ)
+    → overlaid start loads i (overlaid start loads i x) ≡ overlaid start loads i x
 overlaid-overlaid start loads i x =
     let o = slice_index_or loads (i - start) None in
     twice_within (is_in_span start (length loads) i) (unwrap_or o) x (laid_twice o x)
 
-pub flash_page_twice : (word : ℕ) (s : ChipState) → with_flash_page word (flash_loaded_as s (with_flash_page word s)) ≡ with_flash_page word s
+pub flash_page_twice : (word : ℕ) (s : ChipState)
+    → with_flash_page word (flash_loaded_as s (with_flash_page word s)) ≡ with_flash_page word s
 flash_page_twice word s =
     let start = page_start s.part.flash_page (word_address s word) in
     ap (λ (flash : List ℕ). record s { flash = flash; flash_buffer = blank s.flash_buffer })
-    (kept_or_changed (is_locked s) (map_indexed (byte_and_page start s.flash_buffer)) s.flash (changed-changed 0 (byte_and_page start s.flash_buffer) s.flash (anded-anded start s.flash_buffer)))
+    (kept_or_changed (is_locked s) (map_indexed (byte_and_page start s.flash_buffer)) s.flash
+    (changed-changed 0 (byte_and_page start s.flash_buffer) s.flash (anded-anded start s.flash_buffer)))
 
-pub eeprom_page_twice : (address : ℕ) (s : ChipState) → with_eeprom_page address (eeprom_loaded_as s (with_eeprom_page address s)) ≡ with_eeprom_page address s
+pub eeprom_page_twice : (address : ℕ) (s : ChipState)
+    → with_eeprom_page address (eeprom_loaded_as s (with_eeprom_page address s)) ≡ with_eeprom_page address s
 eeprom_page_twice address s =
     let start = page_start s.part.eeprom_page (eeprom_address s address) in
     ap (λ (eeprom : List ℕ). record s { eeprom = eeprom; eeprom_buffer = nothing_loaded s.eeprom_buffer })
-    (kept_or_changed (is_locked s) (map_indexed (overlaid start s.eeprom_buffer)) s.eeprom (changed-changed 0 (overlaid start s.eeprom_buffer) s.eeprom (overlaid-overlaid start s.eeprom_buffer)))
+    (kept_or_changed (is_locked s) (map_indexed (overlaid start s.eeprom_buffer)) s.eeprom
+    (changed-changed 0 (overlaid start s.eeprom_buffer) s.eeprom (overlaid-overlaid start s.eeprom_buffer)))
 
 pub fuse_twice : (f : Fuse) (byte : ℕ) (s : ChipState) → with_fuse f byte (with_fuse f byte s) ≡ with_fuse f byte s
-fuse_twice fuse.Low byte s = ap (λ (b : ℕ). record s { lfuse = b }) (kept_or_changed (is_locked s) (λ (x : ℕ). byte) s.lfuse refl)
-fuse_twice fuse.High byte s = ap (λ (b : ℕ). record s { hfuse = b }) (kept_or_changed (is_locked s) (λ (x : ℕ). byte) s.hfuse refl)
-fuse_twice fuse.Extended byte s = ap (λ (b : ℕ). record s { efuse = b }) (kept_or_changed (is_locked s) (λ (x : ℕ). byte) s.efuse refl)
+fuse_twice fuse.Low byte s = ap (λ (b : ℕ). record s { lfuse = b })
+    (kept_or_changed (is_locked s) (λ (x : ℕ). byte) s.lfuse refl)
+fuse_twice fuse.High byte s = ap (λ (b : ℕ). record s { hfuse = b })
+    (kept_or_changed (is_locked s) (λ (x : ℕ). byte) s.hfuse refl)
+fuse_twice fuse.Extended byte s = ap (λ (b : ℕ). record s { efuse = b })
+    (kept_or_changed (is_locked s) (λ (x : ℕ). byte) s.efuse refl)
 
 pub lock_twice : (byte : ℕ) (s : ChipState) → with_lock byte (with_lock byte s) ≡ with_lock byte s
-lock_twice byte s = ap (λ (b : ℕ). record s { lock = b }) (and_assoc byte s.lock byte ∙ ap (bit_and s.lock) (and_self byte))
+lock_twice byte s = ap (λ (b : ℕ). record s { lock = b })
+    (and_assoc byte s.lock byte ∙ ap (bit_and s.lock) (and_self byte))

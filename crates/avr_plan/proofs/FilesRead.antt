@@ -62,7 +62,8 @@ lines_told : {A : Type 0} (first second : List Saying) (answer : Answer A) → l
     → lines_in (all_told first answer) ≡ lines_in (all_told second answer)
 lines_told first second (Made a) same = same
 lines_told first second (Refused line) same =
-    lines_append first (Line line ∷ []) ∙ ap (λ (ls : List Bytes). ls ++ line ∷ []) same ∙ sym (lines_append second (Line line ∷ []))
+    lines_append first (Line line ∷ []) ∙ ap (λ (ls : List Bytes). ls ++ line ∷ []) same
+    ∙ sym (lines_append second (Line line ∷ []))
 lines_told first second Unread same = same
 
 -- ---- one stage over two lists of openings
@@ -76,7 +77,8 @@ pub record IsSame {A : Type 0} (p q : StageResult A) (rest : List Opening) : Typ
 module _ (stock : Stock) where
   -- a stage that reads the files of these names: over what it saw of them it is what it is over the whole of them
   abbrev Sees : {A : Type 0} → Stage A → List Bytes → Type 0
-  Sees stage names = (openings rest : List Opening) → AreSeen stock (stage openings).says → ((stage openings).answer ≡ Unread → ⊥)
+  Sees stage names = (openings rest : List Opening) → AreSeen stock (stage openings).says
+      → ((stage openings).answer ≡ Unread → ⊥)
       → IsSame (stage openings) (stage (files_give stock names ++ rest)) rest
 
   settled_fixed : {A : Type 0} (result : Result A Bytes) → Sees (verdict_stage result) []
@@ -88,49 +90,63 @@ module _ (stock : Stock) where
 
   -- one and then another
   on_made : {A B : Type 0} (go_on : A → Stage B) (p q : StageResult A) (back : List Bytes) (rest : List Opening)
-      → ((a : A) → Sees (go_on a) back) → IsSame p q (files_give stock back ++ rest) → (answer : Answer A) → p.answer ≡ answer
-      → AreSeen stock (going_on p.says p.left go_on answer).says → ((going_on p.says p.left go_on answer).answer ≡ Unread → ⊥)
+      → ((a : A) → Sees (go_on a) back) → IsSame p q (files_give stock back ++ rest) → (answer : Answer A)
+      → p.answer ≡ answer
+      → AreSeen stock (going_on p.says p.left go_on answer).says
+      → ((going_on p.says p.left go_on answer).answer ≡ Unread → ⊥)
       → IsSame (going_on p.says p.left go_on answer) (going_on q.says q.left go_on answer) rest
   on_made go_on p q back rest sees same (Made a) is seen read =
       let left : q.left ≡ files_give stock back ++ rest = same.left a is in
       let behind : IsSame (go_on a p.left) (go_on a q.left) rest =
-      subst (λ os. IsSame (go_on a p.left) (go_on a os) rest) (sym left) (sees a p.left rest (seen_second stock p.says (go_on a p.left).says seen) read) in
+      subst (λ os. IsSame (go_on a p.left) (go_on a os) rest) (sym left)
+      (sees a p.left rest (seen_second stock p.says (go_on a p.left).says seen) read) in
       record {
         answer = behind.answer;
-        lines = lines_append q.says (go_on a q.left).says ∙ ap (λ (ls : List Bytes). ls ++ lines_in (go_on a q.left).says) same.lines
-            ∙ ap (λ (ls : List Bytes). lines_in p.says ++ ls) behind.lines ∙ sym (lines_append p.says (go_on a p.left).says);
+        lines = lines_append q.says (go_on a q.left).says
+            ∙ ap (λ (ls : List Bytes). ls ++ lines_in (go_on a q.left).says) same.lines
+            ∙ ap (λ (ls : List Bytes). lines_in p.says ++ ls) behind.lines
+            ∙ sym (lines_append p.says (go_on a p.left).says);
         left = behind.left;
       }
-  on_made go_on p q back rest sees same (Refused line) is seen read = record { answer = refl; lines = same.lines; left = λ made e. absurd (cc) }
+  on_made go_on p q back rest sees same (Refused line) is seen read =
+      record { answer = refl; lines = same.lines; left = λ made e. absurd (cc) }
   on_made go_on p q back rest sees same Unread is seen read = absurd (read refl)
 
-  onward : {A B : Type 0} (stage : Stage A) (go_on : A → Stage B) (front back : List Bytes) → Sees stage front → ((a : A) → Sees (go_on a) back)
+  onward : {A B : Type 0} (stage : Stage A) (go_on : A → Stage B) (front back : List Bytes) → Sees stage front
+      → ((a : A) → Sees (go_on a) back)
       → Sees (stage >>= go_on) (front ++ back)
   onward {A = A} stage go_on front back first second openings rest seen read =
       let p = stage openings in
       let given : files_give stock (front ++ back) ++ rest ≡ files_give stock front ++ (files_give stock back ++ rest) =
       ap (λ (os : List Opening). os ++ rest) (map-append (λ name. read_whole name (stood_for stock [] name)) front back)
       ∙ append_assoc (files_give stock front) (files_give stock back) rest in
-      let same : IsSame p (stage (files_give stock front ++ (files_give stock back ++ rest))) (files_give stock back ++ rest) =
-      first openings (files_give stock back ++ rest) (of_first p p.answer refl seen) (λ unread. read (unread_on p p.answer refl unread)) in
+      let same : IsSame p (stage (files_give stock front ++ (files_give stock back ++ rest)))
+      (files_give stock back ++ rest) =
+      first openings (files_give stock back ++ rest) (of_first p p.answer refl seen)
+      (λ unread. read (unread_on p p.answer refl unread)) in
       subst (λ os. IsSame ((stage >>= go_on) openings) ((stage >>= go_on) os) rest) (sym given)
       (whole p (stage (files_give stock front ++ (files_give stock back ++ rest))) same seen read)
     where
-      of_first : (p : StageResult A) (answer : Answer A) → p.answer ≡ answer → AreSeen stock (going_on p.says p.left go_on answer).says → AreSeen stock p.says
+      of_first : (p : StageResult A) (answer : Answer A) → p.answer ≡ answer
+          → AreSeen stock (going_on p.says p.left go_on answer).says → AreSeen stock p.says
       of_first p (Made a) is seen = seen_first stock p.says (go_on a p.left).says seen
       of_first p (Refused line) is seen = seen
       of_first p Unread is seen = seen
 
-      unread_on : (p : StageResult A) (answer : Answer A) → p.answer ≡ answer → p.answer ≡ Unread → (going_on p.says p.left go_on answer).answer ≡ Unread
+      unread_on : (p : StageResult A) (answer : Answer A) → p.answer ≡ answer → p.answer ≡ Unread
+          → (going_on p.says p.left go_on answer).answer ≡ Unread
       unread_on p (Made a) is unread = absurd (let e : ◌≡◌ {A = Answer A} (Made a) Unread = sym is ∙ unread in cc)
-      unread_on p (Refused line) is unread = absurd (let e : ◌≡◌ {A = Answer A} (Refused line) Unread = sym is ∙ unread in cc)
+      unread_on p (Refused line) is unread = absurd
+          (let e : ◌≡◌ {A = Answer A} (Refused line) Unread = sym is ∙ unread in cc)
       unread_on p Unread is unread = refl
 
-      whole : (p q : StageResult A) → IsSame p q (files_give stock back ++ rest) → AreSeen stock (going_on p.says p.left go_on p.answer).says
+      whole : (p q : StageResult A) → IsSame p q (files_give stock back ++ rest)
+          → AreSeen stock (going_on p.says p.left go_on p.answer).says
           → ((going_on p.says p.left go_on p.answer).answer ≡ Unread → ⊥)
           → IsSame (going_on p.says p.left go_on p.answer) (going_on q.says q.left go_on q.answer) rest
       whole p q same seen read =
-          subst (λ (answer : Answer A). IsSame (going_on p.says p.left go_on p.answer) (going_on q.says q.left go_on answer) rest) (sym same.answer)
+          subst (λ (answer : Answer A). IsSame (going_on p.says p.left go_on p.answer)
+          (going_on q.says q.left go_on answer) rest) (sym same.answer)
           (on_made go_on p q back rest second same p.answer refl seen read)
 
   -- ---- a file
@@ -139,37 +155,48 @@ module _ (stock : Stock) where
   abbrev IsLimited : {A : Type 0} → ℕ → (Bytes → Result A Bytes) → Type 0
   IsLimited limit judge = (bytes more : Bytes) → limit < length bytes → judge (bytes ++ more) ≡ judge bytes
 
-  same_judged : {A : Type 0} (limit : ℕ) (judge : Bytes → Result A Bytes) → IsLimited limit judge → (bytes unread : Bytes) (ended : Bool)
-      → (ended ≡ true → unread ≡ []) → (ended || nat_lt limit (length bytes)) ≡ true → judge (bytes ++ unread) ≡ judge bytes
-  same_judged limit judge limited bytes unread true ends whole = ap (λ (more : Bytes). judge (bytes ++ more)) (ends refl) ∙ ap judge (append-nil bytes)
+  same_judged : {A : Type 0} (limit : ℕ) (judge : Bytes → Result A Bytes) → IsLimited limit judge
+      → (bytes unread : Bytes) (ended : Bool)
+      → (ended ≡ true → unread ≡ []) → (ended || nat_lt limit (length bytes)) ≡ true
+      → judge (bytes ++ unread) ≡ judge bytes
+  same_judged limit judge limited bytes unread true ends whole =
+      ap (λ (more : Bytes). judge (bytes ++ more)) (ends refl) ∙ ap judge (append-nil bytes)
   same_judged limit judge limited bytes unread false ends whole = limited bytes unread (grind (arith, nat_tests, whole))
 
-  same_verdict : {A : Type 0} (one other : Result A Bytes) (openings rest : List Opening) → other ≡ one → IsSame (verdict_stage one openings) (verdict_stage other rest) rest
+  same_verdict : {A : Type 0} (one other : Result A Bytes) (openings rest : List Opening) → other ≡ one
+      → IsSame (verdict_stage one openings) (verdict_stage other rest) rest
   same_verdict (Ok a) other openings rest is = rw is (record { answer = refl; lines = refl; left = λ made e. refl })
   same_verdict (Err line) other openings rest is = rw is (record { answer = refl; lines = refl; left = λ made e. refl })
 
-  module _ {A : Type 0} (name : Bytes) (limit : ℕ) (judge : Bytes → Result A Bytes) (limited : IsLimited limit judge) where
+  module _ {A : Type 0} (name : Bytes) (limit : ℕ) (judge : Bytes → Result A Bytes)
+      (limited : IsLimited limit judge) where
     -- what was seen of it, and the whole of it
     of_opening : (opening : Opening) (openings rest : List Opening) → IsTrueOpening stock [] (under_name name opening)
         → ((content_stage name limit judge (under_name name opening) openings).answer ≡ Unread → ⊥)
-        → IsSame (content_stage name limit judge (under_name name opening) openings) (content_stage name limit judge (under_name name (read_whole name (stood_for stock [] name))) rest) rest
-    of_opening (Absent other) openings rest is read = rw is (record { answer = refl; lines = refl; left = λ made e. refl })
+        → IsSame (content_stage name limit judge (under_name name opening) openings)
+        (content_stage name limit judge (under_name name (read_whole name (stood_for stock [] name))) rest) rest
+    of_opening (Absent other) openings rest is read =
+        rw is (record { answer = refl; lines = refl; left = λ made e. refl })
     of_opening (Found x) openings rest is read =
-        subst (λ (stood : Option Bytes). IsSame (content_stage name limit judge (Found (record x { name = name })) openings) (content_stage name limit judge (under_name name (read_whole name stood)) rest) rest)
+        subst (λ (stood : Option Bytes). IsSame (content_stage name limit judge (Found (record x { name = name }))
+        openings) (content_stage name limit judge (under_name name (read_whole name stood)) rest) rest)
         (sym is.whole) (by_end (x.ended || nat_lt limit (length x.bytes)) refl read)
       where
         by_end : (whole : Bool) → (x.ended || nat_lt limit (length x.bytes)) ≡ whole
             → (((if whole then verdict_stage (judge x.bytes) else unread_stage {A = A}) openings).answer ≡ Unread → ⊥)
-            → IsSame ((if x.ended || nat_lt limit (length x.bytes) then verdict_stage (judge x.bytes) else unread_stage {A = A}) openings)
+            → IsSame ((if x.ended || nat_lt limit (length x.bytes) then verdict_stage (judge x.bytes)
+            else unread_stage {A = A}) openings)
             (verdict_stage (judge (x.bytes ++ is.unread)) rest) rest
         by_end true whole read = rw whole (same_verdict (judge x.bytes) (judge (x.bytes ++ is.unread)) openings rest
             (same_judged limit judge limited x.bytes is.unread x.ended is.ends whole))
         by_end false whole read = absurd (read refl)
 
     -- the same, behind its opening
-    behind_opening : (opening : Opening) (openings rest : List Opening) → IsTrueOpening stock [] (under_name name opening)
+    behind_opening : (opening : Opening) (openings rest : List Opening)
+        → IsTrueOpening stock [] (under_name name opening)
         → ((content_stage name limit judge (under_name name opening) openings).answer ≡ Unread → ⊥)
-        → IsSame (behind_sayings (Opens (under_name name opening) ∷ []) (content_stage name limit judge (under_name name opening) openings))
+        → IsSame (behind_sayings (Opens (under_name name opening) ∷ [])
+        (content_stage name limit judge (under_name name opening) openings))
         (file_stage name limit judge (read_whole name (stood_for stock [] name) ∷ rest)) rest
     behind_opening opening openings rest is read =
         let same = of_opening opening openings rest is read in
@@ -182,29 +209,36 @@ module _ (stock : Stock) where
   limited_parts : (name : Bytes) → IsLimited 65536 (judged_parts name)
   limited_parts name bytes more past =
       let one : nat_le (length bytes) 65536 ≡ false = grind (arith, nat_tests, past) in
-      let other : nat_le (length (bytes ++ more)) 65536 ≡ false = let e = length-append bytes more in grind (arith, nat_tests, past, e) in
+      let other : nat_le (length (bytes ++ more)) 65536 ≡ false = let e = length-append bytes more in
+      grind (arith, nat_tests, past, e) in
       rw (one, other) refl
 
-  same_kind : (kind : Format) (bytes more : Bytes) → 1024 ≤ length bytes → kind_of kind (bytes ++ more) ≡ kind_of kind bytes
+  same_kind : (kind : Format) (bytes more : Bytes) → 1024 ≤ length bytes
+      → kind_of kind (bytes ++ more) ≡ kind_of kind bytes
   same_kind kind bytes more long =
       let front = take 1024 bytes in
       let back = drop 1024 bytes in
       let len : length front ≡ 1024 = length-take-le 1024 bytes long in
       let whole : front ++ back ≡ bytes = take-append-drop 1024 bytes in
-      let one : kind_of kind bytes ≡ kind_of kind front = ap (kind_of kind) (sym whole) ∙ kind-front kind front back len in
+      let one : kind_of kind bytes ≡ kind_of kind front =
+      ap (kind_of kind) (sym whole) ∙ kind-front kind front back len in
       let other : kind_of kind (bytes ++ more) ≡ kind_of kind front =
-      ap (λ (b : Bytes). kind_of kind (b ++ more)) (sym whole) ∙ ap (kind_of kind) (append_assoc front back more) ∙ kind-front kind front (back ++ more) len in
+      ap (λ (b : Bytes). kind_of kind (b ++ more)) (sym whole) ∙ ap (kind_of kind) (append_assoc front back more)
+      ∙ kind-front kind front (back ++ more) len in
       other ∙ sym one
 
   limited_image : (name : Bytes) (kind : Format) (size : ℕ) → IsLimited 4194304 (judged_image name kind size)
   limited_image name kind size bytes more past =
       let one : nat_le (length bytes) 4194304 ≡ false = grind (arith, nat_tests, past) in
-      let other : nat_le (length (bytes ++ more)) 4194304 ≡ false = let e = length-append bytes more in grind (arith, nat_tests, past, e) in
-      let front : take 4194304 (bytes ++ more) ≡ take 4194304 bytes = take-append-le 4194304 bytes more (omega (arith, past)) in
+      let other : nat_le (length (bytes ++ more)) 4194304 ≡ false = let e = length-append bytes more in
+      grind (arith, nat_tests, past, e) in
+      let front : take 4194304 (bytes ++ more) ≡ take 4194304 bytes =
+      take-append-le 4194304 bytes more (omega (arith, past)) in
       let found : kind_of kind (bytes ++ more) ≡ kind_of kind bytes = same_kind kind bytes more (omega (arith, past)) in
       ap (image_or_line name) (past_limit (kind_of kind bytes) (kind_of kind (bytes ++ more)) one other front found)
     where
-      past_limit : (found whole : FoundKind) → nat_le (length bytes) 4194304 ≡ false → nat_le (length (bytes ++ more)) 4194304 ≡ false
+      past_limit : (found whole : FoundKind) → nat_le (length bytes) 4194304 ≡ false
+          → nat_le (length (bytes ++ more)) 4194304 ≡ false
           → take 4194304 (bytes ++ more) ≡ take 4194304 bytes → whole ≡ found
           → file_within 4194304 whole (bytes ++ more) size ≡ file_within 4194304 found bytes size
       past_limit found whole one other front same = rw (one, other, front, same) refl
@@ -216,12 +250,14 @@ module _ (stock : Stock) where
   module _ (s : Switches) where
     file_image : (name : Bytes) (kind : Format) (size : ℕ) → Sees (file_image_stage s name kind size) (name ∷ [])
     file_image name kind size =
-        onward (file_stage name 4194304 (judged_image name kind size)) (λ given. saying_stage (warning_says s name given.1) >>= λ ok. verdict_stage (Ok given.0))
+        onward (file_stage name 4194304 (judged_image name kind size))
+        (λ given. saying_stage (warning_says s name given.1) >>= λ ok. verdict_stage (Ok given.0))
         (name ∷ []) [] (file name 4194304 (judged_image name kind size) (limited_image name kind size))
         (λ given. onward (saying_stage (warning_says s name given.1)) (λ ok. verdict_stage (Ok given.0)) [] []
         (says_fixed (warning_says s name given.1)) (λ ok. settled_fixed (Ok given.0)))
 
-    image : (memory : Mem) (size : ℕ) (name : Bytes) (kind : Format) → Sees (image_stage s memory size name kind) (image_file name kind)
+    image : (memory : Mem) (size : ℕ) (name : Bytes) (kind : Format)
+        → Sees (image_stage s memory size name kind) (image_file name kind)
     image memory size name format.Auto = file_image name format.Auto size
     image memory size name format.Ihex = file_image name format.Ihex size
     image memory size name format.Srec = file_image name format.Srec size
@@ -233,9 +269,11 @@ module _ (stock : Stock) where
     image memory size name format.Binary = file_image name format.Binary size
 
     -- nothing more is read behind it
-    last : {A B : Type 0} (stage : Stage A) (go_on : A → Stage B) (names : List Bytes) → Sees stage names → ((a : A) → Sees (go_on a) [])
+    last : {A B : Type 0} (stage : Stage A) (go_on : A → Stage B) (names : List Bytes) → Sees stage names
+        → ((a : A) → Sees (go_on a) [])
         → Sees (stage >>= go_on) names
-    last stage go_on names first second = subst (Sees (stage >>= go_on)) (append-nil names) (onward stage go_on names [] first second)
+    last stage go_on names first second = subst (Sees (stage >>= go_on)) (append-nil names)
+        (onward stage go_on names [] first second)
 
     module _ (part : Part) where
       update : (u : Update) → Sees (update_image s part u) (image_file u.file u.format)
@@ -244,22 +282,27 @@ module _ (stock : Stock) where
       write : (u : Update) → Sees (write_stage s part u) (file_of_op u op.Write)
       write u = by_memory (is_writable u.memory)
         where
-          by_memory : (b : Bool) → Sees {A = Task} (if b then (update_image s part u >>= λ bytes. verdict_stage (Ok (Write u.memory bytes))) else verdict_stage (Err (read_only_line u.memory)))
+          by_memory : (b : Bool) → Sees {A = Task}
+              (if b then (update_image s part u >>= λ bytes. verdict_stage (Ok (Write u.memory bytes)))
+              else verdict_stage (Err (read_only_line u.memory)))
               (if b then image_file u.file u.format else [])
-          by_memory true = last (update_image s part u) (λ bytes. verdict_stage (Ok (Write u.memory bytes))) (image_file u.file u.format) (update u)
+          by_memory true = last (update_image s part u) (λ bytes. verdict_stage (Ok (Write u.memory bytes)))
+              (image_file u.file u.format) (update u)
               (λ bytes. settled_fixed (Ok (Write u.memory bytes)))
           by_memory false = settled_fixed {A = Task} (Err (read_only_line u.memory))
 
       operation : (u : Update) (o : Op) → Sees (op_stage s part u o) (file_of_op u o)
       operation u op.Write = write u
-      operation u op.Verify = last (update_image s part u) (λ bytes. verdict_stage (Ok (Verify u.memory bytes))) (image_file u.file u.format) (update u)
+      operation u op.Verify = last (update_image s part u) (λ bytes. verdict_stage (Ok (Verify u.memory bytes)))
+          (image_file u.file u.format) (update u)
           (λ bytes. settled_fixed (Ok (Verify u.memory bytes)))
       operation u op.Read = settled_fixed (Ok (Read u.memory u.format u.file))
 
       tasks : (before : List Task) (updates : List Update) → Sees (tasks_stage s part before updates) (files_of updates)
       tasks before [] = settled_fixed (Ok before)
       tasks before (u ∷ updates) =
-          onward (task_stage s part u) (λ task. tasks_stage s part (before ++ task ∷ []) updates) (file_of_op u u.op) (files_of updates)
+          onward (task_stage s part u) (λ task. tasks_stage s part (before ++ task ∷ []) updates) (file_of_op u u.op)
+          (files_of updates)
           (operation u u.op) (λ task. tasks (before ++ task ∷ []) updates)
 
   -- what the parts come to
@@ -268,22 +311,31 @@ module _ (stock : Stock) where
 
   whole_plan : (s : Settings) → Sees (planned s) (files_read s)
   whole_plan s =
-      onward (parts_stage s.parts) (λ all. part_stage s.part all >>= λ part. tasks_stage s.switches part [] s.updates >>= made s part)
+      onward (parts_stage s.parts) (λ all. part_stage s.part all >>= λ part. tasks_stage s.switches part [] s.updates
+      >>= made s part)
       (part_file s.parts) (files_of s.updates) (parts s.parts)
-      (λ all. onward (part_stage s.part all) (λ part. tasks_stage s.switches part [] s.updates >>= made s part) [] (files_of s.updates)
+      (λ all. onward (part_stage s.part all) (λ part. tasks_stage s.switches part [] s.updates >>= made s part) []
+      (files_of s.updates)
       (settled_fixed (part_or_line s.part (part_of_id s.part all)))
-      (λ part. last s.switches (tasks_stage s.switches part [] s.updates) (made s part) (files_of s.updates) (tasks s.switches part [] s.updates)
+      (λ part. last s.switches (tasks_stage s.switches part [] s.updates) (made s part) (files_of s.updates)
+      (tasks s.switches part [] s.updates)
       (λ tasks. settled_fixed (Ok (record { part = part; tasks = tasks; switches = s.switches })))))
 
   -- planning over what was seen of the files is planning over the files
-  pub seen_is_planned : (s : Settings) (openings : List Opening) → AreSeen stock (planned s openings).says → ((planned s openings).answer ≡ Unread → ⊥)
-      → ((planned_of s stock).answer ≡ (planned s openings).answer) × (lines_in (told_in (planned_of s stock)) ≡ lines_in (told_in (planned s openings)))
+  pub seen_is_planned : (s : Settings) (openings : List Opening) → AreSeen stock (planned s openings).says
+      → ((planned s openings).answer ≡ Unread → ⊥)
+      → ((planned_of s stock).answer ≡ (planned s openings).answer)
+      × (lines_in (told_in (planned_of s stock)) ≡ lines_in (told_in (planned s openings)))
   seen_is_planned s openings seen read =
       let same = whole_plan s openings [] seen read in
-      let given : files_give stock (files_read s) ++ [] ≡ files_give stock (files_read s) = append-nil (files_give stock (files_read s)) in
+      let given : files_give stock (files_read s) ++ [] ≡ files_give stock (files_read s) =
+      append-nil (files_give stock (files_read s)) in
       let p = planned s openings in
-      let answer : (planned_of s stock).answer ≡ p.answer = ap (λ os. (planned s os).answer) (sym given) ∙ same.answer in
-      let lines : lines_in (planned_of s stock).says ≡ lines_in p.says = ap (λ os. lines_in (planned s os).says) (sym given) ∙ same.lines in (
+      let answer : (planned_of s stock).answer ≡ p.answer =
+      ap (λ os. (planned s os).answer) (sym given) ∙ same.answer in
+      let lines : lines_in (planned_of s stock).says ≡ lines_in p.says =
+      ap (λ os. lines_in (planned s os).says) (sym given) ∙ same.lines in (
         answer,
-        ap (λ (a : Answer Plan). lines_in (all_told (planned_of s stock).says a)) answer ∙ lines_told (planned_of s stock).says p.says p.answer lines,
+        ap (λ (a : Answer Plan). lines_in (all_told (planned_of s stock).says a)) answer
+            ∙ lines_told (planned_of s stock).says p.says p.answer lines,
       )

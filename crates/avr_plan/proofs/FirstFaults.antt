@@ -11,7 +11,8 @@ use Rattle.avr_records.specs.declared.kind.Kind.{Kind}
 use Rattle.avr_records.specs.declared.fault.LineFault.{LineFault}
 use Rattle.avr_records.specs.declared.fault.RecordFault.{RecordFault}
 
-or_later-more : (n : ℕ) (own : Option LineFault) (few all : Option RecordFault) (fault : RecordFault) → or_later n own few ≡ Some fault
+or_later-more : (n : ℕ) (own : Option LineFault) (few all : Option RecordFault) (fault : RecordFault)
+    → or_later n own few ≡ Some fault
     → (few ≡ Some fault → all ≡ Some fault) → or_later n own all ≡ Some fault
 or_later-more n (Some f) few all fault is then = is
 or_later-more n None few all fault is then = then is
@@ -31,12 +32,15 @@ fault_among-more size xs ys fault is =
       | inl t ↦ rw (up_to_end-done xs ys t) is
       | inr f ↦
           let same : up_to_end xs ≡ xs = ap up_to_end (sym (append-nil xs)) ∙ up_to_end-open xs [] f ∙ append-nil xs in
-          let own : first_fault size (in_place [] xs) ≡ Some fault = ap (λ (zs : List Said). first_fault size (in_place [] zs)) (sym same) ∙ is in
-          rw (up_to_end-open xs ys f, in_place-append [] xs (up_to_end ys)) (first_fault-more size (in_place [] xs) _ fault own)
+          let own : first_fault size (in_place [] xs) ≡ Some fault =
+          ap (λ (zs : List Said). first_fault size (in_place [] zs)) (sym same) ∙ is in
+          rw (up_to_end-open xs ys f, in_place-append [] xs (up_to_end ys))
+          (first_fault-more size (in_place [] xs) _ fault own)
     ]
 
 -- a text has a last line
-cut_last : (first : List ℕ) (more : List (List ℕ)) → (front : List (List ℕ)) × (last : List ℕ) × (first ∷ more ≡ front ++ last ∷ [])
+cut_last : (first : List ℕ) (more : List (List ℕ))
+    → (front : List (List ℕ)) × (last : List ℕ) × (first ∷ more ≡ front ++ last ∷ [])
 cut_last first [] = ([], first, refl)
 cut_last first (next ∷ more) =
     let rest = cut_last next more in (first ∷ rest.0, rest.1, ap (λ (zs : List (List ℕ)). first ∷ zs) rest.2)
@@ -64,25 +68,31 @@ lengthened kind text more =
 
 own_fault : (kind : Kind) (text more : List ℕ) (size : ℕ) (fault : RecordFault) (l : Lengthened kind text more)
     → closed_fault kind text size ≡ Some fault → fault_among size (map (said_by_line kind) l.front) ≡ Some fault
-own_fault kind text more size fault l is = ap (λ (zs : List (List ℕ)). fault_among size (map (said_by_line kind) zs)) (sym l.closed) ∙ is
+own_fault kind text more size fault l is =
+    ap (λ (zs : List (List ℕ)). fault_among size (map (said_by_line kind) zs)) (sym l.closed) ∙ is
 
 -- a line that has ended and is at fault is the first one still when more has come
-pub closed_fault-more : (kind : Kind) (text more : List ℕ) (size : ℕ) (fault : RecordFault) → closed_fault kind text size ≡ Some fault
+pub closed_fault-more : (kind : Kind) (text more : List ℕ) (size : ℕ) (fault : RecordFault)
+    → closed_fault kind text size ≡ Some fault
     → closed_fault kind (text ++ more) size ≡ Some fault
 closed_fault-more kind text more size fault is =
     let l = lengthened kind text more in
     let closed = ap all_but_last l.lines_are ∙ closed-front l.front l.goes_on l.behind in
-    let said = ap (map (said_by_line kind)) closed ∙ map-append (said_by_line kind) l.front (all_but_last (l.goes_on ∷ l.behind)) in
+    let said = ap (map (said_by_line kind)) closed
+    ∙ map-append (said_by_line kind) l.front (all_but_last (l.goes_on ∷ l.behind)) in
     ap (fault_among size) said
-    ∙ fault_among-more size (map (said_by_line kind) l.front) (map (said_by_line kind) (all_but_last (l.goes_on ∷ l.behind))) fault
+    ∙ fault_among-more size (map (said_by_line kind) l.front)
+    (map (said_by_line kind) (all_but_last (l.goes_on ∷ l.behind))) fault
     (own_fault kind text more size fault l is)
 
 -- and it is the fault of the whole file
-pub closed_fault-whole : (kind : Kind) (text more : List ℕ) (size : ℕ) (fault : RecordFault) → closed_fault kind text size ≡ Some fault
+pub closed_fault-whole : (kind : Kind) (text more : List ℕ) (size : ℕ) (fault : RecordFault)
+    → closed_fault kind text size ≡ Some fault
     → image_in_text kind (text ++ more) size ≡ Err fault
 closed_fault-whole kind text more size fault is =
     let l = lengthened kind text more in
-    let said = ap (map (said_by_line kind)) l.lines_are ∙ map-append (said_by_line kind) l.front (l.goes_on ∷ l.behind) in
+    let said = ap (map (said_by_line kind)) l.lines_are
+    ∙ map-append (said_by_line kind) l.front (l.goes_on ∷ l.behind) in
     rw (
       said,
       fault_among-more size (map (said_by_line kind) l.front) (map (said_by_line kind) (l.goes_on ∷ l.behind)) fault

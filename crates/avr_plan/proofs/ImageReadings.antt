@@ -28,7 +28,8 @@ or-false false = refl
 
 noted-none : (o : Open) → o ≡ noted [] false o
 noted-none Closed = refl
-noted-none (ToRead x) = ap₂ (λ (bytes : Bytes) (ended : Bool). ToRead (record x { bytes = bytes; ended = ended })) (sym (append-nil x.bytes))
+noted-none (ToRead x) = ap₂ (λ (bytes : Bytes) (ended : Bool). ToRead (record x { bytes = bytes; ended = ended }))
+    (sym (append-nil x.bytes))
     (or-false x.ended)
 noted-none (ToWrite x) = refl
 
@@ -41,7 +42,8 @@ pub read_end : (old now new : Record) (a buf : Bytes) (n : ℕ) → now ≡ afte
 read_end old now new a buf n first then zero some =
     let ends : (n == 0 && not (is_nil buf)) ≡ true = grind (arith, nat_tests) in
     let none : take n buf ≡ [] = rw zero refl in
-    let last : new ≡ after_reading [] true now = then ∙ ap₂ (λ (b : Bytes) (e : Bool). after_reading b e now) none ends in
+    let last : new ≡ after_reading [] true now =
+    then ∙ ap₂ (λ (b : Bytes) (e : Bool). after_reading b e now) none ends in
     subst (λ (b : Bytes). new ≡ after_reading b true old) (append-nil a) (read_next old now new a [] true first last)
 
 -- ---- the rest of a file
@@ -54,9 +56,11 @@ going_begins d intake room = record {
   count = omega arith;
 }
 
-pub going_on : (old now new : DeskView) (first last next : Intake) (room left n rest : ℕ) (buf : Bytes) → Going old now first last room left
+pub going_on : (old now new : DeskView) (first last next : Intake) (room left n rest : ℕ) (buf : Bytes)
+    → Going old now first last room left
     → Passes (after_read buf (Ok n)) now new → (n ≡ 0 → ⊥) → length (take n buf) + rest ≡ left
-    → ((found : Found) (size : ℕ) (text : Bytes) → Takes found size last text → Takes found size next (text ++ take n buf))
+    → ((found : Found) (size : ℕ) (text : Bytes) → Takes found size last text
+    → Takes found size next (text ++ take n buf))
     → Going old new first next room rest
 going_on old now new first last next room left n rest buf going then some count feeds = record {
   bytes = going.bytes ++ take n buf;
@@ -69,25 +73,32 @@ going_on old now new first last next room left n rest buf going then some count 
 
 within : (limit : ℕ) (found : Found) (bytes : Bytes) (size : ℕ) → length bytes ≤ limit
     → whole_file found bytes size ≡ file_within limit found bytes size
-within limit found bytes size len = let fits : nat_le (length bytes) limit ≡ true = grind (arith, nat_tests) in rw fits refl
+within limit found bytes size len = let fits : nat_le (length bytes) limit ≡ true = grind (arith, nat_tests) in
+    rw fits refl
 
-rest-is : (limit : ℕ) (found : Found) (size : ℕ) (before : Bytes) (old new : DeskView) (given : Given) (result : ImageOrFault)
+rest-is : (limit : ℕ) (found : Found) (size : ℕ) (before : Bytes) (old new : DeskView) (given : Given)
+    (result : ImageOrFault)
     → IsGiven given result
     → ReadsRest limit found size before old new given → RestIsRead limit found size before old new result
-rest-is limit found size before old new given (Ok good) is reads = subst (ReadsRest limit found size before old new) (sym is) reads
-rest-is limit found size before old new given (Err (Image bad)) is reads = subst (ReadsRest limit found size before old new) (sym is) reads
+rest-is limit found size before old new given (Ok good) is reads =
+    subst (ReadsRest limit found size before old new) (sym is) reads
+rest-is limit found size before old new given (Err (Image bad)) is reads =
+    subst (ReadsRest limit found size before old new) (sym is) reads
 rest-is limit found size before old new given (Err (File fault)) is reads = absurd is
 
 -- the end was seen
-pub rest_ends : (limit : ℕ) (found : Found) (size : ℕ) (before : Bytes) (old now new : DeskView) (first last : Intake) (room left n : ℕ)
+pub rest_ends : (limit : ℕ) (found : Found) (size : ℕ) (before : Bytes) (old now new : DeskView) (first last : Intake)
+    (room left n : ℕ)
     (buf : Bytes) (result : ImageOrFault)
     → Going old now first last room left → Passes (after_read buf (Ok n)) now new → n ≡ 0 → 0 < length buf
-    → ((found : Found) (size : ℕ) (text : Bytes) → Takes found size last text → IsGiven (whole_file found text size) result)
+    → ((found : Found) (size : ℕ) (text : Bytes) → Takes found size last text
+    → IsGiven (whole_file found text size) result)
     → Takes found size first before → length before + room ≡ limit → RestIsRead limit found size before old new result
 rest_ends limit found size before old now new first last room left n buf result going then zero some gives takes count =
     let all = before ++ going.bytes in
     let len : length all ≤ limit = omega (arith, going.count, length-append before going.bytes) in
-    rest-is limit found size before old new (whole_file found all size) result (gives found size all (going.feeds found size before takes))
+    rest-is limit found size before old new (whole_file found all size) result
+    (gives found size all (going.feeds found size before takes))
     (record {
       bytes = going.bytes;
       ended = true;
@@ -96,18 +107,23 @@ rest_ends limit found size before old now new first last room left n buf result 
       gives = within limit found all size len;
     })
 
-take-front : (all buf : Bytes) (limit left n : ℕ) → length all + left ≡ limit → left ≤ n → take limit (all ++ take n buf) ≡ all ++ take left buf
+take-front : (all buf : Bytes) (limit left n : ℕ) → length all + left ≡ limit → left ≤ n
+    → take limit (all ++ take n buf) ≡ all ++ take left buf
 take-front all buf limit left n count less =
     subst (λ k. take k (all ++ take n buf) ≡ all ++ take left buf) count
     (take-append-add all (take n buf) left ∙ ap (λ (b : Bytes). all ++ b) (take-take left n buf less))
 
 -- more came than may
-pub rest_long : (limit : ℕ) (found : Found) (size : ℕ) (before : Bytes) (old now new : DeskView) (first last : Intake) (room left n : ℕ)
+pub rest_long : (limit : ℕ) (found : Found) (size : ℕ) (before : Bytes) (old now new : DeskView) (first last : Intake)
+    (room left n : ℕ)
     (buf : Bytes) (bad : BadFile)
-    → Going old now first last room left → Passes (after_read buf (Ok n)) now new → left < n → n ≤ length buf → length buf ≤ 4096
-    → ((found : Found) (size : ℕ) (text : Bytes) → Takes found size last text → bad ≡ long_file found (text ++ take left buf) size)
+    → Going old now first last room left → Passes (after_read buf (Ok n)) now new → left < n → n ≤ length buf
+    → length buf ≤ 4096
+    → ((found : Found) (size : ℕ) (text : Bytes) → Takes found size last text
+    → bad ≡ long_file found (text ++ take left buf) size)
     → Takes found size first before → length before + room ≡ limit → ReadsRest limit found size before old new (Err bad)
-rest_long limit found size before old now new first last room left n buf bad going then more within' most gives takes count =
+rest_long limit found size before old now new first last room left n buf bad going
+    then more within' most gives takes count =
     let bytes = going.bytes ++ take n buf in
     let all = before ++ going.bytes in
     let whole : before ++ bytes ≡ all ++ take n buf = sym (append_assoc before going.bytes (take n buf)) in
@@ -117,12 +133,14 @@ rest_long limit found size before old now new first last room left n buf bad goi
     let sum : length (before ++ bytes) + left ≡ limit + n = omega (arith, len, going.count, count) in
     let past : nat_le (length (before ++ bytes)) limit ≡ false = grind (arith, nat_tests, sum, more) in
     let together : length all + left ≡ limit = omega (arith, going.count, count, length-append before going.bytes) in
-    let front : take limit (before ++ bytes) ≡ all ++ take left buf = ap (take limit) whole ∙ take-front all buf limit left n together
+    let front : take limit (before ++ bytes) ≡ all ++ take left buf =
+    ap (take limit) whole ∙ take-front all buf limit left n together
     (omega (arith, more)) in
     record {
       bytes = bytes;
       ended = false;
-      kept = read_piece old.kept now.kept new.kept going.bytes buf n going.kept then (λ zero. absurd (omega (arith, zero, more)));
+      kept = read_piece old.kept now.kept new.kept going.bytes buf n going.kept
+          then (λ zero. absurd (omega (arith, zero, more)));
       whole = (omega (arith, sum, more), omega (arith, sum, within', most));
       gives = rw past (ap (λ (b : BadFile). Err b) (gives found size all (going.feeds found size before takes) ∙ ap
           (λ (t : Bytes). long_file found t size) (sym front)));
@@ -134,7 +152,8 @@ detected-front : (front more : Bytes) → length front ≡ 1024 → kind_of_file
 detected-front front more len =
     rw (take-append-le 4 front more (omega (arith, len)), take-append-le 1024 front more (omega (arith, len))) refl
 
-pub kind-front : (format : Format) (front more : Bytes) → length front ≡ 1024 → kind_of format (front ++ more) ≡ kind_of format front
+pub kind-front : (format : Format) (front more : Bytes) → length front ≡ 1024
+    → kind_of format (front ++ more) ≡ kind_of format front
 kind-front letter.Ihex front more len = refl
 kind-front letter.Srec front more len = refl
 kind-front letter.Raw front more len = refl
@@ -148,46 +167,32 @@ kind-front letter.Binary front more len = detected-front front more len
 -- the front, and behind it the rest
 open_rest : (limit : ℕ) (format : Format) (size : ℕ) (front : Bytes) (old now new : DeskView) (given : Given)
     → Passes (after_reading front false) old now
-    → length front ≡ 1024 → ReadsRest limit (kind_of format front) size front now new given → ReadsOpenImage limit format size old new given
+    → length front ≡ 1024 → ReadsRest limit (kind_of format front) size front now new given
+    → ReadsOpenImage limit format size old new given
 open_rest limit format size front old now new given first len rest = record {
   bytes = front ++ rest.bytes;
   ended = rest.ended;
   kept = read_next old.kept now.kept new.kept front rest.bytes rest.ended first rest.kept;
   whole = rest.whole;
-  gives = rest.gives ∙ ap (λ k. file_within limit k (front ++ rest.bytes) size) (sym (kind-front format front rest.bytes len));
+  gives = rest.gives ∙ ap (λ k. file_within limit k (front ++ rest.bytes) size)
+      (sym (kind-front format front rest.bytes len));
 }
 
-pub open_is_rest : (limit : ℕ) (format : Format) (size : ℕ) (front : Bytes) (old now new : DeskView) (result : ImageOrFault)
+pub open_is_rest : (limit : ℕ) (format : Format) (size : ℕ) (front : Bytes) (old now new : DeskView)
+    (result : ImageOrFault)
     → Passes (after_reading front false) old now
-    → length front ≡ 1024 → RestIsRead limit (kind_of format front) size front now new result → OpenIsRead limit format size old new result
-open_is_rest limit format size front old now new (Ok good) first len rest = open_rest limit format size front old now new (Ok good) first len rest
-open_is_rest limit format size front old now new (Err (Image bad)) first len rest = open_rest limit format size front old now new (Err bad) first
+    → length front ≡ 1024 → RestIsRead limit (kind_of format front) size front now new result
+    → OpenIsRead limit format size old new result
+open_is_rest limit format size front old now new (Ok good) first len rest =
+    open_rest limit format size front old now new (Ok good) first len rest
+open_is_rest limit format size front old now new (Err (Image bad)) first len rest =
+    open_rest limit format size front old now new (Err bad) first
     len rest
 open_is_rest limit format size front old now new (Err (File Absent)) first len rest = cc rest.0
 open_is_rest limit format size front old now new (Err (File NotOpened)) first len rest = cc rest.0
 open_is_rest limit format size front old now new (Err (File NotRead)) first len rest =
     (front ++ rest.1.0, read_next old.kept now.kept new.kept front rest.1.0 false first rest.1.1)
 open_is_rest limit format size front old now new (Err (File Memory)) first len rest = cc rest.0
-
--- the front is the whole
-pub open_is_front : (limit : ℕ) (format : Format) (size : ℕ) (front : Bytes) (old new : DeskView) (result : ImageOrFault)
-    → Passes (after_reading front true) old new
-    → length front ≤ limit → IsGiven (whole_file (kind_of format front) front size) result → OpenIsRead limit format size old new result
-open_is_front limit format size front old new (Ok good) read len is = record {
-  bytes = front;
-  ended = true;
-  kept = read;
-  whole = len;
-  gives = is ∙ within limit (kind_of format front) front size len;
-}
-open_is_front limit format size front old new (Err (Image bad)) read len is = record {
-  bytes = front;
-  ended = true;
-  kept = read;
-  whole = len;
-  gives = is ∙ within limit (kind_of format front) front size len;
-}
-open_is_front limit format size front old new (Err (File fault)) read len is = absurd is
 
 -- a file that was opened, and then read
 opened_read : (name : Bytes) (old now new : Record) (bytes : Bytes) (ended : Bool) → now ≡ after_open name (Ok tt) old
@@ -205,11 +210,14 @@ opened_image limit format size name old now new given opened reads = record {
   gives = reads.gives;
 }
 
-pub image_is_open : (limit : ℕ) (format : Format) (size : ℕ) (name : Bytes) (old now new : DeskView) (result : ImageOrFault)
+pub image_is_open : (limit : ℕ) (format : Format) (size : ℕ) (name : Bytes) (old now new : DeskView)
+    (result : ImageOrFault)
     → Passes (after_open name (Ok tt)) old now
     → OpenIsRead limit format size now new result → ImageIsRead limit format size name old new result
-image_is_open limit format size name old now new (Ok good) opened reads = opened_image limit format size name old now new (Ok good) opened reads
-image_is_open limit format size name old now new (Err (Image bad)) opened reads = opened_image limit format size name old now new (Err bad) opened
+image_is_open limit format size name old now new (Ok good) opened reads =
+    opened_image limit format size name old now new (Ok good) opened reads
+image_is_open limit format size name old now new (Err (Image bad)) opened reads =
+    opened_image limit format size name old now new (Err bad) opened
     reads
 image_is_open limit format size name old now new (Err (File Absent)) opened reads = absurd reads
 image_is_open limit format size name old now new (Err (File NotOpened)) opened reads = absurd reads

@@ -34,13 +34,17 @@ went_file file format size old mid image ending reads same =
     (went_settled (judge reads.bytes) (image, ending) mid given)
 
 -- a file that is an image, and its warning
-pub went_image : (switches : Switches) (file : Bytes) (format : Format) (size : ℕ) (old mid new : DeskView) (image : Image) (ending : Ending)
-    → ReadsImage 4194304 format size file old mid (Ok (image, ending)) → HasSameCounts old mid → Went (saying_stage (warning_says switches file ending)) mid new (Made tt)
+pub went_image : (switches : Switches) (file : Bytes) (format : Format) (size : ℕ) (old mid new : DeskView)
+    (image : Image) (ending : Ending)
+    → ReadsImage 4194304 format size file old mid (Ok (image, ending)) → HasSameCounts old mid
+    → Went (saying_stage (warning_says switches file ending)) mid new (Made tt)
     → Went (file_image_stage switches file format size) old new (Made image)
 went_image switches file format size old mid new image ending reads same warns =
-    went_went (file_stage file 4194304 (judged_image file format size)) (behind_file switches file) old mid new (image, ending) (Made image)
+    went_went (file_stage file 4194304 (judged_image file format size)) (behind_file switches file) old mid new
+    (image, ending) (Made image)
     (went_file file format size old mid image ending reads same)
-    (went_went (saying_stage (warning_says switches file ending)) (λ ok. verdict_stage (Ok image)) mid new new tt (Made image) warns (went_nowhere new image))
+    (went_went (saying_stage (warning_says switches file ending)) (λ ok. verdict_stage (Ok image)) mid new new tt
+    (Made image) warns (went_nowhere new image))
 
 -- its warning broke off
 pub goes_unwarned : (switches : Switches) (file : Bytes) (format : Format) (size : ℕ) (old mid new : DeskView)
@@ -49,34 +53,40 @@ pub goes_unwarned : (switches : Switches) (file : Bytes) (format : Format) (size
     → Goes (saying_stage (warning_says switches file ending)) mid new (Err status)
     → Goes (file_image_stage switches file format size) old new (Err status)
 goes_unwarned switches file format size old mid new image ending status reads same warns =
-    goes_on (file_stage file 4194304 (judged_image file format size)) (behind_file switches file) old mid new (image, ending)
+    goes_on (file_stage file 4194304 (judged_image file format size)) (behind_file switches file) old mid new
+    (image, ending)
     (Err status)
     (went_file file format size old mid image ending reads same)
-    (goes_no_further (saying_stage (warning_says switches file ending)) (λ ok. verdict_stage (Ok image)) mid new status warns)
+    (goes_no_further (saying_stage (warning_says switches file ending)) (λ ok. verdict_stage (Ok image)) mid new status
+    warns)
 
 -- a file that is none
 goes_bad : (switches : Switches) (file : Bytes) (format : Format) (size : ℕ) (old mid new : DeskView)
     (bad : BadFile) (status : ℕ)
-    → ReadsImage 4194304 format size file old mid (Err bad) → HasSameCounts old mid → status ≡ 1 → Tells mid new (bad_file_line file bad)
+    → ReadsImage 4194304 format size file old mid (Err bad) → HasSameCounts old mid → status ≡ 1
+    → Tells mid new (bad_file_line file bad)
     → Goes (file_image_stage switches file format size) old new (Err status)
 goes_bad switches file format size old mid new bad status reads same one told =
     let judge = judged_image file format size in
     let given : judge reads.bytes ≡ Err (bad_file_line file bad) = ap (image_or_line file) (sym reads.gives) in
     goes_no_further (file_stage file 4194304 judge) (behind_file switches file) old new status
     (goes_whole file 4194304 judge reads.bytes reads.ended old mid new (Err status)
-    reads.kept reads.whole same (goes_unsettled (judge reads.bytes) (bad_file_line file bad) mid new status given one told))
+    reads.kept reads.whole same (goes_unsettled (judge reads.bytes) (bad_file_line file bad) mid new status given one
+    told))
 
 -- a file that was not read
 goes_unread : (switches : Switches) (file : Bytes) (format : Format) (size : ℕ) (old new : DeskView) (status : ℕ)
     → Goes (file_stage file 4194304 (judged_image file format size)) old new (Err status)
     → Goes (file_image_stage switches file format size) old new (Err status)
 goes_unread switches file format size old new status goes =
-    goes_no_further (file_stage file 4194304 (judged_image file format size)) (behind_file switches file) old new status goes
+    goes_no_further (file_stage file 4194304 (judged_image file format size)) (behind_file switches file) old new status
+    goes
 
 -- no image came of the file
 pub goes_without_image : (switches : Switches) (file : Bytes) (format : Format) (size : ℕ) (old mid new : DeskView)
     (fault : ReadFault) (status : ℕ)
-    → ImageIsRead 4194304 format size file old mid (Err fault) → Follows old mid → IsCountedRead old mid fault → status ≡ 1
+    → ImageIsRead 4194304 format size file old mid (Err fault) → Follows old mid → IsCountedRead old mid fault
+    → status ≡ 1
     → Tells mid new (image_line file fault) → Goes (file_image_stage switches file format size) old new (Err status)
 goes_without_image switches file format size old mid new (fault_of.File fault) status reads rose counted one told =
     goes_unread switches file format size old new status

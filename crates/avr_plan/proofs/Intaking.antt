@@ -23,7 +23,8 @@ is-fault : (o : Option RecordFault) (fault : RecordFault) → Err fault ≡ ok_u
 is-fault None fault is = cc
 is-fault (Some other) fault is = cc
 
-decides-record : (kind : Kind) (size : ℕ) (fault : RecordFault) (text : Bytes) → closed_fault kind text size ≡ Some fault
+decides-record : (kind : Kind) (size : ℕ) (fault : RecordFault) (text : Bytes)
+    → closed_fault kind text size ≡ Some fault
     → Decides (found_as kind) size (Record fault) text
 decides-record records.Ihex size fault text is = record {
   whole = λ more. ap of_records (closed_fault-whole records.Ihex text more size fault is);
@@ -35,42 +36,17 @@ decides-record records.Srec size fault text is = record {
 }
 
 -- a line is at fault
-pub record-decides : (found : Found) (size : ℕ) (reader : ReaderState) (fault : RecordFault) (text piece : Bytes) → TakesRecords found size reader text
-    → Err fault ≡ ok_unless (closed_fault reader.kind (text ++ piece) (memory_size reader)) → Decides found size (Record fault) (text ++ piece)
+pub record-decides : (found : Found) (size : ℕ) (reader : ReaderState) (fault : RecordFault) (text piece : Bytes)
+    → TakesRecords found size reader text
+    → Err fault ≡ ok_unless (closed_fault reader.kind (text ++ piece) (memory_size reader))
+    → Decides found size (Record fault) (text ++ piece)
 record-decides found size reader fault text piece takes is =
     let own : closed_fault reader.kind (text ++ piece) size ≡ Some fault =
-    ap (closed_fault reader.kind (text ++ piece)) (sym takes.of_size) ∙ is-fault (closed_fault reader.kind (text ++ piece) (memory_size reader))
+    ap (closed_fault reader.kind (text ++ piece)) (sym takes.of_size)
+    ∙ is-fault (closed_fault reader.kind (text ++ piece) (memory_size reader))
     fault is in
-    subst (λ f. Decides f size (Record fault) (text ++ piece)) (sym takes.of_kind) (decides-record reader.kind size fault (text ++ piece) own)
-
--- the bytes go past the memory, as any more do
-raw-long : (bytes more : Bytes) (size : ℕ) (fault : ImageFault) → Err fault ≡ raw_file.without_image (raw_file.raw bytes size)
-    → raw_file.raw (bytes ++ more) size ≡ Err fault
-raw-long bytes more size fault is =
-    elim (cases_Bool (nat_le (length bytes) size)) [
-      | inl t ↦ cc (rw t at is)
-      | inr f ↦
-          let len = length-append bytes more in
-          let past : nat_le (length (bytes ++ more)) size ≡ false = grind (arith, nat_tests, f, len) in
-          let same : fault ≡ OutOfRange size = cc (rw f at is) in
-          rw past (ap (λ (x : ImageFault). Err x) (sym same))
-    ]
-
-pub raw-decides : (found : Found) (size : ℕ) (reader : raw_file.Holding) (fault : ImageFault) (text piece : Bytes) → TakesRaw found size reader text
-    → Err fault ≡ raw_file.without_image (raw_file.raw (text ++ piece) (length reader.image)) → Decides found size (Raw fault) (text ++ piece)
-raw-decides found size reader fault text piece takes is =
-    let own : Err fault ≡ raw_file.without_image (raw_file.raw (text ++ piece) size) = rw takes.of_size at is in
-    subst (λ f. Decides f size (Raw fault) (text ++ piece)) (sym takes.of_kind) (record {
-      whole = λ more. ap of_raw (raw-long (text ++ piece) more size fault own);
-      long = λ more. refl;
-    })
-
-pub decides-more : (found : Found) (size : ℕ) (fault : BadFile) (text piece : Bytes) → Decides found size fault text
-    → Decides found size fault (text ++ piece)
-decides-more found size fault text piece d = record {
-  whole = λ more. ap (λ t. whole_file found t size) (append_assoc text piece more) ∙ d.whole (piece ++ more);
-  long = λ more. ap (λ t. long_file found t size) (append_assoc text piece more) ∙ d.long (piece ++ more);
-}
+    subst (λ f. Decides f size (Record fault) (text ++ piece)) (sym takes.of_kind)
+    (decides-record reader.kind size fault (text ++ piece) own)
 
 pub decided-whole : (found : Found) (size : ℕ) (fault : BadFile) (text : Bytes) → Decides found size fault text
     → Err fault ≡ whole_file found text size
@@ -80,18 +56,22 @@ pub decided-long : (found : Found) (size : ℕ) (fault : BadFile) (text : Bytes)
     → in_long_file fault ≡ long_file found text size
 decided-long found size fault text d = sym (ap (λ t. long_file found t size) (sym (append-nil text)) ∙ d.long [])
 
-sound-long : (kind : Kind) (size : ℕ) (text : Bytes) → closed_fault kind text size ≡ None → TooLong ≡ long_file (found_as kind) text size
+sound-long : (kind : Kind) (size : ℕ) (text : Bytes) → closed_fault kind text size ≡ None
+    → TooLong ≡ long_file (found_as kind) text size
 sound-long records.Ihex size text none = ap or_too_long (sym none)
 sound-long records.Srec size text none = ap or_too_long (sym none)
 
 -- no line is at fault
-pub records-long : (found : Found) (size : ℕ) (reader : ReaderState) (text : Bytes) → TakesRecords found size reader text
+pub records-long : (found : Found) (size : ℕ) (reader : ReaderState) (text : Bytes)
+    → TakesRecords found size reader text
     → TooLong ≡ long_file found text size
 records-long found size reader text takes =
     let none : closed_fault reader.kind text size ≡ None =
-    ap (closed_fault reader.kind text) (sym takes.of_size) ∙ reads-sound reader.kind reader.progress reader.part text takes.stands.reads in
+    ap (closed_fault reader.kind text) (sym takes.of_size)
+    ∙ reads-sound reader.kind reader.progress reader.part text takes.stands.reads in
     subst (λ f. TooLong ≡ long_file f text size) (sym takes.of_kind) (sound-long reader.kind size text none)
 
-pub raw-too-long : (found : Found) (size : ℕ) (reader : raw_file.Holding) (text : Bytes) → TakesRaw found size reader text
+pub raw-too-long : (found : Found) (size : ℕ) (reader : raw_file.Holding) (text : Bytes)
+    → TakesRaw found size reader text
     → TooLong ≡ long_file found text size
 raw-too-long found size reader text takes = subst (λ f. TooLong ≡ long_file f text size) (sym takes.of_kind) refl

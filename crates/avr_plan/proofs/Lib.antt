@@ -1,3 +1,5 @@
+-- in the order in which to read: what has come of a file so far; images, part files and tasks as stages; the plan; what
+-- it opens and reads
 pub mod FirstFaults
 pub mod Intaking
 pub mod ImageReadings

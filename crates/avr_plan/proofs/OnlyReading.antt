@@ -37,28 +37,34 @@ both (Creates name ∷ xs) ys f g = absurd f
 both (Writes bytes ∷ xs) ys f g = absurd f
 both (Outs bytes ∷ xs) ys f g = absurd f
 
-going : {A B : Type 0} (says : List Saying) (left : List Opening) (go_on : A → Stage B) (answer : Answer A) → OnlyReads says → ((a : A) → Reads (go_on a)) → OnlyReads (going_on says left go_on answer).says
+going : {A B : Type 0} (says : List Saying) (left : List Opening) (go_on : A → Stage B) (answer : Answer A)
+    → OnlyReads says → ((a : A) → Reads (go_on a)) → OnlyReads (going_on says left go_on answer).says
 going says left go_on (Made a) f g = both says (go_on a left).says f (g a left)
 going says left go_on (Refused line) f g = f
 going says left go_on Unread f g = f
 
-onward : {A B : Type 0} (stage : Stage A) (go_on : A → Stage B) → Reads stage → ((a : A) → Reads (go_on a)) → Reads (stage >>= go_on)
-onward stage go_on f g openings = going (stage openings).says (stage openings).left go_on (stage openings).answer (f openings) g
+onward : {A B : Type 0} (stage : Stage A) (go_on : A → Stage B) → Reads stage → ((a : A) → Reads (go_on a))
+    → Reads (stage >>= go_on)
+onward stage go_on f g openings = going (stage openings).says (stage openings).left go_on (stage openings).answer
+    (f openings) g
 
 is_settled : {A : Type 0} (result : Result A Bytes) → Reads (verdict_stage result)
 is_settled (Ok a) openings = tt
 is_settled (Err line) openings = tt
 
-is_judged : {A : Type 0} (name : Bytes) (limit : ℕ) (judge : Bytes → Result A Bytes) (opening : Opening) → Reads (content_stage name limit judge opening)
+is_judged : {A : Type 0} (name : Bytes) (limit : ℕ) (judge : Bytes → Result A Bytes) (opening : Opening)
+    → Reads (content_stage name limit judge opening)
 is_judged {A = A} name limit judge (Absent other) openings = tt
 is_judged {A = A} name limit judge (Found reading) openings = by_end (is_whole limit reading)
   where
-    by_end : (b : Bool) → OnlyReads ((if b then verdict_stage (judge reading.bytes) else unread_stage {A = A}) openings).says
+    by_end : (b : Bool) → OnlyReads ((if b then verdict_stage (judge reading.bytes) else unread_stage {A = A})
+        openings).says
     by_end true = is_settled (judge reading.bytes) openings
     by_end false = tt
 
 file : {A : Type 0} (name : Bytes) (limit : ℕ) (judge : Bytes → Result A Bytes) → Reads (file_stage name limit judge)
-file name limit judge = onward (open_stage name) (content_stage name limit judge) (λ openings. tt) (is_judged name limit judge)
+file name limit judge = onward (open_stage name) (content_stage name limit judge) (λ openings. tt)
+    (is_judged name limit judge)
 
 warns : (b : Bool) (name : Bytes) → OnlyReads (if b then Line (no_end_line name) ∷ [] else [])
 warns true name = tt
@@ -71,8 +77,11 @@ parts (Some name) = file name 65536 (judged_parts name)
 module _ (s : Switches) where
   file_image : (name : Bytes) (kind : Format) (size : ℕ) → Reads (file_image_stage s name kind size)
   file_image name kind size =
-      onward (file_stage name 4194304 (judged_image name kind size)) (λ given. saying_stage (warning_says s name given.1) >>= λ ok. verdict_stage (Ok given.0)) (file name 4194304 (judged_image name kind size))
-      (λ given. onward (saying_stage (warning_says s name given.1)) (λ ok. verdict_stage (Ok given.0)) (λ openings. warns (is_warned s given.1) name) (λ ok. is_settled (Ok given.0)))
+      onward (file_stage name 4194304 (judged_image name kind size))
+      (λ given. saying_stage (warning_says s name given.1) >>= λ ok. verdict_stage (Ok given.0))
+      (file name 4194304 (judged_image name kind size))
+      (λ given. onward (saying_stage (warning_says s name given.1)) (λ ok. verdict_stage (Ok given.0))
+      (λ openings. warns (is_warned s given.1) name) (λ ok. is_settled (Ok given.0)))
 
   image : (memory : Mem) (size : ℕ) (name : Bytes) (kind : Format) → Reads (image_stage s memory size name kind)
   image memory size name format.Auto = file_image name format.Auto size
@@ -92,19 +101,24 @@ module _ (s : Switches) where
     write : (u : Update) → Reads (write_stage s part u)
     write u = by_memory (is_writable u.memory)
       where
-        by_memory : (b : Bool) → Reads {A = Task} (if b then (update_image s part u >>= λ bytes. verdict_stage (Ok (Write u.memory bytes))) else verdict_stage (Err (read_only_line u.memory)))
-        by_memory true = onward (update_image s part u) (λ bytes. verdict_stage (Ok (Write u.memory bytes))) (update u) (λ bytes. is_settled (Ok (Write u.memory bytes)))
+        by_memory : (b : Bool) → Reads {A = Task}
+            (if b then (update_image s part u >>= λ bytes. verdict_stage (Ok (Write u.memory bytes)))
+            else verdict_stage (Err (read_only_line u.memory)))
+        by_memory true = onward (update_image s part u) (λ bytes. verdict_stage (Ok (Write u.memory bytes))) (update u)
+            (λ bytes. is_settled (Ok (Write u.memory bytes)))
         by_memory false = is_settled {A = Task} (Err (read_only_line u.memory))
 
     operation : (u : Update) (o : Op) → Reads (op_stage s part u o)
     operation u op.Write = write u
-    operation u op.Verify = onward (update_image s part u) (λ bytes. verdict_stage (Ok (Verify u.memory bytes))) (update u) (λ bytes. is_settled (Ok (Verify u.memory bytes)))
+    operation u op.Verify = onward (update_image s part u) (λ bytes. verdict_stage (Ok (Verify u.memory bytes)))
+        (update u) (λ bytes. is_settled (Ok (Verify u.memory bytes)))
     operation u op.Read = is_settled (Ok (Read u.memory u.format u.file))
 
     tasks : (before : List Task) (updates : List Update) → Reads (tasks_stage s part before updates)
     tasks before [] = is_settled (Ok before)
     tasks before (u ∷ updates) =
-        onward (task_stage s part u) (λ task. tasks_stage s part (before ++ task ∷ []) updates) (operation u u.op) (λ task. tasks (before ++ task ∷ []) updates)
+        onward (task_stage s part u) (λ task. tasks_stage s part (before ++ task ∷ []) updates) (operation u u.op)
+        (λ task. tasks (before ++ task ∷ []) updates)
 
 -- what the parts come to
 abbrev made : Settings → Part → List Task → Stage Plan
@@ -115,9 +129,12 @@ is_made s part tasks openings = tt
 
 reads_plan : (s : Settings) → Reads (planned s)
 reads_plan s =
-    onward (parts_stage s.parts) (λ all. part_stage s.part all >>= λ part. tasks_stage s.switches part [] s.updates >>= made s part) (parts s.parts)
-    (λ all. onward (part_stage s.part all) (λ part. tasks_stage s.switches part [] s.updates >>= made s part) (is_settled (part_or_line s.part (part_of_id s.part all)))
-    (λ part. onward (tasks_stage s.switches part [] s.updates) (made s part) (tasks s.switches part [] s.updates) (is_made s part)))
+    onward (parts_stage s.parts) (λ all. part_stage s.part all >>= λ part. tasks_stage s.switches part [] s.updates >>=
+    made s part) (parts s.parts)
+    (λ all. onward (part_stage s.part all) (λ part. tasks_stage s.switches part [] s.updates >>= made s part)
+    (is_settled (part_or_line s.part (part_of_id s.part all)))
+    (λ part. onward (tasks_stage s.switches part [] s.updates) (made s part) (tasks s.switches part [] s.updates)
+    (is_made s part)))
 
 -- the line of a refusal too
 refused_so : {A : Type 0} (says : List Saying) (answer : Answer A) → OnlyReads says → OnlyReads (all_told says answer)

@@ -19,7 +19,8 @@ use Rattle.avr_desk.specs.Stage.{Made, verdict_stage, file_stage}
 -- the judgment of a file within the limit
 judged-within : (file bytes : Bytes) → IsWhole 65536 (record { bytes = bytes; ended = true })
     → judged_parts file bytes ≡ parts_or_line file (parts_of bytes)
-judged-within file bytes whole = let fits : nat_le (length bytes) 65536 ≡ true = grind (arith, nat_tests, whole) in rw fits refl
+judged-within file bytes whole = let fits : nat_le (length bytes) 65536 ≡ true = grind (arith, nat_tests, whole) in
+    rw fits refl
 
 pub goes_long_parts : (file bytes : Bytes) (ended : Bool) (old mid new : DeskView) (status : ℕ)
     → Passes (with_read file bytes ended) old mid
@@ -36,22 +37,26 @@ goes_long_parts file bytes false old mid new status kept whole is same one told 
 
 pub went_parts : (file bytes : Bytes) (ended : Bool) (old mid : DeskView) (parts : List Part)
     → Passes (with_read file bytes ended) old mid
-    → IsWhole 65536 (record { bytes = bytes; ended = ended }) → ended ≡ true → HasSameCounts old mid → ReadsOrMemory (parts_of bytes) (Ok parts)
+    → IsWhole 65536 (record { bytes = bytes; ended = ended }) → ended ≡ true → HasSameCounts old mid
+    → ReadsOrMemory (parts_of bytes) (Ok parts)
     → Went (file_stage file 65536 (judged_parts file)) old mid (Made parts)
 went_parts file bytes false old mid parts kept whole is same gives = cc
 went_parts file bytes true old mid parts kept whole is same (inl gives) =
-    let given : judged_parts file bytes ≡ Ok parts = judged-within file bytes whole ∙ ap (parts_or_line file) (sym gives) in
+    let given : judged_parts file bytes ≡ Ok parts =
+    judged-within file bytes whole ∙ ap (parts_or_line file) (sym gives) in
     went_whole file 65536 (judged_parts file) bytes true old mid parts kept whole same
     (went_settled (judged_parts file bytes) parts mid given)
 went_parts file bytes true old mid parts kept whole is same (inr memory) = cc
 
 pub goes_bad_parts : (file bytes : Bytes) (ended : Bool) (old mid new : DeskView) (status : ℕ) (refused : FileFault)
-    → Passes (with_read file bytes ended) old mid → IsWhole 65536 (record { bytes = bytes; ended = ended }) → ended ≡ true → HasSameCounts old mid
+    → Passes (with_read file bytes ended) old mid → IsWhole 65536 (record { bytes = bytes; ended = ended })
+    → ended ≡ true → HasSameCounts old mid
     → ReadsOrMemory (parts_of bytes) (Err refused) → status ≡ 1 → Tells mid new (part_file_line file refused.fault)
     → Goes (file_stage file 65536 (judged_parts file)) old new (Err status)
 goes_bad_parts file bytes false old mid new status refused kept whole is same gives one told = cc
 goes_bad_parts file bytes true old mid new status refused kept whole is same (inl gives) one told =
-    let given : judged_parts file bytes ≡ Err (part_file_line file refused.fault) = judged-within file bytes whole ∙ ap (parts_or_line file) (sym gives) in
+    let given : judged_parts file bytes ≡ Err (part_file_line file refused.fault) =
+    judged-within file bytes whole ∙ ap (parts_or_line file) (sym gives) in
     goes_whole file 65536 (judged_parts file) bytes true old mid new (Err status)
     kept whole same
     (goes_unsettled (judged_parts file bytes) (part_file_line file refused.fault) mid new status given one told)

@@ -43,11 +43,14 @@ goes_without_tasks s id updates old first mid new status parts part same all wen
     let tasks = subst (λ (us : List Update). Goes (tasks_stage s.switches part [] us) mid new (Err status)) all goes in
     goes_on (parts_stage s.parts) (behind_parts s) old first new parts (Err status) went
     (goes_on (part_stage s.part parts) (behind_part s) first mid new part (Err status) own
-    (goes_no_further (tasks_stage s.switches part [] s.updates) (λ ts. verdict_stage (Ok (plan_of s part ts))) mid new status tasks))
+    (goes_no_further (tasks_stage s.switches part [] s.updates) (λ ts. verdict_stage (Ok (plan_of s part ts))) mid new
+    status tasks))
 
-pub went_whole_plan : (s : Settings) (id : Bytes) (updates : List Update) (old first mid new : DeskView) (parts : List Part) (part : Part)
+pub went_whole_plan : (s : Settings) (id : Bytes) (updates : List Update) (old first mid new : DeskView)
+    (parts : List Part) (part : Part)
     (tasks : List Task) (plan : Plan)
-    → id ≡ s.part → updates ≡ s.updates → plan ≡ plan_of s part tasks → Went (parts_stage s.parts) old first (Made parts)
+    → id ≡ s.part → updates ≡ s.updates → plan ≡ plan_of s part tasks
+    → Went (parts_stage s.parts) old first (Made parts)
     → Went (part_stage id parts) first mid (Made part)
     → Went (tasks_stage s.switches part [] updates) mid new (Made tasks) → Went (planned s) old new (Made plan)
 went_whole_plan s id updates old first mid new parts part tasks plan same all is went found made =
@@ -59,8 +62,11 @@ went_whole_plan s id updates old first mid new parts part tasks plan same all is
     (went_into (tasks_stage s.switches part [] s.updates) (plan_of s part) mid new tasks done)))
 
 -- no part has the id, whatever it is called here
-pub lacks_part : (id own : Bytes) (parts : List Part) (old mid new : DeskView) → id ≡ own → ◌≡◌ {A = Result (List Part) ℕ} (Ok parts) (Ok []) → mid ≡ old → LacksPart id parts mid new → LacksPart own [] old new
+pub lacks_part : (id own : Bytes) (parts : List Part) (old mid new : DeskView) → id ≡ own
+    → ◌≡◌ {A = Result (List Part) ℕ} (Ok parts) (Ok []) → mid ≡ old → LacksPart id parts mid new
+    → LacksPart own [] old new
 lacks_part id own parts old mid new same given view lacks =
     let none : parts ≡ [] = cc in
     subst (λ (d : DeskView). LacksPart own [] d new) view
-    (subst (λ (ps : List Part). LacksPart own ps mid new) none (subst (λ (i : Bytes). LacksPart i parts mid new) same lacks))
+    (subst (λ (ps : List Part). LacksPart own ps mid new) none
+    (subst (λ (i : Bytes). LacksPart i parts mid new) same lacks))

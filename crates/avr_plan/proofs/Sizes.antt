@@ -30,9 +30,13 @@ laid-size places size = length-laid_over (empty size) places ∙ length-replicat
 
 together-size : (said : List Said) (size : ℕ) (p : Image × Ending) → together size said ≡ Ok p → length p.0 ≡ size
 together-size said size p is =
-    let good : Image × Ending = (image_of_pairs size (flat_map placed_bytes (in_place [] (up_to_end said))), file_ending said) in
+    let good : Image × Ending = (
+      image_of_pairs size (flat_map placed_bytes (in_place [] (up_to_end said))),
+      file_ending said,
+    ) in
     let same = good-is (first_fault size (in_place [] (up_to_end said))) good p is in
-    ap (λ (x : Image × Ending). length x.0) (sym same) ∙ laid-size (flat_map placed_bytes (in_place [] (up_to_end said))) size
+    ap (λ (x : Image × Ending). length x.0) (sym same)
+    ∙ laid-size (flat_map placed_bytes (in_place [] (up_to_end said))) size
 
 of-records-is : (r : Result (Image × Ending) RecordFault) (p : Image × Ending) → of_records r ≡ Ok p → r ≡ Ok p
 of-records-is (Ok good) p is = cc
@@ -48,7 +52,8 @@ raw-size bytes size p is =
       | inr f ↦ cc (rw f at is)
     ]
 
-whole-size : (found : Found) (bytes : Bytes) (size : ℕ) (p : Image × Ending) → whole_file found bytes size ≡ Ok p → length p.0 ≡ size
+whole-size : (found : Found) (bytes : Bytes) (size : ℕ) (p : Image × Ending) → whole_file found bytes size ≡ Ok p
+    → length p.0 ≡ size
 whole-size file.Ihex bytes size p is = together-size (map (said_by_line records.Ihex) (lines bytes)) size p
     (of-records-is (image_in_text records.Ihex bytes size) p is)
 whole-size file.Srec bytes size p is = together-size (map (said_by_line records.Srec) (lines bytes)) size p

@@ -18,7 +18,8 @@ use Rattle.avr_plan.specs.declared.planned.Task.{Task}
 use Rattle.avr_plan.specs.declared.planned.Task.TheVariants.{Write}
 
 -- a format that is none of values is that of a file
-file_stage-is : (switches : Switches) (memory : Mem) (size : ℕ) (file : Bytes) (format : Format) → (format ≡ Immediate → ⊥)
+file_stage-is : (switches : Switches) (memory : Mem) (size : ℕ) (file : Bytes) (format : Format)
+    → (format ≡ Immediate → ⊥)
     → file_image_stage switches file format size ≡ image_stage switches memory size file format
 file_stage-is switches memory size file Auto other = refl
 file_stage-is switches memory size file Ihex other = refl
@@ -30,18 +31,22 @@ file_stage-is switches memory size file Hexadecimal other = refl
 file_stage-is switches memory size file Octal other = refl
 file_stage-is switches memory size file Binary other = refl
 
-pub goes_of_file : (switches : Switches) (memory : Mem) (size size' : ℕ) (file file' : Bytes) (format : Format) (old new : DeskView)
+pub goes_of_file : (switches : Switches) (memory : Mem) (size size' : ℕ) (file file' : Bytes) (format : Format)
+    (old new : DeskView)
     (result : Result (List (Option ℕ)) ℕ)
-    → size ≡ size' → file ≡ file' → (format ≡ Immediate → ⊥) → Goes (file_image_stage switches file format size) old new result
+    → size ≡ size' → file ≡ file' → (format ≡ Immediate → ⊥)
+    → Goes (file_image_stage switches file format size) old new result
     → Goes (image_stage switches memory size' file' format) old new result
 goes_of_file switches memory size size' file file' format old new result sizes files other goes =
     let one = subst (λ s. Goes s old new result) (file_stage-is switches memory size file format other) goes in
     let two = subst (λ (n : ℕ). Goes (image_stage switches memory n file format) old new result) sizes one in
     subst (λ (f : Bytes). Goes (image_stage switches memory size' f format) old new result) files two
 
-pub goes_of_values : (switches : Switches) (memory : Mem) (size size' : ℕ) (file file' : Bytes) (format : Format) (old new : DeskView)
+pub goes_of_values : (switches : Switches) (memory : Mem) (size size' : ℕ) (file file' : Bytes) (format : Format)
+    (old new : DeskView)
     (result : Result (List (Option ℕ)) ℕ)
-    → size ≡ size' → file ≡ file' → format ≡ Immediate → Goes (image_stage switches memory size file Immediate) old new result
+    → size ≡ size' → file ≡ file' → format ≡ Immediate
+    → Goes (image_stage switches memory size file Immediate) old new result
     → Goes (image_stage switches memory size' file' format) old new result
 goes_of_values switches memory size size' file file' format old new result sizes files is goes =
     let one = subst (λ f. Goes (image_stage switches memory size file f) old new result) (sym is) goes in
@@ -55,37 +60,44 @@ pub goes_writable : (switches : Switches) (part : Part) (u : Update) (old new : 
     → true ≡ is_writable u.memory
     → Goes (writes switches part u) old new result → Goes (write_stage switches part u) old new result
 goes_writable switches part u old new result is goes =
-    subst (λ b. Goes (if b then writes switches part u else verdict_stage (Err (read_only_line u.memory))) old new result) is goes
+    subst (λ b. Goes (if b then writes switches part u else verdict_stage (Err (read_only_line u.memory))) old new
+    result) is goes
 
 pub goes_read_only : (switches : Switches) (part : Part) (u : Update) (old new : DeskView) (status : ℕ)
     → false ≡ is_writable u.memory
     → status ≡ 1 → Tells old new (read_only_line u.memory) → Goes (write_stage switches part u) old new (Err status)
 goes_read_only switches part u old new status is one told =
-    subst (λ b. Goes (if b then writes switches part u else verdict_stage (Err (read_only_line u.memory))) old new (Err status)) is
+    subst (λ b. Goes (if b then writes switches part u else verdict_stage (Err (read_only_line u.memory))) old new
+    (Err status)) is
     (goes_refused old new (read_only_line u.memory) status one told)
 
 -- ---- one task after the other
 
-pub goes_with_next : (switches : Switches) (part : Part) (tasks : List Task) (updates : List Update) (i : ℕ) (u : Update)
+pub goes_with_next : (switches : Switches) (part : Part) (tasks : List Task) (updates : List Update) (i : ℕ)
+    (u : Update)
     (old mid new : DeskView) (task : Task) (result : Result (List Task) ℕ)
     → drop i updates ≡ u ∷ drop (i + 1) updates → Went (task_stage switches part u) old mid (Made task)
     → Goes (tasks_stage switches part (tasks ++ task ∷ []) (drop (i + 1) updates)) mid new result
     → Goes (tasks_stage switches part tasks (drop i updates)) old new result
 goes_with_next switches part tasks updates i u old mid new task result is went goes =
     subst (λ (us : List Update). Goes (tasks_stage switches part tasks us) old new result) (sym is)
-    (goes_on (task_stage switches part u) (λ t. tasks_stage switches part (tasks ++ t ∷ []) (drop (i + 1) updates)) old mid new task result went goes)
+    (goes_on (task_stage switches part u) (λ t. tasks_stage switches part (tasks ++ t ∷ []) (drop (i + 1) updates)) old
+    mid new task result went goes)
 
-pub goes_without_next : (switches : Switches) (part : Part) (tasks : List Task) (updates : List Update) (i : ℕ) (u : Update)
+pub goes_without_next : (switches : Switches) (part : Part) (tasks : List Task) (updates : List Update) (i : ℕ)
+    (u : Update)
     (old new : DeskView) (status : ℕ)
     → drop i updates ≡ u ∷ drop (i + 1) updates → Goes (task_stage switches part u) old new (Err status)
     → Goes (tasks_stage switches part tasks (drop i updates)) old new (Err status)
 goes_without_next switches part tasks updates i u old new status is goes =
     subst (λ (us : List Update). Goes (tasks_stage switches part tasks us) old new (Err status)) (sym is)
-    (goes_no_further (task_stage switches part u) (λ t. tasks_stage switches part (tasks ++ t ∷ []) (drop (i + 1) updates)) old new
+    (goes_no_further (task_stage switches part u)
+    (λ t. tasks_stage switches part (tasks ++ t ∷ []) (drop (i + 1) updates)) old new
     status goes)
 
 -- a task that was put behind the others
-pub pushed : {A E : Type 0} (r : Result A E) (new more same : List Task) → new ≡ (if is_ok r then more else same) → false ≡ is_err r → new ≡ more
+pub pushed : {A E : Type 0} (r : Result A E) (new more same : List Task) → new ≡ (if is_ok r then more else same)
+    → false ≡ is_err r → new ≡ more
 pushed (Ok a) new more same is none = is
 pushed (Err e) new more same is none = cc
 

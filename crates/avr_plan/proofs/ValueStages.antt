@@ -18,7 +18,8 @@ use Rattle.avr_desk.specs.Stage.{Made, verdict_stage}
 abbrev Image : Type 0
 Image = List (Option ℕ)
 
-pub given_values : (text : Bytes) (size : ℕ) (image : Image) → OrMemory (Ok image) (values text size) → Ok image ≡ values text size
+pub given_values : (text : Bytes) (size : ℕ) (image : Image) → OrMemory (Ok image) (values text size)
+    → Ok image ≡ values text size
 given_values text size image (inl is) = is
 given_values text size image (inr memory) = cc
 
@@ -26,7 +27,8 @@ pub went_values : (switches : Switches) (memory : Mem) (size : ℕ) (text : Byte
     → OrMemory (Ok image) (values text size)
     → Went (image_stage switches memory size text Immediate) d d (Made image)
 went_values switches memory size text d image gives =
-    went_settled (values_or_line memory (values text size)) image d (ap (values_or_line memory) (sym (given_values text size image gives)))
+    went_settled (values_or_line memory (values text size)) image d
+    (ap (values_or_line memory) (sym (given_values text size image gives)))
 
 pub goes_bad_values : (switches : Switches) (memory : Mem) (size : ℕ) (text : Bytes) (old new : DeskView) (status : ℕ)
     (fault : ImageFault)

@@ -9,3 +9,11 @@ pub mod OnlyReading
 pub mod FilesRead
 -- inside: how things are kept, and what inner functions promise one another
 pub mod Intake
+-- of the crates below, what public contracts name
+pub use Rattle.avr_desk.specs.Fault
+pub use Rattle.avr_desk.specs.Memory
+pub use Rattle.avr_desk.specs.Playing
+pub use Rattle.avr_desk.specs.Record
+pub use Rattle.avr_desk.specs.Stage
+pub use Rattle.ghosts.specs.Failures
+pub use Rattle.ghosts.specs.Stays

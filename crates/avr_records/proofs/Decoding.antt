@@ -13,17 +13,20 @@ use Rattle.avr_records.specs.declared.fault.LineFault.TheVariants.{Digit}
 abbrev pub Decoded : List ℕ → List ℕ → Result Unit FromHexError → Result (List ℕ) FromHexError → Type 0
 Decoded digits out answer of = MatchResult of (λ bytes. (answer ≡ Ok tt) × (out ≡ bytes)) (λ e. answer ≡ Err e)
 
-all_digits : (digits out : List ℕ) (answer : Result Unit FromHexError) → length digits % 2 ≡ 0 → list_all is_hex_digit digits ≡ true
+all_digits : (digits out : List ℕ) (answer : Result Unit FromHexError) → length digits % 2 ≡ 0
+    → list_all is_hex_digit digits ≡ true
     → Decoded digits out answer (decode_of digits) → (answer ≡ Ok tt) × (bytes_of_digits digits ≡ Ok out)
 all_digits digits out answer even all is =
     let found = decode_of-digits digits even (AllPass-from_list_all is_hex_digit digits all) in
     let facts = rw found.1 at is in
     (facts.0, rw (all, found.1, facts.1) refl)
 
-no_digit : (digits out : List ℕ) (answer : Result Unit FromHexError) (of : Result (List ℕ) FromHexError) → decode_of digits ≡ of → list_all is_hex_digit digits ≡ false
+no_digit : (digits out : List ℕ) (answer : Result Unit FromHexError) (of : Result (List ℕ) FromHexError)
+    → decode_of digits ≡ of → list_all is_hex_digit digits ≡ false
     → Decoded digits out answer of → (e : FromHexError) × (answer ≡ Err e) × (bytes_of_digits digits ≡ Err Digit)
 no_digit digits out answer (Ok bytes) is none facts =
-    let all : list_all is_hex_digit digits ≡ true = list_all-from_AllPass is_hex_digit digits (decode_of-ok digits bytes is).1 in absurd (grind (arith, all, none))
+    let all : list_all is_hex_digit digits ≡ true =
+    list_all-from_AllPass is_hex_digit digits (decode_of-ok digits bytes is).1 in absurd (grind (arith, all, none))
 no_digit digits out answer (Err e) is none fact = (e, fact, rw none refl)
 
 pub decoded-ok : (digits out : List ℕ) (n : ℕ) (answer : Result Unit FromHexError) → length digits ≡ 2 * n
@@ -32,14 +35,17 @@ decoded-ok digits out n answer len facts ok =
     let whole = rw (decode_sized-twice digits n len) at facts in
     elim (cases_Bool (list_all is_hex_digit digits)) [
       | inl all ↦ (all_digits digits out answer (omega (arith, len)) all whole).1
-      | inr none ↦ let bad = no_digit digits out answer (decode_of digits) refl none whole in absurd (grind (arith, bad.1, ok))
+      | inr none ↦ let bad = no_digit digits out answer (decode_of digits) refl none whole in
+          absurd (grind (arith, bad.1, ok))
     ]
 
-pub decoded-err : (digits out : List ℕ) (n : ℕ) (answer : Result Unit FromHexError) (e : FromHexError) → length digits ≡ 2 * n
+pub decoded-err : (digits out : List ℕ) (n : ℕ) (answer : Result Unit FromHexError) (e : FromHexError)
+    → length digits ≡ 2 * n
     → Decoded digits out answer (decode_sized digits n) → answer ≡ Err e → bytes_of_digits digits ≡ Err Digit
 decoded-err digits out n answer e len facts err =
     let whole = rw (decode_sized-twice digits n len) at facts in
     elim (cases_Bool (list_all is_hex_digit digits)) [
-      | inl all ↦ let good = all_digits digits out answer (omega (arith, len)) all whole in absurd (grind (arith, good.0, err))
+      | inl all ↦ let good = all_digits digits out answer (omega (arith, len)) all whole in
+          absurd (grind (arith, good.0, err))
       | inr none ↦ (no_digit digits out answer (decode_of digits) refl none whole).2
     ]

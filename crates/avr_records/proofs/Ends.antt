@@ -40,5 +40,6 @@ pub first_end : (text : List ℕ) (at : ℕ) → IsFirstByte (is_byte 10) text (
     → (lines (take at text) ≡ take at text ∷ []) × (text ≡ take at text ++ 10 ∷ drop (at + 1) text)
 first_end text at first = (
   one_line at text (omega (arith, first.0.high)) (λ k l. first.0.before k (omega arith) l),
-  cut_at at text first.0.high ∙ ap (λ (c : ℕ). take at text ++ c ∷ drop (at + 1) text) (eqb-true (get_or text at 0) 10 first.1),
+  cut_at at text first.0.high ∙ ap (λ (c : ℕ). take at text ++ c ∷ drop (at + 1) text)
+      (eqb-true (get_or text at 0) 10 first.1),
 )

@@ -5,7 +5,7 @@ use Rattle.std.proofs.lemmas.Bool.Decides.{nat_tests}
 use Rattle.std.proofs.lemmas.List.{length-append}
 use Rattle.std.specs.List.{enumerate_from, list_any}
 use Rattle.avr_image.specs.Image.{fits}
-use Rattle.avr_records.specs.Extents.{EndsAt, Measures, fault_past_line, extended_by, extent_unless, next_extent, with_line_more, ending_said}
+use Rattle.avr_records.specs.Extents.{EndsAt, IsExtentOf, fault_past_line, extended_by, extent_unless, next_extent, with_line_more, ending_said}
 use Rattle.avr_records.specs.Lines.{lines}
 use Rattle.avr_records.specs.Meaning.{Nothing, Data, Rebase, Counted, End}
 use Rattle.avr_records.specs.Needed.{largest, end_of, size_or_fault, needed_by, needed_in_text}
@@ -28,7 +28,8 @@ span-fits : (addr size : ℕ) (bytes : List ℕ) → addr + length bytes ≤ siz
 span-fits addr size [] l = refl
 span-fits addr size (b ∷ bs) l = grind (arith, nat_tests, l)
 
-span-passes : (addr size : ℕ) (bytes : List ℕ) → 0 < length bytes → size < addr + length bytes → fits addr bytes size ≡ false
+span-passes : (addr size : ℕ) (bytes : List ℕ) → 0 < length bytes → size < addr + length bytes
+    → fits addr bytes size ≡ false
 span-passes addr size [] some l = absurd (omega (arith, some))
 span-passes addr size (b ∷ bs) some l = grind (arith, nat_tests, l)
 
@@ -41,18 +42,23 @@ end-of-span addr (b ∷ c ∷ bs) some =
 
 pub span-inside : (addr : ℕ) (bytes : List ℕ) → 0 < length bytes → addr + length bytes ≤ largest
     → (beyond largest (enumerate_from addr bytes) ≡ None) × (addr + length bytes ≡ end_of (enumerate_from addr bytes))
-span-inside addr bytes some l = (beyond-span largest addr bytes (span-fits addr largest bytes l), end-of-span addr bytes some)
+span-inside addr bytes some l = (
+  beyond-span largest addr bytes (span-fits addr largest bytes l),
+  end-of-span addr bytes some,
+)
 
 pub span-outside : (addr : ℕ) (bytes : List ℕ) → 0 < length bytes → addr ≤ largest → largest < addr + length bytes
     → beyond largest (enumerate_from addr bytes) ≡ Some largest
 span-outside addr bytes some below l =
-    beyond-span-end largest addr bytes (span-passes addr largest bytes some l) ∙ ap (λ (n : ℕ). Some n) (omega (arith, below))
+    beyond-span-end largest addr bytes (span-passes addr largest bytes some l)
+    ∙ ap (λ (n : ℕ). Some n) (omega (arith, below))
 
 pub end-of-append : (xs ys : List (ℕ × ℕ)) → end_of (xs ++ ys) ≡ max (end_of xs) (end_of ys)
 end-of-append [] ys = omega arith
 end-of-append (x ∷ xs) ys = let rest = end-of-append xs ys in omega (arith, rest)
 
-pub both-inside : (xs ys : List (ℕ × ℕ)) (m n z : ℕ) → (beyond largest xs ≡ None) × (m ≡ end_of xs) → (beyond largest ys ≡ None) × (n ≡ end_of ys)
+pub both-inside : (xs ys : List (ℕ × ℕ)) (m n z : ℕ) → (beyond largest xs ≡ None) × (m ≡ end_of xs)
+    → (beyond largest ys ≡ None) × (n ≡ end_of ys)
     → z ≡ max m n → (beyond largest (xs ++ ys) ≡ None) × (z ≡ end_of (xs ++ ys))
 both-inside xs ys m n z first second is = (
   beyond-append largest xs ys first.0 ∙ second.0,
@@ -64,7 +70,8 @@ ends-at xs ys result same is = subst (λ (ps : List (ℕ × ℕ)). EndsAt ps res
 
 -- ---- one line more
 
-fault-of : (e : Extent) (said : List Said) (line : Said) → Measures e said → fault_past_line e line ≡ fault_in largest (said, line)
+fault-of : (e : Extent) (said : List Said) (line : Said) → IsExtentOf e said
+    → fault_past_line e line ≡ fault_in largest (said, line)
 fault-of e said (Err fault) m = refl
 fault-of e said (Ok Nothing) m = refl
 fault-of e said (Ok (Data offset bytes)) m = rw m.base refl
@@ -72,7 +79,8 @@ fault-of e said (Ok (Rebase base)) m = refl
 fault-of e said (Ok (Counted n)) m = rw m.data_records refl
 fault-of e said (Ok End) m = refl
 
-sound-line : (fault : Option LineFault) (e new out : Extent) → extent_unless fault e new ≡ Ok out → (fault ≡ None) × (out ≡ with_line_more new)
+sound-line : (fault : Option LineFault) (e new out : Extent) → extent_unless fault e new ≡ Ok out
+    → (fault ≡ None) × (out ≡ with_line_more new)
 sound-line (Some fault) e new out is = cc is
 sound-line None e new out is = (refl, cc is)
 
@@ -82,15 +90,18 @@ bad-line (Some fault) e new out is = (fault, refl, cc is)
 bad-line None e new out is = cc is
 
 reach-last : (said : List Said) (line : Said)
-    → end_of (flat_map placed_bytes (in_place [] (said ++ line ∷ []))) ≡ max (end_of (flat_map placed_bytes (in_place [] said))) (end_of (placed_bytes (said, line)))
+    → end_of (flat_map placed_bytes (in_place [] (said ++ line ∷ [])))
+    ≡ max (end_of (flat_map placed_bytes (in_place [] said))) (end_of (placed_bytes (said, line)))
 reach-last said line =
     ap (λ (ps : List (List Said × Said)). end_of (flat_map placed_bytes ps)) (last-in_place said line)
     ∙ ap end_of (flat_map-append placed_bytes (in_place [] said) ((said, line) ∷ []))
-    ∙ ap (λ (zs : List (ℕ × ℕ)). end_of (flat_map placed_bytes (in_place [] said) ++ zs)) (append-nil (placed_bytes (said, line)))
+    ∙ ap (λ (zs : List (ℕ × ℕ)). end_of (flat_map placed_bytes (in_place [] said) ++ zs))
+    (append-nil (placed_bytes (said, line)))
     ∙ end-of-append (flat_map placed_bytes (in_place [] said)) (placed_bytes (said, line))
 
 -- the end of what some lines and one more place
-reaches : (e : Extent) (said : List Said) (line : Said) → Measures e said → (extended_by e line).end ≡ max e.end (end_of (placed_bytes (said, line)))
+reaches : (e : Extent) (said : List Said) (line : Said) → IsExtentOf e said
+    → (extended_by e line).end ≡ max e.end (end_of (placed_bytes (said, line)))
 reaches e said (Err fault) m = omega arith
 reaches e said (Ok Nothing) m = omega arith
 reaches e said (Ok (Data offset bytes)) m = rw m.base refl
@@ -104,14 +115,16 @@ record Sound (e new : Extent) (said : List Said) (line : Said) : Type 0 where
   pub no_fault : first_fault largest (in_place [] (said ++ line ∷ [])) ≡ None
   pub reach : new.end ≡ end_of (flat_map placed_bytes (in_place [] (said ++ line ∷ [])))
 
-sound : (e new : Extent) (said : List Said) (line : Said) → Measures e said → next_extent e line ≡ Ok new → Sound e new said line
+sound : (e new : Extent) (said : List Said) (line : Said) → IsExtentOf e said → next_extent e line ≡ Ok new
+    → Sound e new said line
 sound e new said line m step =
     let parts = sound-line (fault_past_line e line) e (extended_by e line) new step in
     let none : fault_in largest (said, line) ≡ None = sym (fault-of e said line m) ∙ parts.0 in
     record {
       is = parts.1;
       no_fault = fault-last largest said line m.no_fault ∙ rw none refl;
-      reach = ap (λ (x : Extent). x.end) parts.1 ∙ reaches e said line m ∙ ap (λ (n : ℕ). max n (end_of (placed_bytes (said, line)))) m.reach ∙ sym (reach-last said line);
+      reach = ap (λ (x : Extent). x.end) parts.1 ∙ reaches e said line m
+          ∙ ap (λ (n : ℕ). max n (end_of (placed_bytes (said, line)))) m.reach ∙ sym (reach-last said line);
     }
 
 base-by : (e : Extent) (line : Said) → (extended_by e line).base ≡ next_base e.base line
@@ -122,7 +135,8 @@ base-by e (Ok (Rebase base)) = refl
 base-by e (Ok (Counted n)) = refl
 base-by e (Ok End) = refl
 
-count-by : (e : Extent) (line : Said) → (extended_by e line).data_records ≡ e.data_records + count_by is_data (line ∷ [])
+count-by : (e : Extent) (line : Said) → (extended_by e line).data_records
+    ≡ e.data_records + count_by is_data (line ∷ [])
 count-by e (Err fault) = omega arith
 count-by e (Ok Nothing) = omega arith
 count-by e (Ok (Data offset bytes)) = omega arith
@@ -138,21 +152,27 @@ lines-by e (Ok (Rebase base)) = refl
 lines-by e (Ok (Counted n)) = refl
 lines-by e (Ok End) = refl
 
-measures-next : (e new : Extent) (said : List Said) (line : Said) → Measures e said → is_end line ≡ false → Sound e new said line → Measures new (said ++ line ∷ [])
+measures-next : (e new : Extent) (said : List Said) (line : Said) → IsExtentOf e said → is_end line ≡ false
+    → Sound e new said line → IsExtentOf new (said ++ line ∷ [])
 measures-next e new said line m open' s = record {
   no_end = list_any-append said (line ∷ []) ∙ rw (m.no_end, open') refl;
   no_fault = s.no_fault;
   reach = s.reach;
-  base = ap (λ (x : Extent). x.base) s.is ∙ base-by e line ∙ ap (λ (b : Base). next_base b line) m.base ∙ sym (base-last said line);
-  data_records = let count = count-append said (line ∷ []) in let one = count-by e line in let same = ap (λ (x : Extent). x.data_records) s.is in omega (arith, same, one, m.data_records, count);
-  lines = let len = length-append said (line ∷ []) in let one = lines-by e line in let same = ap (λ (x : Extent). x.lines) s.is in omega (arith, same, one, m.lines, len);
+  base = ap (λ (x : Extent). x.base) s.is ∙ base-by e line ∙ ap (λ (b : Base). next_base b line) m.base
+      ∙ sym (base-last said line);
+  data_records = let count = count-append said (line ∷ []) in let one = count-by e line in let same =
+      ap (λ (x : Extent). x.data_records) s.is in omega (arith, same, one, m.data_records, count);
+  lines = let len = length-append said (line ∷ []) in let one = lines-by e line in let same =
+      ap (λ (x : Extent). x.lines) s.is in omega (arith, same, one, m.lines, len);
 }
 
 -- ---- all lines
 
 -- the lines up to one that is the last, or an end record
-ends-there : (said : List Said) (line : Said) (more : List Said) → list_any is_end said ≡ false → up_to_end (line ∷ more) ≡ line ∷ [] → up_to_end (said ++ line ∷ more) ≡ said ++ line ∷ []
-ends-there said line more open' last = up_to_end-open said (line ∷ more) open' ∙ ap (λ (zs : List Said). said ++ zs) last
+ends-there : (said : List Said) (line : Said) (more : List Said) → list_any is_end said ≡ false
+    → up_to_end (line ∷ more) ≡ line ∷ [] → up_to_end (said ++ line ∷ more) ≡ said ++ line ∷ []
+ends-there said line more open' last = up_to_end-open said (line ∷ more) open'
+    ∙ ap (λ (zs : List Said). said ++ zs) last
 
 last-line : (line : Said) → up_to_end (line ∷ []) ≡ line ∷ []
 last-line line =
@@ -164,14 +184,16 @@ last-line line =
 end-line : (line : Said) (more : List Said) → is_end line ≡ true → up_to_end (line ∷ more) ≡ line ∷ []
 end-line line more t = rw t refl
 
-whole-there : (e new : Extent) (said : List Said) (line : Said) (more : List Said) → Measures e said → next_extent e line ≡ Ok new
+whole-there : (e new : Extent) (said : List Said) (line : Said) (more : List Said) → IsExtentOf e said
+    → next_extent e line ≡ Ok new
     → up_to_end (line ∷ more) ≡ line ∷ [] → Ok new.end ≡ needed_by (said ++ line ∷ more)
 whole-there e new said line more m step last =
     let s = sound e new said line m step in
     rw (ends-there said line more m.no_end last, s.no_fault) (ap (λ (n : ℕ). Ok n) s.reach)
 
 -- the first line at fault decides
-fault-there : (e : Extent) (said : List Said) (line : Said) (more : List Said) (fault : LineFault) → Measures e said → fault_in largest (said, line) ≡ Some fault
+fault-there : (e : Extent) (said : List Said) (line : Said) (more : List Said) (fault : LineFault) → IsExtentOf e said
+    → fault_in largest (said, line) ≡ Some fault
     → first_fault largest (in_place [] (up_to_end (said ++ line ∷ more))) ≡ Some (in_line (e.lines + 1) fault)
 fault-there e said line more fault m is =
     let begins = up_to_end-begins line more in
@@ -182,14 +204,17 @@ fault-there e said line more fault m is =
     ∙ first_fault-append largest (in_place [] said) (in_place said (line ∷ begins.0)) m.no_fault
     ∙ rw (is, m.lines) refl
 
-told : (said : List Said) (fault out : RecordFault) → first_fault largest (in_place [] (up_to_end said)) ≡ Some fault → out ≡ fault → Err out ≡ needed_by said
+told : (said : List Said) (fault out : RecordFault) → first_fault largest (in_place [] (up_to_end said)) ≡ Some fault
+    → out ≡ fault → Err out ≡ needed_by said
 told said fault out first is = rw (first, is) refl
 
-whole-fault : (e : Extent) (said : List Said) (line : Said) (more : List Said) (fault : RecordFault) → Measures e said → next_extent e line ≡ Err fault
+whole-fault : (e : Extent) (said : List Said) (line : Said) (more : List Said) (fault : RecordFault) → IsExtentOf e said
+    → next_extent e line ≡ Err fault
     → Err fault ≡ needed_by (said ++ line ∷ more)
 whole-fault e said line more fault m step =
     let parts = bad-line (fault_past_line e line) e (extended_by e line) fault step in
-    told (said ++ line ∷ more) _ fault (fault-there e said line more parts.0 m (sym (fault-of e said line m) ∙ parts.1)) parts.2
+    told (said ++ line ∷ more) _ fault (fault-there e said line more parts.0 m (sym (fault-of e said line m) ∙ parts.1))
+    parts.2
 
 -- ---- a text
 
@@ -197,14 +222,7 @@ whole-fault e said line more fault m step =
 pub record Walked (kind : Kind) (e : Extent) (text left : List ℕ) : Type 0 where
   pub front : List (List ℕ)
   pub cut : lines text ≡ front ++ lines left
-  pub measures : Measures e (map (said_by_line kind) front)
-
-pub walk-begins : (kind : Kind) (e : Extent) (text : List ℕ) → e ≡ (record { base = Linear 0; data_records = 0; lines = 0; end = 0 }) → Walked kind e text text
-walk-begins kind e text is = record {
-  front = [];
-  cut = refl;
-  measures = rw is (record { no_end = refl; no_fault = refl; reach = refl; base = refl; data_records = refl; lines = refl });
-}
+  pub measures : IsExtentOf e (map (said_by_line kind) front)
 
 open-line : (line : Said) → NoEnd ≡ ending_said line → is_end line ≡ false
 open-line (Err fault) is = refl
@@ -223,44 +241,60 @@ closed-line (Ok (Counted n)) is = cc is
 closed-line (Ok End) is = refl
 
 -- the lines that are left, where one ends
-left-lines : (left line more : List ℕ) → lines line ≡ line ∷ [] → left ≡ line ++ 10 ∷ more → lines left ≡ line ∷ lines more
+left-lines : (left line more : List ℕ) → lines line ≡ line ∷ [] → left ≡ line ++ 10 ∷ more
+    → lines left ≡ line ∷ lines more
 left-lines left line more one end = ap lines end ∙ line-first line more one
 
-pub walk-next : (kind : Kind) (e new : Extent) (text left line more : List ℕ) → Walked kind e text left → lines line ≡ line ∷ [] → left ≡ line ++ 10 ∷ more
-    → next_extent e (said_by_line kind line) ≡ Ok new → NoEnd ≡ ending_said (said_by_line kind line) → Walked kind new text more
+pub walk-next : (kind : Kind) (e new : Extent) (text left line more : List ℕ) → Walked kind e text left
+    → lines line ≡ line ∷ [] → left ≡ line ++ 10 ∷ more
+    → next_extent e (said_by_line kind line) ≡ Ok new → NoEnd ≡ ending_said (said_by_line kind line)
+    → Walked kind new text more
 walk-next kind e new text left line more w one end step open' =
     let said = map (said_by_line kind) w.front in
     let s = sound e new said (said_by_line kind line) w.measures step in
     record {
       front = w.front ++ line ∷ [];
-      cut = w.cut ∙ ap (λ (ls : List (List ℕ)). w.front ++ ls) (left-lines left line more one end) ∙ sym (append-assoc w.front (line ∷ []) (lines more));
-      measures = rw (said-front kind w.front line) (measures-next e new said (said_by_line kind line) w.measures (open-line (said_by_line kind line) open') s);
+      cut = w.cut ∙ ap (λ (ls : List (List ℕ)). w.front ++ ls) (left-lines left line more one end)
+          ∙ sym (append-assoc w.front (line ∷ []) (lines more));
+      measures = rw (said-front kind w.front line)
+          (measures-next e new said (said_by_line kind line) w.measures (open-line (said_by_line kind line) open') s);
     }
 
-said-all : (kind : Kind) (front : List (List ℕ)) (line : List ℕ) (more : List (List ℕ)) (text : List ℕ) → lines text ≡ front ++ line ∷ more
-    → map (said_by_line kind) (lines text) ≡ map (said_by_line kind) front ++ said_by_line kind line ∷ map (said_by_line kind) more
-said-all kind front line more text cut = ap (map (said_by_line kind)) cut ∙ map-append (said_by_line kind) front (line ∷ more)
+said-all : (kind : Kind) (front : List (List ℕ)) (line : List ℕ) (more : List (List ℕ)) (text : List ℕ)
+    → lines text ≡ front ++ line ∷ more
+    → map (said_by_line kind) (lines text) ≡ map (said_by_line kind) front ++ said_by_line kind line
+    ∷ map (said_by_line kind) more
+said-all kind front line more text cut =
+    ap (map (said_by_line kind)) cut ∙ map-append (said_by_line kind) front (line ∷ more)
 
-pub walk-ended : (kind : Kind) (e new : Extent) (text left line more : List ℕ) → Walked kind e text left → lines line ≡ line ∷ [] → left ≡ line ++ 10 ∷ more
-    → next_extent e (said_by_line kind line) ≡ Ok new → Ended ≡ ending_said (said_by_line kind line) → Ok new.end ≡ needed_in_text kind text
+pub walk-ended : (kind : Kind) (e new : Extent) (text left line more : List ℕ) → Walked kind e text left
+    → lines line ≡ line ∷ [] → left ≡ line ++ 10 ∷ more
+    → next_extent e (said_by_line kind line) ≡ Ok new → Ended ≡ ending_said (said_by_line kind line)
+    → Ok new.end ≡ needed_in_text kind text
 walk-ended kind e new text left line more w one end step closed =
-    let all = said-all kind w.front line (lines more) text (w.cut ∙ ap (λ (ls : List (List ℕ)). w.front ++ ls) (left-lines left line more one end)) in
-    whole-there e new _ (said_by_line kind line) _ w.measures step (end-line (said_by_line kind line) _ (closed-line (said_by_line kind line) closed))
+    let all = said-all kind w.front line (lines more) text
+    (w.cut ∙ ap (λ (ls : List (List ℕ)). w.front ++ ls) (left-lines left line more one end)) in
+    whole-there e new _ (said_by_line kind line) _ w.measures step
+    (end-line (said_by_line kind line) _ (closed-line (said_by_line kind line) closed))
     ∙ ap needed_by (sym all)
 
-pub walk-fault : (kind : Kind) (e : Extent) (text left line more : List ℕ) (fault : RecordFault) → Walked kind e text left → lines line ≡ line ∷ [] → left ≡ line ++ 10 ∷ more
+pub walk-fault : (kind : Kind) (e : Extent) (text left line more : List ℕ) (fault : RecordFault)
+    → Walked kind e text left → lines line ≡ line ∷ [] → left ≡ line ++ 10 ∷ more
     → next_extent e (said_by_line kind line) ≡ Err fault → Err fault ≡ needed_in_text kind text
 walk-fault kind e text left line more fault w one end step =
-    let all = said-all kind w.front line (lines more) text (w.cut ∙ ap (λ (ls : List (List ℕ)). w.front ++ ls) (left-lines left line more one end)) in
+    let all = said-all kind w.front line (lines more) text
+    (w.cut ∙ ap (λ (ls : List (List ℕ)). w.front ++ ls) (left-lines left line more one end)) in
     whole-fault e _ (said_by_line kind line) _ fault w.measures step ∙ ap needed_by (sym all)
 
 pub walk-last : (kind : Kind) (e new : Extent) (text left : List ℕ) → Walked kind e text left → lines left ≡ left ∷ []
     → next_extent e (said_by_line kind left) ≡ Ok new → Ok new.end ≡ needed_in_text kind text
 walk-last kind e new text left w one step =
     let all = said-all kind w.front left [] text (w.cut ∙ ap (λ (ls : List (List ℕ)). w.front ++ ls) one) in
-    whole-there e new _ (said_by_line kind left) [] w.measures step (last-line (said_by_line kind left)) ∙ ap needed_by (sym all)
+    whole-there e new _ (said_by_line kind left) [] w.measures step (last-line (said_by_line kind left))
+    ∙ ap needed_by (sym all)
 
-pub walk-last-fault : (kind : Kind) (e : Extent) (text left : List ℕ) (fault : RecordFault) → Walked kind e text left → lines left ≡ left ∷ []
+pub walk-last-fault : (kind : Kind) (e : Extent) (text left : List ℕ) (fault : RecordFault) → Walked kind e text left
+    → lines left ≡ left ∷ []
     → next_extent e (said_by_line kind left) ≡ Err fault → Err fault ≡ needed_in_text kind text
 walk-last-fault kind e text left fault w one step =
     let all = said-all kind w.front left [] text (w.cut ∙ ap (λ (ls : List (List ℕ)). w.front ++ ls) one) in
@@ -271,7 +305,8 @@ nothing [] is = refl
 nothing (b ∷ bs) is = absurd (omega (arith, is))
 
 -- behind the last line's end nothing stands
-pub walk-empty : (kind : Kind) (e : Extent) (text left : List ℕ) → Walked kind e text left → length left ≡ 0 → Ok e.end ≡ needed_in_text kind text
+pub walk-empty : (kind : Kind) (e : Extent) (text left : List ℕ) → Walked kind e text left → length left ≡ 0
+    → Ok e.end ≡ needed_in_text kind text
 walk-empty kind e text left w zero-long =
     let none = nothing left zero-long in
     let one : lines left ≡ left ∷ [] = rw none refl in

@@ -21,7 +21,8 @@ pub too-few : (p : ℕ → Bool) (n : ℕ) (xs : List ℕ) → length xs < n →
 too-few p n xs len = let bound = prefix_len-le-length p xs in grind (arith, nat_tests, len, bound)
 
 -- the first n elements pass where at least n in front do
-pub all_of_front : (p : ℕ → Bool) (n : ℕ) (xs : List ℕ) → n ≤ length xs → list_all p (take n xs) ≡ nat_le n (prefix_len p xs)
+pub all_of_front : (p : ℕ → Bool) (n : ℕ) (xs : List ℕ) → n ≤ length xs
+    → list_all p (take n xs) ≡ nat_le n (prefix_len p xs)
 all_of_front p zero xs len = grind (arith, nat_tests)
 all_of_front p (suc n) [] len = absurd (omega (arith, len))
 all_of_front p (suc n) (x ∷ xs) len =
@@ -35,17 +36,10 @@ all_of_front p (suc n) (x ∷ xs) len =
 abbrev pub first_of : List ℕ → Found
 first_of text = kind_of_line (find (λ line. not (list_all is_blank line)) (lines text))
 
-pub end-first : (text line more : List ℕ) → text ≡ line ++ 10 ∷ more → length more < length text
-end-first text line more cut = let len = length-append line (10 ∷ more) in omega (arith, ap length cut, len)
-
-pub blank-first : (text line more : List ℕ) → lines line ≡ line ∷ [] → text ≡ line ++ 10 ∷ more → list_all is_blank line ≡ true → first_of text ≡ first_of more
+pub blank-first : (text line more : List ℕ) → lines line ≡ line ∷ [] → text ≡ line ++ 10 ∷ more
+    → list_all is_blank line ≡ true → first_of text ≡ first_of more
 blank-first text line more one cut blank = rw (cut, line-first line more one, blank) refl
 
-pub shown-first : (text line more : List ℕ) → lines line ≡ line ∷ [] → text ≡ line ++ 10 ∷ more → list_all is_blank line ≡ false → first_of text ≡ kind_of_line (Some line)
+pub shown-first : (text line more : List ℕ) → lines line ≡ line ∷ [] → text ≡ line ++ 10 ∷ more
+    → list_all is_blank line ≡ false → first_of text ≡ kind_of_line (Some line)
 shown-first text line more one cut blank = rw (cut, line-first line more one, blank) refl
-
-pub blank-last : (text : List ℕ) → lines text ≡ text ∷ [] → list_all is_blank text ≡ true → first_of text ≡ Raw
-blank-last text one blank = rw (one, blank) refl
-
-pub shown-last : (text : List ℕ) → lines text ≡ text ∷ [] → list_all is_blank text ≡ false → first_of text ≡ kind_of_line (Some text)
-shown-last text one blank = rw (one, blank) refl

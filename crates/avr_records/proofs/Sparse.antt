@@ -20,7 +20,8 @@ use Rattle.avr_records.proofs.WrittenSrec as srec
 
 -- ---- the bytes of an image at their addresses
 
-pub beyond-image : (size addr : ℕ) (image : List (Option ℕ)) → addr + length image ≤ size → beyond size (held_places addr image) ≡ None
+pub beyond-image : (size addr : ℕ) (image : List (Option ℕ)) → addr + length image ≤ size
+    → beyond size (held_places addr image) ≡ None
 beyond-image size addr [] room = refl
 beyond-image size addr (None ∷ image) room = beyond-image size (addr + 1) image (omega (arith, room))
 beyond-image size addr (Some b ∷ image) room =
@@ -28,7 +29,8 @@ beyond-image size addr (Some b ∷ image) room =
     rw test (beyond-image size (addr + 1) image (omega (arith, room)))
 
 -- cutting into rows keeps them
-pub rows_of-hold : (size : ℕ → ℕ) (cut : List (ℕ × List ℕ)) → ((a : ℕ) → 0 < size a) → flat_map places_of (rows_of size cut) ≡ flat_map places_of cut
+pub rows_of-hold : (size : ℕ → ℕ) (cut : List (ℕ × List ℕ)) → ((a : ℕ) → 0 < size a)
+    → flat_map places_of (rows_of size cut) ≡ flat_map places_of cut
 rows_of-hold size [] wide = refl
 rows_of-hold size (run ∷ cut) wide =
     flat_map-append places_of (rows size run.0 run.1) (rows_of size cut)
@@ -41,12 +43,20 @@ pub record IsIn (end : ℕ) (run : ℕ × List ℕ) : Type 0 where
   pub below : run.0 + length run.1 ≤ end
   pub bytes : IsBytes run.1
 
-onto-in : (end addr b : ℕ) (more : List (ℕ × List ℕ)) → addr < end → b < 256 → Every (IsIn end) more → Every (IsIn end) (onto_runs addr b more)
-onto-in end addr b [] inside byte all = (record { below = omega (arith, inside); bytes = IsBytes-cons b [] byte IsBytes-nil }, tt)
+onto-in : (end addr b : ℕ) (more : List (ℕ × List ℕ)) → addr < end → b < 256 → Every (IsIn end) more
+    → Every (IsIn end) (onto_runs addr b more)
+onto-in end addr b [] inside byte all = (
+  record
+      { below = omega (arith, inside); bytes = IsBytes-cons b [] byte IsBytes-nil },
+  tt,
+)
 onto-in end addr b ((next, bytes) ∷ more) inside byte all = elim (cases_eq next (addr + 1)) [
   | inl same ↦
       let test : (next == addr + 1) ≡ true = grind (arith, nat_tests) in
-      rw test (record { below = omega (arith, same, all.0.below); bytes = IsBytes-cons b bytes byte all.0.bytes }, all.1)
+      rw test (
+        record { below = omega (arith, same, all.0.below); bytes = IsBytes-cons b bytes byte all.0.bytes },
+        all.1,
+      )
   | inr other ↦
       let test : (next == addr + 1) ≡ false = grind (arith, nat_tests) in
       rw test (record { below = omega (arith, inside); bytes = IsBytes-cons b [] byte IsBytes-nil }, all)
@@ -59,41 +69,52 @@ last-least last addr (Some b ∷ image) l =
     let more : addr ≤ last_held addr (addr + 1) image = last-least addr (addr + 1) image (omega arith) in
     omega (arith, l, more)
 
-last-most : (last addr end : ℕ) (image : List (Option ℕ)) → last < end → addr + length image ≤ end → last_held last addr image < end
+last-most : (last addr end : ℕ) (image : List (Option ℕ)) → last < end → addr + length image ≤ end
+    → last_held last addr image < end
 last-most last addr end [] l room = l
 last-most last addr end (None ∷ image) l room = last-most last (addr + 1) end image l (omega (arith, room))
-last-most last addr end (Some b ∷ image) l room = last-most addr (addr + 1) end image (omega (arith, room)) (omega (arith, room))
+last-most last addr end (Some b ∷ image) l room =
+    last-most addr (addr + 1) end image (omega (arith, room)) (omega (arith, room))
 
-pub runs-in : (last addr : ℕ) (image : List (Option ℕ)) → HoldsBytes image → Every (IsIn (last_held last addr image + 1)) (runs addr image)
+pub runs-in : (last addr : ℕ) (image : List (Option ℕ)) → HoldsBytes image
+    → Every (IsIn (last_held last addr image + 1)) (runs addr image)
 runs-in last addr [] all = tt
 runs-in last addr (None ∷ image) all = runs-in last (addr + 1) image (λ k byte is. all (suc k) byte is)
 runs-in last addr (Some b ∷ image) all =
     let end : ℕ = last_held addr (addr + 1) image + 1 in
     let first : addr ≤ last_held addr (addr + 1) image = last-least addr (addr + 1) image (omega arith) in
-    onto-in end addr b (runs (addr + 1) image) (omega (arith, first)) (all 0 b refl) (runs-in addr (addr + 1) image (λ k byte is. all (suc k) byte is))
+    onto-in end addr b (runs (addr + 1) image) (omega (arith, first)) (all 0 b refl)
+    (runs-in addr (addr + 1) image (λ k byte is. all (suc k) byte is))
 
 -- ---- so are their rows
 
-rows-up : (size : ℕ → ℕ) (low high : ℕ) (cut : List (ℕ × List ℕ)) → low ≤ high → Every (IsRow size low) cut → Every (IsRow size high) cut
+rows-up : (size : ℕ → ℕ) (low high : ℕ) (cut : List (ℕ × List ℕ)) → low ≤ high → Every (IsRow size low) cut
+    → Every (IsRow size high) cut
 rows-up size low high [] l all = tt
 rows-up size low high (row ∷ cut) l all =
-    let is = all.0 in
-    (record { some = is.some; few = is.few; below = omega (arith, is.below, l); bytes = is.bytes }, rows-up size low high cut l all.1)
+    let is = all.0 in (
+      record { some = is.some; few = is.few; below = omega (arith, is.below, l); bytes = is.bytes },
+      rows-up size low high cut l all.1,
+    )
 
 every-append : (P : ℕ × List ℕ → Type 0) (xs ys : List (ℕ × List ℕ)) → Every P xs → Every P ys → Every P (xs ++ ys)
 every-append P [] ys front back = back
 every-append P (x ∷ xs) ys front back = (front.0, every-append P xs ys front.1 back)
 
-pub rows_of-are : (size : ℕ → ℕ) (end : ℕ) (cut : List (ℕ × List ℕ)) → ((a : ℕ) → 0 < size a) → Every (IsIn end) cut → Every (IsRow size end) (rows_of size cut)
+pub rows_of-are : (size : ℕ → ℕ) (end : ℕ) (cut : List (ℕ × List ℕ)) → ((a : ℕ) → 0 < size a) → Every (IsIn end) cut
+    → Every (IsRow size end) (rows_of size cut)
 rows_of-are size end [] wide all = tt
 rows_of-are size end (run ∷ cut) wide all =
     let own : Every (IsRow size (run.0 + length run.1)) (rows size run.0 run.1) =
     rows_behind-are 0 size run.0 (run.0 + length run.1) run.1 wide refl all.0.bytes in
-    every-append (IsRow size end) (rows size run.0 run.1) (rows_of size cut) (rows-up size (run.0 + length run.1) end (rows size run.0 run.1) all.0.below own) (rows_of-are size end cut wide all.1)
+    every-append (IsRow size end) (rows size run.0 run.1) (rows_of size cut)
+    (rows-up size (run.0 + length run.1) end (rows size run.0 run.1) all.0.below own)
+    (rows_of-are size end cut wide all.1)
 
 -- ---- the two formats
 
-held-rows : (size : ℕ → ℕ) (image : List (Option ℕ)) → ((a : ℕ) → 0 < size a) → flat_map places_of (rows_of size (runs 0 image)) ≡ held_places 0 image
+held-rows : (size : ℕ → ℕ) (image : List (Option ℕ)) → ((a : ℕ) → 0 < size a)
+    → flat_map places_of (rows_of size (runs 0 image)) ≡ held_places 0 image
 held-rows size image wide = rows_of-hold size (runs 0 image) wide ∙ runs-hold 0 image
 
 -- the last address of an image that isn't empty, or 0 of one that is
@@ -105,10 +126,12 @@ ihex-image-reads-back image fits bytes =
     let size : ℕ = length image in
     let cut : List (ℕ × List ℕ) = rows_of ihex_row_size (runs 0 image) in
     let last : ℕ = last_held 0 0 image in
-    let are : Every (IsRow ihex_row_size (last + 1)) cut = rows_of-are ihex_row_size (last + 1) (runs 0 image) (λ a. omega arith) (runs-in 0 0 image bytes) in
+    let are : Every (IsRow ihex_row_size (last + 1)) cut =
+    rows_of-are ihex_row_size (last + 1) (runs 0 image) (λ a. omega arith) (runs-in 0 0 image bytes) in
     ap (together size) (hex.lines-said 0 (last + 1) cut (omega (arith, last-below image fits)) are)
     ∙ together-laid size image (held_places 0 image) (hex.rows_said 0 cut) (Ok Nothing ∷ []) (hex.rows-go_on 0 cut)
-    (hex.rows-threaded 0 cut ∙ held-rows ihex_row_size image (λ a. omega arith)) (beyond-image size 0 image (omega arith)) (laid-image image)
+    (hex.rows-threaded 0 cut ∙ held-rows ihex_row_size image (λ a. omega arith))
+    (beyond-image size 0 image (omega arith)) (laid-image image)
 
 pub srec-image-reads-back : ImageReadsBack Srec srec_image_text
 srec-image-reads-back image fits bytes =
@@ -116,7 +139,10 @@ srec-image-reads-back image fits bytes =
     let cut : List (ℕ × List ℕ) = rows_of (λ _. 32) (runs 0 image) in
     let last : ℕ = last_held 0 0 image in
     let wide = srec.wide_enough last (last-below image fits) in
-    let are : Every (IsRow (λ _. 32) (last + 1)) cut = rows_of-are (λ _. 32) (last + 1) (runs 0 image) (λ a. omega arith) (runs-in 0 0 image bytes) in
-    ap (together size) (srec.lines-said (address_size last) (last + 1) cut wide.least wide.most (omega (arith, wide.fits)) are)
+    let are : Every (IsRow (λ _. 32) (last + 1)) cut =
+    rows_of-are (λ _. 32) (last + 1) (runs 0 image) (λ a. omega arith) (runs-in 0 0 image bytes) in
+    ap (together size) (srec.lines-said (address_size last) (last + 1) cut wide.least wide.most
+    (omega (arith, wide.fits)) are)
     ∙ together-laid size image (held_places 0 image) (map srec.said_of cut) (Ok Nothing ∷ []) (srec.rows-go_on cut)
-    (srec.rows-threaded cut ∙ held-rows (λ _. 32) image (λ a. omega arith)) (beyond-image size 0 image (omega arith)) (laid-image image)
+    (srec.rows-threaded cut ∙ held-rows (λ _. 32) image (λ a. omega arith)) (beyond-image size 0 image (omega arith))
+    (laid-image image)

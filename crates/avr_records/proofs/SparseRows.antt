@@ -16,14 +16,17 @@ pub two_runs : runs 0 holes ≡ (1, 1 ∷ 2 ∷ []) ∷ (5, 255 ∷ []) ∷ []
 two_runs = refl
 
 -- a row ends at its size, and the next one begins there
-pub rows_of_two : rows_of (λ _. 2) (runs 65534 (Some 1 ∷ Some 2 ∷ Some 3 ∷ None ∷ Some 4 ∷ [])) ≡ (65534, 1 ∷ 2 ∷ []) ∷ (65536, 3 ∷ []) ∷ (65538, 4 ∷ []) ∷ []
+pub rows_of_two : rows_of (λ _. 2) (runs 65534 (Some 1 ∷ Some 2 ∷ Some 3 ∷ None ∷ Some 4 ∷ []))
+    ≡ (65534, 1 ∷ 2 ∷ []) ∷ (65536, 3 ∷ []) ∷ (65538, 4 ∷ []) ∷ []
 rows_of_two = refl
 
-pub ihex_of_holes : ihex_image_text holes ≡ codes ":020001000102FA" ++ lf ++ codes ":01000500FFFB" ++ lf ++ codes ":00000001FF" ++ lf
+pub ihex_of_holes : ihex_image_text holes
+    ≡ codes ":020001000102FA" ++ lf ++ codes ":01000500FFFB" ++ lf ++ codes ":00000001FF" ++ lf
 unfolding encode_with
 ihex_of_holes = refl
 
-pub srec_of_holes : srec_image_text holes ≡ codes "S10500010102F6" ++ lf ++ codes "S1040005FFF7" ++ lf ++ codes "S9030000FC" ++ lf
+pub srec_of_holes : srec_image_text holes
+    ≡ codes "S10500010102F6" ++ lf ++ codes "S1040005FFF7" ++ lf ++ codes "S9030000FC" ++ lf
 unfolding encode_with
 srec_of_holes = refl
 

@@ -14,7 +14,8 @@ use Rattle.avr_records.proofs.Pieces.{rows-next, wide_row, same_upper, other_upp
 -- ---- the first run, and what stands behind it
 
 pub rows-lead : (size : ℕ → ℕ) (addr : ℕ) (image : List (Option ℕ))
-    → rows_of size (runs addr image) ≡ rows size addr (lead image) ++ rows_of size (runs (addr + length (lead image)) (after image))
+    → rows_of size (runs addr image) ≡ rows size addr (lead image)
+    ++ rows_of size (runs (addr + length (lead image)) (after image))
 rows-lead size addr [] = refl
 rows-lead size addr (None ∷ image) = ap (λ (n : ℕ). rows_of size (runs n (None ∷ image))) (sym (add-zero addr))
 rows-lead size addr (Some b ∷ image) =
@@ -23,16 +24,20 @@ rows-lead size addr (Some b ∷ image) =
     ∙ ap (λ (n : ℕ). rows size addr (b ∷ lead image) ++ rows_of size (runs n (after image))) next
 
 -- the first row is the first bytes of the first run
-pub rows-step : (size : ℕ → ℕ) (addr n : ℕ) (image : List (Option ℕ)) → 0 < length (lead image) → 0 < size addr → n ≡ min (size addr) (length (lead image))
+pub rows-step : (size : ℕ → ℕ) (addr n : ℕ) (image : List (Option ℕ)) → 0 < length (lead image) → 0 < size addr
+    → n ≡ min (size addr) (length (lead image))
     → rows_of size (runs addr image) ≡ (addr, take n (lead image)) ∷ rows_of size (runs (addr + n) (drop n image))
 rows-step size addr n image some wide is =
     let few : n ≤ length (lead image) = omega (arith, is) in
     let rest : List (ℕ × List ℕ) = rows_of size (runs (addr + length (lead image)) (after image)) in
-    let back : addr + n + length (drop n (lead image)) ≡ addr + length (lead image) = omega (arith, length-drop n (lead image), few) in
+    let back : addr + n + length (drop n (lead image)) ≡ addr + length (lead image) =
+    omega (arith, length-drop n (lead image), few) in
     let there : rows_of size (runs (addr + n) (drop n image)) ≡ rows size (addr + n) (drop n (lead image)) ++ rest =
     rows-lead size (addr + n) (drop n image)
-    ∙ ap (λ (bytes : List ℕ). rows size (addr + n) bytes ++ rows_of size (runs (addr + n + length bytes) (after (drop n image)))) (lead-drop n image few)
-    ∙ ap (λ (xs : List (Option ℕ)). rows size (addr + n) (drop n (lead image)) ++ rows_of size (runs (addr + n + length (drop n (lead image))) xs)) (after-drop n image few)
+    ∙ ap (λ (bytes : List ℕ). rows size (addr + n) bytes
+    ++ rows_of size (runs (addr + n + length bytes) (after (drop n image)))) (lead-drop n image few)
+    ∙ ap (λ (xs : List (Option ℕ)). rows size (addr + n) (drop n (lead image))
+    ++ rows_of size (runs (addr + n + length (drop n (lead image))) xs)) (after-drop n image few)
     ∙ ap (λ (k : ℕ). rows size (addr + n) (drop n (lead image)) ++ rows_of size (runs k (after image))) back in
     rows-lead size addr image
     ∙ ap (λ (front : List (ℕ × List ℕ)). front ++ rest) (rows-next size addr n (lead image) some wide is)
@@ -58,7 +63,8 @@ pub record IsPart (place end : ℕ) (bytes : List ℕ) (image : List (Option ℕ
   pub part : slice_range bytes place end ≡ filled_bytes image place (end - place)
 
 pub row-part : (addr place most end : ℕ) (bytes : List ℕ) (image : List (Option ℕ)) → first_from image addr ≡ Some place
-    → end ≡ place + min most (length (lead (drop place image))) → bytes ≡ filled_bytes image 0 (length image) → IsPart place end bytes image
+    → end ≡ place + min most (length (lead (drop place image))) → bytes ≡ filled_bytes image 0 (length image)
+    → IsPart place end bytes image
 row-part addr place most end bytes image found is whole =
     let next = next_held image addr place found in
     let short = lead-short (drop place image) in
@@ -73,9 +79,11 @@ row-part addr place most end bytes image found is whole =
     }
 
 -- the next row: the bytes from the next address that holds one
-pub rows-walk : (size : ℕ → ℕ) (addr place n : ℕ) (image : List (Option ℕ)) → first_from image addr ≡ Some place → 0 < size place
+pub rows-walk : (size : ℕ → ℕ) (addr place n : ℕ) (image : List (Option ℕ)) → first_from image addr ≡ Some place
+    → 0 < size place
     → n ≡ min (size place) (length (lead (drop place image)))
-    → rows_of size (runs addr (drop addr image)) ≡ (place, filled_bytes image place n) ∷ rows_of size (runs (place + n) (drop (place + n) image))
+    → rows_of size (runs addr (drop addr image))
+    ≡ (place, filled_bytes image place n) ∷ rows_of size (runs (place + n) (drop (place + n) image))
 rows-walk size addr place n image found wide is =
     let next = walk-next addr place (drop addr image) found in
     let there : drop (place - addr) (drop addr image) ≡ drop place image =
@@ -84,17 +92,23 @@ rows-walk size addr place n image found wide is =
     let few : n ≤ length (lead (drop place image)) = omega (arith, is) in
     ap (rows_of size) (next.same ∙ ap (runs place) there)
     ∙ rows-step size place n (drop place image) some wide is
-    ∙ ap (λ (bytes : List ℕ). (place, bytes) ∷ rows_of size (runs (place + n) (drop n (drop place image)))) (sym (filled-lead image (drop place image) n place refl few))
-    ∙ ap (λ (xs : List (Option ℕ)). (place, filled_bytes image place n) ∷ rows_of size (runs (place + n) xs)) (drop-drop n place image)
+    ∙ ap (λ (bytes : List ℕ). (place, bytes) ∷ rows_of size (runs (place + n) (drop n (drop place image))))
+    (sym (filled-lead image (drop place image) n place refl few))
+    ∙ ap (λ (xs : List (Option ℕ)). (place, filled_bytes image place n) ∷ rows_of size (runs (place + n) xs))
+    (drop-drop n place image)
 
 -- ---- the text of Intel HEX still to come
 
-pub ihex_image-end : (upper addr : ℕ) (image : List (Option ℕ)) → first_from image addr ≡ None → ihex_image_rest false upper addr image ≡ ihex_record 1 0 []
-ihex_image-end upper addr image none = ap (λ (cut : List (ℕ × List ℕ)). ihex_rows upper (rows_of ihex_row_size cut)) (walk-none addr (drop addr image) none)
+pub ihex_image-end : (upper addr : ℕ) (image : List (Option ℕ)) → first_from image addr ≡ None
+    → ihex_image_rest false upper addr image ≡ ihex_record 1 0 []
+ihex_image-end upper addr image none = ap (λ (cut : List (ℕ × List ℕ)). ihex_rows upper (rows_of ihex_row_size cut))
+    (walk-none addr (drop addr image) none)
 
-pub ihex_image-row : (upper addr place n : ℕ) (image : List (Option ℕ)) → first_from image addr ≡ Some place → place / 65536 ≡ upper
+pub ihex_image-row : (upper addr place n : ℕ) (image : List (Option ℕ)) → first_from image addr ≡ Some place
+    → place / 65536 ≡ upper
     → n ≡ min (ihex_row_size place) (length (lead (drop place image)))
-    → ihex_image_rest false upper addr image ≡ ihex_record 0 (place % 65536) (filled_bytes image place n) ++ ihex_image_rest false upper (place + n) image
+    → ihex_image_rest false upper addr image
+    ≡ ihex_record 0 (place % 65536) (filled_bytes image place n) ++ ihex_image_rest false upper (place + n) image
 ihex_image-row upper addr place n image found in_force is =
     let row : List ℕ = ihex_record 0 (place % 65536) (filled_bytes image place n) in
     let more : List (ℕ × List ℕ) = rows_of ihex_row_size (runs (place + n) (drop (place + n) image)) in
@@ -102,8 +116,10 @@ ihex_image-row upper addr place n image found in_force is =
     ∙ ap (λ (front : List ℕ). front ++ row ++ ihex_rows (place / 65536) more) (same_upper upper place in_force)
     ∙ ap (λ (high : ℕ). row ++ ihex_rows high more) in_force
 
-pub ihex_image-upper : (upper addr place : ℕ) (image : List (Option ℕ)) → first_from image addr ≡ Some place → (place / 65536 ≡ upper → ⊥)
-    → ihex_image_rest false upper addr image ≡ ihex_record 4 0 (two (place / 65536)) ++ ihex_image_rest false (place / 65536) addr image
+pub ihex_image-upper : (upper addr place : ℕ) (image : List (Option ℕ)) → first_from image addr ≡ Some place
+    → (place / 65536 ≡ upper → ⊥)
+    → ihex_image_rest false upper addr image
+    ≡ ihex_record 4 0 (two (place / 65536)) ++ ihex_image_rest false (place / 65536) addr image
 ihex_image-upper upper addr place image found other =
     let n : ℕ = min (ihex_row_size place) (length (lead (drop place image))) in
     let high : List ℕ = ihex_record 4 0 (two (place / 65536)) in
@@ -118,20 +134,26 @@ ihex_image-upper upper addr place image found other =
 
 -- ---- the text of S-records still to come
 
-pub srec_image-end : (size addr : ℕ) (image : List (Option ℕ)) → first_from image addr ≡ None → srec_image_rest false size addr image ≡ srec_record (11 - size) (low_bytes size 0)
-srec_image-end size addr image none = ap (λ (cut : List (ℕ × List ℕ)). srec_rows size (rows_of (λ _. 32) cut)) (walk-none addr (drop addr image) none)
+pub srec_image-end : (size addr : ℕ) (image : List (Option ℕ)) → first_from image addr ≡ None
+    → srec_image_rest false size addr image ≡ srec_record (11 - size) (low_bytes size 0)
+srec_image-end size addr image none = ap (λ (cut : List (ℕ × List ℕ)). srec_rows size (rows_of (λ _. 32) cut))
+    (walk-none addr (drop addr image) none)
 
 pub srec_image-row : (size addr place n : ℕ) (image : List (Option ℕ)) → first_from image addr ≡ Some place
     → n ≡ min 32 (length (lead (drop place image)))
-    → srec_image_rest false size addr image ≡ srec_record (size - 1) (low_bytes size place ++ filled_bytes image place n) ++ srec_image_rest false size (place + n) image
+    → srec_image_rest false size addr image ≡ srec_record (size - 1)
+    (low_bytes size place ++ filled_bytes image place n) ++ srec_image_rest false size (place + n) image
 srec_image-row size addr place n image found is =
     let more : List (ℕ × List ℕ) = rows_of (λ _. 32) (runs (place + n) (drop (place + n) image)) in
     ap (srec_rows size) (rows-walk (λ _. 32) addr place n image found (omega arith) is)
-    ∙ append_assoc (srec_record (size - 1) (low_bytes size place ++ filled_bytes image place n)) (flat_map (λ row. srec_record (size - 1) (low_bytes size row.0 ++ row.1)) more) (srec_record (11 - size) (low_bytes size 0))
+    ∙ append_assoc (srec_record (size - 1) (low_bytes size place ++ filled_bytes image place n))
+    (flat_map (λ row. srec_record (size - 1) (low_bytes size row.0 ++ row.1)) more)
+    (srec_record (11 - size) (low_bytes size 0))
 
 -- ---- the last address that holds a byte
 
-last-none : (last addr : ℕ) (image : List (Option ℕ)) → position_from is_some addr image ≡ None → last_held last addr image ≡ last
+last-none : (last addr : ℕ) (image : List (Option ℕ)) → position_from is_some addr image ≡ None
+    → last_held last addr image ≡ last
 last-none last addr [] is = refl
 last-none last addr (None ∷ image) is = last-none last (addr + 1) image is
 last-none last addr (Some b ∷ image) is = absurd (cc is)
@@ -146,10 +168,12 @@ last-next last addr place (None ∷ image) is =
 last-next last addr place (Some b ∷ image) is =
     let here : addr ≡ place = cc is in
     let none : 0 ≡ place - addr = omega (arith, here) in
-    ap (λ (n : ℕ). last_held last n (Some b ∷ image)) here ∙ ap (λ (n : ℕ). last_held last place (drop n (Some b ∷ image))) none
+    ap (λ (n : ℕ). last_held last n (Some b ∷ image)) here
+    ∙ ap (λ (n : ℕ). last_held last place (drop n (Some b ∷ image))) none
 
 last-lead : (last addr : ℕ) (image : List (Option ℕ)) → 0 < length (lead image)
-    → last_held last addr image ≡ last_held (addr + length (lead image) - 1) (addr + length (lead image)) (drop (length (lead image)) image)
+    → last_held last addr image ≡ last_held (addr + length (lead image) - 1) (addr + length (lead image))
+    (drop (length (lead image)) image)
 last-lead last addr [] some = absurd (omega (arith, some))
 last-lead last addr (None ∷ image) some = absurd (omega (arith, some))
 last-lead last addr (Some b ∷ []) some =
@@ -161,7 +185,8 @@ last-lead last addr (Some b ∷ Some c ∷ image) some =
     last-lead addr (addr + 1) (Some c ∷ image) (omega arith)
     ∙ ap (λ (n : ℕ). last_held (n - 1) n (drop (suc (length (lead image))) (Some c ∷ image))) next
 
-pub last-done : (last addr : ℕ) (image : List (Option ℕ)) → first_from image addr ≡ None → last_held last addr (drop addr image) ≡ last
+pub last-done : (last addr : ℕ) (image : List (Option ℕ)) → first_from image addr ≡ None
+    → last_held last addr (drop addr image) ≡ last
 last-done last addr image none = last-none last addr (drop addr image) none
 
 -- over the run that is found

@@ -49,12 +49,14 @@ plain-digits (c ∷ cs) all =
 
 pub encode-digits : (bytes : List ℕ) → IsBytes bytes → list_all is_hex_digit (encode_upper bytes) ≡ true
 encode-digits bytes all =
-    list_all-from_AllPass is_hex_digit (encode_upper bytes) (decode_of-ok (encode_upper bytes) bytes (decode_of-encode_upper bytes all)).1
+    list_all-from_AllPass is_hex_digit (encode_upper bytes)
+    (decode_of-ok (encode_upper bytes) bytes (decode_of-encode_upper bytes all)).1
 
 -- the digits of bytes read as those bytes
 pub bytes_of-encode : (bytes : List ℕ) → IsBytes bytes → bytes_of_digits (encode_upper bytes) ≡ Ok bytes
 bytes_of-encode bytes all =
-    ap (λ (digits : Bool). if not digits then Err Digit else decoded_bytes (decode_of (encode_upper bytes))) (encode-digits bytes all)
+    ap (λ (digits : Bool). if not digits then Err Digit else decoded_bytes (decode_of (encode_upper bytes)))
+    (encode-digits bytes all)
     ∙ ap decoded_bytes (decode_of-encode_upper bytes all)
 
 not-blank : (c : ℕ) → is_plain c ≡ true → is_blank c ≡ false
@@ -65,7 +67,8 @@ trimmed-plain : (line : List ℕ) → list_all is_plain line ≡ true → trimme
 trimmed-plain line plain =
     let all = AllPass-from_list_all is_plain line plain in
     let none : suffix_len is_blank line ≡ length line - length line =
-    suffix_len_is is_blank line (length line) 0 (omega arith) (λ k from below. absurd (omega arith)) (λ some. not-blank (get_or line (length line - 1) 0) (all (length line - 1) 0 (omega arith))) in
+    suffix_len_is is_blank line (length line) 0 (omega arith) (λ k from below. absurd (omega arith))
+    (λ some. not-blank (get_or line (length line - 1) 0) (all (length line - 1) 0 (omega arith))) in
     take_all (length line - suffix_len is_blank line) line (omega (arith, none))
 
 says-bare : (kind : Kind) (line : List ℕ) → said_by_line kind line ≡ unless_long (bare_says kind) line
@@ -90,12 +93,14 @@ lines-plain (c ∷ cs) rest plain =
     let goes_on : is_line_end c ≡ false = grind (arith, parts.0) in
     slice_split-cons_no is_line_end c (cs ++ 10 ∷ rest) goes_on ∙ ap (onto_first c) (lines-plain cs rest parts.1)
 
-pub lines-written : (line rest : List ℕ) → list_all is_plain line ≡ true → lines ((line ++ 10 ∷ []) ++ rest) ≡ line ∷ lines rest
+pub lines-written : (line rest : List ℕ) → list_all is_plain line ≡ true
+    → lines ((line ++ 10 ∷ []) ++ rest) ≡ line ∷ lines rest
 lines-written line rest plain = ap lines (append_assoc line (10 ∷ []) rest) ∙ lines-plain line rest plain
 
 -- ---- a record is one line
 
-open-lines : (line : List ℕ) → list_all (λ c. not (is_line_end c)) line ≡ true → lines (line ++ 10 ∷ []) ≡ line ∷ [] ∷ []
+open-lines : (line : List ℕ) → list_all (λ c. not (is_line_end c)) line ≡ true
+    → lines (line ++ 10 ∷ []) ≡ line ∷ [] ∷ []
 open-lines [] all = refl
 open-lines (c ∷ cs) all =
     let parts = and_parts (not (is_line_end c)) (list_all (λ c. not (is_line_end c)) cs) all in
@@ -108,7 +113,8 @@ open-plain (c ∷ cs) all =
     let parts = and_parts (is_plain c) (list_all is_plain cs) all in
     rw (and_parts (not (is_line_end c)) (not (is_blank c)) parts.0).0 (open-plain cs parts.1)
 
-open-append : (front back : List ℕ) → list_all (λ c. not (is_line_end c)) front ≡ true → list_all (λ c. not (is_line_end c)) back ≡ true
+open-append : (front back : List ℕ) → list_all (λ c. not (is_line_end c)) front ≡ true
+    → list_all (λ c. not (is_line_end c)) back ≡ true
     → list_all (λ c. not (is_line_end c)) (front ++ back) ≡ true
 open-append [] back all more = more
 open-append (c ∷ cs) back all more =
@@ -120,9 +126,11 @@ pub is-line : (marks bytes text : List ℕ) → list_all (λ c. not (is_line_end
 is-line marks bytes text plain all is =
     let line : List ℕ = marks ++ encode_upper bytes in
     let whole : lines (line ++ 10 ∷ []) ≡ line ∷ [] ∷ [] =
-    open-lines line (open-append marks (encode_upper bytes) plain (open-plain (encode_upper bytes) (plain-digits (encode_upper bytes) (encode-digits bytes all)))) in
+    open-lines line (open-append marks (encode_upper bytes) plain
+    (open-plain (encode_upper bytes) (plain-digits (encode_upper bytes) (encode-digits bytes all)))) in
     let front : take (length (line ++ 10 ∷ []) - 1) (line ++ 10 ∷ []) ≡ line =
-    ap (λ (n : ℕ). take n (line ++ 10 ∷ [])) (omega (arith, length-append line (10 ∷ []))) ∙ take_at line (10 ∷ []) (length line) refl in
+    ap (λ (n : ℕ). take n (line ++ 10 ∷ [])) (omega (arith, length-append line (10 ∷ [])))
+    ∙ take_at line (10 ∷ []) (length line) refl in
     rw is (whole ∙ ap (λ (first : List ℕ). first ∷ [] ∷ []) (sym front))
 
 -- the sum with one more byte

@@ -40,7 +40,8 @@ abbrev pub Every : (ℕ × List ℕ → Type 0) → List (ℕ × List ℕ) → T
 Every P [] = Unit {0}
 Every P (row ∷ rows) = P row × Every P rows
 
-pub rows_behind-are : (taken : ℕ) (size : ℕ → ℕ) (addr end : ℕ) (bytes : List ℕ) → ((a : ℕ) → 0 < size a) → addr + length bytes ≡ end → IsBytes bytes
+pub rows_behind-are : (taken : ℕ) (size : ℕ → ℕ) (addr end : ℕ) (bytes : List ℕ) → ((a : ℕ) → 0 < size a)
+    → addr + length bytes ≡ end → IsBytes bytes
     → Every (IsRow size end) (rows_behind taken size addr bytes)
 rows_behind-are taken size addr end [] wide is all = tt
 rows_behind-are (suc taken) size addr end (b ∷ bs) wide is all =
@@ -48,7 +49,13 @@ rows_behind-are (suc taken) size addr end (b ∷ bs) wide is all =
 rows_behind-are zero size addr end (b ∷ bs) wide is all =
     let some = wide addr in
     let len = length-take (size addr) (b ∷ bs) in (
-      record { some = omega arith; few = omega arith; below = omega arith; bytes = IsBytes-take (size addr) (b ∷ bs) all },
+      record {
+        some = omega arith;
+        few = omega arith;
+        below = omega arith;
+        bytes =
+            IsBytes-take (size addr) (b ∷ bs) all;
+      },
       rows_behind-are (size addr - 1) size (addr + 1) end bs wide (omega arith) (λ i. all (suc i)),
     )
 

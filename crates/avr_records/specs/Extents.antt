@@ -66,7 +66,7 @@ abbrev pub next_extent : Extent → Said → Result Extent RecordFault
 next_extent e said = extent_unless (fault_past_line e said) e (extended_by e said)
 
 -- It is what these lines leave, none of them at fault or an end record.
-pub record Measures (e : Extent) (said : List Said) : Type 0 where
+pub record IsExtentOf (e : Extent) (said : List Said) : Type 0 where
   pub no_end : list_any is_end said ≡ false
   pub no_fault : first_fault largest (in_place [] said) ≡ None
   pub reach : e.end ≡ end_of (flat_map placed_bytes (in_place [] said))

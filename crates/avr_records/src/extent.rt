@@ -2,7 +2,7 @@
 //! image.
 ghost use Rattle.std.specs.Prelude.{◌≡◌, ◌≤◌, ◌<◌, ◌+◌, ◌^◌, ◌++◌, length, None, Some, Ok, Err, MatchResult, IfErr, IfOk, OnOk};
 ghost use Rattle.std.specs.List.{enumerate_from};
-ghost use Rattle.avr_records.specs.Extents.{EndsAt, Measures, IsNear, fault_past, extended, ending_at, fault_past_line, extended_by, ending_said, next_extent};
+ghost use Rattle.avr_records.specs.Extents.{EndsAt, IsExtentOf, IsNear, fault_past, extended, ending_at, fault_past_line, extended_by, ending_said, next_extent};
 ghost use Rattle.avr_records.specs.Judging.{meaning_of, FitsKind};
 ghost use Rattle.avr_records.specs.Laying.{Near};
 ghost use Rattle.avr_records.specs.Reading.{places, in_line, said_by_line};

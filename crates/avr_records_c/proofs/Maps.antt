@@ -29,7 +29,8 @@ image_is addr present (b ∷ bytes) [] len each = absurd (omega (arith, len))
 image_is addr present (b ∷ bytes) (o ∷ image) len each =
     let first : o ≡ byte_if_there present addr b =
     each 0 (omega arith) ∙ ap (λ (a : ℕ). byte_if_there present a b) (omega arith) in
-    let rest : image ≡ image_from (suc addr) present bytes = image_is (suc addr) present bytes image (omega (arith, len))
+    let rest : image ≡ image_from (suc addr) present bytes =
+    image_is (suc addr) present bytes image (omega (arith, len))
     (λ i l. each (suc i) (omega arith) ∙ ap (λ (a : ℕ). byte_if_there present a (get_or bytes i 0)) (omega arith)) in
     ap₂ (λ (y : Option ℕ) (ys : List (Option ℕ)). y ∷ ys) first rest
 

@@ -7,7 +7,7 @@ use Rattle.avr_records.specs.declared.kind.Kind.{Kind}
 use Rattle.avr_records.specs.declared.kind.Kind.TheVariants.{Ihex, Srec}
 use Rattle.avr_records.proofs.Sparse.{ihex-image-reads-back, srec-image-reads-back}
 use Rattle.avr_records_c.specs.Bitmap.{is_there, image_from, image_of}
-use Rattle.avr_records_c.specs.Reading.{left_by}
+use Rattle.avr_records_c.specs.Reading.{left_in}
 use Rattle.avr_records_c.specs.RoundTrip.{EachIsByte, written_and_read}
 use Rattle.avr_records_c.specs.Writing.{image_text}
 
@@ -26,14 +26,19 @@ holds at present (b ∷ bytes) small (suc addr) byte is =
     holds (suc at) present bytes (λ i l. small (suc i) (omega (arith, l))) addr byte is
 
 reads : (kind : Kind) (present bytes : List ℕ) → length bytes ≤ 2 ^ 32 → EachIsByte bytes
-    → image_in_text kind (image_text kind (image_of present bytes)) (length (image_of present bytes)) ≡ Ok (image_of present bytes, Ended)
+    → image_in_text kind (image_text kind (image_of present bytes)) (length (image_of present bytes))
+    ≡ Ok (image_of present bytes, Ended)
 reads Ihex present bytes few small =
-    ihex-image-reads-back (image_of present bytes) (omega (arith, length-image 0 present bytes, few)) (holds 0 present bytes small)
+    ihex-image-reads-back (image_of present bytes) (omega (arith, length-image 0 present bytes, few))
+    (holds 0 present bytes small)
 reads Srec present bytes few small =
-    srec-image-reads-back (image_of present bytes) (omega (arith, length-image 0 present bytes, few)) (holds 0 present bytes small)
+    srec-image-reads-back (image_of present bytes) (omega (arith, length-image 0 present bytes, few))
+    (holds 0 present bytes small)
 
 pub reads_back : (kind : Kind) (present bytes : List ℕ) → length bytes ≤ 2 ^ 32 → EachIsByte bytes
-    → left_by bytes present (image_in_text kind (image_text kind (image_of present bytes)) (length bytes)) ≡ written_and_read present bytes
+    → left_in bytes present (image_in_text kind (image_text kind (image_of present bytes)) (length bytes))
+    ≡ written_and_read present bytes
 reads_back kind present bytes few small =
-    ap (left_by bytes present)
-    (ap (image_in_text kind (image_text kind (image_of present bytes))) (sym (length-image 0 present bytes)) ∙ reads kind present bytes few small)
+    ap (left_in bytes present)
+    (ap (image_in_text kind (image_text kind (image_of present bytes))) (sym (length-image 0 present bytes))
+    ∙ reads kind present bytes few small)

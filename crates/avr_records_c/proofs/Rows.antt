@@ -4,7 +4,7 @@ use Rattle.avr_records.specs.declared.fault.RecordFault.TheVariants.{BadSum, Out
 use Rattle.avr_records.specs.declared.kind.Kind.TheVariants.{Ihex, Srec}
 use Rattle.avr_records_c.specs.Numbers.{outcome_of_fault, misfit, no_records}
 use Rattle.avr_records_c.specs.Bitmap.{octets_of, bitmap, image_of}
-use Rattle.avr_records_c.specs.Reading.{Left, asked_read, left_by, Reads}
+use Rattle.avr_records_c.specs.Reading.{Left, asked_read, left_in, Reads}
 use Rattle.avr_records_c.specs.Writing.{Put, asked_write, put_from, put_none, Writes}
 
 abbrev gap_first : List (Option ℕ)
@@ -52,18 +52,21 @@ srec_of_eight : asked_write 2 8 1 ≡ Some Srec
 srec_of_eight = refl
 
 -- a fault changes no memory
-told_with_its_address : left_by (7 ∷ []) (8 ∷ []) (Err (OutOfRange 3 9))
+told_with_its_address : left_in (7 ∷ []) (8 ∷ []) (Err (OutOfRange 3 9))
     ≡ record { outcome = record { line = 3; address = 9; fault = 6; ended = false }; bytes = 7 ∷ []; present = 8 ∷ [] }
 told_with_its_address = refl
 
 -- a piece is as long as its room, but at the end
-from_the_middle : put_from (codes "abcdef") 2 (0 ∷ 0 ∷ 0 ∷ []) ≡ record { piece = record { length = 3; fault = 0 }; room = codes "cde" }
+from_the_middle : put_from (codes "abcdef") 2 (0 ∷ 0 ∷ 0 ∷ [])
+    ≡ record { piece = record { length = 3; fault = 0 }; room = codes "cde" }
 from_the_middle = refl
 
-at_the_end : put_from (codes "abcdef") 5 (0 ∷ 0 ∷ []) ≡ record { piece = record { length = 1; fault = 0 }; room = 102 ∷ 0 ∷ [] }
+at_the_end : put_from (codes "abcdef") 5 (0 ∷ 0 ∷ [])
+    ≡ record { piece = record { length = 1; fault = 0 }; room = 102 ∷ 0 ∷ [] }
 at_the_end = refl
 
-behind_the_end : put_from (codes "abcdef") 7 (1 ∷ []) ≡ record { piece = record { length = 0; fault = 0 }; room = 1 ∷ [] }
+behind_the_end : put_from (codes "abcdef") 7 (1 ∷ [])
+    ≡ record { piece = record { length = 0; fault = 0 }; room = 1 ∷ [] }
 behind_the_end = refl
 
 -- nothing is a good file: no call may tell a fault of it but want of memory, nor that it has an end record
@@ -72,7 +75,8 @@ no_fault_of_nothing (inl e) = let same : 4 ≡ 0 = ap (λ (l : Left). l.outcome.
 no_fault_of_nothing (inr e) = let same : 4 ≡ 10 = ap (λ (l : Left). l.outcome.fault) e in absurd (omega (arith, same))
 
 -- a misfit is told as one
-no_reading_of_a_fourth_kind : Reads 4 [] [] [] (record { outcome = outcome_of_fault (BadSum 1); bytes = []; present = [] }) → ⊥
+no_reading_of_a_fourth_kind : Reads 4 [] [] []
+    (record { outcome = outcome_of_fault (BadSum 1); bytes = []; present = [] }) → ⊥
 no_reading_of_a_fourth_kind e = let same : 4 ≡ 11 = ap (λ (l : Left). l.outcome.fault) e in absurd (omega (arith, same))
 
 -- and a file that is no record file as such

@@ -3,3 +3,5 @@ pub mod Bitmap
 pub mod Reading
 pub mod Writing
 pub mod RoundTrip
+-- of the crates below, what public contracts name
+pub use Rattle.avr_image.specs.Image

@@ -17,14 +17,14 @@ pub record Left : Type 0 where
   pub present : List ℕ
 
 -- an image goes into bytes, FF in its gaps, and a bitmap; after a fault both are as they were
-abbrev pub left_by : List ℕ → List ℕ → Result (List (Option ℕ) × Ending) RecordFault → Left
-left_by bytes present (Ok (image, ending)) =
+abbrev pub left_in : List ℕ → List ℕ → Result (List (Option ℕ) × Ending) RecordFault → Left
+left_in bytes present (Ok (image, ending)) =
     record {
       outcome = outcome_of_end ending;
       bytes = filled_bytes image 0 (length bytes);
       present = bitmap image (length present);
     }
-left_by bytes present (Err fault) = record { outcome = outcome_of_fault fault; bytes = bytes; present = present }
+left_in bytes present (Err fault) = record { outcome = outcome_of_fault fault; bytes = bytes; present = present }
 
 -- the kind of file, where file and memory have fewer than 2 to the power 32 bytes, the bitmap has as many octets as
 -- the memory needs, and the number is that of a kind; else the outcome that says what is wrong
@@ -37,6 +37,6 @@ asked_read kind text size present =
 abbrev pub Reads : ℕ → List ℕ → List ℕ → List ℕ → Left → Type 0
 Reads kind text bytes present left =
     MatchResult (asked_read kind (length text) (length bytes) (length present))
-    (λ k. (left ≡ left_by bytes present (image_in_text k text (length bytes)))
-    ⊎ (left ≡ left_by bytes present (Err Memory)))
+    (λ k. (left ≡ left_in bytes present (image_in_text k text (length bytes)))
+    ⊎ (left ≡ left_in bytes present (Err Memory)))
     (λ outcome. left ≡ record { outcome = outcome; bytes = bytes; present = present })

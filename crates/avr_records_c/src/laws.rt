@@ -4,7 +4,7 @@ ghost use Rattle.avr_image.specs.Image.{byte_at};
 ghost use Rattle.avr_records.specs.Reading.{image_in_text};
 ghost use Rattle.avr_records.specs.declared.kind.Kind.{Kind};
 ghost use Rattle.avr_records_c.specs.Bitmap.{bitmap, image_of, is_there};
-ghost use Rattle.avr_records_c.specs.Reading.{left_by};
+ghost use Rattle.avr_records_c.specs.Reading.{left_in};
 ghost use Rattle.avr_records_c.specs.RoundTrip.{EachIsByte, written_and_read};
 ghost use Rattle.avr_records_c.specs.Writing.{image_text};
 
@@ -20,6 +20,6 @@ pub fn a_bitmap_says_what_is_there()
 #[tactic(auto, using(crate::proofs::RoundTrip::reads_back))]
 pub fn what_is_written_reads_back()
     ensures { (kind : Kind) (present bytes : List ℕ) → length bytes ≤ 2 ^ 32 → EachIsByte bytes
-        → left_by bytes present (image_in_text kind (image_text kind (image_of present bytes)) (length bytes))
+        → left_in bytes present (image_in_text kind (image_text kind (image_of present bytes)) (length bytes))
         ≡ written_and_read present bytes }
 {}

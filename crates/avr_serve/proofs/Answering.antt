@@ -12,20 +12,23 @@ use Rattle.stk_emu.specs.Emulator.{Machine, IsFed, Answers, emulate}
 use Rattle.stk_emu.proofs.Answering.{answers_more, frames_fed, is_fed, emulated}
 use Rattle.avr_serve.specs.Serving.{AnswersAll, BreaksOff}
 
-pub all_nothing : (p : Programmer) (text : List ℕ) (machine : Machine) → IsFed p text machine → AnswersAll p text [] [] machine
+pub all_nothing : (p : Programmer) (text : List ℕ) (machine : Machine) → IsFed p text machine
+    → AnswersAll p text [] [] machine
 all_nothing p text machine f = record {
   fed = subst (λ t. IsFed p t machine) (sym (append-nil text)) f;
   answered = ap (emulate p) (append-nil text) ∙ sym (append-nil (emulate p text));
 }
 
 -- what the emulator tells of one call
-pub all_fed : (p : Programmer) (text used out : List ℕ) (old now : Machine) → Answers old used now out → IsFed p text old → AnswersAll p text used out now
+pub all_fed : (p : Programmer) (text used out : List ℕ) (old now : Machine) → Answers old used now out
+    → IsFed p text old → AnswersAll p text used out now
 all_fed p text used out old now a f = record {
   fed = is_fed old now used out p text a f;
   answered = emulated old now used out p text a f;
 }
 
-pub all_more : (p : Programmer) (text a x b y : List ℕ) (mid now : Machine) → AnswersAll p text a x mid → AnswersAll p (text ++ a) b y now → AnswersAll p text (a ++ b) (x ++ y) now
+pub all_more : (p : Programmer) (text a x b y : List ℕ) (mid now : Machine) → AnswersAll p text a x mid
+    → AnswersAll p (text ++ a) b y now → AnswersAll p text (a ++ b) (x ++ y) now
 all_more p text a x b y mid now first then = record {
   fed = subst (λ t. IsFed p t now) (append_assoc text a b) then.fed;
   answered =
@@ -34,7 +37,8 @@ all_more p text a x b y mid now first then = record {
       ∙ (ap (λ o. o ++ y) first.answered ∙ append_assoc (emulate p text) x y));
 }
 
-pub breaks_more : (p : Programmer) (text a x b y : List ℕ) (mid now : Machine) → AnswersAll p text a x mid → BreaksOff p (text ++ a) b y now → BreaksOff p text (a ++ b) (x ++ y) now
+pub breaks_more : (p : Programmer) (text a x b y : List ℕ) (mid now : Machine) → AnswersAll p text a x mid
+    → BreaksOff p (text ++ a) b y now → BreaksOff p text (a ++ b) (x ++ y) now
 breaks_more p text a x b y mid now first then = record {
   used = a ++ then.used;
   unused = then.unused;
@@ -51,11 +55,14 @@ breaks_more p text a x b y mid now first then = record {
 }
 
 -- an answer that was not sent whole is one to a frame, the last that was fed
-breaks_found : (p : Programmer) (text used unused out part unsent : List ℕ) (old now : Machine) (found : List (List ℕ)) → length found ≤ 1
-    → frames (text ++ used) ≡ frames text ++ found → out ≡ answers device found old.programmer → old.programmer ≡ after_frames device (frames text) p
+breaks_found : (p : Programmer) (text used unused out part unsent : List ℕ) (old now : Machine) (found : List (List ℕ))
+    → length found ≤ 1
+    → frames (text ++ used) ≡ frames text ++ found → out ≡ answers device found old.programmer
+    → old.programmer ≡ after_frames device (frames text) p
     → IsFed p (text ++ used) now → out ≡ part ++ unsent → 0 < length unsent → BreaksOff p text (used ++ unused) part now
 breaks_found p text used unused out part unsent old now [] few fs answered at fed is some =
-    absurd (let e : length out ≡ length part + length unsent = ap length is ∙ length-append part unsent in let z : length out ≡ 0 = ap length answered in omega arith)
+    absurd (let e : length out ≡ length part + length unsent = ap length is ∙ length-append part unsent in
+    let z : length out ≡ 0 = ap length answered in omega arith)
 breaks_found p text used unused out part unsent old now (frame ∷ []) few fs answered at fed is some = record {
   used = used;
   unused = unused;
@@ -66,33 +73,42 @@ breaks_found p text used unused out part unsent old now (frame ∷ []) few fs an
   frames_are = fs;
   part = part;
   unsent = unsent;
-  answer_is = ap (answer_frame device frame) (sym at) ∙ (sym (append-nil (answer_frame device frame old.programmer)) ∙ (sym answered ∙ is));
+  answer_is = ap (answer_frame device frame) (sym at)
+      ∙ (sym (append-nil (answer_frame device frame old.programmer)) ∙ (sym answered ∙ is));
   not_whole = some;
   sent_is = refl;
 }
-breaks_found p text used unused out part unsent old now (frame ∷ other ∷ more) few fs answered at fed is some = absurd (omega arith)
+breaks_found p text used unused out part unsent old now (frame ∷ other ∷ more) few fs answered at fed is some =
+    absurd (omega arith)
 
-pub breaks_here : (p : Programmer) (text used unused out part unsent : List ℕ) (old now : Machine) → Answers old used now out → IsFed p text old → out ≡ part ++ unsent → 0 < length unsent
+pub breaks_here : (p : Programmer) (text used unused out part unsent : List ℕ) (old now : Machine)
+    → Answers old used now out → IsFed p text old → out ≡ part ++ unsent → 0 < length unsent
     → BreaksOff p text (used ++ unused) part now
 breaks_here p text used unused out part unsent old now a f is some =
     breaks_found p text used unused out part unsent old now a.found a.few
-    (frames_fed old.held used now.held a.found text a.fed a.are_frames f.stands) a.answered f.obeyed (is_fed old now used out p text a f) is some
+    (frames_fed old.held used now.held a.found text a.fed a.are_frames f.stands) a.answered f.obeyed
+    (is_fed old now used out p text a f) is some
 
 -- the answers to a front are a front of the answers
 answers_front : (p : Programmer) (x y : List ℕ) → IsPrefixOf (emulate p x) (emulate p (x ++ y))
 answers_front p x y =
     let later : List (List ℕ) = filter is_frame (cut (rest x ++ y)) in
-    let all : frames (x ++ y) ≡ frames x ++ later = ap (filter is_frame) (cut_append x y) ∙ filter-append is_frame (cut x) (cut (rest x ++ y)) in
-    (answers device later (after_frames device (frames x) p), sym (ap (λ fs. answers device fs p) all ∙ answers_more device (frames x) later p))
+    let all : frames (x ++ y) ≡ frames x ++ later =
+    ap (filter is_frame) (cut_append x y) ∙ filter-append is_frame (cut x) (cut (rest x ++ y)) in (
+      answers device later (after_frames device (frames x) p),
+      sym (ap (λ fs. answers device fs p) all ∙ answers_more device (frames x) later p),
+    )
 
 -- so is what was sent of them
-pub breaks_front : (p : Programmer) (text bytes out : List ℕ) (now : Machine) → BreaksOff p text bytes out now → IsPrefixOf (emulate p text ++ out) (emulate p (text ++ bytes))
+pub breaks_front : (p : Programmer) (text bytes out : List ℕ) (now : Machine) → BreaksOff p text bytes out now
+    → IsPrefixOf (emulate p text ++ out) (emulate p (text ++ bytes))
 breaks_front p text bytes out now b =
     let front = answers_front p (text ++ b.used) b.unused in
     let so_far : emulate p (text ++ b.used) ≡ (emulate p text ++ out) ++ b.unsent =
     ap (λ fs. answers device fs p) b.frames_are
     ∙ (answers_more device b.earlier (b.last ∷ []) p
-    ∙ (ap (λ o. answers device b.earlier p ++ o) (append-nil (answer_frame device b.last (after_frames device b.earlier p)) ∙ b.answer_is)
+    ∙ (ap (λ o. answers device b.earlier p ++ o)
+    (append-nil (answer_frame device b.last (after_frames device b.earlier p)) ∙ b.answer_is)
     ∙ (sym (append_assoc (answers device b.earlier p) b.part b.unsent) ∙ ap (λ o. o ++ b.unsent) (sym b.sent_is)))) in (
       b.unsent ++ front.0,
       sym (append_assoc (emulate p text ++ out) b.unsent front.0)

@@ -15,7 +15,8 @@ says_both x y a b c first then = record {
   during = first.during ++ then.during;
   grows = grows_on a b c first.during then.during first.grows then.grows;
   quiet = quiet_append first.during then.during first.quiet then.quiet;
-  bytes_sent = sent_append first.during then.during ∙ (ap (λ bs. bs ++ sent then.during) first.bytes_sent ∙ ap (λ bs. x ++ bs) then.bytes_sent);
+  bytes_sent = sent_append first.during then.during
+      ∙ (ap (λ bs. bs ++ sent then.during) first.bytes_sent ∙ ap (λ bs. x ++ bs) then.bytes_sent);
 }
 
 pub replies_none : (machine : Machine) (o : LinkView) → Replies machine [] o o machine
@@ -26,19 +27,23 @@ replies_none machine o = record {
 }
 
 -- what is behind the first n bytes is fed, up to the first answer, which is sent
-pub replies_more : (piece part out : List ℕ) (n used : ℕ) (old mid now : Machine) (a b c : LinkView) → Replies old (take n piece) a b mid → part ≡ drop n piece
+pub replies_more : (piece part out : List ℕ) (n used : ℕ) (old mid now : Machine) (a b c : LinkView)
+    → Replies old (take n piece) a b mid → part ≡ drop n piece
     → Answers mid (take used part) now out → Says out b.talk c.talk → Replies old (take (n + used) piece) a c now
 replies_more piece part out n used old mid now a b c r is one says = record {
   out = r.out ++ out;
   says = says_both r.out out a.talk b.talk c.talk r.says says;
   answers = λ p text f.
       let first = r.answers p text f in
-      subst (λ bs. AnswersAll p text bs (r.out ++ out) now) (ap (λ bs. take n piece ++ take used bs) is ∙ sym (take-add n used piece))
-      (all_more p text (take n piece) r.out (take used part) out mid now first (all_fed p (text ++ take n piece) (take used part) out mid now one first.fed));
+      subst (λ bs. AnswersAll p text bs (r.out ++ out) now)
+      (ap (λ bs. take n piece ++ take used bs) is ∙ sym (take-add n used piece))
+      (all_more p text (take n piece) r.out (take used part) out mid now first
+      (all_fed p (text ++ take n piece) (take used part) out mid now one first.fed));
 }
 
 -- or of which only a part is sent
-pub replies_part : (piece part out : List ℕ) (n used : ℕ) (old mid now : Machine) (a b c : LinkView) → Replies old (take n piece) a b mid → part ≡ drop n piece
+pub replies_part : (piece part out : List ℕ) (n used : ℕ) (old mid now : Machine) (a b c : LinkView)
+    → Replies old (take n piece) a b mid → part ≡ drop n piece
     → Answers mid (take used part) now out → SaysPart out b.talk c.talk → RepliesPart old piece a c now
 replies_part piece part out n used old mid now a b c r is one s = record {
   out = r.out ++ s.part;
@@ -48,5 +53,6 @@ replies_part piece part out n used old mid now a b c r is one s = record {
       subst (λ bs. BreaksOff p text bs (r.out ++ s.part) now)
       (ap (λ bs. take n piece ++ bs) (take-append-drop used part ∙ is) ∙ take-append-drop n piece)
       (breaks_more p text (take n piece) r.out (take used part ++ drop used part) s.part mid now first
-      (breaks_here p (text ++ take n piece) (take used part) (drop used part) out s.part s.unsent mid now one first.fed s.bytes_are s.not_whole));
+      (breaks_here p (text ++ take n piece) (take used part) (drop used part) out s.part s.unsent mid now one first.fed
+      s.bytes_are s.not_whole));
 }

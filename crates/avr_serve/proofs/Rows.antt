@@ -32,4 +32,5 @@ abbrev short : Talk
 short = Got (on_tape frame) ∷ (Sent (0x1B ∷ 0x09 ∷ 0x00 ∷ 0x02 ∷ 0x0E ∷ 0x05 ∷ 0xC9 ∷ []) ∷ (Got (End ∷ []) ∷ []))
 
 pub not_short : (p : Programmer) → AnswersInTurn p [] [] short → ⊥
-not_short p in_turn = let less : 0x1B ∷ 0x09 ∷ 0x00 ∷ 0x02 ∷ 0x0E ∷ 0x05 ∷ 0xC9 ∷ [] ≡ answer = in_turn.1.0 in absurd (cc)
+not_short p in_turn = let less : 0x1B ∷ 0x09 ∷ 0x00 ∷ 0x02 ∷ 0x0E ∷ 0x05 ∷ 0xC9 ∷ [] ≡ answer = in_turn.1.0 in
+    absurd (cc)

@@ -36,16 +36,20 @@ in_turn_quiet p text out (Sent bytes ∷ talk) quiet = in_turn_quiet p text (out
 in_turn_quiet p text out (Got tape ∷ talk) quiet = absurd quiet
 
 -- one talk behind another
-pub in_turn_append : (p : Programmer) (text out : List ℕ) (x y : Talk) → AnswersInTurn p text out x → AnswersInTurn p (text ++ bytes_of (heard x)) (out ++ sent x) y
+pub in_turn_append : (p : Programmer) (text out : List ℕ) (x y : Talk) → AnswersInTurn p text out x
+    → AnswersInTurn p (text ++ bytes_of (heard x)) (out ++ sent x) y
     → AnswersInTurn p text out (x ++ y)
 in_turn_append p text out [] y f g =
-    subst (λ t. AnswersInTurn p t out y) (append-nil text) (subst (λ o. AnswersInTurn p (text ++ []) o y) (append-nil out) g)
+    subst (λ t. AnswersInTurn p t out y) (append-nil text)
+    (subst (λ o. AnswersInTurn p (text ++ []) o y) (append-nil out) g)
 in_turn_append p text out (Sent bytes ∷ x) y f g =
-    in_turn_append p text (out ++ bytes) x y f (subst (λ o. AnswersInTurn p (text ++ bytes_of (heard x)) o y) (sym (append_assoc out bytes (sent x))) g)
+    in_turn_append p text (out ++ bytes) x y f
+    (subst (λ o. AnswersInTurn p (text ++ bytes_of (heard x)) o y) (sym (append_assoc out bytes (sent x))) g)
 in_turn_append p text out (Got tape ∷ x) y f g = (
   f.0,
   in_turn_append p (text ++ bytes_of tape) out x y f.1
       (subst (λ t. AnswersInTurn p t (out ++ sent x) y)
-      (ap (λ bs. text ++ bs) (bytes_of_append tape (heard x)) ∙ sym (append_assoc text (bytes_of tape) (bytes_of (heard x))))
+      (ap (λ bs. text ++ bs) (bytes_of_append tape (heard x))
+      ∙ sym (append_assoc text (bytes_of tape) (bytes_of (heard x))))
       g),
 )

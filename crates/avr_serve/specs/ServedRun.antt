@@ -92,8 +92,8 @@ abbrev pub sides : LinkView → DeskView → Sides
 sides link desk = record { link = link; desk = desk }
 
 -- no call of the link or of the desk failed
-abbrev pub NoneFailed : Sides → Sides → Type 0
-NoneFailed old new = (new.link.failures ≡ old.link.failures) × HasSameCounts old.desk new.desk
+abbrev pub ServedSoundly : Sides → Sides → Type 0
+ServedSoundly old new = (new.link.failures ≡ old.link.failures) × HasSameCounts old.desk new.desk
 
 -- A fresh emulator with this chip served a link in at most so many reads: what was sent are its answers to what was
 -- heard, all of them before the next read, unless a send failed. How that ended was told, and whatever it was, the chip

@@ -10,7 +10,8 @@ use Rattle.avr_session.specs.Run.{RunsSession}
 use Rattle.avr_session.specs.Runs.{Cause, OfSending, OfListening, OfFile, OfPrinting, OfMemory, NotCreated, NotWritten, Devices, StopsBehind, untold}
 
 -- what stops it is a failure of the link, or the link has not failed
-by_cause : (takes : Bool) (old new : Devices) (said : List Saying) (cause : Cause) (told : Bytes) → StopsBehind (untold takes) old new said cause told
+by_cause : (takes : Bool) (old new : Devices) (said : List Saying) (cause : Cause) (told : Bytes)
+    → StopsBehind (untold takes) old new said cause told
     → (new.link.failures ≡ old.link.failures) ⊎ HasRisen old.link.failures new.link.failures
 by_cause takes old new said OfSending told stops = inr stops.has_come.0
 by_cause takes old new said OfListening told stops = inr stops.has_come.0

@@ -91,37 +91,48 @@ link_stops : {A : Type 0} (by : Broken) (outcome : Result A HostFault) → outco
 link_stops Send outcome is = subst IsStop (sym is) tt
 link_stops Recv outcome is = subst IsStop (sym is) tt
 
-link_cause : {A : Type 0} (by : Broken) (outcome : Result A HostFault) → outcome ≡ Err (fault_of by) → cause_of outcome ≡ broken_cause by
+link_cause : {A : Type 0} (by : Broken) (outcome : Result A HostFault) → outcome ≡ Err (fault_of by)
+    → cause_of outcome ≡ broken_cause by
 link_cause Send outcome is = ap cause_of is
 link_cause Recv outcome is = ap cause_of is
 
-link_not : {A : Type 0} (by : Broken) (outcome : Result A HostFault) → outcome ≡ Err (fault_of by) → outcome ≡ Err Memory → ⊥
+link_not : {A : Type 0} (by : Broken) (outcome : Result A HostFault) → outcome ≡ Err (fault_of by)
+    → outcome ≡ Err Memory → ⊥
 link_not Send outcome is other = cc
 link_not Recv outcome is other = cc
 
--- How a call ended: it was played whole to an outcome that does not stop the run; or the link broke it off; or memory was
+-- How a call ended: it was played whole to an outcome that does not stop the run; or the link broke it off; or memory
+-- was
 -- refused before anything was sent or heard, where memory is taken.
-abbrev pub Ended : {A : Type 0} → Bool → Dialog ⊥ (Result A HostFault) → Position → LinkView → LinkView → Result A HostFault → Position → Type 0
+abbrev pub Ended : {A : Type 0} → Bool → Dialog ⊥ (Result A HostFault) → Position → LinkView → LinkView
+    → Result A HostFault → Position → Type 0
 Ended takes dialog m o p outcome n =
     (PlaysOver dialog m o p outcome n × (after_outcome outcome ≡ Ok (standing outcome)))
-    ⊎ (((by : Broken) × (outcome ≡ Err (fault_of by)) × FailsOver by dialog m o p) ⊎ ((takes ≡ true) × IsMemory outcome × (p ≡ o)))
+    ⊎ (((by : Broken) × (outcome ≡ Err (fault_of by)) × FailsOver by dialog m o p)
+    ⊎ ((takes ≡ true) × IsMemory outcome × (p ≡ o)))
 
 -- memory is refused only where it is taken
-pub lacks_where : {A : Type 0} (takes : Bool) (dialog : Dialog ⊥ (Result A HostFault)) (m : Position) (o p : LinkView) (outcome : Result A HostFault) (n : Position) → Ended takes dialog m o p outcome n → IsMemory outcome → takes ≡ true
+pub lacks_where : {A : Type 0} (takes : Bool) (dialog : Dialog ⊥ (Result A HostFault)) (m : Position) (o p : LinkView)
+    (outcome : Result A HostFault) (n : Position) → Ended takes dialog m o p outcome n → IsMemory outcome → takes ≡ true
 lacks_where takes dialog m o p outcome n (inl played) is =
     let e = subst (λ x. after_outcome x ≡ Ok (standing x)) (memory_is outcome is) played.1 in
     cc
-lacks_where takes dialog m o p outcome n (inr (inl broke)) is = absurd (link_not broke.0 outcome broke.1 (memory_is outcome is))
+lacks_where takes dialog m o p outcome n (inr (inl broke)) is =
+    absurd (link_not broke.0 outcome broke.1 (memory_is outcome is))
 lacks_where takes dialog m o p outcome n (inr (inr lacks)) is = lacks.0
 
 -- where none is taken, only the link breaks off a call
-pub only_broken : {A : Type 0} (dialog : Dialog ⊥ (Result A HostFault)) (m : Position) (o p : LinkView) (outcome : Result A HostFault) (n : Position) → Ended false dialog m o p outcome n → IsStop outcome → IsBroken outcome
+pub only_broken : {A : Type 0} (dialog : Dialog ⊥ (Result A HostFault)) (m : Position) (o p : LinkView)
+    (outcome : Result A HostFault) (n : Position) → Ended false dialog m o p outcome n → IsStop outcome
+    → IsBroken outcome
 only_broken dialog m o p outcome n ended stop = elim (stop_kind outcome stop) [
   | inl broken ↦ broken
   | inr lacks ↦ let e = lacks_where false dialog m o p outcome n ended lacks in absurd (cc)
 ]
 
-pub call_ended : {A : Type 0} (dialog : Dialog ⊥ (Result A HostFault)) (m : Position) (o p : LinkView) (outcome : Result A HostFault) (n : Position) → (PlaysOver dialog m o p (Err Memory) n → ⊥) → EndsCall dialog m o p outcome n → Ended false dialog m o p outcome n
+pub call_ended : {A : Type 0} (dialog : Dialog ⊥ (Result A HostFault)) (m : Position) (o p : LinkView)
+    (outcome : Result A HostFault) (n : Position) → (PlaysOver dialog m o p (Err Memory) n → ⊥)
+    → EndsCall dialog m o p outcome n → Ended false dialog m o p outcome n
 call_ended dialog m o p (Ok a) n never ends = inl (ends, refl)
 call_ended dialog m o p (Err NoAnswer) n never ends = inl (ends, refl)
 call_ended dialog m o p (Err LinkEnded) n never ends = inl (ends, refl)
@@ -135,7 +146,9 @@ call_ended dialog m o p (Err (ReadOnly mem)) n never ends = inl (ends, refl)
 call_ended dialog m o p (Err Memory) n never ends = absurd (never ends)
 call_ended dialog m o p (Err RecvFailed) n never ends = inr (inl (Recv, refl, ends))
 
-pub lack_ended : {A : Type 0} (dialog : Dialog ⊥ (Result A HostFault)) (m : Position) (o p : LinkView) (outcome : Result A HostFault) (n : Position) → EndsOrLacks dialog m o p outcome n → Ended true dialog m o p outcome n
+pub lack_ended : {A : Type 0} (dialog : Dialog ⊥ (Result A HostFault)) (m : Position) (o p : LinkView)
+    (outcome : Result A HostFault) (n : Position) → EndsOrLacks dialog m o p outcome n
+    → Ended true dialog m o p outcome n
 lack_ended dialog m o p (Ok a) n ends = inl (ends, refl)
 lack_ended dialog m o p (Err NoAnswer) n ends = inl (ends, refl)
 lack_ended dialog m o p (Err LinkEnded) n ends = inl (ends, refl)
@@ -155,16 +168,19 @@ abbrev IsLacking : {A : Type 0} → Option (Result A HostFault × ℕ × Tape) �
 IsLacking None = ⊥
 IsLacking (Some x) = IsMemory x.0
 
-judged_not : {A : Type 0} (judge : Outcome → Result A HostFault) → ((outcome : Outcome) → IsMemory (judge outcome) → ⊥) → (o : Option (Outcome × ℕ × Tape)) → IsLacking (continued {E = ⊥} o (λ a. played (Done (judge a)))).outcome → ⊥
+judged_not : {A : Type 0} (judge : Outcome → Result A HostFault) → ((outcome : Outcome) → IsMemory (judge outcome) → ⊥)
+    → (o : Option (Outcome × ℕ × Tape)) → IsLacking (continued {E = ⊥} o (λ a. played (Done (judge a)))).outcome → ⊥
 judged_not judge not None is = is
 judged_not judge not (Some x) is = not x.0 is
 
-judged_lacks_none : {A : Type 0} {m n : Position} {o p : LinkView} (first : Dialog ⊥ Outcome) (judge : Outcome → Result A HostFault) → ((outcome : Outcome) → IsMemory (judge outcome) → ⊥)
+judged_lacks_none : {A : Type 0} {m n : Position} {o p : LinkView} (first : Dialog ⊥ Outcome)
+    (judge : Outcome → Result A HostFault) → ((outcome : Outcome) → IsMemory (judge outcome) → ⊥)
     → PlaysOver (first >>= λ outcome. Done (judge outcome)) m o p (Err Memory) n → ⊥
 judged_lacks_none {A = A} {m = m} first judge not f =
     let tape = on_tape m.unread ++ (heard f.during ++ []) in
     judged_not judge not (played first m.next tape).outcome
-    (subst (λ (p : Played ⊥ (Result A HostFault)). IsLacking p.outcome) (sym (f.plays.plays []) ∙ played_bind first (λ outcome. Done (judge outcome)) m.next tape) tt)
+    (subst (λ (p : Played ⊥ (Result A HostFault)). IsLacking p.outcome)
+    (sym (f.plays.plays []) ∙ played_bind first (λ outcome. Done (judge outcome)) m.next tape) tt)
 
 host_fault_not : (A : Type 0) (fault : StepFault) → IsMemory {A = A} (Err (host_fault fault)) → ⊥
 host_fault_not A of_step.NoAnswer is = is
@@ -181,7 +197,8 @@ done_not : (outcome : Outcome) → IsMemory (judged_by no_result outcome) → �
 done_not (Ok bytes) is = is
 done_not (Err fault) is = host_fault_not (Unit {0}) fault is
 
-signature_not : (wanted : List ℕ) (force : Bool) (outcome : Outcome) → IsMemory (signature_judged wanted force outcome) → ⊥
+signature_not : (wanted : List ℕ) (force : Bool) (outcome : Outcome) → IsMemory (signature_judged wanted force outcome)
+    → ⊥
 signature_not wanted true (Ok found) is = is
 signature_not wanted false (Ok found) is = by_test (bytes_eq found wanted) is
   where
@@ -190,29 +207,36 @@ signature_not wanted false (Ok found) is = by_test (bytes_eq found wanted) is
     by_test false is = is
 signature_not wanted force (Err fault) is = host_fault_not (List ℕ) fault is
 
-pub opening_lacks_none : {m n : Position} {o p : LinkView} (wanted : List ℕ) (force : Bool) → PlaysOver (opening wanted force) m o p (Err Memory) n → ⊥
+pub opening_lacks_none : {m n : Position} {o p : LinkView} (wanted : List ℕ) (force : Bool)
+    → PlaysOver (opening wanted force) m o p (Err Memory) n → ⊥
 unfolding opening
-opening_lacks_none wanted force f = judged_lacks_none handshake (signature_judged wanted force) (signature_not wanted force) f
+opening_lacks_none wanted force f = judged_lacks_none handshake (signature_judged wanted force)
+    (signature_not wanted force) f
 
 pub closing_lacks_none : {m n : Position} {o p : LinkView} → PlaysOver closing m o p (Err Memory) n → ⊥
 unfolding closing
 closing_lacks_none f = judged_lacks_none (step (leave ∷ [])) without_bytes ended_not f
 
-operation_lacks_none : {m n : Position} {o p : LinkView} (steps : List (List Command)) → PlaysOver (operation steps no_result) m o p (Err Memory) n → ⊥
+operation_lacks_none : {m n : Position} {o p : LinkView} (steps : List (List Command))
+    → PlaysOver (operation steps no_result) m o p (Err Memory) n → ⊥
 unfolding operation
 operation_lacks_none steps f = judged_lacks_none (play steps []) (judged_by no_result) done_not f
 
 pub erasing_lacks_none : {m n : Position} {o p : LinkView} → PlaysOver erasing m o p (Err Memory) n → ⊥
 erasing_lacks_none f = operation_lacks_none ((erase ∷ []) ∷ []) f
 
-pub writing_lacks_none : {m n : Position} {o p : LinkView} (part : Part) (mem : Mem) (image : List (Option ℕ)) → PlaysOver (writing part mem image) m o p (Err Memory) n → ⊥
+pub writing_lacks_none : {m n : Position} {o p : LinkView} (part : Part) (mem : Mem) (image : List (Option ℕ))
+    → PlaysOver (writing part mem image) m o p (Err Memory) n → ⊥
 writing_lacks_none {m = m} {n = n} {o = o} {p = p} part mem image f = by_test (is_writable mem) f
   where
-    by_test : (writes : Bool) → PlaysOver (if writes then operation (write_steps part mem image) no_result else Done (Err (ReadOnly mem))) m o p (Err Memory) n → ⊥
+    by_test : (writes : Bool) → PlaysOver (if writes then operation (write_steps part mem image) no_result
+        else Done (Err (ReadOnly mem))) m o p (Err Memory) n → ⊥
     by_test true f = operation_lacks_none (write_steps part mem image) f
-    by_test false f = subst (λ (p : Played ⊥ (Result (Unit {0}) HostFault)). IsLacking p.outcome) (sym (f.plays.plays [])) tt
+    by_test false f = subst (λ (p : Played ⊥ (Result (Unit {0}) HostFault)). IsLacking p.outcome)
+        (sym (f.plays.plays [])) tt
 
-stop_goes : {A : Type 0} (outcome : Result A HostFault) (told : Result (Unit {0}) Stopped) → IsStop outcome → conclusion outcome told ≡ Err (record {})
+stop_goes : {A : Type 0} (outcome : Result A HostFault) (told : Result (Unit {0}) Stopped) → IsStop outcome
+    → conclusion outcome told ≡ Err (record {})
 stop_goes (Ok a) told stop = absurd stop
 stop_goes (Err NoAnswer) told stop = absurd stop
 stop_goes (Err LinkEnded) told stop = absurd stop
@@ -230,13 +254,15 @@ stop_goes (Err RecvFailed) (Ok ok) stop = refl
 stop_goes (Err RecvFailed) (Err stopped) stop = refl
 
 -- the line of a fault that stops the run tells why it does
-pub told_of : {A : Type 0} (old new : DeskView) (part : Part) (good : A → List Saying) (outcome : Result A HostFault) (told : Result (Unit {0}) Stopped) → Reports PrintStops old new (fault_or part good outcome) told
+pub told_of : {A : Type 0} (old new : DeskView) (part : Part) (good : A → List Saying) (outcome : Result A HostFault)
+    (told : Result (Unit {0}) Stopped) → Reports PrintStops old new (fault_or part good outcome) told
     → IsStop outcome → Tells old new (cause_line (cause_of outcome))
 unfolding cause_line fault_line
 told_of old new part good (Ok x) told reports stop = absurd stop
 told_of old new part good (Err NoAnswer) told reports stop = absurd stop
 told_of old new part good (Err LinkEnded) told reports stop = absurd stop
-told_of old new part good (Err SendFailed) told reports stop = told_some old new (fault_line part SendFailed) told reports
+told_of old new part good (Err SendFailed) told reports stop =
+    told_some old new (fault_line part SendFailed) told reports
 told_of old new part good (Err Babble) told reports stop = absurd stop
 told_of old new part good (Err (Refused command status)) told reports stop = absurd stop
 told_of old new part good (Err (BadAnswer command)) told reports stop = absurd stop
@@ -244,10 +270,12 @@ told_of old new part good (Err (WrongSignature found)) told reports stop = absur
 told_of old new part good (Err (Differs mem address want found)) told reports stop = absurd stop
 told_of old new part good (Err (ReadOnly mem)) told reports stop = absurd stop
 told_of old new part good (Err Memory) told reports stop = told_some old new (fault_line part Memory) told reports
-told_of old new part good (Err RecvFailed) told reports stop = told_some old new (fault_line part RecvFailed) told reports
+told_of old new part good (Err RecvFailed) told reports stop =
+    told_some old new (fault_line part RecvFailed) told reports
 
 -- the link fails only where the outcome says so
-unbroken : {A P : Type 0} (outcome : Result A HostFault) → after_outcome outcome ≡ Ok (standing outcome) → UnlessBroken outcome P → P
+unbroken : {A P : Type 0} (outcome : Result A HostFault) → after_outcome outcome ≡ Ok (standing outcome)
+    → UnlessBroken outcome P → P
 unbroken (Ok x) goes p = p
 unbroken (Err NoAnswer) goes p = p
 unbroken (Err LinkEnded) goes p = p
@@ -265,7 +293,9 @@ pub sound_lack : {A P : Type 0} (outcome : Result A HostFault) → IsMemory outc
 sound_lack {P = P} outcome is p = subst (λ x. UnlessBroken x P) (memory_is outcome is) p
 
 -- what stops a run is counted, or is want of memory
-pub stop_is : {A : Type 0} (outcome : Result A HostFault) (takes : Bool) (o p : LinkView) (d : DeskView) → (IsBroken outcome → link.HasFailed o p) → (IsMemory outcome → (takes ≡ true) × (p.failures ≡ o.failures)) → IsStop outcome → HasCome takes (devices o d) (devices p d) (cause_of outcome)
+pub stop_is : {A : Type 0} (outcome : Result A HostFault) (takes : Bool) (o p : LinkView) (d : DeskView)
+    → (IsBroken outcome → link.HasFailed o p) → (IsMemory outcome → (takes ≡ true) × (p.failures ≡ o.failures))
+    → IsStop outcome → HasCome takes (devices o d) (devices p d) (cause_of outcome)
 stop_is (Ok x) takes o p d failed lacks stop = absurd stop
 stop_is (Err NoAnswer) takes o p d failed lacks stop = absurd stop
 stop_is (Err LinkEnded) takes o p d failed lacks stop = absurd stop
@@ -280,23 +310,42 @@ stop_is (Err Memory) takes o p d failed lacks stop = let lack = lacks tt in (lac
 stop_is (Err RecvFailed) takes o p d failed lacks stop = (failed tt, same_here d)
 
 -- An operation and its report are a phase of a session.
-pub operation_runs : {A : Type 0} {operation : Dialog ⊥ (Result A HostFault)} (takes : Bool) (outcome_says : Result A HostFault → List Saying) {m n : Position} {o p : LinkView} {d e : DeskView} (outcome : Result A HostFault)
-    (said : Result (Unit {0}) Stopped) (terms : Terms) (By : DeskView → DeskView → Cause → List ℕ → Type 0) → StopsReport terms p d e (outcome_says outcome) By
-    → Ended takes operation m o p outcome n → length n.unread ≤ 281 → UnlessBroken outcome (p.failures ≡ o.failures) → SaysOrStops By d e (outcome_says outcome) said → (IsStop outcome → ToldBy terms (cause_of outcome) (devices o d) (devices p e))
-    → Runs (reported operation outcome_says) m (devices o d) (devices p e) terms (AtOnce takes) (conclusion outcome said) n
-operation_runs {operation = operation} takes outcome_says {m = m} {n = n} {o = o} {p = p} {d = d} {e = e} outcome (Ok done) terms By why (inl played) few link reports some =
-    subst (λ r. Runs (reported operation outcome_says) m (devices o d) (devices p e) terms (AtOnce takes) r n) (sym played.1)
-    (ran_from (came_on (came_lifted (λ outcome. says (outcome_says outcome) (Done (standing outcome))) d played.0 few (unbroken outcome played.1 link)) (came_said (outcome_says outcome) (Done (standing outcome)) n p reports)))
-operation_runs {operation = operation} takes outcome_says {m = m} {n = n} {o = o} {p = p} {d = d} {e = e} outcome (Err stopped) terms By why (inl played) few link reports some =
-    broke_lifted (λ outcome. says (outcome_says outcome) (Done (standing outcome))) played.0 few (unbroken outcome played.1 link)
+pub operation_runs : {A : Type 0} {operation : Dialog ⊥ (Result A HostFault)} (takes : Bool)
+    (outcome_says : Result A HostFault → List Saying) {m n : Position} {o p : LinkView} {d e : DeskView}
+    (outcome : Result A HostFault)
+    (said : Result (Unit {0}) Stopped) (terms : Terms) (By : DeskView → DeskView → Cause → List ℕ → Type 0)
+    → StopsReport terms p d e (outcome_says outcome) By
+    → Ended takes operation m o p outcome n → length n.unread ≤ 281 → UnlessBroken outcome (p.failures ≡ o.failures)
+    → SaysOrStops By d e (outcome_says outcome) said
+    → (IsStop outcome → ToldBy terms (cause_of outcome) (devices o d) (devices p e))
+    → Runs (reported operation outcome_says) m (devices o d) (devices p e) terms (AtOnce takes)
+    (conclusion outcome said) n
+operation_runs {operation = operation} takes outcome_says {m = m} {n = n} {o = o} {p = p} {d = d} {e = e} outcome
+    (Ok done) terms By why (inl played) few link reports some =
+    subst (λ r. Runs (reported operation outcome_says) m (devices o d) (devices p e) terms (AtOnce takes) r n)
+    (sym played.1)
+    (ran_from (came_on (came_lifted (λ outcome. says (outcome_says outcome) (Done (standing outcome))) d played.0 few
+    (unbroken outcome played.1 link)) (came_said (outcome_says outcome) (Done (standing outcome)) n p reports)))
+operation_runs {operation = operation} takes outcome_says {m = m} {n = n} {o = o} {p = p} {d = d} {e = e} outcome
+    (Err stopped) terms By why (inl played) few link reports some =
+    broke_lifted (λ outcome. says (outcome_says outcome) (Done (standing outcome))) played.0 few
+    (unbroken outcome played.1 link)
     (broke_saying (outcome_says outcome) (Done (standing outcome)) n p why reports)
-operation_runs {operation = operation} takes outcome_says {m = m} {n = n} {o = o} {p = p} {d = d} {e = e} outcome said terms By why (inr (inl broke)) few link reports some =
+operation_runs {operation = operation} takes outcome_says {m = m} {n = n} {o = o} {p = p} {d = d} {e = e} outcome said
+    terms By why (inr (inl broke)) few link reports some =
     let stop = link_stops broke.0 outcome broke.1 in
-    let why_not : ToldBy terms (broken_cause broke.0) (devices o d) (devices p e) = subst (λ cause. ToldBy terms cause (devices o d) (devices p e)) (link_cause broke.0 outcome broke.1) (some stop) in
-    subst (λ r. Runs (reported operation outcome_says) m (devices o d) (devices p e) terms (AtOnce takes) r n) (sym (stop_goes outcome said stop))
+    let why_not : ToldBy terms (broken_cause broke.0) (devices o d) (devices p e) =
+    subst (λ cause. ToldBy terms cause (devices o d) (devices p e)) (link_cause broke.0 outcome broke.1)
+    (some stop) in
+    subst (λ r. Runs (reported operation outcome_says) m (devices o d) (devices p e) terms (AtOnce takes) r n)
+    (sym (stop_goes outcome said stop))
     (broke_operation broke.0 (λ outcome. says (outcome_says outcome) (Done (standing outcome))) broke.2 why_not)
-operation_runs {operation = operation} takes outcome_says {m = m} {n = n} {o = o} {p = p} {d = d} {e = e} outcome said terms By why (inr (inr lacks)) few link reports some =
+operation_runs {operation = operation} takes outcome_says {m = m} {n = n} {o = o} {p = p} {d = d} {e = e} outcome said
+    terms By why (inr (inr lacks)) few link reports some =
     let stop = memory_stops outcome lacks.1 in
-    let why_not : ToldBy terms OfMemory (devices o d) (devices p e) = subst (λ cause. ToldBy terms cause (devices o d) (devices p e)) (ap cause_of (memory_is outcome lacks.1)) (some stop) in
-    subst (λ r. Runs (reported operation outcome_says) m (devices o d) (devices p e) terms (AtOnce takes) r n) (sym (stop_goes outcome said stop))
+    let why_not : ToldBy terms OfMemory (devices o d) (devices p e) =
+    subst (λ cause. ToldBy terms cause (devices o d) (devices p e)) (ap cause_of (memory_is outcome lacks.1))
+    (some stop) in
+    subst (λ r. Runs (reported operation outcome_says) m (devices o d) (devices p e) terms (AtOnce takes) r n)
+    (sym (stop_goes outcome said stop))
     (broke_lacking (reported operation outcome_says) m lacks.2 why_not (lacks.0, refl))

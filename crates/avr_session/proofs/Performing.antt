@@ -49,15 +49,27 @@ unfolding cause_line
 printing_tells false told d none = inl (none, same_here d)
 printing_tells true told d none = none
 
-pub print_stops_run : (terms : Terms) (o : LinkView) (d e : DeskView) → Follows d e → (said : List Saying) (cause : Cause) (told : List ℕ) → PrintStops d e cause told → StopsBehind terms (devices o d) (devices o e) said cause told
+pub print_stops_run : (terms : Terms) (o : LinkView) (d e : DeskView) → Follows d e
+    → (said : List Saying) (cause : Cause) (told : List ℕ) → PrintStops d e cause told
+    → StopsBehind terms (devices o d) (devices o e) said cause told
 print_stops_run terms o d e le said OfSending told stops = absurd stops
 print_stops_run terms o d e le said OfListening told stops = absurd stops
 print_stops_run terms o d e le said (OfFile file trouble) told stops = absurd stops
-print_stops_run terms o d e le said OfPrinting told stops = record { between = e; has_come = (stops.0, refl); tells = printing_tells (terms.was_told || tells_fault said) told e stops.1; since = le; until = follows_here e }
+print_stops_run terms o d e le said OfPrinting told stops =
+    record {
+      between = e;
+      has_come = (stops.0, refl);
+      tells =
+          printing_tells (terms.was_told || tells_fault said) told e stops.1;
+      since = le;
+      until = follows_here e;
+    }
 print_stops_run terms o d e le said OfMemory told stops = absurd stops
 
 -- at a file too, where no fault was told
-desk_stops_run : (takes : Bool) (o : LinkView) (d e : DeskView) → Follows d e → (said : List Saying) → tells_fault said ≡ false → (cause : Cause) (told : List ℕ) → DeskStops d e cause told → StopsBehind (untold takes) (devices o d) (devices o e) said cause told
+desk_stops_run : (takes : Bool) (o : LinkView) (d e : DeskView) → Follows d e → (said : List Saying)
+    → tells_fault said ≡ false → (cause : Cause) (told : List ℕ) → DeskStops d e cause told
+    → StopsBehind (untold takes) (devices o d) (devices o e) said cause told
 desk_stops_run takes o d e le said none OfSending told stops = absurd stops
 desk_stops_run takes o d e le said none OfListening told stops = absurd stops
 desk_stops_run takes o d e le said none (OfFile file trouble) told stops = record {
@@ -67,25 +79,33 @@ desk_stops_run takes o d e le said none (OfFile file trouble) told stops = recor
   since = stops.since;
   until = stops.until;
 }
-desk_stops_run takes o d e le said none OfPrinting told stops = print_stops_run (untold takes) o d e le said OfPrinting told stops
+desk_stops_run takes o d e le said none OfPrinting told stops =
+    print_stops_run (untold takes) o d e le said OfPrinting told stops
 desk_stops_run takes o d e le said none OfMemory told stops = absurd stops
 
 -- what a report stops by, behind a front of what it says
 
-pub print_stops_report : (takes : Bool) (o : LinkView) {d e : DeskView} {sayings : List Saying} {told : Result (Unit {0}) Stopped} → Reports PrintStops d e sayings told → StopsReport (untold takes) o d e sayings PrintStops
-print_stops_report takes o {d = d} {e = e} reports mid cause front told stops = print_stops_run (untold takes) o d e reports.follows (front.whole ++ front.begun) cause told stops
+pub print_stops_report : (takes : Bool) (o : LinkView) {d e : DeskView} {sayings : List Saying}
+    {told : Result (Unit {0}) Stopped} → Reports PrintStops d e sayings told
+    → StopsReport (untold takes) o d e sayings PrintStops
+print_stops_report takes o {d = d} {e = e} reports mid cause front told stops =
+    print_stops_run (untold takes) o d e reports.follows (front.whole ++ front.begun) cause told stops
 
-desk_stops_report : (takes : Bool) (o : LinkView) (d e : DeskView) (sayings : List Saying) → Follows d e → tells_fault sayings ≡ false → StopsReport (untold takes) o d e sayings DeskStops
-desk_stops_report takes o d e sayings le none mid cause front told stops = desk_stops_run takes o d e le (front.whole ++ front.begun) (front_tells_none front none) cause told stops
+desk_stops_report : (takes : Bool) (o : LinkView) (d e : DeskView) (sayings : List Saying) → Follows d e
+    → tells_fault sayings ≡ false → StopsReport (untold takes) o d e sayings DeskStops
+desk_stops_report takes o d e sayings le none mid cause front told stops =
+    desk_stops_run takes o d e le (front.whole ++ front.begun) (front_tells_none front none) cause told stops
 
 -- the line of another fault than a signature's stands alone
-pub opening_told : (old new : DeskView) (quiet : ℕ) (part : Part) (outcome : Result (List ℕ) HostFault) (told : Result (Unit {0}) Stopped) → Reports PrintStops old new (opening_says quiet part outcome) told
+pub opening_told : (old new : DeskView) (quiet : ℕ) (part : Part) (outcome : Result (List ℕ) HostFault)
+    (told : Result (Unit {0}) Stopped) → Reports PrintStops old new (opening_says quiet part outcome) told
     → IsStop outcome → Tells old new (cause_line (cause_of outcome))
 unfolding cause_line fault_line
 opening_told old new quiet part (Ok x) told reports stop = absurd stop
 opening_told old new quiet part (Err NoAnswer) told reports stop = absurd stop
 opening_told old new quiet part (Err LinkEnded) told reports stop = absurd stop
-opening_told old new quiet part (Err SendFailed) told reports stop = told_some old new (fault_line part SendFailed) told reports
+opening_told old new quiet part (Err SendFailed) told reports stop =
+    told_some old new (fault_line part SendFailed) told reports
 opening_told old new quiet part (Err Babble) told reports stop = absurd stop
 opening_told old new quiet part (Err (Refused command status)) told reports stop = absurd stop
 opening_told old new quiet part (Err (BadAnswer command)) told reports stop = absurd stop
@@ -93,10 +113,12 @@ opening_told old new quiet part (Err (WrongSignature found)) told reports stop =
 opening_told old new quiet part (Err (Differs mem address want found)) told reports stop = absurd stop
 opening_told old new quiet part (Err (ReadOnly mem)) told reports stop = absurd stop
 opening_told old new quiet part (Err Memory) told reports stop = told_some old new (fault_line part Memory) told reports
-opening_told old new quiet part (Err RecvFailed) told reports stop = told_some old new (fault_line part RecvFailed) told reports
+opening_told old new quiet part (Err RecvFailed) told reports stop =
+    told_some old new (fault_line part RecvFailed) told reports
 
 -- the host serves after any outcome that leaves the line
-serves_after : {A : Type 0} (outcome : Result A HostFault) (told : Result (Unit {0}) Stopped) (broken : Option HostFault) → broken ≡ lasting_fault outcome → HostServes (conclusion outcome told) broken
+serves_after : {A : Type 0} (outcome : Result A HostFault) (told : Result (Unit {0}) Stopped)
+    (broken : Option HostFault) → broken ≡ lasting_fault outcome → HostServes (conclusion outcome told) broken
 serves_after (Ok a) (Ok ok) broken is = is
 serves_after (Err NoAnswer) (Ok ok) broken is = is
 serves_after (Err LinkEnded) (Ok ok) broken is = tt
@@ -112,43 +134,72 @@ serves_after (Err RecvFailed) (Ok ok) broken is = tt
 serves_after outcome (Err stopped) broken is = tt
 
 -- a cause that was told
-told_by : {A : Type 0} (takes : Bool) (outcome : Result A HostFault) (o p : LinkView) (d e : DeskView) → (IsBroken outcome → link.HasFailed o p) → (IsMemory outcome → (takes ≡ true) × (p.failures ≡ o.failures)) → IsStop outcome → Tells d e (cause_line (cause_of outcome))
+told_by : {A : Type 0} (takes : Bool) (outcome : Result A HostFault) (o p : LinkView) (d e : DeskView)
+    → (IsBroken outcome → link.HasFailed o p) → (IsMemory outcome → (takes ≡ true) × (p.failures ≡ o.failures))
+    → IsStop outcome → Tells d e (cause_line (cause_of outcome))
     → ToldBy (untold takes) (cause_of outcome) (devices o d) (devices p e)
-told_by takes outcome o p d e failed lacks stop some = (some.told, record { between = d; has_come = stop_is outcome takes o p d failed lacks stop; tells = some.tells; since = follows_here d; until = some.follows }, some.kept)
+told_by takes outcome o p d e failed lacks stop some = (
+  some.told,
+  record {
+    between = d;
+    has_come = stop_is outcome takes o p d failed lacks stop;
+    tells = some.tells;
+    since = follows_here d;
+    until = some.follows;
+  },
+  some.kept,
+)
 
 -- an operation of the host and its report
-pub operation_performs : {A : Type 0} {Ends : Position → LinkView → LinkView → Result A HostFault → Position → Type 0} (takes : Bool) (operation : Dialog ⊥ (Result A HostFault)) (outcome_says : Result A HostFault → List Saying) {old new : HostState} {o p : LinkView} {d e : DeskView} (outcome : Result A HostFault)
-    (told : Result (Unit {0}) Stopped) (result : Result Standing Stopped) (By : DeskView → DeskView → Cause → List ℕ → Type 0) → StopsReport (untold takes) p d e (outcome_says outcome) By
-    → old.broken ≡ None → CallsBy Ends old new o p outcome → (Ends old.progress o p outcome new.progress → Ended takes operation old.progress o p outcome new.progress)
-    → Reports By d e (outcome_says outcome) told → (IsStop outcome → Tells d e (cause_line (cause_of outcome))) → result ≡ conclusion outcome told
+pub operation_performs : {A : Type 0} {Ends : Position → LinkView → LinkView → Result A HostFault → Position → Type 0}
+    (takes : Bool) (operation : Dialog ⊥ (Result A HostFault)) (outcome_says : Result A HostFault → List Saying)
+    {old new : HostState} {o p : LinkView} {d e : DeskView} (outcome : Result A HostFault)
+    (told : Result (Unit {0}) Stopped) (result : Result Standing Stopped)
+    (By : DeskView → DeskView → Cause → List ℕ → Type 0)
+    → StopsReport (untold takes) p d e (outcome_says outcome) By
+    → old.broken ≡ None → CallsBy Ends old new o p outcome
+    → (Ends old.progress o p outcome new.progress → Ended takes operation old.progress o p outcome new.progress)
+    → Reports By d e (outcome_says outcome) told → (IsStop outcome → Tells d e (cause_line (cause_of outcome)))
+    → result ≡ conclusion outcome told
     → Performs takes (reported operation outcome_says) old new (devices o d) (devices p e) result
-operation_performs takes operation outcome_says {old = old} {new = new} {o = o} {p = p} {d = d} {e = e} outcome told result By why sound calls ends reports some is =
+operation_performs takes operation outcome_says {old = old} {new = new} {o = o} {p = p} {d = d} {e = e} outcome told
+    result By why sound calls ends reports some is =
     let ended = ends (calls.played sound) in
     let takes_where = lacks_where takes operation old.progress o p outcome new.progress ended in
-    let lacks : IsMemory outcome → (takes ≡ true) × (p.failures ≡ o.failures) = λ is. (takes_where is, sound_lack outcome is (calls.sound sound)) in
+    let lacks : IsMemory outcome → (takes ≡ true) × (p.failures ≡ o.failures) =
+    λ is. (takes_where is, sound_lack outcome is (calls.sound sound)) in
     record {
-      runs = subst (λ r. Runs (reported operation outcome_says) old.progress (devices o d) (devices p e) (untold takes) (AtOnce takes) r new.progress) (sym is)
-          (operation_runs takes outcome_says outcome told (untold takes) By why ended (calls.bound sound) (calls.sound sound) reports.says (λ stop. told_by takes outcome o p d e (calls.failed sound) lacks stop (some stop)));
+      runs = subst (λ r. Runs (reported operation outcome_says) old.progress (devices o d) (devices p e) (untold takes)
+          (AtOnce takes) r new.progress) (sym is)
+          (operation_runs takes outcome_says outcome told (untold takes) By why ended (calls.bound sound)
+          (calls.sound sound) reports.says (λ stop. told_by takes outcome o p d e (calls.failed sound) lacks stop
+          (some stop)));
       serves = subst (λ r. HostServes r new.broken) (sym is) (serves_after outcome told new.broken (calls.lasts sound));
       part = calls.part;
       link = calls.counted;
       desk = reports.follows;
     }
 
-left_out_runs : (takes : Bool) (sayings : List Saying) (m : Position) (o : LinkView) (d e : DeskView) (told : Result (Unit {0}) Stopped) → Reports PrintStops d e sayings told
+left_out_runs : (takes : Bool) (sayings : List Saying) (m : Position) (o : LinkView) (d e : DeskView)
+    (told : Result (Unit {0}) Stopped) → Reports PrintStops d e sayings told
     → Runs (says sayings (Done Fine)) m (devices o d) (devices o e) (untold takes) (AtOnce takes) (fine_if_said told) m
 left_out_runs takes sayings m o d e (Ok done) reports = ran_from (came_said sayings (Done Fine) m o reports.says)
-left_out_runs takes sayings m o d e (Err stopped) reports = broke_saying sayings (Done Fine) m o (print_stops_report takes o reports) reports.says
+left_out_runs takes sayings m o d e (Err stopped) reports =
+    broke_saying sayings (Done Fine) m o (print_stops_report takes o reports) reports.says
 
-left_out_serves : (told : Result (Unit {0}) Stopped) (broken : Option HostFault) → broken ≡ None → HostServes (fine_if_said told) broken
+left_out_serves : (told : Result (Unit {0}) Stopped) (broken : Option HostFault) → broken ≡ None
+    → HostServes (fine_if_said told) broken
 left_out_serves (Ok done) broken sound = sound
 left_out_serves (Err stopped) broken sound = tt
 
 -- something said in its place
-pub left_out_performs : (takes : Bool) (sayings : List Saying) {host : HostState} {o : LinkView} {d e : DeskView} (result : Result Standing Stopped) → host.broken ≡ None → LeavesOut sayings d e result
+pub left_out_performs : (takes : Bool) (sayings : List Saying) {host : HostState} {o : LinkView} {d e : DeskView}
+    (result : Result Standing Stopped) → host.broken ≡ None → LeavesOut sayings d e result
     → Performs takes (says sayings (Done Fine)) host host (devices o d) (devices o e) result
 left_out_performs takes sayings {host = host} {o = o} {d = d} {e = e} result sound leaves = record {
-  runs = subst (λ r. Runs (says sayings (Done Fine)) host.progress (devices o d) (devices o e) (untold takes) (AtOnce takes) r host.progress) (sym leaves.result_is) (left_out_runs takes sayings host.progress o d e leaves.told leaves.reports);
+  runs = subst (λ r. Runs (says sayings (Done Fine)) host.progress (devices o d) (devices o e) (untold takes)
+      (AtOnce takes) r host.progress) (sym leaves.result_is)
+      (left_out_runs takes sayings host.progress o d e leaves.told leaves.reports);
   serves = subst (λ r. HostServes r host.broken) (sym leaves.result_is) (left_out_serves leaves.told host.broken sound);
   part = refl;
   link = omega arith;
@@ -156,7 +207,8 @@ left_out_performs takes sayings {host = host} {o = o} {d = d} {e = e} result sou
 }
 
 -- nothing
-nothing_performs : {L : Lacking} (takes : Bool) (host : HostState) (o : Devices) → host.broken ≡ None → PerformsBehind (untold takes) L (Done Fine) host host o o (Ok Fine)
+nothing_performs : {L : Lacking} (takes : Bool) (host : HostState) (o : Devices) → host.broken ≡ None
+    → PerformsBehind (untold takes) L (Done Fine) host host o o (Ok Fine)
 nothing_performs takes host o sound = record {
   runs = ran_from (came_here (Done Fine) host.progress o);
   serves = sound;
@@ -166,10 +218,15 @@ nothing_performs takes host o sound = record {
 }
 
 -- any phase goes on as its result chooses
-pub performs_on : {first : Dialog Saying Standing} {K L M : Lacking} (takes more_takes : Bool) (go_on : Standing → Dialog Saying Standing) {x y z : HostState} {o p q : Devices} (standing : Standing) (result : Result Standing Stopped)
-    → (more_takes ≡ true → takes ≡ true) → Foretells first → (done : PerformsBehind (untold takes) K first x y o p (Ok standing))
-    → ((during : Talk) (shown : List (Event Saying)) → M y.progress during shown → L x.progress (done.runs.during ++ during) (done.runs.events ++ shown))
-    → PerformsBehind (record { takes = more_takes; was_told = is_told standing }) M (go_on standing) y z p q result → PerformsBehind (untold takes) L (first >>= go_on) x z o q result
+pub performs_on : {first : Dialog Saying Standing} {K L M : Lacking} (takes more_takes : Bool)
+    (go_on : Standing → Dialog Saying Standing) {x y z : HostState} {o p q : Devices} (standing : Standing)
+    (result : Result Standing Stopped)
+    → (more_takes ≡ true → takes ≡ true) → Foretells first
+    → (done : PerformsBehind (untold takes) K first x y o p (Ok standing))
+    → ((during : Talk) (shown : List (Event Saying)) → M y.progress during shown
+    → L x.progress (done.runs.during ++ during) (done.runs.events ++ shown))
+    → PerformsBehind (record { takes = more_takes; was_told = is_told standing }) M (go_on standing) y z p q result
+    → PerformsBehind (untold takes) L (first >>= go_on) x z o q result
 performs_on takes more_takes go_on {o = o} {p = p} {q = q} standing (Ok then) both foretells done lack rest = record {
   runs = ran_on (came_part go_on done.runs) rest.runs;
   serves = rest.serves;
@@ -177,13 +234,16 @@ performs_on takes more_takes go_on {o = o} {p = p} {q = q} standing (Ok then) bo
   link = omega (arith, done.link, rest.link);
   desk = follows_on o.desk p.desk q.desk done.desk rest.desk;
 }
-performs_on takes more_takes go_on {o = o} {p = p} {q = q} standing (Err stopped) both foretells done lack rest = record {
-  runs = broke_after go_on done.runs (stops_in (record { takes = more_takes; was_told = is_told standing }) (untold takes) (sayings done.runs.events) o p q both done.runs.sound (foretold foretells done.runs)) lack rest.runs;
-  serves = tt;
-  part = rest.part ∙ done.part;
-  link = omega (arith, done.link, rest.link);
-  desk = follows_on o.desk p.desk q.desk done.desk rest.desk;
-}
+performs_on takes more_takes go_on {o = o} {p = p} {q = q} standing (Err stopped) both foretells done lack rest =
+    record {
+      runs = broke_after go_on done.runs (stops_in (record { takes = more_takes; was_told = is_told standing })
+          (untold takes) (sayings done.runs.events) o p q both done.runs.sound (foretold foretells done.runs)) lack
+          rest.runs;
+      serves = tt;
+      part = rest.part ∙ done.part;
+      link = omega (arith, done.link, rest.link);
+      desk = follows_on o.desk p.desk q.desk done.desk rest.desk;
+    }
 
 -- memory is taken in the one or in the other
 
@@ -195,27 +255,54 @@ or_then : (b c : Bool) → c ≡ true → (b || c) ≡ true
 or_then true c is = refl
 or_then false c is = is
 
-performs_with : {dialog : Dialog Saying Standing} {L : Lacking} (takes more_takes : Bool) {x y : HostState} {o p : Devices} (standing : Standing) → PerformsBehind (untold takes) L dialog x y o p (Ok standing) → PerformsBehind (untold (takes || more_takes)) L dialog x y o p (Ok standing)
-performs_with takes more_takes standing done = record { runs = done.runs; serves = done.serves; part = done.part; link = done.link; desk = done.desk }
+performs_with : {dialog : Dialog Saying Standing} {L : Lacking} (takes more_takes : Bool) {x y : HostState}
+    {o p : Devices} (standing : Standing) → PerformsBehind (untold takes) L dialog x y o p (Ok standing)
+    → PerformsBehind (untold (takes || more_takes)) L dialog x y o p (Ok standing)
+performs_with takes more_takes standing done =
+    record { runs = done.runs; serves = done.serves; part = done.part; link = done.link; desk = done.desk }
 
 -- one phase after another
-performs_then : {first more : Dialog Saying Standing} {K L M : Lacking} (takes more_takes : Bool) {x y z : HostState} {o p q : Devices} (result : Result Standing Stopped)
+performs_then : {first more : Dialog Saying Standing} {K L M : Lacking} (takes more_takes : Bool) {x y z : HostState}
+    {o p q : Devices} (result : Result Standing Stopped)
     → Foretells first → (done : PerformsBehind (untold takes) K first x y o p (Ok Fine))
-    → ((during : Talk) (shown : List (Event Saying)) → M y.progress during shown → L x.progress (done.runs.during ++ during) (done.runs.events ++ shown))
-    → PerformsBehind (untold more_takes) M more y z p q result → PerformsBehind (untold (takes || more_takes)) L (first >>= unless_fault more) x z o q result
+    → ((during : Talk) (shown : List (Event Saying)) → M y.progress during shown
+    → L x.progress (done.runs.during ++ during) (done.runs.events ++ shown))
+    → PerformsBehind (untold more_takes) M more y z p q result
+    → PerformsBehind (untold (takes || more_takes)) L (first >>= unless_fault more) x z o q result
 unfolding performs_with
 performs_then {more = more} takes more_takes result foretells done lack rest =
-    performs_on (takes || more_takes) more_takes (unless_fault more) Fine result (or_then takes more_takes) foretells (performs_with takes more_takes Fine done) lack rest
+    performs_on (takes || more_takes) more_takes (unless_fault more) Fine result (or_then takes more_takes) foretells
+    (performs_with takes more_takes Fine done) lack rest
 
 -- a phase that is the last
-performs_last : {first : Dialog Saying Standing} {L M : Lacking} (takes more_takes : Bool) (more : Dialog Saying Standing) {x y : HostState} {o p : Devices} (result : Result Standing Stopped) → (result ≡ Ok Fine → ⊥)
+performs_last : {first : Dialog Saying Standing} {L M : Lacking} (takes more_takes : Bool)
+    (more : Dialog Saying Standing) {x y : HostState} {o p : Devices} (result : Result Standing Stopped)
+    → (result ≡ Ok Fine → ⊥)
     → ((during : Talk) (shown : List (Event Saying)) → M x.progress during shown → L x.progress during shown)
-    → PerformsBehind (untold takes) M first x y o p result → PerformsBehind (untold (takes || more_takes)) L (first >>= unless_fault more) x y o p result
+    → PerformsBehind (untold takes) M first x y o p result
+    → PerformsBehind (untold (takes || more_takes)) L (first >>= unless_fault more) x y o p result
 performs_last takes more_takes more (Ok Fine) not lack done = absurd (not refl)
-performs_last takes more_takes more (Ok Faulty) not lack done = record { runs = ran_from (came_part (unless_fault more) done.runs); serves = done.serves; part = done.part; link = done.link; desk = done.desk }
-performs_last takes more_takes more (Ok Over) not lack done = record { runs = ran_from (came_part (unless_fault more) done.runs); serves = done.serves; part = done.part; link = done.link; desk = done.desk }
+performs_last takes more_takes more (Ok Faulty) not lack done =
+    record {
+      runs = ran_from (came_part (unless_fault more) done.runs);
+      serves = done.serves;
+      part = done.part;
+      link =
+          done.link;
+      desk = done.desk;
+    }
+performs_last takes more_takes more (Ok Over) not lack done =
+    record {
+      runs = ran_from (came_part (unless_fault more) done.runs);
+      serves = done.serves;
+      part = done.part;
+      link =
+          done.link;
+      desk = done.desk;
+    }
 performs_last takes more_takes more {o = o} {p = p} (Err stopped) not lack done = record {
-  runs = broke_part (unless_fault more) (stops_since takes (takes || more_takes) false o o p (or_first takes more_takes) (none_failed_here o)) lack done.runs;
+  runs = broke_part (unless_fault more) (stops_since takes (takes || more_takes) false o o p (or_first takes more_takes)
+      (none_failed_here o)) lack done.runs;
   serves = done.serves;
   part = done.part;
   link = done.link;
@@ -225,7 +312,8 @@ performs_last takes more_takes more {o = o} {p = p} (Err stopped) not lack done 
 -- ---- where memory is taken
 
 -- at once in the only action
-taking_one : (part : Part) (s : Switches) (action : Action) (m : Position) (during : Talk) (shown : List (Event Saying)) → AtOnce (action_takes_memory action) m during shown → AtTaking part s (action ∷ []) m during shown
+taking_one : (part : Part) (s : Switches) (action : Action) (m : Position) (during : Talk) (shown : List (Event Saying))
+    → AtOnce (action_takes_memory action) m during shown → AtTaking part s (action ∷ []) m during shown
 taking_one part s action m during shown at = record {
   done = [];
   due = action;
@@ -234,11 +322,13 @@ taking_one part s action m during shown at = record {
   takes = at.0;
   next = m.next;
   left = on_tape m.unread ++ heard during;
-  is_played = ap (λ (es : List (Event Saying)). record { events = es; outcome = Some (Fine, m.next, on_tape m.unread ++ heard during) }) (sym at.1);
+  is_played = ap (λ (es : List (Event Saying)). record
+      { events = es; outcome = Some (Fine, m.next, on_tape m.unread ++ heard during) }) (sym at.1);
 }
 
 -- in the first of more
-taking_front : (part : Part) (s : Switches) (xs ys : List Action) (m : Position) (during : Talk) (shown : List (Event Saying)) → AtTaking part s xs m during shown → AtTaking part s (xs ++ ys) m during shown
+taking_front : (part : Part) (s : Switches) (xs ys : List Action) (m : Position) (during : Talk)
+    (shown : List (Event Saying)) → AtTaking part s xs m during shown → AtTaking part s (xs ++ ys) m during shown
 taking_front part s xs ys m during shown at = record {
   done = at.done;
   due = at.due;
@@ -251,17 +341,20 @@ taking_front part s xs ys m during shown at = record {
 }
 
 -- behind others that were played
-taking_then : (part : Part) (s : Switches) (xs ys : List Action) {m n : Position} {o p : Devices} (ran : Ran (phases part s xs) m o p Fine n) (during : Talk) (shown : List (Event Saying))
+taking_then : (part : Part) (s : Switches) (xs ys : List Action) {m n : Position} {o p : Devices}
+    (ran : Ran (phases part s xs) m o p Fine n) (during : Talk) (shown : List (Event Saying))
     → AtTaking part s ys n during shown → AtTaking part s (xs ++ ys) m (ran.during ++ during) (ran.events ++ shown)
 taking_then part s xs ys {m = m} {n = n} ran during shown at =
     let go_on : Standing → Dialog Saying Standing = unless_fault (phases part s at.done) in
     let tape : Tape = on_tape m.unread ++ heard (ran.during ++ during) in
-    let first = ap (λ (t : Tape). played (phases part s xs) m.next (on_tape m.unread ++ t)) (heard_append ran.during during) ∙ ran.plays.plays (heard during) in
+    let first = ap (λ (t : Tape). played (phases part s xs) m.next (on_tape m.unread ++ t))
+    (heard_append ran.during during) ∙ ran.plays.plays (heard during) in
     record {
       done = xs ++ at.done;
       due = at.due;
       more = at.more;
-      actions_are = ap (λ (every : List Action). xs ++ every) at.actions_are ∙ sym (append_assoc xs at.done (at.due ∷ at.more));
+      actions_are = ap (λ (every : List Action). xs ++ every) at.actions_are
+          ∙ sym (append_assoc xs at.done (at.due ∷ at.more));
       takes = at.takes;
       next = at.next;
       left = at.left;
@@ -278,13 +371,17 @@ or_false true = refl
 or_false false = refl
 
 -- none
-pub does_nothing : (plan : Plan) (host : HostState) (o : Devices) → host.broken ≡ None → Does plan [] host host o o (Ok Fine)
+pub does_nothing : (plan : Plan) (host : HostState) (o : Devices) → host.broken ≡ None
+    → Does plan [] host host o o (Ok Fine)
 does_nothing plan host o sound = nothing_performs false host o sound
 
 -- the same phase, by where else memory may be taken
-performs_lacking : {terms : Terms} {L M : Lacking} {dialog : Dialog Saying Standing} {x y : HostState} {o p : Devices} → ((during : Talk) (shown : List (Event Saying)) → M x.progress during shown → L x.progress during shown)
-    → (result : Result Standing Stopped) → PerformsBehind terms M dialog x y o p result → PerformsBehind terms L dialog x y o p result
-performs_lacking lack (Ok standing) done = record { runs = done.runs; serves = done.serves; part = done.part; link = done.link; desk = done.desk }
+performs_lacking : {terms : Terms} {L M : Lacking} {dialog : Dialog Saying Standing} {x y : HostState} {o p : Devices}
+    → ((during : Talk) (shown : List (Event Saying)) → M x.progress during shown → L x.progress during shown)
+    → (result : Result Standing Stopped) → PerformsBehind terms M dialog x y o p result
+    → PerformsBehind terms L dialog x y o p result
+performs_lacking lack (Ok standing) done =
+    record { runs = done.runs; serves = done.serves; part = done.part; link = done.link; desk = done.desk }
 performs_lacking lack (Err stopped) done =
     let f = done.runs in
     record {
@@ -308,33 +405,50 @@ performs_lacking lack (Err stopped) done =
     }
 
 -- one
-pub does_one : (plan : Plan) (action : Action) {x y : HostState} {o p : Devices} {result : Result Standing Stopped} → Performs (action_takes_memory action) (phase plan.part plan.switches action) x y o p result → Does plan (action ∷ []) x y o p result
+pub does_one : (plan : Plan) (action : Action) {x y : HostState} {o p : Devices} {result : Result Standing Stopped}
+    → Performs (action_takes_memory action) (phase plan.part plan.switches action) x y o p result
+    → Does plan (action ∷ []) x y o p result
 does_one plan action {x = x} {y = y} {o = o} {p = p} {result = result} done =
-    subst₂ (λ (takes : Bool) (dialog : Dialog Saying Standing). PerformsBehind (untold takes) (AtTaking plan.part plan.switches (action ∷ [])) dialog x y o p result) (sym (or_false (action_takes_memory action))) (sym (phases-one plan.part plan.switches action))
+    subst₂ (λ (takes : Bool) (dialog : Dialog Saying Standing). PerformsBehind (untold takes)
+    (AtTaking plan.part plan.switches (action ∷ [])) dialog x y o p result)
+    (sym (or_false (action_takes_memory action))) (sym (phases-one plan.part plan.switches action))
     (performs_lacking (taking_one plan.part plan.switches action x.progress) result done)
 
 does_both : (plan : Plan) (xs ys : List Action) {x y : HostState} {o p : Devices} {result : Result Standing Stopped}
-    → PerformsBehind (untold (list_any action_takes_memory xs || list_any action_takes_memory ys)) (AtTaking plan.part plan.switches (xs ++ ys)) (phases plan.part plan.switches xs >>= unless_fault (phases plan.part plan.switches ys)) x y o p result → Does plan (xs ++ ys) x y o p result
+    → PerformsBehind (untold (list_any action_takes_memory xs || list_any action_takes_memory ys))
+    (AtTaking plan.part plan.switches (xs ++ ys))
+    (phases plan.part plan.switches xs >>= unless_fault (phases plan.part plan.switches ys)) x y o p result
+    → Does plan (xs ++ ys) x y o p result
 does_both plan xs ys {x = x} {y = y} {o = o} {p = p} {result = result} done =
-    subst₂ (λ (takes : Bool) (dialog : Dialog Saying Standing). PerformsBehind (untold takes) (AtTaking plan.part plan.switches (xs ++ ys)) dialog x y o p result) (sym (list_any-append action_takes_memory xs ys)) (sym (phases-append plan.part plan.switches xs ys)) done
+    subst₂ (λ (takes : Bool) (dialog : Dialog Saying Standing). PerformsBehind (untold takes)
+    (AtTaking plan.part plan.switches (xs ++ ys)) dialog x y o p result)
+    (sym (list_any-append action_takes_memory xs ys)) (sym (phases-append plan.part plan.switches xs ys)) done
 
 -- the same actions, as they are written elsewhere
-pub does_same : (plan : Plan) (xs ys : List Action) {x y : HostState} {o p : Devices} {result : Result Standing Stopped} → xs ≡ ys → Does plan xs x y o p result → Does plan ys x y o p result
-does_same plan xs ys {x = x} {y = y} {o = o} {p = p} {result = result} same done = subst (λ (every : List Action). Does plan every x y o p result) same done
+pub does_same : (plan : Plan) (xs ys : List Action) {x y : HostState} {o p : Devices} {result : Result Standing Stopped}
+    → xs ≡ ys → Does plan xs x y o p result → Does plan ys x y o p result
+does_same plan xs ys {x = x} {y = y} {o = o} {p = p} {result = result} same done =
+    subst (λ (every : List Action). Does plan every x y o p result) same done
 
 -- these, and then those
-pub does_then : (plan : Plan) (xs ys : List Action) {x y z : HostState} {o p q : Devices} (result : Result Standing Stopped) → Does plan xs x y o p (Ok Fine) → Does plan ys y z p q result → Does plan (xs ++ ys) x z o q result
+pub does_then : (plan : Plan) (xs ys : List Action) {x y z : HostState} {o p q : Devices}
+    (result : Result Standing Stopped) → Does plan xs x y o p (Ok Fine) → Does plan ys y z p q result
+    → Does plan (xs ++ ys) x z o q result
 does_then plan xs ys result done rest =
-    does_both plan xs ys (performs_then (list_any action_takes_memory xs) (list_any action_takes_memory ys) result (phases_foretells plan.part plan.switches xs) done (taking_then plan.part plan.switches xs ys done.runs) rest)
+    does_both plan xs ys (performs_then (list_any action_takes_memory xs) (list_any action_takes_memory ys) result
+    (phases_foretells plan.part plan.switches xs) done (taking_then plan.part plan.switches xs ys done.runs) rest)
 
 -- behind these the others are left out
-pub does_last : (plan : Plan) (xs ys : List Action) {x y : HostState} {o p : Devices} (result : Result Standing Stopped) → (result ≡ Ok Fine → ⊥) → Does plan xs x y o p result → Does plan (xs ++ ys) x y o p result
+pub does_last : (plan : Plan) (xs ys : List Action) {x y : HostState} {o p : Devices} (result : Result Standing Stopped)
+    → (result ≡ Ok Fine → ⊥) → Does plan xs x y o p result → Does plan (xs ++ ys) x y o p result
 does_last plan xs ys {x = x} result not done =
-    does_both plan xs ys (performs_last (list_any action_takes_memory xs) (list_any action_takes_memory ys) (phases plan.part plan.switches ys) result not (taking_front plan.part plan.switches xs ys x.progress) done)
+    does_both plan xs ys (performs_last (list_any action_takes_memory xs) (list_any action_takes_memory ys)
+    (phases plan.part plan.switches ys) result not (taking_front plan.part plan.switches xs ys x.progress) done)
 
 -- a read, whose data stand in a vector
 
-given_goes : {A : Type 0} (a : A) (outcome : Result (Unit {0}) HostFault) → after_outcome (given_or_fault a outcome) ≡ after_outcome outcome
+given_goes : {A : Type 0} (a : A) (outcome : Result (Unit {0}) HostFault)
+    → after_outcome (given_or_fault a outcome) ≡ after_outcome outcome
 given_goes a (Ok ok) = refl
 given_goes a (Err NoAnswer) = refl
 given_goes a (Err LinkEnded) = refl
@@ -348,24 +462,34 @@ given_goes a (Err (ReadOnly mem)) = refl
 given_goes a (Err Memory) = refl
 given_goes a (Err RecvFailed) = refl
 
-pub given_concluded : {A : Type 0} (a : A) (outcome : Result (Unit {0}) HostFault) (told : Result (Unit {0}) Stopped) → conclusion (given_or_fault a outcome) told ≡ conclusion outcome told
+pub given_concluded : {A : Type 0} (a : A) (outcome : Result (Unit {0}) HostFault) (told : Result (Unit {0}) Stopped)
+    → conclusion (given_or_fault a outcome) told ≡ conclusion outcome told
 given_concluded a outcome (Ok ok) = given_goes a outcome
 given_concluded a outcome (Err stopped) = refl
 
 -- a fault alone tells why a run stops
-pub given_told : {A : Type 0} (a : A) (good : A → List Saying) (old new : DeskView) (part : Part) (outcome : Result (Unit {0}) HostFault) (told : Result (Unit {0}) Stopped)
-    → Reports (ReadStops outcome) old new (fault_or part good (given_or_fault a outcome)) told → IsStop (given_or_fault a outcome) → Tells old new (cause_line (cause_of (given_or_fault a outcome)))
+pub given_told : {A : Type 0} (a : A) (good : A → List Saying) (old new : DeskView) (part : Part)
+    (outcome : Result (Unit {0}) HostFault) (told : Result (Unit {0}) Stopped)
+    → Reports (ReadStops outcome) old new (fault_or part good (given_or_fault a outcome)) told
+    → IsStop (given_or_fault a outcome) → Tells old new (cause_line (cause_of (given_or_fault a outcome)))
 given_told a good old new part (Ok ok) told reports stop = absurd stop
 given_told a good old new part (Err fault) told reports stop = told_of old new part good (Err fault) told reports stop
 
 -- only where bytes were read there is something to save
-pub read_stops_report : (part : Part) (s : Switches) (mem : Mem) (format : Format) (file items : List ℕ) (outcome : Result (Unit {0}) HostFault) (takes : Bool) (o : LinkView) {d e : DeskView} {told : Result (Unit {0}) Stopped}
-    → Reports (ReadStops outcome) d e (fault_or part (read_says s mem format file) (given_or_fault items outcome)) told → StopsReport (untold takes) o d e (fault_or part (read_says s mem format file) (given_or_fault items outcome)) (ReadStops outcome)
-read_stops_report part s mem format file items (Ok done) takes o {d = d} {e = e} reports = desk_stops_report takes o d e (read_says s mem format file items) reports.follows (read_none s mem format file items)
+pub read_stops_report : (part : Part) (s : Switches) (mem : Mem) (format : Format) (file items : List ℕ)
+    (outcome : Result (Unit {0}) HostFault) (takes : Bool) (o : LinkView) {d e : DeskView}
+    {told : Result (Unit {0}) Stopped}
+    → Reports (ReadStops outcome) d e (fault_or part (read_says s mem format file) (given_or_fault items outcome)) told
+    → StopsReport (untold takes) o d e (fault_or part (read_says s mem format file) (given_or_fault items outcome))
+    (ReadStops outcome)
+read_stops_report part s mem format file items (Ok done) takes o {d = d} {e = e} reports =
+    desk_stops_report takes o d e (read_says s mem format file items) reports.follows
+    (read_none s mem format file items)
 read_stops_report part s mem format file items (Err fault) takes o reports = print_stops_report takes o reports
 
 -- the tasks are the first and those behind it
-pub first_task : (tasks : List Task) (task : Task) → 1 ≤ length tasks → task ≡ get_or tasks 0 task → task ∷ drop 1 tasks ≡ tasks
+pub first_task : (tasks : List Task) (task : Task) → 1 ≤ length tasks → task ≡ get_or tasks 0 task
+    → task ∷ drop 1 tasks ≡ tasks
 first_task [] task some is = absurd (omega (arith, some))
 first_task (t ∷ tasks) task some is = ap (λ x. x ∷ tasks) is
 
@@ -378,10 +502,21 @@ tasks_behind tasks = grind (arith, common_steps)
 
 -- the end of a session
 
-pub performs_until : {terms : Terms} {L : Lacking} {first : Dialog Saying Standing} (go_on : Standing → Dialog Saying Standing) {x y : HostState} {o p : Devices} (stopped : Stopped) → PerformsBehind terms L first x y o p (Err stopped) → PerformsBehind terms L (first >>= go_on) x y o p (Err stopped)
-performs_until go_on stopped done = record { runs = broke_part go_on (λ said cause told s. s) (λ during shown lack. lack) done.runs; serves = tt; part = done.part; link = done.link; desk = done.desk }
+pub performs_until : {terms : Terms} {L : Lacking} {first : Dialog Saying Standing}
+    (go_on : Standing → Dialog Saying Standing) {x y : HostState} {o p : Devices} (stopped : Stopped)
+    → PerformsBehind terms L first x y o p (Err stopped)
+    → PerformsBehind terms L (first >>= go_on) x y o p (Err stopped)
+performs_until go_on stopped done = record {
+  runs = broke_part go_on (λ said cause told s. s) (λ during shown lack. lack) done.runs;
+  serves = tt;
+  part =
+      done.part;
+  link = done.link;
+  desk = done.desk;
+}
 
-pub over_performs : {L : Lacking} (terms : Terms) (host : HostState) (o : Devices) → PerformsBehind terms L (Done Over) host host o o (Ok Over)
+pub over_performs : {L : Lacking} (terms : Terms) (host : HostState) (o : Devices)
+    → PerformsBehind terms L (Done Over) host host o o (Ok Over)
 over_performs terms host o = record {
   runs = ran_from (came_here (Done Over) host.progress o);
   serves = tt;
@@ -395,11 +530,24 @@ abbrev told_before : Terms
 told_before = record { takes = false; was_told = true }
 
 -- nothing is told there of a link that failed
-told_nothing : {A : Type 0} (outcome : Result A HostFault) {o p : LinkView} (d : DeskView) → (IsBroken outcome → link.HasFailed o p) → IsBroken outcome → ToldBy told_before (cause_of outcome) (devices o d) (devices p d)
+told_nothing : {A : Type 0} (outcome : Result A HostFault) {o p : LinkView} (d : DeskView)
+    → (IsBroken outcome → link.HasFailed o p) → IsBroken outcome
+    → ToldBy told_before (cause_of outcome) (devices o d) (devices p d)
 told_nothing (Ok x) d failed broken = absurd broken
 told_nothing (Err NoAnswer) d failed broken = absurd broken
 told_nothing (Err LinkEnded) d failed broken = absurd broken
-told_nothing (Err SendFailed) d failed broken = ([], record { between = d; has_come = (failed tt, same_here d); tells = refl; since = follows_here d; until = follows_here d }, kept_nothing d.kept)
+told_nothing (Err SendFailed) d failed broken = (
+  [],
+  record {
+    between = d;
+    has_come = (failed tt, same_here d);
+    tells = refl;
+    since = follows_here d;
+    until =
+        follows_here d;
+  },
+  kept_nothing d.kept,
+)
 told_nothing (Err Babble) d failed broken = absurd broken
 told_nothing (Err (Refused command status)) d failed broken = absurd broken
 told_nothing (Err (BadAnswer command)) d failed broken = absurd broken
@@ -407,30 +555,54 @@ told_nothing (Err (WrongSignature found)) d failed broken = absurd broken
 told_nothing (Err (Differs mem address want found)) d failed broken = absurd broken
 told_nothing (Err (ReadOnly mem)) d failed broken = absurd broken
 told_nothing (Err Memory) d failed broken = absurd broken
-told_nothing (Err RecvFailed) d failed broken = ([], record { between = d; has_come = (failed tt, same_here d); tells = refl; since = follows_here d; until = follows_here d }, kept_nothing d.kept)
+told_nothing (Err RecvFailed) d failed broken = (
+  [],
+  record {
+    between = d;
+    has_come = (failed tt, same_here d);
+    tells = refl;
+    since = follows_here d;
+    until =
+        follows_here d;
+  },
+  kept_nothing d.kept,
+)
 
 -- an operation of which nothing is told
-pub quietly_performs : (operation : Dialog ⊥ (Result (Unit {0}) HostFault)) {old new : HostState} {o p : LinkView} (d : DeskView) (outcome : Result (Unit {0}) HostFault) (result : Result Standing Stopped)
-    → old.broken ≡ None → Calls operation old new o p outcome → (EndsCall operation old.progress o p outcome new.progress → Ended false operation old.progress o p outcome new.progress) → result ≡ conclusion outcome (Ok tt)
-    → PerformsBehind told_before (AtOnce false) (reported operation (λ _. [])) old new (devices o d) (devices p d) result
+pub quietly_performs : (operation : Dialog ⊥ (Result (Unit {0}) HostFault)) {old new : HostState} {o p : LinkView}
+    (d : DeskView) (outcome : Result (Unit {0}) HostFault) (result : Result Standing Stopped)
+    → old.broken ≡ None → Calls operation old new o p outcome
+    → (EndsCall operation old.progress o p outcome new.progress
+    → Ended false operation old.progress o p outcome new.progress) → result ≡ conclusion outcome (Ok tt)
+    → PerformsBehind told_before (AtOnce false) (reported operation (λ _. [])) old new (devices o d) (devices p d)
+    result
 quietly_performs operation {old = old} {new = new} {o = o} {p = p} d outcome result sound calls ends is =
     let ended = ends (calls.played sound) in
     let only = only_broken operation old.progress o p outcome new.progress ended in
     record {
-      runs = subst (λ r. Runs (reported operation (λ _. [])) old.progress (devices o d) (devices p d) told_before (AtOnce false) r new.progress) (sym is)
+      runs = subst (λ r. Runs (reported operation (λ _. [])) old.progress (devices o d) (devices p d) told_before
+          (AtOnce false) r new.progress) (sym is)
           (operation_runs false (λ _. []) outcome (Ok tt) told_before PrintStops
-          (λ mid cause front told stops. print_stops_run told_before p d d (follows_here d) (front.whole ++ front.begun) cause told stops) ended (calls.bound sound) (calls.sound sound) (kept_none d.kept, same_here d) (λ stop. told_nothing outcome d (calls.failed sound) (only stop)));
-      serves = subst (λ r. HostServes r new.broken) (sym is) (serves_after outcome (Ok tt) new.broken (calls.lasts sound));
+          (λ mid cause front told stops. print_stops_run told_before p d d (follows_here d) (front.whole ++ front.begun)
+          cause told stops) ended (calls.bound sound) (calls.sound sound) (kept_none d.kept, same_here d)
+          (λ stop. told_nothing outcome d (calls.failed sound) (only stop)));
+      serves = subst (λ r. HostServes r new.broken) (sym is)
+          (serves_after outcome (Ok tt) new.broken (calls.lasts sound));
       part = calls.part;
       link = calls.counted;
       desk = follows_here d;
     }
 
 -- what follows a quiet operation is done
-pub quietly_on : {first : Dialog Saying Standing} {L : Lacking} (go_on : Standing → Dialog Saying Standing) {x y : HostState} {o p : Devices} (standing then : Standing) → go_on standing ≡ Done then → HostServes (Ok then) y.broken
-    → PerformsBehind told_before L first x y o p (Ok standing) → PerformsBehind told_before L (first >>= go_on) x y o p (Ok then)
+pub quietly_on : {first : Dialog Saying Standing} {L : Lacking} (go_on : Standing → Dialog Saying Standing)
+    {x y : HostState} {o p : Devices} (standing then : Standing) → go_on standing ≡ Done then
+    → HostServes (Ok then) y.broken
+    → PerformsBehind told_before L first x y o p (Ok standing)
+    → PerformsBehind told_before L (first >>= go_on) x y o p (Ok then)
 quietly_on go_on {y = y} {p = p} standing then is serves done = record {
-  runs = ran_on (came_part go_on done.runs) (subst (λ dialog. Ran dialog y.progress p p then y.progress) (sym is) (ran_from (came_here (Done then) y.progress p)));
+  runs = ran_on (came_part go_on done.runs)
+      (subst (λ dialog. Ran dialog y.progress p p then y.progress) (sym is)
+      (ran_from (came_here (Done then) y.progress p)));
   serves = serves;
   part = done.part;
   link = done.link;
@@ -438,18 +610,26 @@ quietly_on go_on {y = y} {p = p} standing then is serves done = record {
 }
 
 -- a whole session, played to its status, or stopped where it stood
-pub session_played : (plan : Plan) {x y : HostState} {o p : Devices} (standing : Standing) → x.progress ≡ start → PerformsBehind (untold (takes_memory plan)) (AtTaking plan.part plan.switches (actions plan)) (playing plan) x y o p (Ok standing)
+pub session_played : (plan : Plan) {x y : HostState} {o p : Devices} (standing : Standing) → x.progress ≡ start
+    → PerformsBehind (untold (takes_memory plan)) (AtTaking plan.part plan.switches (actions plan)) (playing plan) x y o
+    p (Ok standing)
     → IsPlayed (session plan) o p (status_of standing)
 unfolding session
 session_played plan {x = x} {y = y} {o = o} {p = p} standing first done =
-    let ran = ran_on (came_part (λ standing. Done (status_of standing)) done.runs) (ran_from (came_here (Done (status_of standing)) y.progress p)) in (
+    let ran = ran_on (came_part (λ standing. Done (status_of standing)) done.runs)
+    (ran_from (came_here (Done (status_of standing)) y.progress p)) in (
       y.progress,
-      subst (λ n. Ran (playing plan >>= λ standing. Done (status_of standing)) n o p (status_of standing) y.progress) first ran,
+      subst (λ n. Ran (playing plan >>= λ standing. Done (status_of standing)) n o p (status_of standing) y.progress)
+          first ran,
     )
 
-pub session_stopped : (plan : Plan) {x y : HostState} {o p : Devices} (stopped : Stopped) → x.progress ≡ start → PerformsBehind (untold (takes_memory plan)) (AtTaking plan.part plan.switches (actions plan)) (playing plan) x y o p (Err stopped)
+pub session_stopped : (plan : Plan) {x y : HostState} {o p : Devices} (stopped : Stopped) → x.progress ≡ start
+    → PerformsBehind (untold (takes_memory plan)) (AtTaking plan.part plan.switches (actions plan)) (playing plan) x y o
+    p (Err stopped)
     → StopsSession plan o p
 unfolding session
 session_stopped plan {o = o} {p = p} stopped first done =
-    let broke = broke_part (λ standing. Done (status_of standing)) (λ said cause told s. s) (λ during shown lack. lack) done.runs in
-    subst (λ n. BrokeOff (playing plan >>= λ standing. Done (status_of standing)) n o p (untold (takes_memory plan)) (AtTaking plan.part plan.switches (actions plan))) first broke
+    let broke = broke_part (λ standing. Done (status_of standing)) (λ said cause told s. s) (λ during shown lack. lack)
+    done.runs in
+    subst (λ n. BrokeOff (playing plan >>= λ standing. Done (status_of standing)) n o p (untold (takes_memory plan))
+    (AtTaking plan.part plan.switches (actions plan))) first broke

@@ -12,23 +12,61 @@ use Rattle.avr_session.specs.Runs.{Cause, OfSending, OfListening, OfFile, OfPrin
 
 -- ---- events
 
-frame_more : {begun later : List (Event Saying)} (more : List (Event Saying)) → AtFrame begun later → AtFrame begun (later ++ more)
-frame_more more x = record { done = x.done; unsent = x.unsent; more = x.more ++ more; due = ap (λ es. es ++ more) x.due; part = x.part; not_whole = x.not_whole }
+frame_more : {begun later : List (Event Saying)} (more : List (Event Saying)) → AtFrame begun later
+    → AtFrame begun (later ++ more)
+frame_more more x = record {
+  done = x.done;
+  unsent = x.unsent;
+  more = x.more ++ more;
+  due = ap (λ es. es ++ more) x.due;
+  part = x.part;
+  not_whole = x.not_whole;
+}
 
 -- more that is due behind it, unless it listens
-pub place_more : (cause : Cause) (whole begun later more : List (Event Saying)) → (cause ≡ OfListening → more ≡ []) → StopsAt cause whole begun later → StopsAt cause whole begun (later ++ more)
+pub place_more : (cause : Cause) (whole begun later more : List (Event Saying)) → (cause ≡ OfListening → more ≡ [])
+    → StopsAt cause whole begun later → StopsAt cause whole begun (later ++ more)
 place_more OfSending whole begun later more none x = frame_more more x
 place_more OfListening whole begun later more none x = (x.0, ap (λ es. es ++ more) x.1 ∙ none refl)
-place_more (OfFile file NotCreated) whole begun later more none x = record { more = x.more ++ more; due = ap (λ es. es ++ more) x.due; none = x.none }
+place_more (OfFile file NotCreated) whole begun later more none x =
+    record { more = x.more ++ more; due = ap (λ es. es ++ more) x.due; none = x.none }
 place_more (OfFile file NotWritten) whole begun later more none (inl x) =
-    inl (record { bytes = x.bytes; done = x.done; before = x.before; more = x.more ++ more; created = x.created; due = ap (λ es. es ++ more) x.due; part = x.part; front = x.front })
+    inl (record {
+      bytes = x.bytes;
+      done = x.done;
+      before = x.before;
+      more = x.more ++ more;
+      created = x.created;
+      due =
+          ap (λ es. es ++ more) x.due;
+      part = x.part;
+      front = x.front;
+    })
 place_more (OfFile file NotWritten) whole begun later more none (inr x) =
-    inr (record { bytes = x.bytes; done = x.done; more = x.more ++ more; named = x.named; due = ap (λ es. es ++ more) x.due; part = x.part; front = x.front })
-place_more OfPrinting whole begun later more none x = record { bytes = x.bytes; done = x.done; more = x.more ++ more; due = ap (λ es. es ++ more) x.due; part = x.part; front = x.front }
+    inr (record {
+      bytes = x.bytes;
+      done = x.done;
+      more = x.more ++ more;
+      named = x.named;
+      due =
+          ap (λ es. es ++ more) x.due;
+      part = x.part;
+      front = x.front;
+    })
+place_more OfPrinting whole begun later more none x =
+    record {
+      bytes = x.bytes;
+      done = x.done;
+      more = x.more ++ more;
+      due = ap (λ es. es ++ more) x.due;
+      part = x.part;
+      front = x.front;
+    }
 place_more OfMemory whole begun later more none x = x
 
 -- more that happened before it
-pub place_behind : (cause : Cause) (before whole begun later : List (Event Saying)) → StopsAt cause whole begun later → StopsAt cause (before ++ whole) begun later
+pub place_behind : (cause : Cause) (before whole begun later : List (Event Saying)) → StopsAt cause whole begun later
+    → StopsAt cause (before ++ whole) begun later
 place_behind OfSending before whole begun later x = x
 place_behind OfListening before whole begun later x = x
 place_behind (OfFile file NotCreated) before whole begun later x = x
@@ -50,7 +88,8 @@ place_behind OfMemory before whole begun later none = none
 frame_part : (begun later : List (Event Saying)) → AtFrame begun later → play.IsBegun SaidPart begun later
 frame_part begun later x = rw (x.part, x.due) (x.unsent, refl)
 
-pub place_part : (cause : Cause) (whole begun later : List (Event Saying)) → StopsAt cause whole begun later → play.IsBegun SaidPart begun later
+pub place_part : (cause : Cause) (whole begun later : List (Event Saying)) → StopsAt cause whole begun later
+    → play.IsBegun SaidPart begun later
 place_part OfSending whole begun later x = frame_part begun later x
 place_part OfListening whole begun later x = rw (x.0) tt
 place_part (OfFile file NotCreated) whole begun later x = rw (x.none) tt
@@ -90,64 +129,98 @@ pub sayings_by : (xs : List Saying) (events : List (Event Saying)) → map Said 
 sayings_by xs events is = sym (sayings_said xs) ∙ ap sayings is
 
 -- sayings that were done, and a front of others behind them
-pub front_behind : {cause : Cause} {d e f : DeskView} (done more : List Saying) → Passes (after_all done) d e → SaysFront cause e f more → SaysFront cause d f (done ++ more)
+pub front_behind : {cause : Cause} {d e f : DeskView} (done more : List Saying) → Passes (after_all done) d e
+    → SaysFront cause e f more → SaysFront cause d f (done ++ more)
 front_behind {cause = cause} {d = d} {e = e} {f = f} done more kept x = record {
   whole = done ++ x.whole;
   begun = x.begun;
   later = x.later;
   sayings_are = ap (λ (ss : List Saying). done ++ ss) x.sayings_are ∙ sym (append_assoc done x.whole x.later);
-  place = subst (λ (whole : List (Event Saying)). StopsAt cause whole (map Said x.begun) (map Said x.later)) (sym (map_append done x.whole))
+  place = subst (λ (whole : List (Event Saying)). StopsAt cause whole (map Said x.begun) (map Said x.later))
+      (sym (map_append done x.whole))
       (place_behind cause (map Said done) (map Said x.whole) (map Said x.begun) (map Said x.later) x.place);
   by_desk = x.by_desk;
-  kept = subst (λ ss. Passes (after_all ss) d f) (sym (append_assoc done x.whole x.begun)) (kept_append done (x.whole ++ x.begun) d.kept e.kept f.kept kept x.kept);
+  kept = subst (λ ss. Passes (after_all ss) d f) (sym (append_assoc done x.whole x.begun))
+      (kept_append done (x.whole ++ x.begun) d.kept e.kept f.kept kept x.kept);
 }
 
 -- a front of some sayings is a front of more
-pub front_of : {cause : Cause} {d e : DeskView} (some more : List Saying) → SaysFront cause d e some → SaysFront cause d e (some ++ more)
+pub front_of : {cause : Cause} {d e : DeskView} (some more : List Saying) → SaysFront cause d e some
+    → SaysFront cause d e (some ++ more)
 front_of {cause = cause} some more x = record {
   whole = x.whole;
   begun = x.begun;
   later = x.later ++ more;
   sayings_are = ap (λ (ss : List Saying). ss ++ more) x.sayings_are ∙ append_assoc x.whole x.later more;
-  place = subst (λ (later : List (Event Saying)). StopsAt cause (map Said x.whole) (map Said x.begun) later) (sym (map_append x.later more))
-      (place_more cause (map Said x.whole) (map Said x.begun) (map Said x.later) (map Said more) (λ listens. absurd (desk_says cause x.by_desk listens)) x.place);
+  place = subst (λ (later : List (Event Saying)). StopsAt cause (map Said x.whole) (map Said x.begun) later)
+      (sym (map_append x.later more))
+      (place_more cause (map Said x.whole) (map Said x.begun) (map Said x.later) (map Said more)
+      (λ listens. absurd (desk_says cause x.by_desk listens)) x.place);
   by_desk = x.by_desk;
   kept = x.kept;
 }
 
 -- a line of which a front was printed
-pub line_part : (old new : DeskView) (bytes : Bytes) → SendsPart Messages old new bytes → SaysFront OfPrinting old new (Line bytes ∷ [])
+pub line_part : (old new : DeskView) (bytes : Bytes) → SendsPart Messages old new bytes
+    → SaysFront OfPrinting old new (Line bytes ∷ [])
 line_part old new bytes part = record {
   whole = [];
   begun = Line (take part.0 bytes) ∷ [];
   later = Line bytes ∷ [];
   sayings_are = refl;
-  place = record { bytes = bytes; done = take part.0 bytes; more = []; due = refl; part = refl; front = (drop part.0 bytes, take-append-drop part.0 bytes) };
+  place = record {
+    bytes = bytes;
+    done = take part.0 bytes;
+    more = [];
+    due = refl;
+    part = refl;
+    front =
+        (drop part.0 bytes, take-append-drop part.0 bytes);
+  };
   by_desk = tt;
   kept = part.2;
 }
 
 -- a file that was created, and of whose bytes a front was written
-pub file_part : (old mid new : DeskView) (file bytes : Bytes) → Passes (after_all (Creates file ∷ [])) old mid → SendsPart File mid new bytes
+pub file_part : (old mid new : DeskView) (file bytes : Bytes) → Passes (after_all (Creates file ∷ [])) old mid
+    → SendsPart File mid new bytes
     → SaysFront (OfFile file NotWritten) old new (Creates file ∷ Writes bytes ∷ [])
 file_part old mid new file bytes created part = record {
   whole = Creates file ∷ [];
   begun = Writes (take part.0 bytes) ∷ [];
   later = Writes bytes ∷ [];
   sayings_are = refl;
-  place = inl (record { bytes = bytes; done = take part.0 bytes; before = []; more = []; created = refl; due = refl; part = refl; front = (drop part.0 bytes, take-append-drop part.0 bytes) });
+  place = inl (record {
+    bytes = bytes;
+    done = take part.0 bytes;
+    before = [];
+    more = [];
+    created = refl;
+    due = refl;
+    part = refl;
+    front = (drop part.0 bytes, take-append-drop part.0 bytes);
+  });
   by_desk = tt;
   kept = kept_append (Creates file ∷ []) (Writes (take part.0 bytes) ∷ []) old.kept mid.kept new.kept created part.2;
 }
 
 -- bytes of the output of which a front was written
-pub output_part : (old new : DeskView) (file bytes : Bytes) → file ≡ codes "-" → SendsPart Output old new bytes → SaysFront (OfFile file NotWritten) old new (Outs bytes ∷ [])
+pub output_part : (old new : DeskView) (file bytes : Bytes) → file ≡ codes "-" → SendsPart Output old new bytes
+    → SaysFront (OfFile file NotWritten) old new (Outs bytes ∷ [])
 output_part old new file bytes named part = record {
   whole = [];
   begun = Outs (take part.0 bytes) ∷ [];
   later = Outs bytes ∷ [];
   sayings_are = refl;
-  place = inr (record { bytes = bytes; done = take part.0 bytes; more = []; named = named; due = refl; part = refl; front = (drop part.0 bytes, take-append-drop part.0 bytes) });
+  place = inr (record {
+    bytes = bytes;
+    done = take part.0 bytes;
+    more = [];
+    named = named;
+    due = refl;
+    part = refl;
+    front = (drop part.0 bytes, take-append-drop part.0 bytes);
+  });
   by_desk = tt;
   kept = part.2;
 }

@@ -16,22 +16,26 @@ use Rattle.avr_session.specs.Concluding.{stopped_of}
 use Rattle.avr_session.specs.Saving.{SaveStops}
 use Rattle.avr_session.proofs.Places.{sayings_by, line_part, front_behind, front_of}
 
-pub print_stops_later : (a b c : DeskView) → HasSameCounts a b → (cause : Cause) (told : List ℕ) → PrintStops b c cause told → PrintStops a c cause told
+pub print_stops_later : (a b c : DeskView) → HasSameCounts a b → (cause : Cause) (told : List ℕ)
+    → PrintStops b c cause told → PrintStops a c cause told
 print_stops_later a b c same OfSending told stops = absurd stops
 print_stops_later a b c same OfListening told stops = absurd stops
 print_stops_later a b c same (OfFile file trouble) told stops = absurd stops
 print_stops_later a b c same OfPrinting told stops = (unsaid_since a b c same stops.0, stops.1)
 print_stops_later a b c same OfMemory told stops = absurd stops
 
-pub print_is_desk : (a b : DeskView) (cause : Cause) (told : List ℕ) → PrintStops a b cause told → DeskStops a b cause told
+pub print_is_desk : (a b : DeskView) (cause : Cause) (told : List ℕ) → PrintStops a b cause told
+    → DeskStops a b cause told
 print_is_desk a b OfSending told stops = stops
 print_is_desk a b OfListening told stops = stops
 print_is_desk a b (OfFile file trouble) told stops = absurd stops
 print_is_desk a b OfPrinting told stops = stops
 print_is_desk a b OfMemory told stops = stops
 
-pub file_stops_in : (a b c : DeskView) (file : List ℕ) (trouble : FileTrouble) (told : List ℕ) → HasSameCounts a b → FileStops b c file trouble told → FileStops a c file trouble told
-file_stops_in a b c file trouble told same stops = failure_since (cause_line (OfFile file trouble)) told a b c same stops
+pub file_stops_in : (a b c : DeskView) (file : List ℕ) (trouble : FileTrouble) (told : List ℕ) → HasSameCounts a b
+    → FileStops b c file trouble told → FileStops a c file trouble told
+file_stops_in a b c file trouble told same stops =
+    failure_since (cause_line (OfFile file trouble)) told a b c same stops
 
 pub nothing_printed : (r : Record) → after_err [] r ≡ r
 nothing_printed r = ap (λ bytes. record r { messages = bytes }) (append-nil r.messages)
@@ -40,7 +44,8 @@ pub kept_nothing : (d : Record) → d ≡ after_err [] d
 kept_nothing d = sym (nothing_printed d)
 
 -- nothing more is printed where printing failed
-said_until : (old new : DeskView) (sayings : List Saying) → SaysFront OfPrinting old new sayings → HasFailedToSay old new → SaidSome PrintStops old new sayings
+said_until : (old new : DeskView) (sayings : List Saying) → SaysFront OfPrinting old new sayings
+    → HasFailedToSay old new → SaidSome PrintStops old new sayings
 said_until old new sayings front failed = record {
   between = new;
   cause = OfPrinting;
@@ -50,27 +55,33 @@ said_until old new sayings front failed = record {
   kept = kept_nothing new.kept;
 }
 
-line_said : (old new : DeskView) (bytes : List ℕ) (printed : Result (Unit {0}) DeskFault) (result : Result (Unit {0}) Stopped)
-    → IsPrinted old new bytes printed → Counts Messages old new printed → IfErr printed (λ e. e ≡ Failed) → result ≡ stopped_of printed → SaysOrStops PrintStops old new (Line bytes ∷ []) result
+line_said : (old new : DeskView) (bytes : List ℕ) (printed : Result (Unit {0}) DeskFault)
+    (result : Result (Unit {0}) Stopped)
+    → IsPrinted old new bytes printed → Counts Messages old new printed → IfErr printed (λ e. e ≡ Failed)
+    → result ≡ stopped_of printed → SaysOrStops PrintStops old new (Line bytes ∷ []) result
 line_said old new bytes (Ok done) (Ok ok) is counts only same = (is, counts.1)
 line_said old new bytes (Ok done) (Err stopped) is counts only same = cc
 line_said old new bytes (Err fault) (Ok ok) is counts only same = cc
 line_said old new bytes (Err NotFound) (Err stopped) is counts only same = cc
-line_said old new bytes (Err Failed) (Err stopped) is counts only same = said_until old new (Line bytes ∷ []) (line_part old new bytes is) counts.1
+line_said old new bytes (Err Failed) (Err stopped) is counts only same =
+    said_until old new (Line bytes ∷ []) (line_part old new bytes is) counts.1
 
 -- a line that was printed, or not
-pub reports_line : (old new : DeskView) (bytes : List ℕ) (printed : Result (Unit {0}) DeskFault) (result : Result (Unit {0}) Stopped)
-    → IsPrinted old new bytes printed → Counts Messages old new printed → IfErr printed (λ e. e ≡ Failed) → result ≡ stopped_of printed → Reports PrintStops old new (Line bytes ∷ []) result
-reports_line old new bytes printed result is counts only same = record { says = line_said old new bytes printed result is counts only same; follows = counts.0 }
-
--- nothing is said
-pub reports_none : (By : DeskView → DeskView → Cause → List ℕ → Type 0) (desk : DeskView) → Reports By desk desk [] (Ok tt)
-reports_none By desk = record { says = (kept_none desk.kept, same_here desk); follows = follows_here desk }
+pub reports_line : (old new : DeskView) (bytes : List ℕ) (printed : Result (Unit {0}) DeskFault)
+    (result : Result (Unit {0}) Stopped)
+    → IsPrinted old new bytes printed → Counts Messages old new printed → IfErr printed (λ e. e ≡ Failed)
+    → result ≡ stopped_of printed → Reports PrintStops old new (Line bytes ∷ []) result
+reports_line old new bytes printed result is counts only same =
+    record { says = line_said old new bytes printed result is counts only same; follows = counts.0 }
 
 -- a report and then a line, where a cause that stops the line stops both
-said_then : (By : DeskView → DeskView → Cause → List ℕ → Type 0) (old mid new : DeskView) (first more : List Saying) (result : Result (Unit {0}) Stopped)
-    → ((cause : Cause) (told : List ℕ) → PrintStops mid new cause told → By old new cause told) → Passes (after_all first) old mid × HasSameCounts old mid → SaysOrStops PrintStops mid new more result → SaysOrStops By old new (first ++ more) result
-said_then By old mid new first more (Ok done) why was then = (kept_append first more old.kept mid.kept new.kept was.0 then.0, same_on old mid new was.1 then.1)
+said_then : (By : DeskView → DeskView → Cause → List ℕ → Type 0) (old mid new : DeskView) (first more : List Saying)
+    (result : Result (Unit {0}) Stopped)
+    → ((cause : Cause) (told : List ℕ) → PrintStops mid new cause told → By old new cause told)
+    → Passes (after_all first) old mid × HasSameCounts old mid → SaysOrStops PrintStops mid new more result
+    → SaysOrStops By old new (first ++ more) result
+said_then By old mid new first more (Ok done) why was then =
+    (kept_append first more old.kept mid.kept new.kept was.0 then.0, same_on old mid new was.1 then.1)
 said_then By old mid new first more (Err stopped) why was then = record {
   between = then.between;
   cause = then.cause;
@@ -81,21 +92,30 @@ said_then By old mid new first more (Err stopped) why was then = record {
 }
 
 -- one report and then another
-pub reports_then : (old mid new : DeskView) (first more : List Saying) {done : Unit {0}} (result : Result (Unit {0}) Stopped) → Reports PrintStops old mid first (Ok done) → Reports PrintStops mid new more result → Reports PrintStops old new (first ++ more) result
+pub reports_then : (old mid new : DeskView) (first more : List Saying) {done : Unit {0}}
+    (result : Result (Unit {0}) Stopped) → Reports PrintStops old mid first (Ok done)
+    → Reports PrintStops mid new more result → Reports PrintStops old new (first ++ more) result
 reports_then old mid new first more result was then = record {
-  says = said_then PrintStops old mid new first more result (print_stops_later old mid new was.says.1) was.says then.says;
+  says = said_then PrintStops old mid new first more result (print_stops_later old mid new was.says.1) was.says
+      then.says;
   follows = follows_on old mid new was.follows then.follows;
 }
 
 -- something is saved, and then a line is printed
-pub saves_then : (old mid new : DeskView) (file : List ℕ) (first more : List Saying) {done : Unit {0}} (result : Result (Unit {0}) Stopped) → Reports (SaveStops file) old mid first (Ok done) → Reports PrintStops mid new more result → Reports DeskStops old new (first ++ more) result
+pub saves_then : (old mid new : DeskView) (file : List ℕ) (first more : List Saying) {done : Unit {0}}
+    (result : Result (Unit {0}) Stopped) → Reports (SaveStops file) old mid first (Ok done)
+    → Reports PrintStops mid new more result → Reports DeskStops old new (first ++ more) result
 saves_then old mid new file first more result was then = record {
-  says = said_then DeskStops old mid new first more result (λ cause told stops. print_is_desk old new cause told (print_stops_later old mid new was.says.1 cause told stops)) was.says then.says;
+  says = said_then DeskStops old mid new first more result
+      (λ cause told stops. print_is_desk old new cause told (print_stops_later old mid new was.says.1 cause told stops))
+      was.says then.says;
   follows = follows_on old mid new was.follows then.follows;
 }
 
 -- the first report was the last
-pub reports_until : (By Then : DeskView → DeskView → Cause → List ℕ → Type 0) {old new : DeskView} (first more : List Saying) (stopped : Stopped) → ((cause : Cause) (told : List ℕ) → By old new cause told → Then old new cause told)
+pub reports_until : (By Then : DeskView → DeskView → Cause → List ℕ → Type 0) {old new : DeskView}
+    (first more : List Saying) (stopped : Stopped)
+    → ((cause : Cause) (told : List ℕ) → By old new cause told → Then old new cause told)
     → Reports By old new first (Err stopped) → Reports Then old new (first ++ more) (Err stopped)
 reports_until By Then first more stopped why was =
     let some = was.says in
@@ -118,17 +138,25 @@ one_only l x [] more is = let e : Line l ≡ Line x = cc in let same : l ≡ x =
 one_only l x (s ∷ []) more is = let e : [] ≡ Line x ∷ more = cc in absurd (cc)
 one_only l x (s ∷ t ∷ whole) more is = let e : [] ≡ t ∷ (whole ++ (Line x ∷ more)) = cc in absurd (cc)
 
-one_line : {d e : DeskView} (l : List ℕ) → SaysFront OfPrinting d e (Line l ∷ []) → (front : List ℕ) × IsPrefixOf front l × Passes (after_err front) d e
+one_line : {d e : DeskView} (l : List ℕ) → SaysFront OfPrinting d e (Line l ∷ [])
+    → (front : List ℕ) × IsPrefixOf front l × Passes (after_err front) d e
 one_line {d = d} {e = e} l front =
     let p = front.place in
     let begun : front.begun ≡ Line p.done ∷ [] = sayings_by front.begun _ p.part in
     let later : front.later ≡ Line p.bytes ∷ sayings p.more = sayings_by front.later _ p.due in
-    let one = one_only l p.bytes front.whole (sayings p.more) (front.sayings_are ∙ ap (λ ss. front.whole ++ ss) later) in
-    (p.done, subst (IsPrefixOf p.done) one.1 p.front, subst (λ ss. Passes (after_all ss) d e) (ap (λ ss. ss ++ front.begun) one.0 ∙ begun) front.kept)
+    let one = one_only l p.bytes front.whole (sayings p.more)
+    (front.sayings_are ∙ ap (λ ss. front.whole ++ ss) later) in (
+      p.done,
+      subst (IsPrefixOf p.done) one.1 p.front,
+      subst (λ ss. Passes (after_all ss) d e) (ap (λ ss. ss ++ front.begun) one.0 ∙ begun) front.kept,
+    )
 
-told_line : (cause : Cause) (told l : List ℕ) (old new between : DeskView) → Follows old new → SaysFront cause old between (Line l ∷ []) → PrintStops old new cause told → Passes (after_err told) between new → Tells old new l
+told_line : (cause : Cause) (told l : List ℕ) (old new between : DeskView) → Follows old new
+    → SaysFront cause old between (Line l ∷ []) → PrintStops old new cause told → Passes (after_err told) between new
+    → Tells old new l
 told_line OfPrinting told l old new between follows front stops kept =
-    let same : new.kept ≡ between.kept = kept ∙ (ap (λ told. after_err told between.kept) stops.1 ∙ sym (kept_nothing between.kept)) in
+    let same : new.kept ≡ between.kept = kept
+    ∙ (ap (λ told. after_err told between.kept) stops.1 ∙ sym (kept_nothing between.kept)) in
     let some = one_line l front in
     record { told = some.0; tells = inr (some.1, stops.0); kept = same ∙ some.2; follows = follows }
 told_line OfSending told l old new between follows front stops kept = absurd stops
@@ -136,17 +164,24 @@ told_line OfListening told l old new between follows front stops kept = absurd s
 told_line (OfFile file trouble) told l old new between follows front stops kept = absurd stops
 told_line OfMemory told l old new between follows front stops kept = absurd stops
 
-some_told : (old new : DeskView) (l : List ℕ) (result : Result (Unit {0}) Stopped) → Follows old new → SaysOrStops PrintStops old new (Line l ∷ []) result → Tells old new l
-some_told old new l (Ok done) follows said = record { told = l; tells = inl (refl, said.1); kept = said.0; follows = follows }
-some_told old new l (Err stopped) follows some = told_line some.cause some.told l old new some.between follows some.front some.stops some.kept
+some_told : (old new : DeskView) (l : List ℕ) (result : Result (Unit {0}) Stopped) → Follows old new
+    → SaysOrStops PrintStops old new (Line l ∷ []) result → Tells old new l
+some_told old new l (Ok done) follows said =
+    record { told = l; tells = inl (refl, said.1); kept = said.0; follows = follows }
+some_told old new l (Err stopped) follows some =
+    told_line some.cause some.told l old new some.between follows some.front some.stops some.kept
 
 -- what was printed of a line that was told
-pub told_some : (old new : DeskView) (l : List ℕ) (result : Result (Unit {0}) Stopped) → Reports PrintStops old new (Line l ∷ []) result → Tells old new l
+pub told_some : (old new : DeskView) (l : List ℕ) (result : Result (Unit {0}) Stopped)
+    → Reports PrintStops old new (Line l ∷ []) result → Tells old new l
 told_some old new l result reports = some_told old new l result reports.follows reports.says
 
 -- a file's trouble is told behind what was done
-pub file_stops : (By : DeskView → DeskView → Cause → List ℕ → Type 0) (old mid new : DeskView) (sayings : List Saying) (file : List ℕ) (trouble : FileTrouble) → SaysFront (OfFile file trouble) old mid sayings
-    → HasFailedAt File old mid → Follows old mid → ((told : List ℕ) → FileStops old new file trouble told → By old new (OfFile file trouble) told) → Tells mid new (cause_line (OfFile file trouble)) → SaidSome By old new sayings
+pub file_stops : (By : DeskView → DeskView → Cause → List ℕ → Type 0) (old mid new : DeskView) (sayings : List Saying)
+    (file : List ℕ) (trouble : FileTrouble) → SaysFront (OfFile file trouble) old mid sayings
+    → HasFailedAt File old mid → Follows old mid
+    → ((told : List ℕ) → FileStops old new file trouble told → By old new (OfFile file trouble) told)
+    → Tells mid new (cause_line (OfFile file trouble)) → SaidSome By old new sayings
 file_stops By old mid new sayings file trouble front failed first why some = record {
   between = mid;
   cause = OfFile file trouble;

@@ -24,7 +24,8 @@ use Rattle.avr_session.specs.Runs.{Devices, devices, NoneFailed, Cause, OfSendin
 use Rattle.avr_session.proofs.Places.{place_more, place_behind, place_part, desk_says, desk_listens, sayings_said, map_append}
 
 -- a call has come so far: what is left of its dialog, and what was sent and said
-pub record Came {R : Type 0} (dialog : Dialog Saying R) (before : Position) (old new : Devices) (rest : Dialog Saying R) (after : Position) : Type 0 where
+pub record Came {R : Type 0} (dialog : Dialog Saying R) (before : Position) (old new : Devices) (rest : Dialog Saying R)
+    (after : Position) : Type 0 where
   pub during : Talk
   pub events : List (Event Saying)
   pub grows : Grows old.link.talk during new.link.talk
@@ -47,28 +48,42 @@ sayings_append [] y = refl
 sayings_append (Said saying ∷ x) y = ap (λ ss. saying ∷ ss) (sayings_append x y)
 sayings_append (_ ∷ x) y = sayings_append x y
 
-after_both : (x y : List (Event Saying)) (r : Record) → after_all (sayings (x ++ y)) r ≡ after_all (sayings y) (after_all (sayings x) r)
+after_both : (x y : List (Event Saying)) (r : Record)
+    → after_all (sayings (x ++ y)) r ≡ after_all (sayings y) (after_all (sayings x) r)
 after_both x y r = ap (λ ss. after_all ss r) (sayings_append x y) ∙ after_append (sayings x) (sayings y) r
 
 -- how far a call has come
 
 pub came_here : {R : Type 0} (dialog : Dialog Saying R) (m : Position) (o : Devices) → Came dialog m o o dialog m
-came_here dialog m o = record { during = []; events = []; grows = grows_none o.link.talk; leads = leads_here dialog m; few = λ f. f; kept = kept_none o.desk.kept; sound = none_failed_here o }
+came_here dialog m o = record {
+  during = [];
+  events = [];
+  grows = grows_none o.link.talk;
+  leads = leads_here dialog m;
+  few = λ f. f;
+  kept = kept_none o.desk.kept;
+  sound = none_failed_here o;
+}
 
-pub came_on : {R : Type 0} {a b c : Dialog Saying R} {l m n : Position} {o p q : Devices} → Came a l o p b m → Came b m p q c n → Came a l o q c n
+pub came_on : {R : Type 0} {a b c : Dialog Saying R} {l m n : Position} {o p q : Devices} → Came a l o p b m
+    → Came b m p q c n → Came a l o q c n
 came_on {o = o} {p = p} {q = q} x y = record {
   during = x.during ++ y.during;
   events = x.events ++ y.events;
   grows = grows_on o.link.talk p.link.talk q.link.talk x.during y.during x.grows y.grows;
   leads = leads_on x.leads y.leads;
   few = λ few. y.few (x.few few);
-  kept = kept_on (after_all (sayings x.events)) (after_all (sayings y.events)) (after_all (sayings (x.events ++ y.events))) o.desk.kept p.desk.kept q.desk.kept (after_both x.events y.events) x.kept y.kept;
+  kept = kept_on (after_all (sayings x.events)) (after_all (sayings y.events))
+      (after_all (sayings (x.events ++ y.events))) o.desk.kept p.desk.kept q.desk.kept (after_both x.events y.events)
+      x.kept y.kept;
   sound = none_failed_on o p q x.sound y.sound;
 }
 
 -- an operation of the host, and what follows it
-pub came_lifted : {A R : Type 0} {dialog : Dialog ⊥ A} {m n : Position} {o p : LinkView} {result : A} (go_on : A → Dialog Saying R) (d : DeskView)
-    → PlaysOver dialog m o p result n → length n.unread ≤ 281 → p.failures ≡ o.failures → Came (lifted dialog >>= go_on) m (devices o d) (devices p d) (go_on result) n
+pub came_lifted : {A R : Type 0} {dialog : Dialog ⊥ A} {m n : Position} {o p : LinkView} {result : A}
+    (go_on : A → Dialog Saying R) (d : DeskView)
+    → PlaysOver dialog m o p result n → length n.unread ≤ 281 → p.failures ≡ o.failures
+    → Came (lifted dialog >>= go_on) m (devices o d) (devices p d) (go_on result) n
 came_lifted go_on d f few same = record {
   during = f.during;
   events = raised f.events;
@@ -79,12 +94,15 @@ came_lifted go_on d f few same = record {
   sound = (same, same_here d);
 }
 
-leads_says : {R : Type 0} (xs : List Saying) (dialog : Dialog Saying R) (m : Position) → TalkLeads (says xs dialog) m [] (map Said xs) dialog m
+leads_says : {R : Type 0} (xs : List Saying) (dialog : Dialog Saying R) (m : Position)
+    → TalkLeads (says xs dialog) m [] (map Said xs) dialog m
 leads_says [] dialog m = leads_here dialog m
 leads_says (x ∷ xs) dialog m = leads_on (leads_say x (says xs dialog) m) (leads_says xs dialog m)
 
 -- what is said
-pub came_said : {R : Type 0} (xs : List Saying) (dialog : Dialog Saying R) (m : Position) (o : LinkView) {d e : DeskView} → Passes (after_all xs) d e × HasSameCounts d e → Came (says xs dialog) m (devices o d) (devices o e) dialog m
+pub came_said : {R : Type 0} (xs : List Saying) (dialog : Dialog Saying R) (m : Position) (o : LinkView)
+    {d e : DeskView} → Passes (after_all xs) d e × HasSameCounts d e
+    → Came (says xs dialog) m (devices o d) (devices o e) dialog m
 came_said xs dialog m o {d = d} {e = e} said = record {
   during = [];
   events = map Said xs;
@@ -95,39 +113,77 @@ came_said xs dialog m o {d = d} {e = e} said = record {
   sound = (refl, said.1);
 }
 
-pub ran_from : {R : Type 0} {a : Dialog Saying R} {m n : Position} {o p : Devices} {result : R} → Came a m o p (Done result) n → Ran a m o p result n
-ran_from f = record { during = f.during; events = f.events; grows = f.grows; plays = plays_from f.leads; few = f.few; kept = f.kept; sound = f.sound }
+pub ran_from : {R : Type 0} {a : Dialog Saying R} {m n : Position} {o p : Devices} {result : R}
+    → Came a m o p (Done result) n → Ran a m o p result n
+ran_from f = record {
+  during = f.during;
+  events = f.events;
+  grows = f.grows;
+  plays = plays_from f.leads;
+  few = f.few;
+  kept = f.kept;
+  sound = f.sound;
+}
 
-came_from : {R : Type 0} {a : Dialog Saying R} {m n : Position} {o p : Devices} {result : R} → Ran a m o p result n → Came a m o p (Done result) n
-came_from f = record { during = f.during; events = f.events; grows = f.grows; leads = leads_from f.plays; few = f.few; kept = f.kept; sound = f.sound }
+came_from : {R : Type 0} {a : Dialog Saying R} {m n : Position} {o p : Devices} {result : R} → Ran a m o p result n
+    → Came a m o p (Done result) n
+came_from f = record {
+  during = f.during;
+  events = f.events;
+  grows = f.grows;
+  leads = leads_from f.plays;
+  few = f.few;
+  kept = f.kept;
+  sound = f.sound;
+}
 
 -- a part of a dialog was played whole
-pub came_part : {A R : Type 0} {a : Dialog Saying A} {m n : Position} {o p : Devices} {result : A} (go_on : A → Dialog Saying R) → Ran a m o p result n → Came (a >>= go_on) m o p (go_on result) n
-came_part go_on f = record { during = f.during; events = f.events; grows = f.grows; leads = leads_bind go_on (leads_from f.plays); few = f.few; kept = f.kept; sound = f.sound }
+pub came_part : {A R : Type 0} {a : Dialog Saying A} {m n : Position} {o p : Devices} {result : A}
+    (go_on : A → Dialog Saying R) → Ran a m o p result n → Came (a >>= go_on) m o p (go_on result) n
+came_part go_on f = record {
+  during = f.during;
+  events = f.events;
+  grows = f.grows;
+  leads =
+      leads_bind go_on (leads_from f.plays);
+  few = f.few;
+  kept = f.kept;
+  sound = f.sound;
+}
 
-pub ran_on : {R : Type 0} {a b : Dialog Saying R} {l m n : Position} {o p q : Devices} {result : R} → Came a l o p b m → Ran b m p q result n → Ran a l o q result n
+pub ran_on : {R : Type 0} {a b : Dialog Saying R} {l m n : Position} {o p q : Devices} {result : R} → Came a l o p b m
+    → Ran b m p q result n → Ran a l o q result n
 ran_on x y = ran_from (came_on x (came_from y))
 
 -- breaking off
 
 -- what stops such a part stops the whole, behind these sayings
 abbrev pub StopsWhole : Terms → Terms → List Saying → Devices → Devices → Devices → Type 0
-StopsWhole some all before o p q = (said : List Saying) (cause : Cause) (told : List ℕ) → StopsBehind some p q said cause told → StopsBehind all o q (before ++ said) cause told
+StopsWhole some all before o p q = (said : List Saying) (cause : Cause) (told : List ℕ)
+    → StopsBehind some p q said cause told → StopsBehind all o q (before ++ said) cause told
 
 -- a cause that comes in a part comes in the whole
-has_come_in : (some all : Bool) (o p then : Devices) → (some ≡ true → all ≡ true) → NoneFailed o p → (cause : Cause) → HasCome some p then cause → HasCome all o then cause
-has_come_in some all o p then takes same OfSending come = (subst (λ n. HasRisen n then.link.failures) same.0 come.0, same_on o.desk p.desk then.desk same.1 come.1)
-has_come_in some all o p then takes same OfListening come = (subst (λ n. HasRisen n then.link.failures) same.0 come.0, same_on o.desk p.desk then.desk same.1 come.1)
-has_come_in some all o p then takes same (OfFile file trouble) come = (failed_since o.desk p.desk then.desk same.1 come.0, come.1 ∙ same.0)
-has_come_in some all o p then takes same OfPrinting come = (unsaid_since o.desk p.desk then.desk same.1 come.0, come.1 ∙ same.0)
+has_come_in : (some all : Bool) (o p then : Devices) → (some ≡ true → all ≡ true) → NoneFailed o p → (cause : Cause)
+    → HasCome some p then cause → HasCome all o then cause
+has_come_in some all o p then takes same OfSending come =
+    (subst (λ n. HasRisen n then.link.failures) same.0 come.0, same_on o.desk p.desk then.desk same.1 come.1)
+has_come_in some all o p then takes same OfListening come =
+    (subst (λ n. HasRisen n then.link.failures) same.0 come.0, same_on o.desk p.desk then.desk same.1 come.1)
+has_come_in some all o p then takes same (OfFile file trouble) come =
+    (failed_since o.desk p.desk then.desk same.1 come.0, come.1 ∙ same.0)
+has_come_in some all o p then takes same OfPrinting come =
+    (unsaid_since o.desk p.desk then.desk same.1 come.0, come.1 ∙ same.0)
 has_come_in some all o p then takes same OfMemory come = (takes come.0, none_failed_on o p then same come.1)
 
 -- behind other sayings, where they tell what is taken to be told
-pub stops_in : (some all : Terms) (before : List Saying) (o p q : Devices) → (some.takes ≡ true → all.takes ≡ true) → NoneFailed o p → (all.was_told || tells_fault before) ≡ some.was_told
+pub stops_in : (some all : Terms) (before : List Saying) (o p q : Devices) → (some.takes ≡ true → all.takes ≡ true)
+    → NoneFailed o p → (all.was_told || tells_fault before) ≡ some.was_told
     → StopsWhole some all before o p q
 stops_in some all before o p q takes sound same said cause told stops =
     let flags : (some.was_told || tells_fault said) ≡ (all.was_told || tells_fault (before ++ said)) =
-    ap (λ x. x || tells_fault said) (sym same) ∙ (or_assoc all.was_told (tells_fault before) (tells_fault said) ∙ ap (λ x. all.was_told || x) (sym (list_any-append is_error before said))) in
+    ap (λ x. x || tells_fault said) (sym same)
+    ∙ (or_assoc all.was_told (tells_fault before) (tells_fault said)
+    ∙ ap (λ x. all.was_told || x) (sym (list_any-append is_error before said))) in
     record {
       between = stops.between;
       has_come = has_come_in some.takes all.takes o p (devices q.link stops.between) takes sound cause stops.has_come;
@@ -137,8 +193,10 @@ stops_in some all before o p q takes sound same said cause told stops =
     }
 
 -- since before, or where more may take memory
-pub stops_since : (takes more told : Bool) (o p q : Devices) → (takes ≡ true → more ≡ true) → NoneFailed o p → (said : List Saying) (cause : Cause) (line : List ℕ)
-    → StopsBehind (record { takes = takes; was_told = told }) p q said cause line → StopsBehind (record { takes = more; was_told = told }) o q said cause line
+pub stops_since : (takes more told : Bool) (o p q : Devices) → (takes ≡ true → more ≡ true) → NoneFailed o p
+    → (said : List Saying) (cause : Cause) (line : List ℕ)
+    → StopsBehind (record { takes = takes; was_told = told }) p q said cause line
+    → StopsBehind (record { takes = more; was_told = told }) o q said cause line
 stops_since takes more told o p q also sound said cause line stops = record {
   between = stops.between;
   has_come = has_come_in takes more o p (devices q.link stops.between) also sound cause stops.has_come;
@@ -147,12 +205,15 @@ stops_since takes more told o p q also sound said cause line stops = record {
   until = stops.until;
 }
 
-pub broke_on : {R : Type 0} {a b : Dialog Saying R} {m n : Position} {o p q : Devices} {some all : Terms} {L M : Lacking} (x : Came a m o p b n) → StopsWhole some all (sayings x.events) o p q
-    → ((during : Talk) (shown : List (Event Saying)) → M n during shown → L m (x.during ++ during) (x.events ++ shown)) → BrokeOff b n p q some M → BrokeOff a m o q all L
+pub broke_on : {R : Type 0} {a b : Dialog Saying R} {m n : Position} {o p q : Devices} {some all : Terms}
+    {L M : Lacking} (x : Came a m o p b n) → StopsWhole some all (sayings x.events) o p q
+    → ((during : Talk) (shown : List (Event Saying)) → M n during shown → L m (x.during ++ during) (x.events ++ shown))
+    → BrokeOff b n p q some M → BrokeOff a m o q all L
 broke_on {a = a} {m = m} {o = o} {p = p} {q = q} {all = all} x why lack y =
     let front = y.breaks.front in
     let whole = breaks_on SaidPart x.leads y.breaks in
-    let play = ap (λ t. played a m.next (on_tape m.unread ++ t)) (heard_append x.during y.during) ∙ x.leads.goes_on (heard y.during) in
+    let play = ap (λ t. played a m.next (on_tape m.unread ++ t)) (heard_append x.during y.during)
+    ∙ x.leads.goes_on (heard y.during) in
     record {
       during = x.during ++ y.during;
       shown = x.events ++ y.shown;
@@ -174,8 +235,10 @@ broke_on {a = a} {m = m} {o = o} {p = p} {q = q} {all = all} x why lack y =
       };
       place = place_behind y.cause x.events front.whole front.begun front.later y.place;
       listens = subst (Listens y.cause) (sym (ap (λ (play : Played Saying _). play.outcome) play)) y.listens;
-      stops = subst (λ said. StopsBehind all o q said y.cause y.told) (sym (sayings_append x.events y.shown)) (why (sayings y.shown) y.cause y.told y.stops);
-      kept = kept_on (after_all (sayings x.events)) (λ r. after_err y.told (after_all (sayings y.shown) r)) (λ r. after_err y.told (after_all (sayings (x.events ++ y.shown)) r)) o.desk.kept p.desk.kept q.desk.kept
+      stops = subst (λ said. StopsBehind all o q said y.cause y.told) (sym (sayings_append x.events y.shown))
+          (why (sayings y.shown) y.cause y.told y.stops);
+      kept = kept_on (after_all (sayings x.events)) (λ r. after_err y.told (after_all (sayings y.shown) r))
+          (λ r. after_err y.told (after_all (sayings (x.events ++ y.shown)) r)) o.desk.kept p.desk.kept q.desk.kept
           (λ r. ap (after_err y.told) (after_both x.events y.shown r)) x.kept y.kept;
       lacks = λ is. lack y.during y.shown (y.lacks is);
     }
@@ -185,27 +248,38 @@ abbrev pub Never : Lacking
 Never before during shown = ⊥
 
 -- behind an operation of the host
-pub broke_lifted : {A R : Type 0} {dialog : Dialog ⊥ A} {m n : Position} {o p : LinkView} {d e : DeskView} {result : A} {terms : Terms} {L : Lacking} (go_on : A → Dialog Saying R) → PlaysOver dialog m o p result n → length n.unread ≤ 281
-    → p.failures ≡ o.failures → BrokeOff (go_on result) n (devices p d) (devices p e) terms Never → BrokeOff (lifted dialog >>= go_on) m (devices o d) (devices p e) terms L
+pub broke_lifted : {A R : Type 0} {dialog : Dialog ⊥ A} {m n : Position} {o p : LinkView} {d e : DeskView} {result : A}
+    {terms : Terms} {L : Lacking} (go_on : A → Dialog Saying R) → PlaysOver dialog m o p result n
+    → length n.unread ≤ 281
+    → p.failures ≡ o.failures → BrokeOff (go_on result) n (devices p d) (devices p e) terms Never
+    → BrokeOff (lifted dialog >>= go_on) m (devices o d) (devices p e) terms L
 unfolding came_lifted
 broke_lifted {o = o} {p = p} {d = d} {e = e} {terms = terms} go_on f few link y =
-    broke_on (came_lifted go_on d f few link) (λ said cause told s. subst (λ (ss : List Saying). StopsBehind terms (devices o d) (devices p e) (ss ++ said) cause told) (sym (sayings_raised f.events))
-    (stops_since terms.takes terms.takes terms.was_told (devices o d) (devices p d) (devices p e) (λ t. t) (link, same_here d) said cause told s)) (λ during shown never. absurd never) y
+    broke_on (came_lifted go_on d f few link)
+    (λ said cause told s. subst (λ (ss : List Saying). StopsBehind terms (devices o d) (devices p e) (ss ++ said)
+    cause told) (sym (sayings_raised f.events))
+    (stops_since terms.takes terms.takes terms.was_told (devices o d) (devices p d) (devices p e) (λ t. t)
+    (link, same_here d) said cause told s)) (λ during shown never. absurd never) y
 
 -- behind a part that was played whole
-pub broke_after : {A R : Type 0} {a : Dialog Saying A} {m n : Position} {o p q : Devices} {result : A} {some all : Terms} {L M : Lacking} (go_on : A → Dialog Saying R) (ran : Ran a m o p result n)
-    → StopsWhole some all (sayings ran.events) o p q → ((during : Talk) (shown : List (Event Saying)) → M n during shown → L m (ran.during ++ during) (ran.events ++ shown))
+pub broke_after : {A R : Type 0} {a : Dialog Saying A} {m n : Position} {o p q : Devices} {result : A}
+    {some all : Terms} {L M : Lacking} (go_on : A → Dialog Saying R) (ran : Ran a m o p result n)
+    → StopsWhole some all (sayings ran.events) o p q
+    → ((during : Talk) (shown : List (Event Saying)) → M n during shown
+    → L m (ran.during ++ during) (ran.events ++ shown))
     → BrokeOff (go_on result) n p q some M → BrokeOff (a >>= go_on) m o q all L
 unfolding came_part
 broke_after go_on ran why lack y = broke_on (came_part go_on ran) why lack y
 
 -- a dialog that listens has nothing behind it yet
-none_behind : {A R : Type 0} (cause : Cause) (outcome : Option (A × ℕ × Tape)) (go_on : A → ℕ → Tape → Played Saying R) → Listens cause outcome → cause ≡ OfListening → (continued outcome go_on).events ≡ []
+none_behind : {A R : Type 0} (cause : Cause) (outcome : Option (A × ℕ × Tape)) (go_on : A → ℕ → Tape → Played Saying R)
+    → Listens cause outcome → cause ≡ OfListening → (continued outcome go_on).events ≡ []
 none_behind cause outcome go_on listens is =
     let waits : outcome ≡ None = subst (λ (c : Cause). Listens c outcome) is listens in
     ap (λ o. (continued o go_on).events) waits
 
-listens_behind : {A R : Type 0} (cause : Cause) (outcome : Option (A × ℕ × Tape)) (go_on : A → ℕ → Tape → Played Saying R) → Listens cause outcome → Listens cause (continued outcome go_on).outcome
+listens_behind : {A R : Type 0} (cause : Cause) (outcome : Option (A × ℕ × Tape))
+    (go_on : A → ℕ → Tape → Played Saying R) → Listens cause outcome → Listens cause (continued outcome go_on).outcome
 listens_behind OfSending outcome go_on listens = tt
 listens_behind OfListening outcome go_on listens = ap (λ o. (continued o go_on).outcome) listens
 listens_behind (OfFile file trouble) outcome go_on listens = tt
@@ -213,8 +287,11 @@ listens_behind OfPrinting outcome go_on listens = tt
 listens_behind OfMemory outcome go_on listens = tt
 
 -- in a part of a dialog
-pub broke_part : {A R : Type 0} {a : Dialog Saying A} {m : Position} {o p : Devices} {some all : Terms} {L M : Lacking} (go_on : A → Dialog Saying R) → ((said : List Saying) (cause : Cause) (told : List ℕ) → StopsBehind some o p said cause told → StopsBehind all o p said cause told)
-    → ((during : Talk) (shown : List (Event Saying)) → M m during shown → L m during shown) → BrokeOff a m o p some M → BrokeOff (a >>= go_on) m o p all L
+pub broke_part : {A R : Type 0} {a : Dialog Saying A} {m : Position} {o p : Devices} {some all : Terms} {L M : Lacking}
+    (go_on : A → Dialog Saying R) → ((said : List Saying) (cause : Cause) (told : List ℕ)
+    → StopsBehind some o p said cause told → StopsBehind all o p said cause told)
+    → ((during : Talk) (shown : List (Event Saying)) → M m during shown → L m during shown) → BrokeOff a m o p some M
+    → BrokeOff (a >>= go_on) m o p all L
 broke_part {a = a} {m = m} go_on why lack f =
     let front = f.breaks.front in
     let tape = on_tape m.unread ++ heard f.during in
@@ -233,14 +310,17 @@ broke_part {a = a} {m = m} go_on why lack f =
           begun = front.begun;
           later = front.later ++ more;
           shown_is = front.shown_is;
-          events_are = ap (λ (play : Played Saying _). play.events) (played_bind a go_on m.next tape) ∙ (ap (λ es. es ++ more) front.events_are ∙ append_assoc front.whole front.later more);
+          events_are = ap (λ (play : Played Saying _). play.events) (played_bind a go_on m.next tape)
+              ∙ (ap (λ es. es ++ more) front.events_are ∙ append_assoc front.whole front.later more);
           part = place_part f.cause front.whole front.begun (front.later ++ more) place;
         };
         all_sent = f.breaks.all_sent;
         in_turn = (breaks_bind SaidPart go_on f.breaks).in_turn;
       };
       place = place;
-      listens = subst (Listens f.cause) (sym (ap (λ (play : Played Saying _). play.outcome) (played_bind a go_on m.next tape))) (listens_behind f.cause (played a m.next tape).outcome (λ r. played (go_on r)) f.listens);
+      listens = subst (Listens f.cause) (sym (ap (λ (play : Played Saying _). play.outcome)
+          (played_bind a go_on m.next tape))) (listens_behind f.cause (played a m.next tape).outcome
+          (λ r. played (go_on r)) f.listens);
       stops = why (sayings f.shown) f.cause f.told f.stops;
       kept = f.kept;
       lacks = λ is. lack f.during f.shown (f.lacks is);
@@ -256,7 +336,9 @@ broken_cause Recv = OfListening
 abbrev pub ToldBy : Terms → Cause → Devices → Devices → Type 0
 ToldBy terms cause o p = (told : List ℕ) × StopsBehind terms o p [] cause told × Passes (after_err told) o.desk p.desk
 
-broke_raised : {A : Type 0} (by : Broken) {dialog : Dialog ⊥ A} {m : Position} {o p : Devices} {terms : Terms} {L : Lacking} → FailsOver by dialog m o.link p.link → ToldBy terms (broken_cause by) o p → BrokeOff (lifted dialog) m o p terms L
+broke_raised : {A : Type 0} (by : Broken) {dialog : Dialog ⊥ A} {m : Position} {o p : Devices} {terms : Terms}
+    {L : Lacking} → FailsOver by dialog m o.link p.link → ToldBy terms (broken_cause by) o p
+    → BrokeOff (lifted dialog) m o p terms L
 broke_raised Send {dialog = dialog} {m = m} {o = o} {p = p} {terms = terms} f some =
     let g = by_lifted Saying Send dialog m f.during f.shown f.breaks in
     record {
@@ -277,10 +359,19 @@ broke_raised Send {dialog = dialog} {m = m} {o = o} {p = p} {terms = terms} f so
         all_sent = g.all_sent;
         in_turn = g.in_turn;
       };
-      place = record { done = g.part; unsent = g.unsent; more = g.later; due = refl; part = refl; not_whole = g.not_whole };
+      place = record {
+        done = g.part;
+        unsent = g.unsent;
+        more = g.later;
+        due = refl;
+        part = refl;
+        not_whole =
+            g.not_whole;
+      };
       listens = tt;
       stops = subst (λ said. StopsBehind terms o p said OfSending some.0) (sym (sayings_raised f.shown)) some.1;
-      kept = subst (λ ss. Passes (λ r. after_err some.0 (after_all ss r)) o.desk p.desk) (sym (sayings_raised f.shown)) some.2;
+      kept = subst (λ ss. Passes (λ r. after_err some.0 (after_all ss r)) o.desk p.desk) (sym (sayings_raised f.shown))
+          some.2;
       lacks = λ is. absurd (cc);
     }
 broke_raised Recv {dialog = dialog} {m = m} {o = o} {p = p} {terms = terms} f some =
@@ -306,17 +397,23 @@ broke_raised Recv {dialog = dialog} {m = m} {o = o} {p = p} {terms = terms} f so
       place = (refl, refl);
       listens = g.waits;
       stops = subst (λ said. StopsBehind terms o p said OfListening some.0) (sym (sayings_raised f.shown)) some.1;
-      kept = subst (λ ss. Passes (λ r. after_err some.0 (after_all ss r)) o.desk p.desk) (sym (sayings_raised f.shown)) some.2;
+      kept = subst (λ ss. Passes (λ r. after_err some.0 (after_all ss r)) o.desk p.desk) (sym (sayings_raised f.shown))
+          some.2;
       lacks = λ is. absurd (cc);
     }
 
-pub broke_operation : {A R : Type 0} (by : Broken) {dialog : Dialog ⊥ A} {m : Position} {o p : Devices} {terms : Terms} {L : Lacking} (go_on : A → Dialog Saying R)
-    → FailsOver by dialog m o.link p.link → ToldBy terms (broken_cause by) o p → BrokeOff (lifted dialog >>= go_on) m o p terms L
-broke_operation by {L = L} go_on f some = broke_part {M = L} go_on (λ said cause told s. s) (λ during shown lack. lack) (broke_raised by f some)
+pub broke_operation : {A R : Type 0} (by : Broken) {dialog : Dialog ⊥ A} {m : Position} {o p : Devices} {terms : Terms}
+    {L : Lacking} (go_on : A → Dialog Saying R)
+    → FailsOver by dialog m o.link p.link → ToldBy terms (broken_cause by) o p
+    → BrokeOff (lifted dialog >>= go_on) m o p terms L
+broke_operation by {L = L} go_on f some =
+    broke_part {M = L} go_on (λ said cause told s. s) (λ during shown lack. lack) (broke_raised by f some)
 
 -- in what is said
 
-says_events : {R : Type 0} (xs : List Saying) (dialog : Dialog Saying R) (seq : ℕ) (u : List ℕ) → (played (says xs dialog) seq (on_tape u ++ [])).events ≡ map Said xs ++ (played dialog seq (on_tape u ++ [])).events
+says_events : {R : Type 0} (xs : List Saying) (dialog : Dialog Saying R) (seq : ℕ) (u : List ℕ)
+    → (played (says xs dialog) seq (on_tape u ++ [])).events
+    ≡ map Said xs ++ (played dialog seq (on_tape u ++ [])).events
 says_events [] dialog seq u = refl
 says_events (x ∷ xs) dialog seq u = ap (λ es. Said x ∷ es) (says_events xs dialog seq u)
 
@@ -325,16 +422,22 @@ no_bytes [] = refl
 no_bytes (x ∷ xs) = no_bytes xs
 
 -- what stops a report stops it behind a front of what it says
-abbrev pub StopsReport : Terms → LinkView → DeskView → DeskView → List Saying → (DeskView → DeskView → Cause → List ℕ → Type 0) → Type 0
-StopsReport terms o d e sayings By = (mid : DeskView) (cause : Cause) (front : SaysFront cause d mid sayings) (told : List ℕ) → By d e cause told → StopsBehind terms (devices o d) (devices o e) (front.whole ++ front.begun) cause told
+abbrev pub StopsReport : Terms → LinkView → DeskView → DeskView → List Saying
+    → (DeskView → DeskView → Cause → List ℕ → Type 0) → Type 0
+StopsReport terms o d e sayings By = (mid : DeskView) (cause : Cause) (front : SaysFront cause d mid sayings)
+    (told : List ℕ) → By d e cause told → StopsBehind terms (devices o d) (devices o e) (front.whole ++ front.begun)
+    cause told
 
-pub broke_saying : {R : Type 0} {By : DeskView → DeskView → Cause → List ℕ → Type 0} {terms : Terms} {L : Lacking} {d e : DeskView} (xs : List Saying) (dialog : Dialog Saying R) (m : Position) (o : LinkView)
-    → StopsReport terms o d e xs By → SaidSome By d e xs → BrokeOff (says xs dialog) m (devices o d) (devices o e) terms L
+pub broke_saying : {R : Type 0} {By : DeskView → DeskView → Cause → List ℕ → Type 0} {terms : Terms} {L : Lacking}
+    {d e : DeskView} (xs : List Saying) (dialog : Dialog Saying R) (m : Position) (o : LinkView)
+    → StopsReport terms o d e xs By → SaidSome By d e xs
+    → BrokeOff (says xs dialog) m (devices o d) (devices o e) terms L
 broke_saying {terms = terms} {d = d} {e = e} xs dialog m o why f =
     let front = f.front in
     let shown : List Saying = front.whole ++ front.begun in
     let more = (played dialog m.next (on_tape m.unread ++ [])).events in
-    let place = place_more f.cause (map Said front.whole) (map Said front.begun) (map Said front.later) more (λ listens. absurd (desk_says f.cause front.by_desk listens)) front.place in
+    let place = place_more f.cause (map Said front.whole) (map Said front.begun) (map Said front.later) more
+    (λ listens. absurd (desk_says f.cause front.by_desk listens)) front.place in
     record {
       during = [];
       shown = map Said shown;
@@ -348,7 +451,9 @@ broke_saying {terms = terms} {d = d} {e = e} xs dialog m o why f =
           later = map Said front.later ++ more;
           shown_is = map_append front.whole front.begun;
           events_are = says_events xs dialog m.next m.unread
-              ∙ (ap (λ es. es ++ more) (ap (map {B = Event Saying} Said) front.sayings_are ∙ map_append front.whole front.later) ∙ append_assoc (map Said front.whole) (map Said front.later) more);
+              ∙ (ap (λ es. es ++ more) (ap (map {B = Event Saying} Said) front.sayings_are
+              ∙ map_append front.whole front.later) ∙ append_assoc (map Said front.whole) (map Said front.later)
+              more);
           part = place_part f.cause (map Said front.whole) (map Said front.begun) (map Said front.later ++ more) place;
         };
         all_sent = no_bytes shown;
@@ -356,14 +461,17 @@ broke_saying {terms = terms} {d = d} {e = e} xs dialog m o why f =
       };
       place = place;
       listens = desk_listens f.cause (played (says xs dialog) m.next (on_tape m.unread ++ [])).outcome front.by_desk;
-      stops = subst (λ said. StopsBehind terms (devices o d) (devices o e) said f.cause f.told) (sym (sayings_said shown)) (why f.between f.cause f.front f.told f.stops);
-      kept = kept_on (after_all shown) (after_err f.told) (λ r. after_err f.told (after_all (sayings (map Said shown)) r)) d.kept f.between.kept e.kept
+      stops = subst (λ said. StopsBehind terms (devices o d) (devices o e) said f.cause f.told)
+          (sym (sayings_said shown)) (why f.between f.cause f.front f.told f.stops);
+      kept = kept_on (after_all shown) (after_err f.told)
+          (λ r. after_err f.told (after_all (sayings (map Said shown)) r)) d.kept f.between.kept e.kept
           (λ r. ap (after_err f.told) (ap (λ ss. after_all ss r) (sayings_said shown))) f.front.kept f.kept;
       lacks = λ is. absurd (subst IsOfDesk is front.by_desk);
     }
 
 -- at once, for want of memory
-pub broke_lacking : {R : Type 0} {terms : Terms} {L : Lacking} {o p : Devices} (dialog : Dialog Saying R) (m : Position) → p.link ≡ o.link → ToldBy terms OfMemory o p → L m [] [] → BrokeOff dialog m o p terms L
+pub broke_lacking : {R : Type 0} {terms : Terms} {L : Lacking} {o p : Devices} (dialog : Dialog Saying R) (m : Position)
+    → p.link ≡ o.link → ToldBy terms OfMemory o p → L m [] [] → BrokeOff dialog m o p terms L
 broke_lacking {o = o} dialog m same some lack = record {
   during = [];
   shown = [];
@@ -371,7 +479,15 @@ broke_lacking {o = o} dialog m same some lack = record {
   told = some.0;
   grows = subst (λ (v : LinkView). Grows o.link.talk [] v.talk) (sym same) (grows_none o.link.talk);
   breaks = record {
-    front = record { whole = []; begun = []; later = (played dialog m.next (on_tape m.unread ++ [])).events; shown_is = refl; events_are = refl; part = tt };
+    front = record {
+      whole = [];
+      begun = [];
+      later = (played dialog m.next (on_tape m.unread ++ [])).events;
+      shown_is =
+          refl;
+      events_are = refl;
+      part = tt;
+    };
     all_sent = refl;
     in_turn = tt;
   };

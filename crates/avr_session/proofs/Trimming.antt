@@ -18,15 +18,21 @@ used_last : (xs : List ℕ) (b : ℕ) → (b ≡ 255 → ⊥) → used_length (x
 used_last [] b not = rw (differs b not) refl
 used_last (x ∷ xs) b not = rw (used_last xs b not, positive (length xs)) (omega arith)
 
-front_and_last : (bytes : List ℕ) (count : ℕ) → 0 < count → count ≤ length bytes → take count bytes ≡ take (count - 1) bytes ++ get_or bytes (count - 1) 0 ∷ []
+front_and_last : (bytes : List ℕ) (count : ℕ) → 0 < count → count ≤ length bytes
+    → take count bytes ≡ take (count - 1) bytes ++ get_or bytes (count - 1) 0 ∷ []
 front_and_last bytes count some within =
     let one : count ≡ count - 1 + 1 = omega arith in
     ap (λ n. take n bytes) one ∙ take_more bytes (count - 1) 0 (omega arith)
 
-pub blank_dropped : (bytes : List ℕ) (count : ℕ) → 0 < count → count ≤ length bytes → slice_index bytes (count - 1) ≡ 255 → used_length (take (count - 1) bytes) ≡ used_length (take count bytes)
+pub blank_dropped : (bytes : List ℕ) (count : ℕ) → 0 < count → count ≤ length bytes
+    → slice_index bytes (count - 1) ≡ 255 → used_length (take (count - 1) bytes) ≡ used_length (take count bytes)
 blank_dropped bytes count some within is =
-    sym (ap used_length (front_and_last bytes count some within) ∙ (ap (λ b. used_length (take (count - 1) bytes ++ b ∷ [])) is ∙ used_blank (take (count - 1) bytes)))
+    sym (ap used_length (front_and_last bytes count some within)
+    ∙ (ap (λ b. used_length (take (count - 1) bytes ++ b ∷ [])) is ∙ used_blank (take (count - 1) bytes)))
 
-pub last_used : (bytes : List ℕ) (count : ℕ) → 0 < count → count ≤ length bytes → (slice_index bytes (count - 1) ≡ 255 → ⊥) → used_length (take count bytes) ≡ count
+pub last_used : (bytes : List ℕ) (count : ℕ) → 0 < count → count ≤ length bytes
+    → (slice_index bytes (count - 1) ≡ 255 → ⊥) → used_length (take count bytes) ≡ count
 last_used bytes count some within not =
-    ap used_length (front_and_last bytes count some within) ∙ (used_last (take (count - 1) bytes) (slice_index bytes (count - 1)) not ∙ omega (arith, length-take-le (count - 1) bytes (omega arith)))
+    ap used_length (front_and_last bytes count some within)
+    ∙ (used_last (take (count - 1) bytes) (slice_index bytes (count - 1)) not
+    ∙ omega (arith, length-take-le (count - 1) bytes (omega arith)))

@@ -9,9 +9,9 @@ use Rattle.avr_session.specs.Runs.{Cause, OfFile, NotCreated, NotWritten, FileSt
 use Rattle.avr_session.specs.declared.standing.Stopped.{Stopped}
 
 -- a file and standard output are written to, and not the messages
-abbrev pub IsWritten : Stream → Type 0
-IsWritten Messages = ⊥
-IsWritten stream = Unit {0}
+abbrev pub IsForData : Stream → Type 0
+IsForData Messages = ⊥
+IsForData stream = Unit {0}
 
 -- of these bytes those went there that stand before the ones that wait
 abbrev pub SendsFront : Stream → DeskView → DeskView → Bytes → Bytes → Type 0

@@ -4,7 +4,7 @@ ghost use Rattle.avr_desk.specs.Fault.{Follows};
 ghost use Rattle.avr_desk.specs.Said.{Creates, Writes};
 ghost use Rattle.avr_session.specs.FileText.{file_text};
 ghost use Rattle.avr_session.specs.Runs.{Reports, DeskStops, ReadStops};
-ghost use Rattle.avr_session.specs.Saving.{IsWritten, SaveStops, WritesAll};
+ghost use Rattle.avr_session.specs.Saving.{IsForData, SaveStops, WritesAll};
 ghost use Rattle.avr_session.specs.Session.{saving_says, kept_of, read_says, fault_or};
 ghost use Rattle.stk_host.specs.Calls.{given_or_fault};
 ghost use Rattle.ghosts.specs.Stays.{Stays};
@@ -33,7 +33,7 @@ fn write_file<D: Desk>(
     bytes: &[u8],
 ) -> Result<(), Stopped>
     requires short { length bytes.now ≤ 2 ^ 32 }
-    requires written { IsWritten stream }
+    requires written { IsForData stream }
     ensures writes { WritesAll stream target.entry.file.now (D.view desk.old) (D.view desk.new)
         (file_text target.entry.format bytes.now) result }
     ensures follows { Follows (D.view desk.old) (D.view desk.new) }

@@ -42,17 +42,21 @@ use Rattle.avr_tool.specs.ChipFound.{IsChipOf, file_held}
 flash_part : (flash eeprom fuses : List ℕ) (n : ℕ) → length flash ≡ n → take n (flash ++ eeprom ++ fuses) ≡ flash
 flash_part flash eeprom fuses n e = ap (take n) (append_assoc flash eeprom fuses) ∙ take_at flash (eeprom ++ fuses) n e
 
-eeprom_part : (flash eeprom fuses : List ℕ) (n m : ℕ) → length flash ≡ n → length eeprom ≡ m → take m (drop n (flash ++ eeprom ++ fuses)) ≡ eeprom
+eeprom_part : (flash eeprom fuses : List ℕ) (n m : ℕ) → length flash ≡ n → length eeprom ≡ m
+    → take m (drop n (flash ++ eeprom ++ fuses)) ≡ eeprom
 eeprom_part flash eeprom fuses n m e f =
     ap (λ (xs : List ℕ). take m (drop n xs)) (append_assoc flash eeprom fuses)
     ∙ (ap (take m) (drop_at flash (eeprom ++ fuses) n e) ∙ take_at eeprom fuses m f)
 
-fuse_part : (flash eeprom fuses : List ℕ) (at k : ℕ) → at ≡ length flash + length eeprom + k → get_or (flash ++ eeprom ++ fuses) at 0 ≡ get_or fuses k 0
+fuse_part : (flash eeprom fuses : List ℕ) (at k : ℕ) → at ≡ length flash + length eeprom + k
+    → get_or (flash ++ eeprom ++ fuses) at 0 ≡ get_or fuses k 0
 fuse_part flash eeprom fuses at k e =
-    ap (λ (i : ℕ). get_or (flash ++ eeprom ++ fuses) i 0) (let at_is : at ≡ length (flash ++ eeprom) + k = rw length-append e in at_is)
+    ap (λ (i : ℕ). get_or (flash ++ eeprom ++ fuses) i 0)
+    (let at_is : at ≡ length (flash ++ eeprom) + k = rw length-append e in at_is)
     ∙ get_or-append-add (flash ++ eeprom) fuses k 0
 
-same_memories : (part : Part) (s : Chip) → FitsPart part (memories_of s) → memories_of (state_in part (chip_file s)) ≡ memories_of s
+same_memories : (part : Part) (s : Chip) → FitsPart part (memories_of s)
+    → memories_of (state_in part (chip_file s)) ≡ memories_of s
 same_memories part s fits =
     let fuses = s.lfuse ∷ s.hfuse ∷ s.efuse ∷ s.lock ∷ [] in
     let flash_size : length s.flash ≡ part.flash_size = fits.flash in
@@ -79,45 +83,57 @@ module _ (file : Bytes) (stock : Stock) (no_dash : is_dash file ≡ false) where
       stands (all_files (with_replaced file bytes r)) ∙ ap (file_named file stock) (files_replaced file bytes r)
       ∙ newest_append file None stock.files (all_files r ++ own ∷ [])
       ∙ newest_append file (newest file None stock.files) (all_files r) (own ∷ [])
-      ∙ ap (λ (b : Bool). if b then Some bytes else newest file (newest file None stock.files) (all_files r)) ((bytes_eq-Decides file file).1 refl)
+      ∙ ap (λ (b : Bool). if b then Some bytes else newest file (newest file None stock.files) (all_files r))
+      ((bytes_eq-Decides file file).1 refl)
 
   -- the chip's, or what it was
-  saved_held : (out : List ℕ) (old new : DeskView) (bytes : Bytes) (ran status : ℕ) → IsSaved out old new file bytes ran status
+  saved_held : (out : List ℕ) (old new : DeskView) (bytes : Bytes) (ran status : ℕ)
+      → IsSaved out old new file bytes ran status
       → (file_held stock new.kept file ≡ Some bytes) ⊎ (file_held stock new.kept file ≡ file_held stock old.kept file)
   saved_held [] old new bytes ran status saved = inr (ap (λ (v : DeskView). file_held stock v.kept file) saved.0)
-  saved_held (b ∷ out) old new bytes ran status (inl (saves, is)) = inl (ap (λ r. file_held stock r file) saves.0 ∙ replaced bytes old.kept)
-  saved_held (b ∷ out) old new bytes ran status (inr (fault, saves, is)) = inr (ap (λ r. file_held stock r file) saves.1.kept)
+  saved_held (b ∷ out) old new bytes ran status (inl (saves, is)) =
+      inl (ap (λ r. file_held stock r file) saves.0 ∙ replaced bytes old.kept)
+  saved_held (b ∷ out) old new bytes ran status (inr (fault, saves, is)) =
+      inr (ap (λ r. file_held stock r file) saves.1.kept)
 
   -- with status 0 the chip's, as a session of status 0 has sent something
-  zero_held : (out : List ℕ) (old new : DeskView) (bytes : Bytes) (ran : ℕ) → (out ≡ [] → ran ≡ 0 → ⊥) → IsSaved out old new file bytes ran 0
+  zero_held : (out : List ℕ) (old new : DeskView) (bytes : Bytes) (ran : ℕ) → (out ≡ [] → ran ≡ 0 → ⊥)
+      → IsSaved out old new file bytes ran 0
       → file_held stock new.kept file ≡ Some bytes
   zero_held [] old new bytes ran some saved = absurd (some refl (sym saved.1))
-  zero_held (b ∷ out) old new bytes ran some (inl (saves, is)) = ap (λ r. file_held stock r file) saves.0 ∙ replaced bytes old.kept
+  zero_held (b ∷ out) old new bytes ran some (inl (saves, is)) =
+      ap (λ r. file_held stock r file) saves.0 ∙ replaced bytes old.kept
   zero_held (b ∷ out) old new bytes ran some (inr (fault, saves, is)) = absurd (cc)
 
 -- a session that was played begins with a frame
-first_frame : (plan : Plan) (tape : Tape) → (rest : List ℕ) × (bytes_sent (played (session plan) 1 tape).events ≡ 27 ∷ rest)
+first_frame : (plan : Plan) (tape : Tape)
+    → (rest : List ℕ) × (bytes_sent (played (session plan) 1 tape).events ≡ 27 ∷ rest)
 unfolding session opening handshake tries attempt exchange
 first_frame plan tape = (_, refl)
 
 no_silence : (plan : Plan) (chip : Chip) (after : WiredState) (d e : DeskView) (ran : ℕ)
-    → RunsSession plan (devices (wired_view (new_wire chip [])) d) (devices (wired_view after) e) ran → sent after.talk ≡ [] → ran ≡ 0 → ⊥
+    → RunsSession plan (devices (wired_view (new_wire chip [])) d) (devices (wired_view after) e) ran
+    → sent after.talk ≡ [] → ran ≡ 0 → ⊥
 no_silence plan chip after d e ran (inl (place, whole)) none zero =
     let first = first_frame plan (heard whole.during ++ []) in
-    let begun : bytes_sent whole.events ≡ 27 ∷ first.0 = sym (ap (λ p. bytes_sent p.events) (whole.plays.plays [])) ∙ first.1 in
+    let begun : bytes_sent whole.events ≡ 27 ∷ first.0 =
+    sym (ap (λ p. bytes_sent p.events) (whole.plays.plays [])) ∙ first.1 in
     let silent : sent whole.during ≡ [] = ap sent (sym whole.grows) ∙ none in
     let clash : 27 ∷ first.0 ≡ [] = sym begun ∙ whole.plays.all_sent ∙ silent in
     cc
 no_silence plan chip after d e ran (inr (broke, one)) none zero = let e : 1 ≡ 0 = sym one ∙ zero in omega (arith, e)
 
 -- so the chip is in its file behind a run of status 0
-pub chip_left : (settings : Settings) (file : Bytes) (stock : Stock) (old new : Memory) (status : ℕ) → is_dash file ≡ false → status ≡ 0
+pub chip_left : (settings : Settings) (file : Bytes) (stock : Stock) (old new : Memory) (status : ℕ)
+    → is_dash file ≡ false → status ≡ 0
     → (r : RunsOverEmulator settings file (memory_view old) (memory_view new) status)
     → file_held stock new.kept file ≡ Some (chip_file r.after.wire.programmer.chip)
 chip_left settings file stock old new status no_dash zero r =
-    zero_held file stock no_dash (sent r.after.talk) r.played_desk (memory_view new) (chip_file r.after.wire.programmer.chip) r.ran
+    zero_held file stock no_dash (sent r.after.talk) r.played_desk (memory_view new)
+    (chip_file r.after.wire.programmer.chip) r.ran
     (no_silence r.plan r.chip r.after r.loaded_desk r.played_desk r.ran r.runs)
-    (subst (IsSaved (sent r.after.talk) r.played_desk (memory_view new) file (chip_file r.after.wire.programmer.chip) r.ran) zero r.saved)
+    (subst (IsSaved (sent r.after.talk) r.played_desk (memory_view new) file (chip_file r.after.wire.programmer.chip)
+    r.ran) zero r.saved)
 
 -- ---- two runs
 
@@ -126,11 +142,13 @@ same_chip : (part : Part) (held : Option Bytes) (a b : Chip) → IsChipOf part h
 same_chip part None a b is other = is ∙ sym other
 same_chip part (Some bytes) a b is other = is.1 ∙ sym other.1
 
-module _ (settings : Settings) (file : Bytes) (stock : Stock) (old mid new : Memory) (status further : ℕ) (no_dash : is_dash file ≡ false)
+module _ (settings : Settings) (file : Bytes) (stock : Stock) (old mid new : Memory) (status further : ℕ)
+    (no_dash : is_dash file ≡ false)
     (began : HoldsTrue stock old) (first_stays : Stays HoldsTrue old mid) (then_stays : Stays HoldsTrue mid new)
     (one : RunsOverEmulator settings file (memory_view old) (memory_view mid) status)
     (two : RunsOverEmulator settings file (memory_view mid) (memory_view new) further)
-    (same_plan : two.plan ≡ one.plan) (own : file_held stock one.played_desk.kept file ≡ file_held stock old.kept file) where
+    (same_plan : two.plan ≡ one.plan) (own : file_held stock one.played_desk.kept file
+    ≡ file_held stock old.kept file) where
   abbrev plan : Plan
   plan = one.plan
 
@@ -159,36 +177,43 @@ module _ (settings : Settings) (file : Bytes) (stock : Stock) (old mid new : Mem
   }
 
   left : FitsPart plan.part (memories one.after)
-  left = subst (FitsPart plan.part) (sym one.line.strokes.memories) (all_sizes plan.part is_part (take one.line.strokes.count (strokes plan)) before fits)
+  left = subst (FitsPart plan.part) (sym one.line.strokes.memories)
+      (all_sizes plan.part is_part (take one.line.strokes.count (strokes plan)) before fits)
 
   -- the second run begins with what some first strokes of the first one left
   touched : IsTouched plan before (memories_of two.chip)
-  touched = elim (saved_held file stock no_dash (sent one.after.talk) one.played_desk (memory_view mid) (chip_file one.after.wire.programmer.chip) one.ran status one.saved) [
-    | inl is ↦
-        (let held : IsChipOf plan.part (Some (chip_file one.after.wire.programmer.chip)) two.chip = subst (λ h. IsChipOf plan.part h two.chip) is second_chip in
-        record {
-          count = one.line.strokes.count;
-          memories = ap memories_of held.1 ∙ same_memories plan.part one.after.wire.programmer.chip left ∙ one.line.strokes.memories;
-        })
-    | inr same ↦
-        record {
-          count = 0;
-          memories = ap memories_of (same_chip plan.part (file_held stock old.kept file) two.chip one.chip
-              (subst (λ h. IsChipOf plan.part h two.chip) (same ∙ own) second_chip) first_chip);
-        }
-  ]
+  touched = elim (saved_held file stock no_dash (sent one.after.talk) one.played_desk (memory_view mid)
+      (chip_file one.after.wire.programmer.chip) one.ran status one.saved) [
+        | inl is ↦
+            (let held : IsChipOf plan.part (Some (chip_file one.after.wire.programmer.chip)) two.chip =
+            subst (λ h. IsChipOf plan.part h two.chip) is second_chip in
+            record {
+              count = one.line.strokes.count;
+              memories = ap memories_of held.1 ∙ same_memories plan.part one.after.wire.programmer.chip left
+                  ∙ one.line.strokes.memories;
+            })
+        | inr same ↦
+            record {
+              count = 0;
+              memories = ap memories_of (same_chip plan.part (file_held stock old.kept file) two.chip one.chip
+                  (subst (λ h. IsChipOf plan.part h two.chip) (same ∙ own) second_chip) first_chip);
+            }
+      ]
 
   second : OverAnyLine plan (new_wire two.chip []) two.after two.loaded_desk two.played_desk two.ran
-  second = subst (λ (p : Plan). OverAnyLine p (new_wire two.chip []) two.after two.loaded_desk two.played_desk two.ran) same_plan two.line
+  second = subst (λ (p : Plan). OverAnyLine p (new_wire two.chip []) two.after two.loaded_desk two.played_desk two.ran)
+      same_plan two.line
 
   pub heals_file : has_erase (items plan) ≡ true → AgreesAnyway plan
       → (erase_keeps_eeprom plan.part before ≡ true → AreKeeping plan.part (items plan))
-      → ((two.ran ≡ 0) × IsDone plan before (memories two.after)) ⊎ Stopped plan (new_wire two.chip []) two.after two.loaded_desk two.played_desk
+      → ((two.ran ≡ 0) × IsDone plan before (memories two.after))
+      ⊎ Stopped plan (new_wire two.chip []) two.after two.loaded_desk two.played_desk
   heals_file erases both kept = elim (second.again tt erases both) [
     | inl zero ↦ inl (
       zero,
       record {
-        memories = done_again plan before (memories_of two.chip) (memories two.after) is_part one.fitted fits (λ _. kept) touched (second.done zero);
+        memories = done_again plan before (memories_of two.chip) (memories two.after) is_part one.fitted fits
+            (λ _. kept) touched (second.done zero);
         agrees = agrees_anyway plan before fits erases both;
       },
     )

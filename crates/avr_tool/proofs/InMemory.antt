@@ -48,7 +48,8 @@ AreOpened stock [] = Unit {0}
 AreOpened stock (opening ∷ openings) = IsTrueOpening stock [] opening × AreOpened stock openings
 
 -- what was opened among these uses, where no file was made
-opened_uses : (stock : Stock) (uses : List FileUse) → files_among uses ≡ [] → AreTrue stock [] uses → AreOpened stock (openings_among uses)
+opened_uses : (stock : Stock) (uses : List FileUse) → files_among uses ≡ [] → AreTrue stock [] uses
+    → AreOpened stock (openings_among uses)
 opened_uses stock [] none are = tt
 opened_uses stock (Opened opening ∷ uses) none are = (are.0, opened_uses stock uses none are.1)
 opened_uses stock (Created file ∷ uses) none are = absurd (cc)
@@ -72,7 +73,8 @@ record IsAlike (r s : Record) : Type 0 where
   pub file : file_of r.current ≡ file_of s.current
 
 same_files : (r s : Record) → IsAlike r s → all_files r ≡ all_files s
-same_files r s alike = ap (λ (fs : List Writing). fs ++ file_of r.current) alike.files ∙ ap (λ (fs : List Writing). files_among s.uses ++ fs) alike.file
+same_files r s alike = ap (λ (fs : List Writing). fs ++ file_of r.current) alike.files
+    ∙ ap (λ (fs : List Writing). files_among s.uses ++ fs) alike.file
 
 same_used : (r s : Record) → IsAlike r s → files_among (all_uses r) ≡ files_among (all_uses s)
 same_used r s alike = files_used r ∙ same_files r s alike ∙ sym (files_used s)
@@ -93,10 +95,17 @@ alike_on (Opens (Absent name)) r s alike = record {
   files = absent_used name r ∙ same_files r s alike ∙ sym (absent_used name s);
   file = refl;
 }
-alike_on (Opens (Found x)) r s alike = record { messages = alike.messages; output = alike.output; files = same_used r s alike; file = refl }
+alike_on (Opens (Found x)) r s alike = record
+    { messages = alike.messages; output = alike.output; files = same_used r s alike; file = refl }
 alike_on (Line bytes) r s alike =
-    record { messages = ap (λ (b : Bytes). b ++ bytes) alike.messages; output = alike.output; files = alike.files; file = alike.file }
-alike_on (Creates name) r s alike = record { messages = alike.messages; output = alike.output; files = same_used r s alike; file = refl }
+    record {
+      messages = ap (λ (b : Bytes). b ++ bytes) alike.messages;
+      output = alike.output;
+      files = alike.files;
+      file = alike.file;
+    }
+alike_on (Creates name) r s alike = record
+    { messages = alike.messages; output = alike.output; files = same_used r s alike; file = refl }
 alike_on (Writes bytes) r s alike = record {
   messages = alike.messages;
   output = alike.output;
@@ -104,7 +113,12 @@ alike_on (Writes bytes) r s alike = record {
   file = written_file bytes r.current ∙ ap (map (with_bytes bytes)) alike.file ∙ sym (written_file bytes s.current);
 }
 alike_on (Outs bytes) r s alike =
-    record { messages = alike.messages; output = ap (λ (b : Bytes). b ++ bytes) alike.output; files = alike.files; file = alike.file }
+    record {
+      messages = alike.messages;
+      output = ap (λ (b : Bytes). b ++ bytes) alike.output;
+      files = alike.files;
+      file = alike.file;
+    }
 
 alike_all : (says : List Saying) (r s : Record) → IsAlike r s → IsAlike (after_all says r) (after_all says s)
 alike_all [] r s alike = alike
@@ -121,17 +135,26 @@ record HasTold (r : Record) (lines : List Bytes) (s : Record) : Type 0 where
   pub files : files_among s.uses ≡ []
   pub file : file_of s.current ≡ []
 
-only_told : (says : List Saying) (r : Record) → OnlyReads says → files_among r.uses ≡ [] → file_of r.current ≡ [] → HasTold r (lines_in says) (after_all says r)
-only_told [] r reads files file = record { messages = sym (append-nil r.messages); output = refl; files = files; file = file }
+only_told : (says : List Saying) (r : Record) → OnlyReads says → files_among r.uses ≡ [] → file_of r.current ≡ []
+    → HasTold r (lines_in says) (after_all says r)
+only_told [] r reads files file = record
+    { messages = sym (append-nil r.messages); output = refl; files = files; file = file }
 only_told (Opens (Absent name) ∷ says) r reads files file =
-    let told = only_told says (after (Opens (Absent name)) r) reads (absent_used name r ∙ ap (λ (fs : List Writing). fs ++ file_of r.current) files ∙ file) refl in
+    let told = only_told says (after (Opens (Absent name)) r) reads
+    (absent_used name r ∙ ap (λ (fs : List Writing). fs ++ file_of r.current) files ∙ file) refl in
     record { messages = told.messages; output = told.output; files = told.files; file = told.file }
 only_told (Opens (Found x) ∷ says) r reads files file =
-    let told = only_told says (after (Opens (Found x)) r) reads (files_used r ∙ ap (λ (fs : List Writing). fs ++ file_of r.current) files ∙ file) refl in
+    let told = only_told says (after (Opens (Found x)) r) reads
+    (files_used r ∙ ap (λ (fs : List Writing). fs ++ file_of r.current) files ∙ file) refl in
     record { messages = told.messages; output = told.output; files = told.files; file = told.file }
 only_told (Line bytes ∷ says) r reads files file =
     let told = only_told says (after (Line bytes) r) reads files file in
-    record { messages = told.messages ∙ append_assoc r.messages bytes (joined (lines_in says)); output = told.output; files = told.files; file = told.file }
+    record {
+      messages = told.messages ∙ append_assoc r.messages bytes (joined (lines_in says));
+      output = told.output;
+      files = told.files;
+      file = told.file;
+    }
 only_told (Creates name ∷ says) r reads files file = absurd reads
 only_told (Writes bytes ∷ says) r reads files file = absurd reads
 only_told (Outs bytes ∷ says) r reads files file = absurd reads
@@ -152,12 +175,14 @@ alike_planning first second one other same =
 -- ---- planning
 
 -- what was said before a refusal was seen so too
-seen_before : (stock : Stock) (says : List Saying) (answer : Answer Plan) → AreSeen stock (all_told says answer) → AreSeen stock says
+seen_before : (stock : Stock) (says : List Saying) (answer : Answer Plan) → AreSeen stock (all_told says answer)
+    → AreSeen stock says
 seen_before stock says (Made plan) seen = seen
 seen_before stock says (Refused line) seen = seen_first stock says (Line line ∷ []) seen
 seen_before stock says Unread seen = seen
 
-module _ (settings : Settings) (stock : Stock) (old m : Memory) (answer : Answer Plan) (unused : old.kept ≡ nothing_kept) (holds : HoldsTrue stock m)
+module _ (settings : Settings) (stock : Stock) (old m : Memory) (answer : Answer Plan)
+    (unused : old.kept ≡ nothing_kept) (holds : HoldsTrue stock m)
     (judged : answer ≡ Unread → ⊥) (went : Went (planned settings) (memory_view old) (memory_view m) answer) where
   planned_is : planned settings (went.passed ++ []) ≡ record { says = went.says; answer = answer; left = [] }
   planned_is = went.comes []
@@ -166,7 +191,8 @@ module _ (settings : Settings) (stock : Stock) (old m : Memory) (answer : Answer
   told = all_told went.says answer
 
   only_read : OnlyReads told
-  only_read = subst OnlyReads (ap (λ (p : StageResult Plan). told_in p) planned_is) (only_reads settings (went.passed ++ []))
+  only_read = subst OnlyReads (ap (λ (p : StageResult Plan). told_in p) planned_is)
+      (only_reads settings (went.passed ++ []))
 
   kept_is : m.kept ≡ after_all told nothing_kept
   kept_is = went.kept ∙ ap (after_all told) unused
@@ -174,7 +200,8 @@ module _ (settings : Settings) (stock : Stock) (old m : Memory) (answer : Answer
   no_files : all_files m.kept ≡ []
   no_files =
       let left = only_told told nothing_kept only_read refl refl in
-      ap all_files kept_is ∙ ap (λ (fs : List Writing). fs ++ file_of (after_all told nothing_kept).current) left.files ∙ left.file
+      ap all_files kept_is ∙ ap (λ (fs : List Writing). fs ++ file_of (after_all told nothing_kept).current) left.files
+      ∙ left.file
 
   opened : all_openings m.kept ≡ openings_in told
   opened = ap all_openings kept_is ∙ openings_shown told nothing_kept
@@ -185,7 +212,9 @@ module _ (settings : Settings) (stock : Stock) (old m : Memory) (answer : Answer
 
   both : ((planned_of settings stock).answer ≡ (planned settings (went.passed ++ [])).answer)
       × (lines_in (told_in (planned_of settings stock)) ≡ lines_in (told_in (planned settings (went.passed ++ []))))
-  both = seen_is_planned stock settings (went.passed ++ []) (subst (AreSeen stock) (sym (ap (λ (p : StageResult Plan). p.says) planned_is)) (seen_before stock went.says answer seen))
+  both = seen_is_planned stock settings (went.passed ++ [])
+      (subst (AreSeen stock) (sym (ap (λ (p : StageResult Plan). p.says) planned_is))
+      (seen_before stock went.says answer seen))
       (λ unread. judged (sym (ap (λ (p : StageResult Plan). p.answer) planned_is) ∙ unread))
 
   same_answer : (planned_of settings stock).answer ≡ answer
@@ -198,7 +227,8 @@ module _ (settings : Settings) (stock : Stock) (old m : Memory) (answer : Answer
       subst (IsAlike (after_all told_whole nothing_kept)) (sym kept_is)
       (alike_planning told_whole told (only_reads settings (files_give stock (files_read settings))) only_read
       (both.1 ∙ ap (λ (p : StageResult Plan). lines_in (told_in p)) planned_is)) in
-      subst (λ (a : Answer Plan). IsAlike (after_all (all_told (planned_of settings stock).says a) nothing_kept) m.kept) same_answer alike
+      subst (λ (a : Answer Plan). IsAlike (after_all (all_told (planned_of settings stock).says a) nothing_kept) m.kept)
+      same_answer alike
 
 -- ---- the run
 
@@ -211,17 +241,22 @@ outcome_is status sent sent' messages messages' output output' files files' a b 
 
 -- planning's sayings, and then these events, leave what the desk shows
 left_is : (status : ℕ) (says : List Saying) (events : List (Event Saying)) (between kept : Record) (talk : Talk)
-    → IsAlike (after_all says nothing_kept) between → kept ≡ after_all (sayings events) between → bytes_sent events ≡ sent talk
+    → IsAlike (after_all says nothing_kept) between → kept ≡ after_all (sayings events) between
+    → bytes_sent events ≡ sent talk
     → left_by (map Said says ++ events) status ≡ shown_by status kept talk
 left_is status says events between kept talk alike then frames =
-    let all : after_all (sayings (map Said says ++ events)) nothing_kept ≡ after_all (sayings events) (after_all says nothing_kept) =
-    ap (λ (s : List Saying). after_all s nothing_kept) (said_sayings says events) ∙ after_append says (sayings events) nothing_kept in
+    let all : after_all (sayings (map Said says ++ events)) nothing_kept
+    ≡ after_all (sayings events) (after_all says nothing_kept) =
+    ap (λ (s : List Saying). after_all s nothing_kept) (said_sayings says events)
+    ∙ after_append says (sayings events) nothing_kept in
     let same : IsAlike (after_all (sayings (map Said says ++ events)) nothing_kept) kept =
-    subst (λ r. IsAlike r kept) (sym all) (subst (IsAlike (after_all (sayings events) (after_all says nothing_kept))) (sym then)
+    subst (λ r. IsAlike r kept) (sym all) (subst (IsAlike (after_all (sayings events) (after_all says nothing_kept)))
+    (sym then)
     (alike_all (sayings events) (after_all says nothing_kept) between alike)) in
     outcome_is status _ _ _ _ _ _ _ _ (said_bytes says events ∙ frames) same.messages same.output (same_files _ _ same)
 
-module _ (settings : Settings) (old new : Memory) (before after : LinkView) (status : ℕ) (unused : AreUnused old before) where
+module _ (settings : Settings) (old new : Memory) (before after : LinkView) (status : ℕ)
+    (unused : AreUnused old before) where
   abbrev stock : Stock
   stock = stock_of old
 
@@ -229,35 +264,43 @@ module _ (settings : Settings) (old new : Memory) (before after : LinkView) (sta
   silent_before = ap (λ (l : LinkView). l.talk) unused.link_is
 
   -- the plan was made, and its session played
-  whole : (between : Memory) (plan : Plan) → HoldsTrue stock between → Went (planned settings) (memory_view old) (memory_view between) (Made plan)
+  whole : (between : Memory) (plan : Plan) → HoldsTrue stock between
+      → Went (planned settings) (memory_view old) (memory_view between) (Made plan)
       → IsPlayed (session plan) (devices before (memory_view between)) (devices after (memory_view new)) status
       → IsLeft settings stock (heard after.talk) (shown_by status new.kept after.talk)
   whole between plan holds went played_whole more =
       let ran = played_whole.1 in
       let p = planned_of settings stock in
       let judged : ◌≡◌ {A = Answer Plan} (Made plan) Unread → ⊥ = λ e. cc in
-      let answer : p.answer ≡ Made plan = same_answer settings stock old between (Made plan) unused.desk_is holds judged went in
+      let answer : p.answer ≡ Made plan = same_answer settings stock old between (Made plan) unused.desk_is holds judged
+      went in
       let alike = same_left settings stock old between (Made plan) unused.desk_is holds judged went in
       let during : after.talk ≡ ran.during = ran.grows ∙ ap (λ talk. talk ++ ran.during) silent_before in
       let left : left_by (map Said p.says ++ ran.events) status ≡ shown_by status new.kept after.talk =
-      left_is status p.says ran.events between.kept new.kept after.talk alike ran.kept (ran.plays.all_sent ∙ ap sent (sym during)) in
+      left_is status p.says ran.events between.kept new.kept after.talk alike ran.kept
+      (ran.plays.all_sent ∙ ap sent (sym during)) in
       ap (λ talk. outcome_of (run_of settings stock (heard talk ++ more))) during
       ∙ ap (λ a. outcome_of (behind (map Said p.says) (after_answer a (heard ran.during ++ more)))) answer
       ∙ ap (λ q. outcome_of (behind (map Said p.says) q)) (ran.plays.plays more) ∙ ap (λ (o : Outcome). Some o) left
 
   -- it was refused
-  refused : HoldsTrue stock new → after.talk ≡ before.talk → WentRefused (planned settings) (memory_view old) (memory_view new)
+  refused : HoldsTrue stock new → after.talk ≡ before.talk
+      → WentRefused (planned settings) (memory_view old) (memory_view new)
       → IsLeft settings stock (heard after.talk) (shown_by 1 new.kept after.talk)
   refused holds silent (line, went) more =
       let p = planned_of settings stock in
       let judged : ◌≡◌ {A = Answer Plan} (Refused line) Unread → ⊥ = λ e. cc in
-      let answer : p.answer ≡ Refused line = same_answer settings stock old new (Refused line) unused.desk_is holds judged went in
+      let answer : p.answer ≡ Refused line = same_answer settings stock old new (Refused line) unused.desk_is holds
+      judged went in
       let alike = same_left settings stock old new (Refused line) unused.desk_is holds judged went in
       let events : map Said (p.says ++ Line line ∷ []) ++ [] ≡ map Said p.says ++ Said (Line line) ∷ [] =
       append-nil (map Said (p.says ++ Line line ∷ [])) ∙ map-append Said p.says (Line line ∷ []) in
       let left : left_by (map Said p.says ++ Said (Line line) ∷ []) 1 ≡ shown_by 1 new.kept after.talk =
-      ap (λ (es : List (Event Saying)). left_by es 1) (sym events) ∙ left_is 1 (p.says ++ Line line ∷ []) [] new.kept new.kept after.talk alike refl (ap sent (sym (silent ∙ silent_before))) in
-      ap (λ a. outcome_of (behind (map Said p.says) (after_answer a (heard after.talk ++ more)))) answer ∙ ap (λ (o : Outcome). Some o) left
+      ap (λ (es : List (Event Saying)). left_by es 1) (sym events)
+      ∙ left_is 1 (p.says ++ Line line ∷ []) [] new.kept new.kept after.talk alike refl
+      (ap sent (sym (silent ∙ silent_before))) in
+      ap (λ a. outcome_of (behind (map Said p.says) (after_answer a (heard after.talk ++ more)))) answer
+      ∙ ap (λ (o : Outcome). Some o) left
 
   -- over what was heard it leaves what is shown, and the link has not failed
   pub record LeavesShown : Type 0 where
@@ -266,14 +309,21 @@ module _ (settings : Settings) (old new : Memory) (before after : LinkView) (sta
 
   -- that, or it stopped
   pub run_is : (between : Memory) → Stays HoldsTrue old between → Stays HoldsTrue old new
-      → RunsSettings settings (devices before (memory_view old)) (memory_view between) (devices after (memory_view new)) status
+      → RunsSettings settings (devices before (memory_view old)) (memory_view between) (devices after (memory_view new))
+      status
       → LeavesShown ⊎ IsStopped settings (devices before (memory_view old)) (devices after (memory_view new)) status
   run_is between first all (inl runs) = elim runs.runs [
     | inl played_whole ↦ inl (record {
       is = whole between runs.plan (first stock (begins_true old unused.desk_is)) runs.made played_whole;
       sound = played_whole.1.sound.0 ∙ ap (λ (l : LinkView). l.failures) unused.link_is;
     })
-    | inr broke ↦ inr (inl (record { plan = runs.plan; between = memory_view between; made = runs.made; broke = broke.0; status_is = broke.1 }))
+    | inr broke ↦ inr (inl (record {
+      plan = runs.plan;
+      between = memory_view between;
+      made = runs.made;
+      broke = broke.0;
+      status_is = broke.1;
+    }))
   ]
   run_is between first all (inr none) = elim none.refused [
     | inl went ↦ inl (record {
@@ -287,7 +337,8 @@ module _ (settings : Settings) (old new : Memory) (before after : LinkView) (sta
 -- ---- over a tape, and over streams
 
 module _ (settings : Settings) (old new : Memory) (status : ℕ) where
-  over_tape : (before after : TapeState) → before.talk ≡ [] → IsOfTape before after → IsLeft settings (stock_of old) (heard after.talk) (shown_by status new.kept after.talk)
+  over_tape : (before after : TapeState) → before.talk ≡ [] → IsOfTape before after
+      → IsLeft settings (stock_of old) (heard after.talk) (shown_by status new.kept after.talk)
       → Leaves settings (stock_of old) before.left (shown_by status new.kept after.talk)
   over_tape before after silent of_tape left =
       let talk_is : after.talk ≡ of_tape.during = of_tape.grows ∙ ap (λ talk. talk ++ of_tape.during) silent in
@@ -300,30 +351,39 @@ module _ (settings : Settings) (old new : Memory) (status : ℕ) where
             ap (λ t. outcome_of (run_of settings (stock_of old) t)) tape ∙ left (after.left ++ more);
       }
 
-  pub run_is_over_tape : (before after : TapeState) (between : Memory) (unused : AreUnused old (tape_view before)) → IsOfTape before after
+  pub run_is_over_tape : (before after : TapeState) (between : Memory) (unused : AreUnused old (tape_view before))
+      → IsOfTape before after
       → Stays HoldsTrue old between → Stays HoldsTrue old new
-      → RunsSettings settings (devices (tape_view before) (memory_view old)) (memory_view between) (devices (tape_view after) (memory_view new)) status
+      → RunsSettings settings (devices (tape_view before) (memory_view old)) (memory_view between)
+      (devices (tape_view after) (memory_view new)) status
       → Leaves settings (stock_of old) before.left (shown_by status new.kept after.talk)
-      ⊎ IsStopped settings (devices (tape_view before) (memory_view old)) (devices (tape_view after) (memory_view new)) status
+      ⊎ IsStopped settings (devices (tape_view before) (memory_view old)) (devices (tape_view after) (memory_view new))
+      status
   run_is_over_tape before after between unused of_tape first all runs =
       elim (run_is settings old new (tape_view before) (tape_view after) status unused between first all runs) [
         | inl left ↦ inl (over_tape before after (ap (λ (l : LinkView). l.talk) unused.link_is) of_tape left.is)
         | inr stopped ↦ inr stopped
       ]
 
-  pub run_is_over_streams : {R W : Type 0} (remaining : R → Option Bytes) (contents : W → Option Bytes) (before after : StreamState R W) (between : Memory)
-      (unused : AreUnused old (stream_view before)) → IsTrueSince remaining contents before after → Stays HoldsTrue old between → Stays HoldsTrue old new
-      → RunsSettings settings (devices (stream_view before) (memory_view old)) (memory_view between) (devices (stream_view after) (memory_view new)) status
+  pub run_is_over_streams : {R W : Type 0} (remaining : R → Option Bytes) (contents : W → Option Bytes)
+      (before after : StreamState R W) (between : Memory)
+      (unused : AreUnused old (stream_view before)) → IsTrueSince remaining contents before after
+      → Stays HoldsTrue old between → Stays HoldsTrue old new
+      → RunsSettings settings (devices (stream_view before) (memory_view old)) (memory_view between)
+      (devices (stream_view after) (memory_view new)) status
       → LeavesStreams remaining contents settings (stock_of old) before after (shown_by status new.kept after.talk)
-      ⊎ IsStopped settings (devices (stream_view before) (memory_view old)) (devices (stream_view after) (memory_view new)) status
+      ⊎ IsStopped settings (devices (stream_view before) (memory_view old))
+      (devices (stream_view after) (memory_view new)) status
   run_is_over_streams remaining contents before after between unused true_since first all runs =
       let talk_is : after.talk ≡ true_since.during =
       true_since.grows ∙ ap (λ talk. talk ++ true_since.during) (ap (λ (l : LinkView). l.talk) unused.link_is) in
       elim (run_is settings old new (stream_view before) (stream_view after) status unused between first all runs) [
         | inl left ↦ inl (record {
           tape = heard after.talk;
-          gave = subst (λ talk. Consumes (remaining before.reader) (remaining after.reader) (bytes_of (heard talk))) (sym talk_is) true_since.gave;
-          took = subst (λ talk. Appends (contents before.writer) (contents after.writer) (sent talk)) (sym talk_is) (true_since.took left.sound);
+          gave = subst (λ talk. Consumes (remaining before.reader) (remaining after.reader) (bytes_of (heard talk)))
+              (sym talk_is) true_since.gave;
+          took = subst (λ talk. Appends (contents before.writer) (contents after.writer) (sent talk)) (sym talk_is)
+              (true_since.took left.sound);
           is = left.is;
         })
         | inr stopped ↦ inr stopped

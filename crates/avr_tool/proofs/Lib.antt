@@ -1,8 +1,10 @@
+-- in the order in which to read: planning and playing as one; runs in memory, over a wire and over any link; runs over
+-- one chip file; two processes
 pub mod Joining
 pub mod InMemory
+pub mod Refusing
 pub mod OneOutcome
 pub mod OverWire
-pub mod Refusing
 pub mod Untaken
 pub mod OverTalk
 pub mod Further
@@ -13,9 +15,9 @@ pub mod Slots
 pub mod InOrder
 pub mod Misses
 pub mod Parting
+pub mod Prompt
 pub mod Meeting
 pub mod TwoProcesses
-pub mod Prompt
 pub mod WorkedLine
 pub mod PerfectRun
 pub mod MadeFrame

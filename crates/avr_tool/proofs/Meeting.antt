@@ -36,8 +36,10 @@ first_front (x ∷ xs) ys = ap (λ zs. x ∷ zs) (first_front xs ys)
 -- each answer is a frame
 body_answered : (piece : List ℕ) (p : Programmer) → IsBody (answer_body device piece p)
 body_answered piece p = elim (cases_Bool (is_good piece)) [
-  | inl good ↦ subst IsBody (sym (chosen (is_good piece) (device.answer (body_of piece) p) refusal good)) (obey_body (body_of piece) p)
-  | inr bad ↦ subst IsBody (sym (refused (is_good piece) (device.answer (body_of piece) p) refusal bad)) (record { some = omega arith; few = omega arith })
+  | inl good ↦ subst IsBody (sym (chosen (is_good piece) (device.answer (body_of piece) p) refusal good))
+      (obey_body (body_of piece) p)
+  | inr bad ↦ subst IsBody (sym (refused (is_good piece) (device.answer (body_of piece) p) refusal bad))
+      (record { some = omega arith; few = omega arith })
 ]
 
 answer_short : (piece : List ℕ) (p : Programmer) → IsShort (answer_frame device piece p)
@@ -55,7 +57,8 @@ answers_short (piece ∷ pieces) p = (answer_short piece p, answers_short pieces
 
 -- ---- the server's end
 
-pub all_served : (p : Programmer) (talk : Talk) (left : Machine) → AnswersAll p [] (bytes_of (heard talk)) (sent talk) left → HasServed p talk left.programmer
+pub all_served : (p : Programmer) (talk : Talk) (left : Machine)
+    → AnswersAll p [] (bytes_of (heard talk)) (sent talk) left → HasServed p talk left.programmer
 all_served p talk left all = record {
   used = bytes_of (heard talk);
   unused = [];
@@ -65,7 +68,8 @@ all_served p talk left all = record {
   left_is = all.fed.obeyed;
 }
 
-broken_served : (p : Programmer) (talk : Talk) (left : Machine) → BreaksOff p [] (bytes_of (heard talk)) (sent talk) left → HasServed p talk left.programmer
+broken_served : (p : Programmer) (talk : Talk) (left : Machine)
+    → BreaksOff p [] (bytes_of (heard talk)) (sent talk) left → HasServed p talk left.programmer
 broken_served p talk left b = record {
   used = b.used;
   unused = b.unused;
@@ -74,12 +78,14 @@ broken_served p talk left b = record {
   sent_is =
       ap (λ bs. bs ++ b.unsent) b.sent_is
       ∙ (append_assoc (answers device b.earlier p) b.part b.unsent
-      ∙ (ap (λ bs. answers device b.earlier p ++ bs) (sym b.answer_is ∙ sym (append-nil (answer_frame device b.last (after_frames device b.earlier p))))
+      ∙ (ap (λ bs. answers device b.earlier p ++ bs)
+      (sym b.answer_is ∙ sym (append-nil (answer_frame device b.last (after_frames device b.earlier p))))
       ∙ (sym (answers_more device b.earlier (b.last ∷ []) p) ∙ ap (λ fs. answers device fs p) (sym b.frames_are))));
   left_is = b.fed.obeyed;
 }
 
-pub has_served : (served : Served) (p : Programmer) (talk : Talk) (left : Machine) → ServingLeaves served p [] talk left → HasServed p talk left.programmer
+pub has_served : (served : Served) (p : Programmer) (talk : Talk) (left : Machine) → ServingLeaves served p [] talk left
+    → HasServed p talk left.programmer
 has_served Ended p talk left l = all_served p talk left l
 has_served RecvFailed p talk left l = all_served p talk left l
 has_served SendFailed p talk left l = broken_served p talk left l.1
@@ -89,7 +95,8 @@ has_served TooManyReads p talk left l = all_served p talk left l
 
 -- the frames of some bytes come first among those of more
 frames_more : (used more : List ℕ) → frames (used ++ more) ≡ frames used ++ filter is_frame (cut (rest used ++ more))
-frames_more used more = ap (filter is_frame) (cut_append used more) ∙ filter-append is_frame (cut used) (cut (rest used ++ more))
+frames_more used more = ap (filter is_frame) (cut_append used more)
+    ∙ filter-append is_frame (cut used) (cut (rest used ++ more))
 
 -- of the frames that were sent those were obeyed that the server took, and so it stands
 pub meet_sent : (p left : Programmer) (host server : Talk) (serves : HasServed p server left) → IsJoined host server
@@ -98,13 +105,17 @@ meet_sent p left host server serves joined =
     let arrived = length (frames serves.used) in
     let more = serves.unused ++ joined.up.0 in
     let all : serves.used ++ more ≡ sent host =
-    sym (append_assoc serves.used serves.unused joined.up.0) ∙ (ap (λ bs. bs ++ joined.up.0) serves.heard_is ∙ joined.up.1) in
+    sym (append_assoc serves.used serves.unused joined.up.0)
+    ∙ (ap (λ bs. bs ++ joined.up.0) serves.heard_is ∙ joined.up.1) in
     let others = filter is_frame (cut (rest serves.used ++ more)) in
     let first : first_of arrived (frames (sent host)) ≡ frames serves.used =
-    ap (λ bs. first_of arrived (frames bs)) (sym all) ∙ (ap (first_of arrived) (frames_more serves.used more) ∙ first_front (frames serves.used) others) in
-    sym (after_first device answers_bodies arrived (frames (sent host)) p) ∙ (ap (λ fs. after_frames device fs p) first ∙ sym serves.left_is)
+    ap (λ bs. first_of arrived (frames bs)) (sym all)
+    ∙ (ap (first_of arrived) (frames_more serves.used more) ∙ first_front (frames serves.used) others) in
+    sym (after_first device answers_bodies arrived (frames (sent host)) p)
+    ∙ (ap (λ fs. after_frames device fs p) first ∙ sym serves.left_is)
 
-module _ {E R : Type 0} (d : Dialog E R) (asks : AsksBodies d) (p left : Programmer) (host server : Talk) (serves : HasServed p server left) (joined : IsJoined host server)
+module _ {E R : Type 0} (d : Dialog E R) (asks : AsksBodies d) (p left : Programmer) (host server : Talk)
+    (serves : HasServed p server left) (joined : IsJoined host server)
     (plays : IsPrefixOf (sent host) (bytes_sent (played d 1 (heard host)).events)) where
   abbrev events : List (Event E)
   events = (played d 1 (heard host)).events
@@ -123,14 +134,16 @@ module _ {E R : Type 0} (d : Dialog E R) (asks : AsksBodies d) (p left : Program
       ∙ (ap (λ bs. bs ++ plays.0) joined.up.1 ∙ plays.1)))
 
   some_frames : (others : List (List ℕ)) × (frames_in events ≡ frames serves.used ++ others)
-  some_frames = frames_front events serves.used (serves.unused ++ (joined.up.0 ++ plays.0)) (sends_whole d 1 (heard host) asks) front
+  some_frames = frames_front events serves.used (serves.unused ++ (joined.up.0 ++ plays.0))
+      (sends_whole d 1 (heard host) asks) front
 
   arrived_are : first_of arrived (frames_in events) ≡ frames serves.used
   arrived_are = ap (first_of arrived) some_frames.1 ∙ first_front (frames serves.used) some_frames.0
 
   -- so the server stands
   pub meet_leaves : after_sent device (frames_in events) (obeyed arrived) p ≡ left
-  meet_leaves = sym (after_first device answers_bodies arrived (frames_in events) p) ∙ (ap (λ fs. after_frames device fs p) arrived_are ∙ sym serves.left_is)
+  meet_leaves = sym (after_first device answers_bodies arrived (frames_in events) p)
+      ∙ (ap (λ fs. after_frames device fs p) arrived_are ∙ sym serves.left_is)
 
   -- where it stalls between answers alone
   module _ (few : MissesFew 8 d) (endless : HasNoEnd (heard host)) (stalls : StallsBetweenAnswers (heard host)) where
@@ -140,10 +153,12 @@ module _ {E R : Type 0} (d : Dialog E R) (asks : AsksBodies d) (p left : Program
     heard_are : bytes_of (heard host) ++ unheard ≡ concat given
     heard_are =
         sym (append_assoc (bytes_of (heard host)) joined.down.0 serves.unsent)
-        ∙ (ap (λ bs. bs ++ serves.unsent) joined.down.1 ∙ (serves.sent_is ∙ answers_joined device answers_bodies (frames serves.used) p))
+        ∙ (ap (λ bs. bs ++ serves.unsent) joined.down.1
+        ∙ (serves.sent_is ∙ answers_joined device answers_bodies (frames serves.used) p))
 
     slots : InSlots [] (heard host) given unheard
-    slots = parted [] (heard host) given unheard (omega arith) (answers_short (frames serves.used) p) endless stalls heard_are
+    slots = parted [] (heard host) given unheard (omega arith) (answers_short (frames serves.used) p) endless stalls
+        heard_are
 
     brings : Brings device d 1 (heard host) p arrived 8 slots.more
     brings = record {
@@ -167,8 +182,11 @@ module _ {E R : Type 0} (d : Dialog E R) (asks : AsksBodies d) (p left : Program
     pub meet_ends : unheard ≡ [] → length (frames_in events) ≤ arrived → (played d 1 (heard host)).outcome ≡ None → ⊥
     meet_ends none all waits =
         in_order_ends device answers_bodies d 1 (heard host) p arrived 8
-        (subst (λ more. Brings device d 1 (heard host) p arrived 8 more) (slots.complete none) brings) few asks all waits
+        (subst (λ more. Brings device d 1 (heard host) p arrived 8 more) (slots.complete none) brings) few asks all
+        waits
 
     -- on a line that is never silent it goes straight
-    pub meet_straight : IsPrompt (heard host) → (r : R) (seq : ℕ) (unread : Tape) → (played d 1 (heard host)).outcome ≡ Some (r, seq, unread) → Straight device d 1 (heard host) p arrived r
-    meet_straight prompt r seq unread e = goes_straight device answers_bodies d 1 (heard host) p arrived 8 slots.more brings few asks prompt r seq unread e
+    pub meet_straight : IsPrompt (heard host) → (r : R) (seq : ℕ) (unread : Tape)
+        → (played d 1 (heard host)).outcome ≡ Some (r, seq, unread) → Straight device d 1 (heard host) p arrived r
+    meet_straight prompt r seq unread e = goes_straight device answers_bodies d 1 (heard host) p arrived 8 slots.more
+        brings few asks prompt r seq unread e

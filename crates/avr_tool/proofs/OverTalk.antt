@@ -47,7 +47,8 @@ use Rattle.avr_tool.specs.Headline.{IsItsCourse, OverAnyLink, OverAnyEnd}
 pub since_none : (old now during talk : Talk) → old ≡ [] → now ≡ talk → Grows old during now → during ≡ talk
 since_none old now during talk none is grows = sym (subst (λ o. Grows o during now) none grows) ∙ is
 
-module _ (plan : Plan) (s : chips.ChipState) (is_sound : IsSoundChip s) (part_is : s.part ≡ plan.part) (fitted : All (IsFitted plan.part) plan.tasks) where
+module _ (plan : Plan) (s : chips.ChipState) (is_sound : IsSoundChip s) (part_is : s.part ≡ plan.part)
+    (fitted : All (IsFitted plan.part) plan.tasks) where
   abbrev begun : Programmer
   begun = fresh_programmer s
 
@@ -85,12 +86,15 @@ module _ (plan : Plan) (s : chips.ChipState) (is_sound : IsSoundChip s) (part_is
       fewer = let all = ap length some.1 in omega (arith, all, length-append (frames bytes) some.0)
 
       first_frames : take count (frames_in events_played) ≡ frames bytes
-      first_frames = ap (take count) some.1 ∙ (take-append-le count (frames bytes) some.0 (omega arith) ∙ take_all count (frames bytes) (omega arith))
+      first_frames = ap (take count) some.1 ∙ (take-append-le count (frames bytes) some.0 (omega arith)
+          ∙ take_all count (frames bytes) (omega arith))
 
-      stands : (along device count (session plan) begun turns).programmer ≡ after_sent device (frames bytes) becames begun
+      stands : (along device count (session plan) begun turns).programmer
+          ≡ after_sent device (frames bytes) becames begun
       stands = goes.programmer count fewer ∙ ap (λ fs. after_sent device fs becames begun) first_frames
 
-      strokes_made : MakesStrokes plan begun turns count (memories_of s) (memories_of (after_sent device (frames bytes) becames begun).chip)
+      strokes_made : MakesStrokes plan begun turns count (memories_of s)
+          (memories_of (after_sent device (frames bytes) becames begun).chip)
       strokes_made =
           let makes = session_makes plan sound fitted (memories_of s) sizes begun turns idle in
           record {
@@ -100,16 +104,19 @@ module _ (plan : Plan) (s : chips.ChipState) (is_sound : IsSoundChip s) (part_is
             memories = ap (λ (r : Programmer). memories_of r.chip) (sym stands) ∙ makes.stands count;
           }
 
-      pub over_any_end : OverAnyEnd plan begun (after_sent device (frames bytes) becames begun) turns bytes (sayings events_played)
+      pub over_any_end : OverAnyEnd plan begun (after_sent device (frames bytes) becames begun) turns bytes
+          (sayings events_played)
       over_any_end = record {
         said = foretold_on_tape plan sound fitted (memories_of s) sizes begun tape becames idle honest;
         strokes = strokes_made;
-        four = λ weight. front_weighs weight (4 * weighed weight (bodies_in (run_steps plan))) (session plan) 1 tape bytes asks (session_weighs weight plan) front;
+        four = λ weight. front_weighs weight (4 * weighed weight (bodies_in (run_steps plan))) (session plan) 1 tape
+            bytes asks (session_weighs weight plan) front;
       }
 
     -- a whole session
     module _ (bytes : List ℕ) (left : Tape) (events : List (Event Saying)) (status next : ℕ)
-        (is : played (session plan) 1 tape ≡ record { events = events; outcome = Some (status, next, left) }) (sent_is : bytes_sent events ≡ bytes) where
+        (is : played (session plan) 1 tape ≡ record { events = events; outcome = Some (status, next, left) })
+        (sent_is : bytes_sent events ≡ bytes) where
       all_sent : IsPrefixOf bytes (bytes_sent events_played)
       all_sent = ([], append-nil bytes ∙ (sym sent_is ∙ ap (λ p. bytes_sent p.events) (sym is)))
 
@@ -119,7 +126,8 @@ module _ (plan : Plan) (s : chips.ChipState) (is_sound : IsSoundChip s) (part_is
           sym (frames_sent events_played whole) ∙ ap frames (ap (λ p. bytes_sent p.events) is ∙ sent_is)
 
       comes : (along device (length (frames bytes)) (session plan) begun turns).dialog ≡ Done status
-      comes = subst (λ fs. (along device (length fs) (session plan) begun turns).dialog ≡ Done status) same (goes.outcome status next left (ap (λ p. p.outcome) is)).0
+      comes = subst (λ fs. (along device (length fs) (session plan) begun turns).dialog ≡ Done status) same
+          (goes.outcome status next left (ap (λ p. p.outcome) is)).0
 
       said : sayings events ≡ said_along device (length (frames bytes)) (session plan) begun turns
       said = subst (λ fs. sayings events ≡ said_along device (length fs) (session plan) begun turns) same
@@ -127,29 +135,35 @@ module _ (plan : Plan) (s : chips.ChipState) (is_sound : IsSoundChip s) (part_is
 
       its_course : AreFew turns → IsItsCourse plan begun (after_sent device (frames bytes) becames begun) events status
       its_course few =
-          let c = session_ends plan sound fitted (memories_of s) begun turns sizes idle few (length (frames bytes)) status comes in
+          let c = session_ends plan sound fitted (memories_of s) begun turns sizes idle few (length (frames bytes))
+          status comes in
           record {
             said = said ∙ c.sayings;
             status_is = c.result;
             memories = ap (λ (r : Programmer). memories_of r.chip) (sym (stands bytes all_sent)) ∙ c.after;
           }
 
-      pub over_any_line : OverAnyLink plan begun (after_sent device (frames bytes) becames begun) turns bytes events status
+      pub over_any_line : OverAnyLink plan begun (after_sent device (frames bytes) becames begun) turns bytes events
+          status
       over_any_line =
           let end = over_any_end bytes all_sent in
           let q = after_sent device (frames bytes) becames begun in
           let is_done : status ≡ 0 → IsDone plan (memories_of s) (memories_of q.chip) =
           λ zero. subst (λ (r : Programmer). IsDone plan (memories_of s) (memories_of r.chip)) (stands bytes all_sent)
-          ((session_leaves plan sound fitted (memories_of s) sizes begun turns idle).after (length (frames bytes)) status comes zero) in
+          ((session_leaves plan sound fitted (memories_of s) sizes begun turns idle).after (length (frames bytes))
+          status comes zero) in
           record {
             said = subst (λ x. EndsAsForetold plan (memories_of s) x status) (sym said)
-                (foretold_end plan sound fitted (memories_of s) sizes (length (frames bytes)) status begun turns idle comes);
+                (foretold_end plan sound fitted (memories_of s) sizes (length (frames bytes)) status begun turns idle
+                comes);
             done = is_done;
-            images = λ zero verified. run_written plan (memories_of s) (memories_of q.chip) fitted verified (is_done zero) sound sizes;
+            images = λ zero verified. run_written plan (memories_of s) (memories_of q.chip) fitted verified
+                (is_done zero) sound sizes;
             strokes = end.strokes;
             four = end.four;
             few_bad = its_course;
-            again = λ few erases both. succeeds plan (memories_of s) status sizes erases both (its_course few).status_is;
+            again = λ few erases both. succeeds plan (memories_of s) status sizes erases both
+                (its_course few).status_is;
           }
 
   -- over a line that makes no frame, from the bytes that the programmer got
@@ -162,52 +176,79 @@ module _ (plan : Plan) (s : chips.ChipState) (is_sound : IsSoundChip s) (part_is
     left_bytes = sym (through_after device got (frames bytes) through begun came)
 
     pub over_bytes : (left : Tape) (events : List (Event Saying)) (status next : ℕ)
-        → played (session plan) 1 tape ≡ record { events = events; outcome = Some (status, next, left) } → bytes_sent events ≡ bytes
-        → OverAnyLink plan begun (after_frames device (frames got) begun) (turns_heard (session plan) 1 tape (became_by through)) bytes events status
+        → played (session plan) 1 tape ≡ record { events = events; outcome = Some (status, next, left) }
+        → bytes_sent events ≡ bytes
+        → OverAnyLink plan begun (after_frames device (frames got) begun)
+        (turns_heard (session plan) 1 tape (became_by through)) bytes events status
     over_bytes left events status next is sent_is =
-        subst (λ q. OverAnyLink plan begun q (turns_heard (session plan) 1 tape (became_by through)) bytes events status) left_bytes
+        subst (λ q. OverAnyLink plan begun q (turns_heard (session plan) 1 tape (became_by through)) bytes events
+        status) left_bytes
         (over_any_line tape (became_by through) honest_bytes bytes left events status next is sent_is)
 
     pub end_bytes : IsPrefixOf bytes (bytes_sent (played (session plan) 1 tape).events)
-        → OverAnyEnd plan begun (after_frames device (frames got) begun) (turns_heard (session plan) 1 tape (became_by through)) bytes (sayings (played (session plan) 1 tape).events)
+        → OverAnyEnd plan begun (after_frames device (frames got) begun)
+        (turns_heard (session plan) 1 tape (became_by through)) bytes
+        (sayings (played (session plan) 1 tape).events)
     end_bytes front =
-        subst (λ q. OverAnyEnd plan begun q (turns_heard (session plan) 1 tape (became_by through)) bytes (sayings (played (session plan) 1 tape).events)) left_bytes
+        subst (λ q. OverAnyEnd plan begun q (turns_heard (session plan) 1 tape (became_by through)) bytes
+        (sayings (played (session plan) 1 tape).events)) left_bytes
         (over_any_end tape (became_by through) honest_bytes bytes front)
 
-  -- over a line that keeps the order of the bytes to the programmer, which got a front of them, and that cuts and stalls
+  -- over a line that keeps the order of the bytes to the programmer, which got a front of them, and that cuts and
+  -- stalls
   -- anywhere on the way back
-  pub over_ordered : (got later bytes : List ℕ) (tape left : Tape) (events : List (Event Saying)) (status next : ℕ) → got ++ later ≡ bytes
+  pub over_ordered : (got later bytes : List ℕ) (tape left : Tape) (events : List (Event Saying)) (status next : ℕ)
+      → got ++ later ≡ bytes
       → MakesNoFrame device (session plan) 1 tape begun (became_by (replicate (length (frames got)) true)) []
-      → played (session plan) 1 tape ≡ record { events = events; outcome = Some (status, next, left) } → bytes_sent events ≡ bytes
-      → OverAnyLink plan begun (after_frames device (frames got) begun) (turns_heard (session plan) 1 tape (became_by (replicate (length (frames got)) true))) bytes events status
+      → played (session plan) 1 tape ≡ record { events = events; outcome = Some (status, next, left) }
+      → bytes_sent events ≡ bytes
+      → OverAnyLink plan begun (after_frames device (frames got) begun)
+      (turns_heard (session plan) 1 tape (became_by (replicate (length (frames got)) true))) bytes events status
   over_ordered got later bytes tape left events status next front none is sent_is =
-      let whole : AreWhole (frames_in events) = subst (λ p. AreWhole (frames_in p.events)) is (sends_whole (session plan) 1 tape asks) in
-      let came : CameThrough got (frames_in (played (session plan) 1 tape).events) (replicate (length (frames got)) true) =
-      front_of_play (session plan) 1 tape got later asks (front ∙ (sym sent_is ∙ ap (λ p. bytes_sent p.events) (sym is))) in
-      let same : frames_in (played (session plan) 1 tape).events ≡ frames bytes = ap (λ p. frames_in p.events) is ∙ (sym (frames_sent events whole) ∙ ap frames sent_is) in
-      over_bytes got bytes (replicate (length (frames got)) true) tape (subst (λ fs. CameThrough got fs (replicate (length (frames got)) true)) same came) none left events status next is sent_is
+      let whole : AreWhole (frames_in events) =
+      subst (λ p. AreWhole (frames_in p.events)) is (sends_whole (session plan) 1 tape asks) in
+      let came : CameThrough got (frames_in (played (session plan) 1 tape).events)
+      (replicate (length (frames got)) true) =
+      front_of_play (session plan) 1 tape got later asks
+      (front ∙ (sym sent_is ∙ ap (λ p. bytes_sent p.events) (sym is))) in
+      let same : frames_in (played (session plan) 1 tape).events ≡ frames bytes =
+      ap (λ p. frames_in p.events) is ∙ (sym (frames_sent events whole) ∙ ap frames sent_is) in
+      over_bytes got bytes (replicate (length (frames got)) true) tape
+      (subst (λ fs. CameThrough got fs (replicate (length (frames got)) true)) same came) none left events status
+      next is sent_is
 
   -- whatever a call came to over a link that was new
   module _ (got : List ℕ) (through : List Bool) (old new : Devices) (status : ℕ) (silent : old.link.talk ≡ []) where
     abbrev talk : Talk
     talk = new.link.talk
 
-    ended : (during : Talk) → during ≡ talk → IsPrefixOf (sent during) (bytes_sent (played (session plan) 1 (heard during)).events)
-        → CameThrough got (frames (sent talk)) through → MakesNoFrame device (session plan) 1 (heard talk) begun (became_by through) []
-        → OverAnyEnd plan begun (after_frames device (frames got) begun) (turns_heard (session plan) 1 (heard talk) (became_by through)) (sent talk)
+    ended : (during : Talk) → during ≡ talk → IsPrefixOf (sent during)
+        (bytes_sent (played (session plan) 1 (heard during)).events)
+        → CameThrough got (frames (sent talk)) through
+        → MakesNoFrame device (session plan) 1 (heard talk) begun (became_by through) []
+        → OverAnyEnd plan begun (after_frames device (frames got) begun)
+        (turns_heard (session plan) 1 (heard talk) (became_by through)) (sent talk)
         (sayings (played (session plan) 1 (heard talk)).events)
     ended during is front came none =
-        end_bytes got (sent talk) through (heard talk) came none (subst (λ t. IsPrefixOf (sent t) (bytes_sent (played (session plan) 1 (heard t)).events)) is front)
+        end_bytes got (sent talk) through (heard talk) came none
+        (subst (λ t. IsPrefixOf (sent t) (bytes_sent (played (session plan) 1 (heard t)).events)) is front)
 
     pub over_any_run : RunsSession plan old new status
-        → CameThrough got (frames (sent talk)) through → MakesNoFrame device (session plan) 1 (heard talk) begun (became_by through) []
-        → OverAnyEnd plan begun (after_frames device (frames got) begun) (turns_heard (session plan) 1 (heard talk) (became_by through)) (sent talk)
+        → CameThrough got (frames (sent talk)) through
+        → MakesNoFrame device (session plan) 1 (heard talk) begun (became_by through) []
+        → OverAnyEnd plan begun (after_frames device (frames got) begun)
+        (turns_heard (session plan) 1 (heard talk) (became_by through)) (sent talk)
         (sayings (played (session plan) 1 (heard talk)).events)
     over_any_run (inl (after, ran)) came none =
-        ended ran.during (since_none old.link.talk talk ran.during talk silent refl ran.grows)
-        ([], append-nil (sent ran.during) ∙ (sym ran.plays.all_sent ∙ ap (λ x. bytes_sent x.events) (sym (ap (played (session plan) 1) (sym (append-nil (heard ran.during))) ∙ ran.plays.plays []))))
+        ended ran.during (since_none old.link.talk talk ran.during talk silent refl ran.grows) (
+          [],
+          append-nil (sent ran.during) ∙ (sym ran.plays.all_sent
+              ∙ ap (λ x. bytes_sent x.events) (sym (ap (played (session plan) 1) (sym (append-nil (heard ran.during)))
+              ∙ ran.plays.plays []))),
+        )
         came none
     over_any_run (inr broke) came none =
         let b = broke.0 in
         let front = shown_front SaidPart b.shown (played (session plan) 1 (heard b.during)).events b.breaks.front in
-        ended b.during (since_none old.link.talk talk b.during talk silent refl b.grows) (front.0, ap (λ bs. bs ++ front.0) (sym b.breaks.all_sent) ∙ front.1) came none
+        ended b.during (since_none old.link.talk talk b.during talk silent refl b.grows)
+        (front.0, ap (λ bs. bs ++ front.0) (sym b.breaks.all_sent) ∙ front.1) came none

@@ -23,7 +23,8 @@ AreShort (piece ∷ pieces) = IsShort piece × AreShort pieces
 
 -- behind these bytes, where it is silent no part of a piece is left
 abbrev pub SilentBetween : List ℕ → Tape → Type 0
-SilentBetween front tape = (before after : Tape) → tape ≡ before ++ Silence ∷ after → rest (front ++ bytes_of before) ≡ []
+SilentBetween front tape = (before after : Tape) → tape ≡ before ++ Silence ∷ after
+    → rest (front ++ bytes_of before) ≡ []
 
 pub record InSlots (front : List ℕ) (tape : Tape) (pieces : List (List ℕ)) (unheard : List ℕ) : Type 0 where
   pub slots : List Slot
@@ -40,41 +41,51 @@ cons_none x xs e = cc
 -- bytes that begin with others
 begins : (x a y b : List ℕ) → length y ≤ length x → x ++ a ≡ y ++ b → x ≡ y ++ drop (length y) x
 begins x a y b le e =
-    let front : take (length y) x ≡ y = sym (take-append-le (length y) x a le) ∙ (ap (take (length y)) e ∙ (take-append-le (length y) y b (omega arith) ∙ take_all (length y) y (omega arith))) in
+    let front : take (length y) x ≡ y = sym (take-append-le (length y) x a le)
+    ∙ (ap (take (length y)) e ∙ (take-append-le (length y) y b (omega arith)
+    ∙ take_all (length y) y (omega arith))) in
     sym (take-append-drop (length y) x) ∙ ap (λ z. z ++ drop (length y) x) front
 
 -- bytes in which no piece is whole are shorter than the first piece
-shorter : (front more piece later : List ℕ) → length front < piece_size front → IsPiece piece → front ++ more ≡ piece ++ later → length front < length piece
+shorter : (front more piece later : List ℕ) → length front < piece_size front → IsPiece piece
+    → front ++ more ≡ piece ++ later → length front < length piece
 shorter front more piece later part whole e = elim (cases_lt (length front) (length piece)) [
   | inl lt ↦ lt
   | inr ge ↦
       let split : front ≡ piece ++ drop (length piece) front = begins front more piece later ge e in
-      let stays : piece_size front ≡ piece_size piece = ap piece_size split ∙ size_stays piece (drop (length piece) front) (omega (arith, whole)) in
+      let stays : piece_size front ≡ piece_size piece =
+      ap piece_size split ∙ size_stays piece (drop (length piece) front) (omega (arith, whole)) in
       absurd (omega (arith, stays, whole, ge, part))
 ]
 
 -- and bytes that are shorter than it have no whole piece
-is_part : (front more piece later : List ℕ) → length front < length piece → IsPiece piece → front ++ more ≡ piece ++ later → length front < piece_size front
+is_part : (front more piece later : List ℕ) → length front < length piece → IsPiece piece
+    → front ++ more ≡ piece ++ later → length front < piece_size front
 is_part front more piece later short whole e = elim (cases_lt (length front) (piece_size front)) [
   | inl lt ↦ lt
   | inr ge ↦
-      let split : piece ≡ front ++ drop (length front) piece = begins piece later front more (omega (arith, short)) (sym e) in
-      let stays : piece_size piece ≡ piece_size front = ap piece_size split ∙ size_stays front (drop (length front) piece) ge in
+      let split : piece ≡ front ++ drop (length front) piece =
+      begins piece later front more (omega (arith, short)) (sym e) in
+      let stays : piece_size piece ≡ piece_size front =
+      ap piece_size split ∙ size_stays front (drop (length front) piece) ge in
       absurd (omega (arith, stays, whole, ge, short))
 ]
 
-stub_of : (front unheard : List ℕ) (pieces : List (List ℕ)) → length front < piece_size front → AreShort pieces → front ++ unheard ≡ concat pieces → IsStub front
+stub_of : (front unheard : List ℕ) (pieces : List (List ℕ)) → length front < piece_size front → AreShort pieces
+    → front ++ unheard ≡ concat pieces → IsStub front
 stub_of front unheard [] part short e = record {
   none = cut_none front (lt-leb (piece_size front) (length front) part);
   few = let n = ap length e in omega (arith, n, length-append front unheard);
 }
 stub_of front unheard (piece ∷ pieces) part short e = record {
   none = cut_none front (lt-leb (piece_size front) (length front) part);
-  few = let lt = shorter front unheard piece (concat pieces) part short.0.whole e in let few = short.0.few in omega (arith, lt, few);
+  few = let lt = shorter front unheard piece (concat pieces) part short.0.whole e in let few = short.0.few in
+      omega (arith, lt, few);
 }
 
 -- where nothing is unheard, no piece is missing
-none_missing : (front unheard : List ℕ) (pieces : List (List ℕ)) → length front < piece_size front → AreShort pieces → front ++ unheard ≡ concat pieces → unheard ≡ [] → pieces ≡ []
+none_missing : (front unheard : List ℕ) (pieces : List (List ℕ)) → length front < piece_size front → AreShort pieces
+    → front ++ unheard ≡ concat pieces → unheard ≡ [] → pieces ≡ []
 none_missing front unheard [] part short e none = refl
 none_missing front unheard (piece ∷ pieces) part short e none =
     let lt = shorter front unheard piece (concat pieces) part short.0.whole e in
@@ -83,9 +94,11 @@ none_missing front unheard (piece ∷ pieces) part short e none =
     absurd (omega (arith, n, z, lt, length-append front unheard, length-append piece (concat pieces)))
 
 one_more : (front : List ℕ) (b : ℕ) (tape : Tape) → on_tape (front ++ b ∷ []) ++ tape ≡ on_tape front ++ Byte b ∷ tape
-one_more front b tape = ap (λ t. t ++ tape) (on_tape_append front (b ∷ [])) ∙ append_assoc (on_tape front) (Byte b ∷ []) tape
+one_more front b tape = ap (λ t. t ++ tape) (on_tape_append front (b ∷ []))
+    ∙ append_assoc (on_tape front) (Byte b ∷ []) tape
 
-pub parted : (front : List ℕ) (tape : Tape) (pieces : List (List ℕ)) (unheard : List ℕ) → length front < piece_size front → AreShort pieces → HasNoEnd tape → SilentBetween front tape
+pub parted : (front : List ℕ) (tape : Tape) (pieces : List (List ℕ)) (unheard : List ℕ)
+    → length front < piece_size front → AreShort pieces → HasNoEnd tape → SilentBetween front tape
     → front ++ (bytes_of tape ++ unheard) ≡ concat pieces → InSlots front tape pieces unheard
 parted front [] pieces unheard part short endless silent e = record {
   slots = [];
@@ -98,7 +111,8 @@ parted front [] pieces unheard part short endless silent e = record {
 }
 parted front (End ∷ tape) pieces unheard part short endless silent e = absurd endless
 parted [] (Silence ∷ tape) pieces unheard part short endless silent e =
-    let inner = parted [] tape pieces unheard part short endless (λ before after at. silent (Silence ∷ before) after (ap (λ t. Silence ∷ t) at)) e in
+    let inner = parted [] tape pieces unheard part short endless
+    (λ before after at. silent (Silence ∷ before) after (ap (λ t. Silence ∷ t) at)) e in
     record {
       slots = Quiet ∷ inner.slots;
       last = inner.last;
@@ -109,7 +123,8 @@ parted [] (Silence ∷ tape) pieces unheard part short endless silent e =
       complete = inner.complete;
     }
 parted (b ∷ front) (Silence ∷ tape) pieces unheard part short endless silent e =
-    absurd (cons_none b front (sym (rest_none (b ∷ front) (lt-leb (piece_size (b ∷ front)) (length (b ∷ front)) part)) ∙ (ap rest (sym (append-nil (b ∷ front))) ∙ silent [] tape refl)))
+    absurd (cons_none b front (sym (rest_none (b ∷ front) (lt-leb (piece_size (b ∷ front)) (length (b ∷ front)) part))
+    ∙ (ap rest (sym (append-nil (b ∷ front))) ∙ silent [] tape refl)))
 parted front (Byte b ∷ tape) [] unheard part short endless silent e =
     let n = ap length e in absurd (omega (arith, n, length-append front (b ∷ (bytes_of tape ++ unheard))))
 parted front (Byte b ∷ tape) (piece ∷ pieces) unheard part short endless silent e =
@@ -121,8 +136,10 @@ parted front (Byte b ∷ tape) (piece ∷ pieces) unheard part short endless sil
     let before_it : length front < length piece = shorter front (b ∷ left) piece (concat pieces) part whole e in
     elim (cases_lt (length now) (length piece)) [
       | inl lt ↦
-          let inner = parted now tape (piece ∷ pieces) unheard (is_part now left piece (concat pieces) lt whole split) short endless
-          (λ before after at. ap rest (append_assoc front (b ∷ []) (bytes_of before)) ∙ silent (Byte b ∷ before) after (ap (λ t. Byte b ∷ t) at)) split in
+          let inner = parted now tape (piece ∷ pieces) unheard (is_part now left piece (concat pieces) lt whole split)
+          short endless
+          (λ before after at. ap rest (append_assoc front (b ∷ []) (bytes_of before))
+          ∙ silent (Byte b ∷ before) after (ap (λ t. Byte b ∷ t) at)) split in
           record {
             slots = inner.slots;
             last = inner.last;
@@ -134,16 +151,23 @@ parted front (Byte b ∷ tape) (piece ∷ pieces) unheard part short endless sil
           }
       | inr ge ↦
           let is : now ≡ piece =
-          begins now left piece (concat pieces) ge split ∙ (ap (λ z. piece ++ z) (drop_all (length piece) now (omega (arith, ge, size, before_it))) ∙ append-nil piece) in
-          let rest_is : left ≡ concat pieces = append_cancel_left piece left (concat pieces) (ap (λ z. z ++ left) (sym is) ∙ split) in
-          let between : SilentBetween [] tape = λ before after at. sym (rest_first piece (bytes_of before) whole) ∙ (ap (λ z. rest (z ++ bytes_of before)) (sym is) ∙ (ap rest (append_assoc front (b ∷ []) (bytes_of before)) ∙ silent (Byte b ∷ before) after (ap (λ t. Byte b ∷ t) at))) in
+          begins now left piece (concat pieces) ge split
+          ∙ (ap (λ z. piece ++ z) (drop_all (length piece) now (omega (arith, ge, size, before_it)))
+          ∙ append-nil piece) in
+          let rest_is : left ≡ concat pieces = append_cancel_left piece left (concat pieces)
+          (ap (λ z. z ++ left) (sym is) ∙ split) in
+          let between : SilentBetween [] tape = λ before after at. sym (rest_first piece (bytes_of before) whole)
+          ∙ (ap (λ z. rest (z ++ bytes_of before)) (sym is)
+          ∙ (ap rest (append_assoc front (b ∷ []) (bytes_of before))
+          ∙ silent (Byte b ∷ before) after (ap (λ t. Byte b ∷ t) at))) in
           let inner = parted [] tape pieces unheard (omega arith) short.1 endless between rest_is in
           record {
             slots = Came piece ∷ inner.slots;
             last = inner.last;
             more = inner.more;
             stub = inner.stub;
-            tape_is = ap (λ t. on_tape piece ++ t) inner.tape_is ∙ (ap (λ z. on_tape z ++ tape) (sym is) ∙ one_more front b tape);
+            tape_is = ap (λ t. on_tape piece ++ t) inner.tape_is
+                ∙ (ap (λ z. on_tape z ++ tape) (sym is) ∙ one_more front b tape);
             pieces_are = ap (λ ps. piece ∷ ps) inner.pieces_are;
             complete = inner.complete;
           }

@@ -61,8 +61,11 @@ end_on (End ∷ tape) p = record { heard = refl; left = p }
 read_on : (o : Option (List ℕ × ℕ)) (bytes : List ℕ) (tape : Tape) → IsPrompt tape → ReadsOn (read_to o bytes tape)
 read_on (Some (body, used)) bytes tape p = record { heard = refl; left = dropped used tape p }
 read_on None bytes tape p = elim (cases_Bool (nat_le limit (length bytes))) [
-  | inl full ↦ subst ReadsOn (sym (chosen (nat_le limit (length bytes)) (Some (Babbled, drop limit tape)) (silence_or_end (drop (length bytes) tape)) full)) (record { heard = refl; left = dropped limit tape p })
-  | inr few ↦ subst ReadsOn (sym (refused (nat_le limit (length bytes)) (Some (Babbled, drop limit tape)) (silence_or_end (drop (length bytes) tape)) few)) (end_on (drop (length bytes) tape) (dropped (length bytes) tape p))
+  | inl full ↦ subst ReadsOn (sym (chosen (nat_le limit (length bytes)) (Some (Babbled, drop limit tape))
+      (silence_or_end (drop (length bytes) tape)) full)) (record { heard = refl; left = dropped limit tape p })
+  | inr few ↦ subst ReadsOn (sym (refused (nat_le limit (length bytes)) (Some (Babbled, drop limit tape))
+      (silence_or_end (drop (length bytes) tape)) few))
+      (end_on (drop (length bytes) tape) (dropped (length bytes) tape p))
 ]
 
 answer_on : (n : ℕ) (tape : Tape) → IsPrompt tape → ReadsOn (answer n tape)
@@ -70,9 +73,11 @@ unfolding answer
 answer_on n tape p = read_on (first_answer n (cut (take limit (bytes_in tape)))) (take limit (bytes_in tape)) tape p
 
 -- The dialog goes along a perfect line.
-pub record Straight {E R P : Type 0} (m : Device P) (d : Dialog E R) (n : ℕ) (tape : Tape) (p : P) (h : ℕ) (r : R) : Type 0 where
+pub record Straight {E R P : Type 0} (m : Device P) (d : Dialog E R) (n : ℕ) (tape : Tape) (p : P) (h : ℕ) (r : R) :
+    Type 0 where
   pub dialog : (along m (length (frames_in (played d n tape).events)) d p []).dialog ≡ Done r
-  pub programmer : (along m (length (frames_in (played d n tape).events)) d p []).programmer ≡ after_sent m (frames_in (played d n tape).events) (obeyed h) p
+  pub programmer : (along m (length (frames_in (played d n tape).events)) d p []).programmer
+      ≡ after_sent m (frames_in (played d n tape).events) (obeyed h) p
   pub says : sayings (played d n tape).events ≡ said_along m (length (frames_in (played d n tape).events)) d p []
 
 none_some : {A : Type 0} (a : A) → None ≡ Some a → ⊥
@@ -84,33 +89,50 @@ result_of other (Some (r, seq, tape)) = r
 
 module _ {P : Type 0} (m : Device P) (sound : AnswersBodies m) where
   abbrev GoesStraight : {E R : Type 0} → Dialog E R → ℕ → Type 0
-  GoesStraight {E} {R} d n = (tape : Tape) (p : P) (h left : ℕ) (more : List (List ℕ)) → Brings m d n tape p h left more → MissesFew left d → AsksBodies d → IsPrompt tape
-      → (r : R) (seq : ℕ) (unread : Tape) → (played d n tape).outcome ≡ Some (r, seq, unread) → Straight m d n tape p h r
+  GoesStraight {E} {R} d n = (tape : Tape) (p : P) (h left : ℕ) (more : List (List ℕ)) → Brings m d n tape p h left more
+      → MissesFew left d → AsksBodies d → IsPrompt tape
+      → (r : R) (seq : ℕ) (unread : Tape) → (played d n tape).outcome ≡ Some (r, seq, unread)
+      → Straight m d n tape p h r
 
-  straight_by : {E R : Type 0} (bytes : List ℕ) (go_on : Reading → Dialog E R) (n : ℕ) (tape : Tape) (p : P) (h count : ℕ) (more : List (List ℕ)) → ((reading : Reading) → GoesStraight (go_on reading) (next n))
-      → Comes m bytes go_on n tape p h count more → MissesFew (suc count) (Ask bytes go_on) → AsksBodies (Ask bytes go_on) → IsPrompt tape
-      → (r : R) (seq : ℕ) (unread : Tape) → (played (Ask bytes go_on) n tape).outcome ≡ Some (r, seq, unread) → Straight m (Ask bytes go_on) n tape p h r
+  straight_by : {E R : Type 0} (bytes : List ℕ) (go_on : Reading → Dialog E R) (n : ℕ) (tape : Tape) (p : P)
+      (h count : ℕ) (more : List (List ℕ)) → ((reading : Reading) → GoesStraight (go_on reading) (next n))
+      → Comes m bytes go_on n tape p h count more → MissesFew (suc count) (Ask bytes go_on)
+      → AsksBodies (Ask bytes go_on) → IsPrompt tape
+      → (r : R) (seq : ℕ) (unread : Tape) → (played (Ask bytes go_on) n tape).outcome ≡ Some (r, seq, unread)
+      → Straight m (Ask bytes go_on) n tape p h r
   straight_by {E} {R} bytes go_on n tape p h count more each (inl c) few asks prompt r seq unread e =
       let d = go_on (Answered (m.answer bytes p)) in
       let first : played (Ask bytes go_on) n tape ≡ behind (Frame (frame n bytes) ∷ []) (played d (next n) c.left) =
       ap (λ o. behind (Frame (frame n bytes) ∷ []) (by_answer (λ reading. played (go_on reading) (next n)) o)) c.is in
       let goes : IsPrompt c.left = subst (λ o. IsPrompt (left_of o)) c.is (answer_on n tape prompt).left in
-      let inner = each (Answered (m.answer bytes p)) c.left (after_became (first_became (obeyed h)) (m.after bytes p) p m.reset) (one_less h) 8 more c.brings (few.0 (m.answer bytes p)) (asks.1 (Answered (m.answer bytes p))) goes r seq unread (sym (ap (λ x. x.outcome) first) ∙ e) in
-      let obeys : after_became (first_became (obeyed h)) (m.after bytes p) p m.reset ≡ m.after bytes p = ap (λ b. after_became b (m.after bytes p) p m.reset) c.became in
-      let there : Straight m d (next n) c.left (m.after bytes p) (one_less h) r = subst (λ q. Straight m d (next n) c.left q (one_less h) r) obeys inner in
+      let inner = each (Answered (m.answer bytes p)) c.left
+      (after_became (first_became (obeyed h)) (m.after bytes p) p m.reset) (one_less h) 8 more c.brings
+      (few.0 (m.answer bytes p)) (asks.1 (Answered (m.answer bytes p))) goes r seq unread
+      (sym (ap (λ x. x.outcome) first) ∙ e) in
+      let obeys : after_became (first_became (obeyed h)) (m.after bytes p) p m.reset ≡ m.after bytes p =
+      ap (λ b. after_became b (m.after bytes p) p m.reset) c.became in
+      let there : Straight m d (next n) c.left (m.after bytes p) (one_less h) r =
+      subst (λ q. Straight m d (next n) c.left q (one_less h) r) obeys inner in
       let fs : List (List ℕ) = frames_in (played d (next n) c.left).events in
-      let stands : after_sent m fs (obeyed (one_less h)) (m.after bytes p) ≡ after_sent m (frame n bytes ∷ fs) (obeyed h) p =
+      let stands : after_sent m fs (obeyed (one_less h)) (m.after bytes p)
+      ≡ after_sent m (frame n bytes ∷ fs) (obeyed h) p =
       ap (λ bs. after_sent m fs bs (m.after bytes p)) (sym (others_obeyed h))
-      ∙ ap (after_sent m fs (other_becames (obeyed h))) (sym (ap (λ b. after_became b (after_frame m (frame n bytes) p) p m.reset) c.became ∙ after_is m sound n bytes p asks.0)) in
+      ∙ ap (after_sent m fs (other_becames (obeyed h)))
+      (sym (ap (λ b. after_became b (after_frame m (frame n bytes) p) p m.reset) c.became
+      ∙ after_is m sound n bytes p asks.0)) in
       record {
-        dialog = subst (λ x. (along m (length (frames_in x.events)) (Ask bytes go_on) p []).dialog ≡ Done r) (sym first) there.dialog;
-        programmer = subst (λ x. (along m (length (frames_in x.events)) (Ask bytes go_on) p []).programmer ≡ after_sent m (frames_in x.events) (obeyed h) p) (sym first) (there.programmer ∙ stands);
-        says = subst (λ x. sayings x.events ≡ said_along m (length (frames_in x.events)) (Ask bytes go_on) p []) (sym first) there.says;
+        dialog = subst (λ x. (along m (length (frames_in x.events)) (Ask bytes go_on) p []).dialog ≡ Done r) (sym first)
+            there.dialog;
+        programmer = subst (λ x. (along m (length (frames_in x.events)) (Ask bytes go_on) p []).programmer
+            ≡ after_sent m (frames_in x.events) (obeyed h) p) (sym first) (there.programmer ∙ stands);
+        says = subst (λ x. sayings x.events ≡ said_along m (length (frames_in x.events)) (Ask bytes go_on) p [])
+            (sym first) there.says;
       }
   straight_by bytes go_on n tape p h count more each (inr (inl c)) few asks prompt r seq unread e =
       absurd (not_true (sym (sym (ap is_silent c.is) ∙ (answer_on n tape prompt).heard)))
   straight_by bytes go_on n tape p h count more each (inr (inr c)) few asks prompt r seq unread e =
-      absurd (none_some (r, seq, unread) (sym (ap (λ o. (by_answer (λ reading. played (go_on reading) (next n)) o).outcome) c.is) ∙ e))
+      absurd (none_some (r, seq, unread) (sym (ap
+      (λ o. (by_answer (λ reading. played (go_on reading) (next n)) o).outcome) c.is) ∙ e))
 
   pub goes_straight : {E R : Type 0} (d : Dialog E R) (n : ℕ) → GoesStraight d n
   goes_straight (Done q) n tape p h left more b few asks prompt r seq unread e = record {
@@ -134,4 +156,5 @@ module _ {P : Type 0} (m : Device P) (sound : AnswersBodies m) where
       record { dialog = inner.dialog; programmer = inner.programmer; says = ap (λ said. s ∷ said) inner.says }
   goes_straight (Ask bytes go_on) n tape p h zero more b few asks prompt r seq unread e = absurd few
   goes_straight (Ask bytes go_on) n tape p h (suc count) more b few asks prompt r seq unread e =
-      straight_by bytes go_on n tape p h count more (λ reading. goes_straight (go_on reading) (next n)) (asked m sound bytes go_on n p asks.0 h count tape more b) few asks prompt r seq unread e
+      straight_by bytes go_on n tape p h count more (λ reading. goes_straight (go_on reading) (next n))
+      (asked m sound bytes go_on n p asks.0 h count tape more b) few asks prompt r seq unread e

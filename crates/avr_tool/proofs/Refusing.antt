@@ -26,16 +26,20 @@ some_is : {A : Type 0} (a b : A) → ◌≡◌ {A = Option A} (Some a) (Some b) 
 some_is a b e = cc
 
 pub too_much : (plan : Plan) (w v : WiredState) (d e : DeskView) (status : ℕ) (weight : Weight)
-    → 4 * weighed weight (bodies_in (run_steps plan)) < weighed weight (map body_of (frames_over v)) → OverAnyLine plan w v d e status → ⊥
+    → 4 * weighed weight (bodies_in (run_steps plan)) < weighed weight (map body_of (frames_over v))
+    → OverAnyLine plan w v d e status → ⊥
 too_much plan w v d e status weight more over = let most = over.four weight in absurd (omega (arith, more, most))
 
-pub not_all_written : (plan : Plan) (w v : WiredState) (d e : DeskView) → (memories v ≡ effects plan.part (items plan) (memories w) → ⊥) → OverAnyLine plan w v d e 0 → ⊥
+pub not_all_written : (plan : Plan) (w v : WiredState) (d e : DeskView)
+    → (memories v ≡ effects plan.part (items plan) (memories w) → ⊥) → OverAnyLine plan w v d e 0 → ⊥
 not_all_written plan w v d e other over = other (over.done refl).memories
 
-pub said_otherwise : (plan : Plan) (w v : WiredState) (d e : DeskView) → (Passes (after_all (course plan (memories w)).says) d e → ⊥) → OverAnyLine plan w v d e 0 → ⊥
+pub said_otherwise : (plan : Plan) (w v : WiredState) (d e : DeskView)
+    → (Passes (after_all (course plan (memories w)).says) d e → ⊥) → OverAnyLine plan w v d e 0 → ⊥
 said_otherwise plan w v d e other over = other (over.success refl).said
 
-pub touched_in_silence : (plan : Plan) (w v : WiredState) (d e : DeskView) (status : ℕ) → frames_over v ≡ [] → (memories v ≡ memories w → ⊥) → OverAnyLine plan w v d e status → ⊥
+pub touched_in_silence : (plan : Plan) (w v : WiredState) (d e : DeskView) (status : ℕ) → frames_over v ≡ []
+    → (memories v ≡ memories w → ⊥) → OverAnyLine plan w v d e status → ⊥
 touched_in_silence plan w v d e status none other over = other (over.untouched none)
 
 -- ---- the worked run
@@ -52,31 +56,42 @@ pub said_due : (openings : List Opening) → sayings (run worked_settings openin
 unfolding session opening handshake operation closing play tries attempt exchange answer
 said_due openings = refl
 
-module _ (talk : Talk) (a b : ℕ) (d e : DeskView) (status : ℕ) (all : heard talk ≡ worked_answers) (x : IsRun worked_settings (devices (talking [] a) d) (devices (talking talk b) e) status) where
+module _ (talk : Talk) (a b : ℕ) (d e : DeskView) (status : ℕ) (all : heard talk ≡ worked_answers)
+    (x : IsRun worked_settings (devices (talking [] a) d) (devices (talking talk b) e) status) where
   passed : x.during ≡ talk
   passed = sym x.grows
 
-  played_over : run worked_settings (x.openings ++ []) (worked_answers ++ []) ≡ record { events = x.events; outcome = Some (status, x.next, on_tape x.left ++ []) }
-  played_over = subst (λ tape. run worked_settings (x.openings ++ []) (tape ++ []) ≡ record { events = x.events; outcome = Some (status, x.next, on_tape x.left ++ []) }) (ap heard passed ∙ all) (x.is [] [])
+  played_over : run worked_settings (x.openings ++ []) (worked_answers ++ [])
+      ≡ record { events = x.events; outcome = Some (status, x.next, on_tape x.left ++ []) }
+  played_over = subst (λ tape. run worked_settings (x.openings ++ []) (tape ++ [])
+      ≡ record { events = x.events; outcome = Some (status, x.next, on_tape x.left ++ []) }) (ap heard passed ∙ all)
+      (x.is [] [])
 
   pub worked_status : status ≡ 0
-  worked_status = ap (λ z. z.0) (some_is (status, x.next, on_tape x.left ++ []) (0, 7, []) (sym (ap (λ p. p.outcome) played_over) ∙ answered_due (x.openings ++ [])))
+  worked_status = ap (λ z. z.0) (some_is (status, x.next, on_tape x.left ++ []) (0, 7, [])
+      (sym (ap (λ p. p.outcome) played_over) ∙ answered_due (x.openings ++ [])))
 
   pub worked_sent : sent talk ≡ frames_due
-  worked_sent = ap sent (sym passed) ∙ (sym x.all_sent ∙ (sym (ap (λ p. bytes_sent p.events) played_over) ∙ sent_due (x.openings ++ [])))
+  worked_sent = ap sent (sym passed) ∙ (sym x.all_sent
+      ∙ (sym (ap (λ p. bytes_sent p.events) played_over) ∙ sent_due (x.openings ++ [])))
 
   worked_said : sayings x.events ≡ lines_due
   worked_said = sym (ap (λ p. sayings p.events) played_over) ∙ said_due (x.openings ++ [])
 
-pub another_status : (talk : Talk) (a b : ℕ) (d e : DeskView) → heard talk ≡ worked_answers → IsRun worked_settings (devices (talking [] a) d) (devices (talking talk b) e) 1 → ⊥
+pub another_status : (talk : Talk) (a b : ℕ) (d e : DeskView) → heard talk ≡ worked_answers
+    → IsRun worked_settings (devices (talking [] a) d) (devices (talking talk b) e) 1 → ⊥
 another_status talk a b d e all x = absurd (one_no (worked_status talk a b d e 1 all x))
   where
     one_no : ◌≡◌ {A = ℕ} 1 0 → ⊥
     one_no e = cc
 
-pub another_frame : (talk : Talk) (a b : ℕ) (d e : DeskView) (status : ℕ) → heard talk ≡ worked_answers → (sent talk ≡ frames_due → ⊥) → IsRun worked_settings (devices (talking [] a) d) (devices (talking talk b) e) status → ⊥
+pub another_frame : (talk : Talk) (a b : ℕ) (d e : DeskView) (status : ℕ) → heard talk ≡ worked_answers
+    → (sent talk ≡ frames_due → ⊥) → IsRun worked_settings (devices (talking [] a) d) (devices (talking talk b) e)
+    status → ⊥
 another_frame talk a b d e status all other x = other (worked_sent talk a b d e status all x)
 
-pub another_line : (talk : Talk) (a b : ℕ) (d e : DeskView) (status : ℕ) → heard talk ≡ worked_answers → (Passes (after_all lines_due) d e → ⊥)
+pub another_line : (talk : Talk) (a b : ℕ) (d e : DeskView) (status : ℕ) → heard talk ≡ worked_answers
+    → (Passes (after_all lines_due) d e → ⊥)
     → IsRun worked_settings (devices (talking [] a) d) (devices (talking talk b) e) status → ⊥
-another_line talk a b d e status all other x = other (x.kept ∙ ap (λ said. after_all said d.kept) (worked_said talk a b d e status all x))
+another_line talk a b d e status all other x =
+    other (x.kept ∙ ap (λ said. after_all said d.kept) (worked_said talk a b d e status all x))

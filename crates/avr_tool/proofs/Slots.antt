@@ -85,7 +85,8 @@ own_older n c piece o = record {
 }
 
 -- those before, and one more behind them
-pub old_and_own : (n c : ℕ) (pieces : List (List ℕ)) (piece : List ℕ) → AreOld n c pieces → IsOwn n piece → AreOld (next n) (suc c) (pieces ++ piece ∷ [])
+pub old_and_own : (n c : ℕ) (pieces : List (List ℕ)) (piece : List ℕ) → AreOld n c pieces → IsOwn n piece
+    → AreOld (next n) (suc c) (pieces ++ piece ∷ [])
 old_and_own n c [] piece o own = (own_older n c piece own, tt)
 old_and_own n c (old ∷ pieces) piece o own = (one_older n c old o.0, old_and_own n c pieces piece o.1 own)
 
@@ -100,7 +101,8 @@ further_twice a b None = refl
 further_twice a b (Some (body, used)) = ap (λ n. Some (body, n)) (omega arith)
 
 pub record Passed (n : ℕ) (front : List ℕ) : Type 0 where
-  pub first : (more : List ℕ) → first_answer n (cut (front ++ more)) ≡ further (length front) (first_answer n (cut more))
+  pub first : (more : List ℕ) → first_answer n (cut (front ++ more))
+      ≡ further (length front) (first_answer n (cut more))
 
 pub none_passed : (n : ℕ) → Passed n []
 none_passed n = record { first = λ more. further_zero (first_answer n (cut more)) }
@@ -115,12 +117,14 @@ frame_cut n bytes more b = cut_first (frame n bytes) more (frame_is_piece n byte
 other_number : (n seq back c : ℕ) → c ≤ 255 → 1 ≤ back → back ≤ c → (seq + back) % 256 ≡ n % 256 → seq ≢ n
 other_number n seq back c most some few number e = omega (arith, most, some, few, number, e)
 
-old_passed : (n c : ℕ) (piece : List ℕ) → c ≤ 255 → IsOld n c piece → (more : List ℕ) → first_answer n (cut (piece ++ more)) ≡ further (length piece) (first_answer n (cut more))
+old_passed : (n c : ℕ) (piece : List ℕ) → c ≤ 255 → IsOld n c piece → (more : List ℕ)
+    → first_answer n (cut (piece ++ more)) ≡ further (length piece) (first_answer n (cut more))
 old_passed n c piece most o more =
     let other = other_number n o.seq o.back c most o.some o.few o.number in
     subst (λ q. first_answer n (cut (q ++ more)) ≡ further (length q) (first_answer n (cut more))) (sym o.is)
     (ap (first_answer n) (frame_cut o.seq o.bytes more o.carried)
-    ∙ refused (is_answer n (frame o.seq o.bytes)) _ _ (second_false (is_good (frame o.seq o.bytes)) (o.seq == n) (ne_eqb o.seq n other)))
+    ∙ refused (is_answer n (frame o.seq o.bytes)) _ _
+    (second_false (is_good (frame o.seq o.bytes)) (o.seq == n) (ne_eqb o.seq n other)))
 
 passed_on : (n c : ℕ) (front piece : List ℕ) → c ≤ 255 → Passed n front → IsOld n c piece → Passed n (front ++ piece)
 passed_on n c front piece most f o = record {
@@ -132,7 +136,8 @@ passed_on n c front piece most f o = record {
       ∙ ap (λ k. further k (first_answer n (cut more))) (sym (length-append front piece)))));
 }
 
-found_frame : (n : ℕ) (bytes : List ℕ) → IsBody bytes → first_answer n (cut (frame n bytes)) ≡ Some (bytes, length (frame n bytes))
+found_frame : (n : ℕ) (bytes : List ℕ) → IsBody bytes
+    → first_answer n (cut (frame n bytes)) ≡ Some (bytes, length (frame n bytes))
 found_frame n bytes b =
     ap (first_answer n) (cut_whole (frame n bytes) (frame_is_piece n bytes b.some b.few))
     ∙ (chosen (is_answer n (frame n bytes)) _ _ (and_from _ _ (frame_is_good n bytes b.some) (eq-eqb n n refl))
@@ -165,7 +170,8 @@ pub record Waits (n : ℕ) (t : Tape) (more answers : List (List ℕ)) : Type 0 
   pub left : more ≡ old ++ answers
 
 abbrev pub Reads : ℕ → ℕ → ℕ → Tape → List ℕ → List (List ℕ) → List (List ℕ) → Type 0
-Reads n c count t last more answers = Finds n t last more answers ⊎ (FindsNone n c count t last more answers ⊎ Waits n t more answers)
+Reads n c count t last more answers = Finds n t last more answers
+    ⊎ (FindsNone n c count t last more answers ⊎ Waits n t more answers)
 
 head_is : {A : Type 0} (x y : A) (xs ys : List A) → x ∷ xs ≡ y ∷ ys → x ≡ y
 head_is x y xs ys e = cc
@@ -176,11 +182,20 @@ tail_is x y xs ys e = cc
 cons_none : {A : Type 0} (x : A) (xs : List A) → x ∷ xs ≡ [] → ⊥
 cons_none x xs e = cc
 
-few_more : (n c count : ℕ) (t : Tape) (last : List ℕ) (more answers : List (List ℕ)) → Reads n c count t last more answers → Reads n c (suc count) t last more answers
+few_more : (n c count : ℕ) (t : Tape) (last : List ℕ) (more answers : List (List ℕ))
+    → Reads n c count t last more answers → Reads n c (suc count) t last more answers
 few_more n c count t last more answers (inl r) = inl r
 few_more n c count t last more answers (inr (inl r)) =
     let few = r.few in
-    inr (inl (record { slots = r.slots; old = r.old; are_old = r.are_old; few = omega (arith, few); is = r.is; left = r.left }))
+    inr (inl (record {
+      slots = r.slots;
+      old = r.old;
+      are_old = r.are_old;
+      few = omega (arith, few);
+      is = r.is;
+      left =
+          r.left;
+    }))
 few_more n c count t last more answers (inr (inr r)) = inr (inr r)
 
 old_length : (n c : ℕ) (piece : List ℕ) → IsOld n c piece → length piece ≤ 281
@@ -194,7 +209,8 @@ module _ (n c : ℕ) (most : c ≤ 255) (last : List ℕ) (stub : IsStub last) (
   front_none front passed = ap (λ bs. first_answer n (cut bs)) (sym (append-nil front)) ∙ passed.first []
 
   -- behind bytes that were passed over
-  pub reads : (front : List ℕ) (slots : List Slot) (old answers : List (List ℕ)) → Passed n front → length front + 281 * length old ≤ 3000 → AreOld n c old
+  pub reads : (front : List ℕ) (slots : List Slot) (old answers : List (List ℕ)) → Passed n front
+      → length front + 281 * length old ≤ 3000 → AreOld n c old
       → ((piece : List ℕ) (later : List (List ℕ)) → answers ≡ piece ∷ later → IsOwn n piece)
       → came slots ++ more ≡ old ++ answers
       → Reads n c (length old) (on_tape front ++ slots_tape slots last) last more answers
@@ -202,7 +218,9 @@ module _ (n c : ℕ) (most : c ≤ 255) (last : List ℕ) (stub : IsStub last) (
       let few = stub.few in
       inr (inr (record {
         old = old;
-        is = ap (answer n) (sym (on_tape_append front last)) ∙ answer_waits n (front ++ last) (stub_none front passed) (rw (length-append front last) (omega (arith, short, few)));
+        is = ap (answer n) (sym (on_tape_append front last))
+            ∙ answer_waits n (front ++ last) (stub_none front passed)
+            (rw (length-append front last) (omega (arith, short, few)));
         left = e;
       }))
   reads front (Quiet ∷ slots) old answers passed short are_old own e =
@@ -217,10 +235,14 @@ module _ (n c : ℕ) (most : c ≤ 255) (last : List ℕ) (stub : IsStub last) (
   reads front (Came piece ∷ slots) (first ∷ old) answers passed short are_old own e =
       let same : piece ≡ first = head_is piece first (came slots ++ more) (old ++ answers) e in
       let length_is = old_length n c first are_old.0 in
-      let inner = reads (front ++ first) slots old answers (passed_on n c front first most passed are_old.0) (rw (length-append front first) (omega (arith, short, length_is))) are_old.1 own (tail_is piece first (came slots ++ more) (old ++ answers) e) in
+      let inner = reads (front ++ first) slots old answers (passed_on n c front first most passed are_old.0)
+      (rw (length-append front first) (omega (arith, short, length_is))) are_old.1 own
+      (tail_is piece first (came slots ++ more) (old ++ answers) e) in
       few_more n c (length old) _ last more answers
       (subst (λ t. Reads n c (length old) t last more answers)
-      (ap (λ t. t ++ slots_tape slots last) (on_tape_append front first) ∙ (append_assoc (on_tape front) (on_tape first) (slots_tape slots last) ∙ ap (λ q. on_tape front ++ (on_tape q ++ slots_tape slots last)) (sym same)))
+      (ap (λ t. t ++ slots_tape slots last) (on_tape_append front first)
+      ∙ (append_assoc (on_tape front) (on_tape first) (slots_tape slots last)
+      ∙ ap (λ q. on_tape front ++ (on_tape q ++ slots_tape slots last)) (sym same)))
       inner)
   reads front (Came piece ∷ slots) [] [] passed short are_old own e = absurd (cons_none piece (came slots ++ more) e)
   reads front (Came piece ∷ slots) [] (first ∷ later) passed short are_old own e =
@@ -238,7 +260,9 @@ module _ (n c : ℕ) (most : c ≤ 255) (last : List ℕ) (stub : IsStub last) (
         slots = slots;
         is =
             ap (λ q. answer n (on_tape front ++ (on_tape q ++ slots_tape slots last))) same
-            ∙ (ap (answer n) (sym (append_assoc (on_tape front) (on_tape (frame n o.bytes)) (slots_tape slots last)) ∙ ap (λ t. t ++ slots_tape slots last) (sym (on_tape_append front (frame n o.bytes))))
-            ∙ answer_found n (front ++ frame n o.bytes) (slots_tape slots last) o.bytes found (rw (length-append front (frame n o.bytes), length_frame n o.bytes) (omega (arith, short, few))));
+            ∙ (ap (answer n) (sym (append_assoc (on_tape front) (on_tape (frame n o.bytes)) (slots_tape slots last))
+            ∙ ap (λ t. t ++ slots_tape slots last) (sym (on_tape_append front (frame n o.bytes))))
+            ∙ answer_found n (front ++ frame n o.bytes) (slots_tape slots last) o.bytes found
+            (rw (length-append front (frame n o.bytes), length_frame n o.bytes) (omega (arith, short, few))));
         left = tail_is piece first (came slots ++ more) later e;
       })

@@ -28,8 +28,10 @@ tail_is x y xs ys e = cc
 none_cons : {A : Type 0} (x : A) (xs : List A) → [] ≡ x ∷ xs → ⊥
 none_cons x xs e = cc
 
-at_each : (before calls : List Call) → Keeps before calls → (first later : List Call) → calls ≡ first ++ later → IsJoined (of_host (before ++ first)) (of_server (before ++ first))
-at_each before calls k [] later e = subst (λ cs. IsJoined (of_host cs) (of_server cs)) (sym (append-nil before)) (here before calls k)
+at_each : (before calls : List Call) → Keeps before calls → (first later : List Call) → calls ≡ first ++ later
+    → IsJoined (of_host (before ++ first)) (of_server (before ++ first))
+at_each before calls k [] later e = subst (λ cs. IsJoined (of_host cs) (of_server cs)) (sym (append-nil before))
+    (here before calls k)
 at_each before [] k (call ∷ first) later e = absurd (none_cons call (first ++ later) e)
 at_each before (next ∷ calls) k (call ∷ first) later e =
     subst (λ cs. IsJoined (of_host cs) (of_server cs))
@@ -65,9 +67,12 @@ worked_ordered = record {
 
 pub worked_stalls : StallsBetweenAnswers (heard (of_host worked_calls))
 worked_stalls [] after e = refl
-worked_stalls (item ∷ before) after e = absurd (no_silence (on_tape worked_reply) before after tt (tail_is Silence item (on_tape worked_reply) (before ++ Silence ∷ after) e))
+worked_stalls (item ∷ before) after e = absurd
+    (no_silence (on_tape worked_reply) before after tt
+    (tail_is Silence item (on_tape worked_reply) (before ++ Silence ∷ after) e))
 
-pub worked_answered : (s : chips.ChipState) → sent (of_server worked_calls) ≡ emulate (fresh_programmer s) (bytes_of (heard (of_server worked_calls)))
+pub worked_answered : (s : chips.ChipState)
+    → sent (of_server worked_calls) ≡ emulate (fresh_programmer s) (bytes_of (heard (of_server worked_calls)))
 worked_answered s = refl
 
 -- a silence within an answer

@@ -67,6 +67,6 @@ pub use avr_part::{Chip, Mem, Part, PartFault, Parts};
 // lines
 pub use stk_emu::{Fate, Fates, FatesFault, Wired, noise_is_lawful};
 pub use stk_host::{
-    FailingLink, Heard, HostFault, Item, Link, LinkCall, LinkFault, StreamLink, TapeLink, WatchLink,
-    WatchedLink,
+    FailingLink, Heard, HostFault, Item, Link, LinkCall, LinkFault, StreamLink, TapeLink,
+    WatchLink, WatchedLink,
 };

@@ -5,7 +5,3 @@ use Rattle.ghosts.specs.Failures.{HasRisen, HasStood}
 -- a count that stood has not risen in between
 pub stood_has_not_risen : (a b c d : ℕ) → a ≤ b → c ≤ d → HasStood a d → HasRisen b c → ⊥
 stood_has_not_risen a b c d first last stood rises = omega (arith, first, last, stood.0, stood.1, rises)
-
--- a count below its end rises by one
-pub rises_by_one : (a b : ℕ) → a < 2 ^ 64 - 1 → HasRisen a b → b ≡ a + 1
-rises_by_one a b below rises = omega (arith, below, rises)

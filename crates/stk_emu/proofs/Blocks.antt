@@ -9,7 +9,8 @@ sent-append [] ys chip = refl
 sent-append (x ∷ xs) ys chip = sent-append xs ys ((spi_of x chip).1)
 
 -- the byte i is loaded
-flash_load_at : (wide : Bool) (cmd address i : ℕ) (bytes : List ℕ) (chip extended after whole : ChipState) (out : List ℕ) → i < length bytes
+flash_load_at : (wide : Bool) (cmd address i : ℕ) (bytes : List ℕ) (chip extended after whole : ChipState)
+    (out : List ℕ) → i < length bytes
     → sent_to (flash_loads wide cmd address i (drop i bytes)) chip ≡ whole
     → extended ≡ sent_to (extension wide (word_at address i)) chip
     → (out, after) ≡ spi_of (at_address (for_half cmd i) (word_at address i) (get_or bytes i 0)) extended
@@ -17,36 +18,31 @@ flash_load_at : (wide : Bool) (cmd address i : ℕ) (bytes : List ℕ) (chip ext
 flash_load_at wide cmd address i bytes chip extended after whole out h so_far ext spi =
     let x = at_address (for_half cmd i) (word_at address i) (get_or bytes i 0) in
     let left = flash_loads wide cmd address (suc i) (drop (suc i) bytes) in
-    let was : sent_to (extension wide (word_at address i) ++ (x ∷ left)) chip ≡ whole = rw (drop-cons bytes i 0 h) at so_far in
+    let was : sent_to (extension wide (word_at address i) ++ (x ∷ left)) chip ≡ whole =
+    rw (drop-cons bytes i 0 h) at so_far in
     rw add-one (
     ap (λ s. sent_to left s) (ap (λ p. p.1) spi ∙ ap (λ s. (spi_of x s).1) ext)
     ∙ (sym (sent-append (extension wide (word_at address i)) (x ∷ left) chip) ∙ was))
 
-pub eeprom_load : (cmd address i : ℕ) (bytes : List ℕ) (chip after whole : ChipState) (out : List ℕ) → i < length bytes
-    → sent_to (eeprom_loads cmd address i (drop i bytes)) chip ≡ whole
-    → (out, after) ≡ spi_of (at_address cmd (byte_address address i) (get_or bytes i 0)) chip
-    → sent_to (eeprom_loads cmd address (i + 1) (drop (i + 1) bytes)) after ≡ whole
-eeprom_load cmd address i bytes chip after whole out h so_far spi =
-    let x = at_address cmd (byte_address address i) (get_or bytes i 0) in
-    let left = eeprom_loads cmd address (suc i) (drop (suc i) bytes) in
-    let was : sent_to (x ∷ left) chip ≡ whole = rw (drop-cons bytes i 0 h) at so_far in
-    rw add-one (ap (λ p. sent_to left p.1) spi ∙ was)
-
-pub record LooksOn (before : List ℕ) (whole : List ℕ × ChipState) (out : List ℕ) (more : List ℕ × ChipState) : Type 0 where
+pub record LooksOn (before : List ℕ) (whole : List ℕ × ChipState) (out : List ℕ) (more : List ℕ × ChipState) : Type
+    0 where
   pub bytes : out ++ more.0 ≡ before ++ whole.0
   pub chip : more.1 ≡ whole.1
 
 -- the byte i is read
-flash_look_at : (wide : Bool) (cmd address i n m : ℕ) (chip extended after : ChipState) (before out new x : List ℕ) (whole : List ℕ × ChipState) → n ≡ suc m
+flash_look_at : (wide : Bool) (cmd address i n m : ℕ) (chip extended after : ChipState) (before out new x : List ℕ)
+    (whole : List ℕ × ChipState) → n ≡ suc m
     → LooksOn before whole out (flash_looks wide cmd address i n chip)
     → extended ≡ sent_to (extension wide (word_at address i)) chip
     → (x, after) ≡ spi_of (at_address (for_half cmd i) (word_at address i) 0) extended
     → new ≡ out ++ get_or x 3 0 ∷ []
     → LooksOn before whole new (flash_looks wide cmd address (i + 1) m after)
 flash_look_at wide cmd address i n m chip extended after before out new x whole e on ext spi is =
-    let out_is : x ≡ (spi_of (at_address (for_half cmd i) (word_at address i) 0) (sent_to (extension wide (word_at address i)) chip)).0 =
+    let out_is : x ≡ (spi_of (at_address (for_half cmd i) (word_at address i) 0)
+    (sent_to (extension wide (word_at address i)) chip)).0 =
     ap (λ p. p.0) spi ∙ ap (λ s. (spi_of (at_address (for_half cmd i) (word_at address i) 0) s).0) ext in
-    let after_is : after ≡ (spi_of (at_address (for_half cmd i) (word_at address i) 0) (sent_to (extension wide (word_at address i)) chip)).1 =
+    let after_is : after ≡ (spi_of (at_address (for_half cmd i) (word_at address i) 0)
+    (sent_to (extension wide (word_at address i)) chip)).1 =
     ap (λ p. p.1) spi ∙ ap (λ s. (spi_of (at_address (for_half cmd i) (word_at address i) 0) s).1) ext in
     let P : ℕ → Type 0 = λ k. LooksOn before whole out (flash_looks wide cmd address i k chip) in
     let before_step : LooksOn before whole out (flash_looks wide cmd address i (suc m) chip) = subst P e on in
@@ -55,7 +51,8 @@ flash_look_at wide cmd address i n m chip extended after before out new x whole 
       chip = before_step.chip;
     })
 
-eeprom_look_at : (cmd address i n m : ℕ) (chip after : ChipState) (before out new x : List ℕ) (whole : List ℕ × ChipState) → n ≡ suc m
+eeprom_look_at : (cmd address i n m : ℕ) (chip after : ChipState) (before out new x : List ℕ)
+    (whole : List ℕ × ChipState) → n ≡ suc m
     → LooksOn before whole out (eeprom_looks cmd address i n chip)
     → (x, after) ≡ spi_of (at_address cmd (byte_address address i) 0) chip
     → new ≡ out ++ get_or x 3 0 ∷ []
@@ -75,7 +72,8 @@ chosen true x y e = refl
 chosen false x y e = absurd (cc)
 
 -- a page was loaded, and written if that was asked for
-pub page_done : (f : ProgramBlock) (p new : Programmer) (loaded written : ChipState) (out : List ℕ) → p.mode ≡ true → flash_fits f ≡ true
+pub page_done : (f : ProgramBlock) (p new : Programmer) (loaded written : ChipState) (out : List ℕ) → p.mode ≡ true
+    → flash_fits f ≡ true
     → loaded ≡ sent_to (flash_loads p.wide f.cmd1 p.address 0 f.bytes) p.chip
     → written ≡ sent_to (flash_writes p.wide f.cmd2 p.address (is_written f)) loaded
     → new ≡ with_address_moved (f.count / 2) (record p { chip = written }) → out ≡ 0x13 ∷ 0 ∷ []
@@ -87,11 +85,13 @@ page_done f p new loaded written out mode fits load write is answer =
     write ∙ (ap (λ s. sent_to writes s) load ∙ sym (sent-append loads writes p.chip)) in
     let new_is : new ≡ with_address_moved (f.count / 2) (with_instructions (loads ++ writes) p) =
     is ∙ ap (λ s. with_address_moved (f.count / 2) (record p { chip = s })) chip_is in
-    let pair_is : (out, new) ≡ (0x13 ∷ 0 ∷ [], with_address_moved (f.count / 2) (with_instructions (loads ++ writes) p)) = rw (answer, new_is) refl in
+    let pair_is : (out, new) ≡ (0x13 ∷ 0 ∷ [], with_address_moved (f.count / 2) (with_instructions (loads ++ writes) p))
+    = rw (answer, new_is) refl in
     pair_is ∙ sym (chosen p.mode _ _ mode ∙ chosen (flash_fits f) _ _ fits)
 
 -- a block of EEPROM bytes was loaded, and written if that was asked for
-pub run_done : (f : ProgramBlock) (p new : Programmer) (loaded written : ChipState) (out : List ℕ) → p.mode ≡ true → eeprom_fits f ≡ true
+pub run_done : (f : ProgramBlock) (p new : Programmer) (loaded written : ChipState) (out : List ℕ) → p.mode ≡ true
+    → eeprom_fits f ≡ true
     → loaded ≡ sent_to (eeprom_loads f.cmd1 p.address 0 f.bytes) p.chip
     → written ≡ sent_to (eeprom_writes f.cmd2 p.address (writes_page f)) loaded
     → new ≡ with_address_moved f.count (record p { chip = written }) → out ≡ 0x15 ∷ 0 ∷ []
@@ -103,15 +103,19 @@ run_done f p new loaded written out mode fits load write is answer =
     write ∙ (ap (λ s. sent_to writes s) load ∙ sym (sent-append loads writes p.chip)) in
     let new_is : new ≡ with_address_moved f.count (with_instructions (loads ++ writes) p) =
     is ∙ ap (λ s. with_address_moved f.count (record p { chip = s })) chip_is in
-    let pair_is : (out, new) ≡ (0x15 ∷ 0 ∷ [], with_address_moved f.count (with_instructions (loads ++ writes) p)) = rw (answer, new_is) refl in
+    let pair_is : (out, new) ≡ (0x15 ∷ 0 ∷ [], with_address_moved f.count (with_instructions (loads ++ writes) p)) =
+    rw (answer, new_is) refl in
     pair_is ∙ sym (chosen p.mode _ _ mode ∙ chosen (eeprom_fits f) _ _ fits)
 
 -- the instruction as the code makes it
-instruction_is : (wide : Bool) (cmd address i word half byte : ℕ) (x : List ℕ) → word ≡ word_at address i → half ≡ for_half cmd i → x ≡ at_address half word byte
+instruction_is : (wide : Bool) (cmd address i word half byte : ℕ) (x : List ℕ) → word ≡ word_at address i
+    → half ≡ for_half cmd i → x ≡ at_address half word byte
     → x ≡ at_address (for_half cmd i) (word_at address i) byte
-instruction_is wide cmd address i word half byte x w h e = e ∙ (ap (λ k. at_address k word byte) h ∙ ap (λ a. at_address (for_half cmd i) a byte) w)
+instruction_is wide cmd address i word half byte x w h e =
+    e ∙ (ap (λ k. at_address k word byte) h ∙ ap (λ a. at_address (for_half cmd i) a byte) w)
 
-pub flash_load : (wide : Bool) (cmd address i word half : ℕ) (x bytes : List ℕ) (chip extended after whole : ChipState) (out : List ℕ) → i < length bytes
+pub flash_load : (wide : Bool) (cmd address i word half : ℕ) (x bytes : List ℕ) (chip extended after whole : ChipState)
+    (out : List ℕ) → i < length bytes
     → sent_to (flash_loads wide cmd address i (drop i bytes)) chip ≡ whole
     → word ≡ word_at address i → half ≡ for_half cmd i → x ≡ at_address half word (get_or bytes i 0)
     → extended ≡ sent_to (extension wide word) chip
@@ -122,7 +126,8 @@ flash_load wide cmd address i word half x bytes chip extended after whole out h 
     (ext ∙ ap (λ a. sent_to (extension wide a) chip) w)
     (spi ∙ ap (λ y. spi_of y extended) (instruction_is wide cmd address i word half (get_or bytes i 0) x w k e))
 
-pub flash_look : (wide : Bool) (cmd address i n m word half : ℕ) (y : List ℕ) (chip extended after : ChipState) (before out new x : List ℕ) (whole : List ℕ × ChipState) → n ≡ suc m
+pub flash_look : (wide : Bool) (cmd address i n m word half : ℕ) (y : List ℕ) (chip extended after : ChipState)
+    (before out new x : List ℕ) (whole : List ℕ × ChipState) → n ≡ suc m
     → LooksOn before whole out (flash_looks wide cmd address i n chip)
     → word ≡ word_at address i → half ≡ for_half cmd i → y ≡ at_address half word 0
     → extended ≡ sent_to (extension wide word) chip
@@ -134,7 +139,8 @@ flash_look wide cmd address i n m word half y chip extended after before out new
     (ext ∙ ap (λ a. sent_to (extension wide a) chip) w)
     (spi ∙ ap (λ z. spi_of z extended) (instruction_is wide cmd address i word half 0 y w k is_y)) is
 
-pub eeprom_look : (cmd address i n m at : ℕ) (y : List ℕ) (chip after : ChipState) (before out new x : List ℕ) (whole : List ℕ × ChipState) → n ≡ suc m
+pub eeprom_look : (cmd address i n m at : ℕ) (y : List ℕ) (chip after : ChipState) (before out new x : List ℕ)
+    (whole : List ℕ × ChipState) → n ≡ suc m
     → LooksOn before whole out (eeprom_looks cmd address i n chip)
     → at ≡ byte_address address i → y ≡ at_address cmd at 0
     → (x, after) ≡ spi_of y chip

@@ -38,14 +38,18 @@ second_true : (a b : Bool) → (a && b) ≡ true → b ≡ true
 second_true true b e = e
 second_true false b e = absurd (false≢true e)
 
-flash_length : (wide : Bool) (cmd address i n : ℕ) (chip : ChipState) → length (flash_looks wide cmd address i n chip).0 ≡ n
+flash_length : (wide : Bool) (cmd address i n : ℕ) (chip : ChipState)
+    → length (flash_looks wide cmd address i n chip).0 ≡ n
 flash_length wide cmd address i zero chip = refl
 flash_length wide cmd address i (suc n) chip =
-    ap suc (flash_length wide cmd address (suc i) n (spi_of (at_address (for_half cmd i) (word_at address i) 0) (sent_to (extension wide (word_at address i)) chip)).1)
+    ap suc (flash_length wide cmd address (suc i) n
+    (spi_of (at_address (for_half cmd i) (word_at address i) 0)
+    (sent_to (extension wide (word_at address i)) chip)).1)
 
 eeprom_length : (cmd address i n : ℕ) (chip : ChipState) → length (eeprom_looks cmd address i n chip).0 ≡ n
 eeprom_length cmd address i zero chip = refl
-eeprom_length cmd address i (suc n) chip = ap suc (eeprom_length cmd address (suc i) n (spi_of (at_address cmd (byte_address address i) 0) chip).1)
+eeprom_length cmd address i (suc n) chip =
+    ap suc (eeprom_length cmd address (suc i) n (spi_of (at_address cmd (byte_address address i) 0) chip).1)
 
 between : (x y : ℕ) (bytes : List ℕ) → length bytes ≤ 272 → IsBody (x ∷ y ∷ (bytes ++ 0 ∷ []))
 between x y bytes few = record { some = omega arith; few = omega (arith, length-append bytes (0 ∷ [])) }
@@ -56,7 +60,8 @@ flash_body f p =
     (when (not (f.count == 0) && f.count % 2 == 0 && nat_le f.count 272) _ _
     (λ fits.
     let few : f.count ≤ 272 = leb-true f.count 272 (second_true _ _ fits) in
-    between 0x14 0 (flash_looks p.wide f.cmd1 p.address 0 f.count p.chip).0 (rw (flash_length p.wide f.cmd1 p.address 0 f.count p.chip) few))
+    between 0x14 0 (flash_looks p.wide f.cmd1 p.address 0 f.count p.chip).0
+    (rw (flash_length p.wide f.cmd1 p.address 0 f.count p.chip) few))
     (two _ _))
     (two _ _)
 
@@ -66,20 +71,23 @@ eeprom_body f p =
     (when (not (f.count == 0) && nat_le f.count 272) _ _
     (λ fits.
     let few : f.count ≤ 272 = leb-true f.count 272 (second_true _ _ fits) in
-    between 0x16 0 (eeprom_looks f.cmd1 p.address 0 f.count p.chip).0 (rw (eeprom_length f.cmd1 p.address 0 f.count p.chip) few))
+    between 0x16 0 (eeprom_looks f.cmd1 p.address 0 f.count p.chip).0
+    (rw (eeprom_length f.cmd1 p.address 0 f.count p.chip) few))
     (two _ _))
     (two _ _)
 
 byte_body : (code : ℕ) (f : ReadByte) (p : Programmer) → IsBody (read_byte code f p).0
 byte_body code f p = either p.mode _ _ (either _ _ _ (four _ _ _ _) (two _ _)) (two _ _)
 
-multi_body : (send receive start : ℕ) (bytes : List ℕ) (p : Programmer) → IsBody (spi_multi send receive start bytes p).0
+multi_body : (send receive start : ℕ) (bytes : List ℕ) (p : Programmer)
+    → IsBody (spi_multi send receive start bytes p).0
 multi_body send receive start bytes p =
     either p.mode _ _
     (when (send == 4 && length bytes == 4 && nat_le (start + receive) 4) _ _
     (λ fits.
     let few : start + receive ≤ 4 = leb-true (start + receive) 4 (second_true _ _ fits) in
-    between 0x1D 0 (take receive (drop start (spi_of bytes p.chip).0)) (let e = length-take receive (drop start (spi_of bytes p.chip).0) in omega (arith, e)))
+    between 0x1D 0 (take receive (drop start (spi_of bytes p.chip).0))
+    (let e = length-take receive (drop start (spi_of bytes p.chip).0) in omega (arith, e)))
     (two _ _))
     (two _ _)
 

@@ -16,20 +16,24 @@ small hfuse lock = record {
 }
 
 -- high fuse D9 has the EESAVE bit at 1, and D1 at 0
-erases_all : effect m328p Erase (small 0xD9 0xFC) ≡ record (small 0xD9 0xFF) { flash = 0xFF ∷ 0xFF ∷ []; eeprom = 0xFF ∷ 0xFF ∷ [] }
+erases_all : effect m328p Erase (small 0xD9 0xFC)
+    ≡ record (small 0xD9 0xFF) { flash = 0xFF ∷ 0xFF ∷ []; eeprom = 0xFF ∷ 0xFF ∷ [] }
 erases_all = refl
 
 keeps_eeprom : effect m328p Erase (small 0xD1 0xFC) ≡ record (small 0xD1 0xFF) { flash = 0xFF ∷ 0xFF ∷ [] }
 keeps_eeprom = refl
 
 -- flash takes only zeros, and keeps what the image doesn't hold
-ands_flash : effect m328p (Write Flash (Some 0xF0 ∷ None ∷ [])) (small 0xD9 0xFF) ≡ record (small 0xD9 0xFF) { flash = 0xF0 ∷ 0x0F ∷ [] }
+ands_flash : effect m328p (Write Flash (Some 0xF0 ∷ None ∷ [])) (small 0xD9 0xFF)
+    ≡ record (small 0xD9 0xFF) { flash = 0xF0 ∷ 0x0F ∷ [] }
 ands_flash = refl
 
-ands_again : effect m328p (Write Flash (None ∷ Some 0xF1 ∷ [])) (small 0xD9 0xFF) ≡ record (small 0xD9 0xFF) { flash = 0xFF ∷ 0x01 ∷ [] }
+ands_again : effect m328p (Write Flash (None ∷ Some 0xF1 ∷ [])) (small 0xD9 0xFF)
+    ≡ record (small 0xD9 0xFF) { flash = 0xFF ∷ 0x01 ∷ [] }
 ands_again = refl
 
-lays_eeprom : effect m328p (Write Eeprom (None ∷ Some 0xAA ∷ [])) (small 0xD9 0xFF) ≡ record (small 0xD9 0xFF) { eeprom = 0x12 ∷ 0xAA ∷ [] }
+lays_eeprom : effect m328p (Write Eeprom (None ∷ Some 0xAA ∷ [])) (small 0xD9 0xFF)
+    ≡ record (small 0xD9 0xFF) { eeprom = 0x12 ∷ 0xAA ∷ [] }
 lays_eeprom = refl
 
 -- a lock of FE has lock bit 0 at 0

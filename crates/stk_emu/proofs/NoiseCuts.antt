@@ -16,14 +16,17 @@ none_kept x xs e = cc
 pub no_good : (pieces : List (List ℕ)) → filter is_frame pieces ≡ [] → filter is_good pieces ≡ []
 no_good [] e = refl
 no_good (piece ∷ pieces) e = elim (cases_Bool (is_frame piece)) [
-  | inl t ↦ absurd (none_kept piece (filter is_frame pieces) (sym (chosen (is_frame piece) (piece ∷ filter is_frame pieces) (filter is_frame pieces) t) ∙ e))
+  | inl t ↦ absurd (none_kept piece (filter is_frame pieces)
+      (sym (chosen (is_frame piece) (piece ∷ filter is_frame pieces) (filter is_frame pieces) t) ∙ e))
   | inr f ↦
-      let more : filter is_frame pieces ≡ [] = sym (refused (is_frame piece) (piece ∷ filter is_frame pieces) (filter is_frame pieces) f) ∙ e in
+      let more : filter is_frame pieces ≡ [] =
+      sym (refused (is_frame piece) (piece ∷ filter is_frame pieces) (filter is_frame pieces) f) ∙ e in
       let bad : is_good piece ≡ false = rw f refl in
       refused (is_good piece) (piece ∷ filter is_good pieces) (filter is_good pieces) bad ∙ no_good pieces more
 ]
 
-good_fed : (old used new : List ℕ) (fs : List (List ℕ)) (text : List ℕ) → Fed old used new fs → Stands old text → filter is_good (cut text) ≡ [] → filter is_good (cut (text ++ used)) ≡ filter is_good fs
+good_fed : (old used new : List ℕ) (fs : List (List ℕ)) (text : List ℕ) → Fed old used new fs → Stands old text
+    → filter is_good (cut text) ≡ [] → filter is_good (cut (text ++ used)) ≡ filter is_good fs
 good_fed old used new fs text fed stands none =
     ap (filter is_good) (fed.pieces text stands)
     ∙ (filter-append is_good (cut text) (fed.skipped ++ fs)
@@ -34,34 +37,53 @@ pub take_on : (at used : ℕ) (xs : List ℕ) → at ≤ length xs → take at x
 take_on at used xs le = sym (take-add at used xs)
 
 -- no good frame was found
-noise_on : (old new noise : List ℕ) (at used : ℕ) (fs : List (List ℕ)) → at ≤ length noise → Fed old (take used (drop at noise)) new fs → filter is_good fs ≡ [] → Stands old (take at noise) → filter is_good (cut (take at noise)) ≡ []
+noise_on : (old new noise : List ℕ) (at used : ℕ) (fs : List (List ℕ)) → at ≤ length noise
+    → Fed old (take used (drop at noise)) new fs → filter is_good fs ≡ [] → Stands old (take at noise)
+    → filter is_good (cut (take at noise)) ≡ []
     → Stands new (take (at + used) noise) × (filter is_good (cut (take (at + used) noise)) ≡ [])
 noise_on old new noise at used fs le fed bad stands none =
-    rw (← take_on at used noise le) (fed.stands (take at noise) stands, good_fed old (take used (drop at noise)) new fs (take at noise) fed stands none ∙ bad)
+    rw (← take_on at used noise le) (
+      fed.stands (take at noise) stands,
+      good_fed old (take used (drop at noise)) new fs (take at noise) fed stands none ∙ bad,
+    )
 
 -- a good one was found
-good_found : (old new noise : List ℕ) (at used : ℕ) (fs : List (List ℕ)) → at ≤ length noise → Fed old (take used (drop at noise)) new fs → fs ≡ new ∷ [] → is_good new ≡ true → Stands old (take at noise) → filter is_good (cut (take at noise)) ≡ []
+good_found : (old new noise : List ℕ) (at used : ℕ) (fs : List (List ℕ)) → at ≤ length noise
+    → Fed old (take used (drop at noise)) new fs → fs ≡ new ∷ [] → is_good new ≡ true → Stands old (take at noise)
+    → filter is_good (cut (take at noise)) ≡ []
     → filter is_good (cut noise) ≢ []
 good_found old new noise at used fs le fed one good stands none e =
     let front = take at noise ++ take used (drop at noise) in
-    let here : filter is_good (cut front) ≡ new ∷ [] = good_fed old (take used (drop at noise)) new fs (take at noise) fed stands none ∙ (ap (filter is_good) one ∙ chosen (is_good new) (new ∷ []) [] good) in
-    let all : front ++ drop (at + used) noise ≡ noise = ap (λ x. x ++ drop (at + used) noise) (take_on at used noise le) ∙ take-append-drop (at + used) noise in
-    let cuts : cut noise ≡ cut front ++ cut (rest front ++ drop (at + used) noise) = ap cut (sym all) ∙ cut_append front (drop (at + used) noise) in
+    let here : filter is_good (cut front) ≡ new ∷ [] =
+    good_fed old (take used (drop at noise)) new fs (take at noise) fed stands none
+    ∙ (ap (filter is_good) one ∙ chosen (is_good new) (new ∷ []) [] good) in
+    let all : front ++ drop (at + used) noise ≡ noise =
+    ap (λ x. x ++ drop (at + used) noise) (take_on at used noise le) ∙ take-append-drop (at + used) noise in
+    let cuts : cut noise ≡ cut front ++ cut (rest front ++ drop (at + used) noise) =
+    ap cut (sym all) ∙ cut_append front (drop (at + used) noise) in
     none_kept new (filter is_good (cut (rest front ++ drop (at + used) noise))) (
     ap (λ x. x ++ filter is_good (cut (rest front ++ drop (at + used) noise))) (sym here)
-    ∙ (sym (filter-append is_good (cut front) (cut (rest front ++ drop (at + used) noise))) ∙ (ap (filter is_good) (sym cuts) ∙ e)))
+    ∙ (sym (filter-append is_good (cut front) (cut (rest front ++ drop (at + used) noise)))
+    ∙ (ap (filter is_good) (sym cuts) ∙ e)))
 
 -- the rest of the noise, as the code cuts it
 rest_of : (at : ℕ) (xs : List ℕ) → take (length xs - at) (drop at xs) ≡ drop at xs
 rest_of at xs = ap (λ n. take n (drop at xs)) (sym (length-drop at xs)) ∙ take-length (drop at xs)
 
-fed_rest : (old new noise : List ℕ) (at used : ℕ) (fs : List (List ℕ)) → Fed old (take used (take (length noise - at) (drop at noise))) new fs → Fed old (take used (drop at noise)) new fs
+fed_rest : (old new noise : List ℕ) (at used : ℕ) (fs : List (List ℕ))
+    → Fed old (take used (take (length noise - at) (drop at noise))) new fs → Fed old (take used (drop at noise)) new fs
 fed_rest old new noise at used fs fed = subst (λ rest. Fed old (take used rest) new fs) (rest_of at noise) fed
 
-pub noise_next : (old new noise : List ℕ) (at used : ℕ) (fs : List (List ℕ)) → at ≤ length noise → Fed old (take used (take (length noise - at) (drop at noise))) new fs → filter is_good fs ≡ [] → Stands old (take at noise) → filter is_good (cut (take at noise)) ≡ []
+pub noise_next : (old new noise : List ℕ) (at used : ℕ) (fs : List (List ℕ)) → at ≤ length noise
+    → Fed old (take used (take (length noise - at) (drop at noise))) new fs → filter is_good fs ≡ []
+    → Stands old (take at noise) → filter is_good (cut (take at noise)) ≡ []
     → Stands new (take (at + used) noise) × (filter is_good (cut (take (at + used) noise)) ≡ [])
-noise_next old new noise at used fs le fed bad stands none = noise_on old new noise at used fs le (fed_rest old new noise at used fs fed) bad stands none
+noise_next old new noise at used fs le fed bad stands none =
+    noise_on old new noise at used fs le (fed_rest old new noise at used fs fed) bad stands none
 
-pub good_next : (old new noise : List ℕ) (at used : ℕ) (fs : List (List ℕ)) → at ≤ length noise → Fed old (take used (take (length noise - at) (drop at noise))) new fs → (fs ≡ new ∷ []) × (is_good new ≡ true) → Stands old (take at noise) → filter is_good (cut (take at noise)) ≡ []
+pub good_next : (old new noise : List ℕ) (at used : ℕ) (fs : List (List ℕ)) → at ≤ length noise
+    → Fed old (take used (take (length noise - at) (drop at noise))) new fs → (fs ≡ new ∷ []) × (is_good new ≡ true)
+    → Stands old (take at noise) → filter is_good (cut (take at noise)) ≡ []
     → filter is_good (cut noise) ≢ []
-good_next old new noise at used fs le fed good stands none = good_found old new noise at used fs le (fed_rest old new noise at used fs fed) good.0 good.1 stands none
+good_next old new noise at used fs le fed good stands none =
+    good_found old new noise at used fs le (fed_rest old new noise at used fs fed) good.0 good.1 stands none

@@ -29,8 +29,10 @@ module _ {P : Type 0} (m : Device P) where
   obeyed_none (suc i) p = refl
 
   -- a step of one command
-  pub one_fits : (c : Command) (Before After : P → Type 0) → ((p : P) → Before p → After (m.after (body c) p)) → ((p : P) → After p → After (m.after (body c) p))
-      → ((p : P) → Before p → Before (m.reset p)) → ((p : P) → After p → After (m.reset p)) → Fits m (c ∷ []) Before After
+  pub one_fits : (c : Command) (Before After : P → Type 0) → ((p : P) → Before p → After (m.after (body c) p))
+      → ((p : P) → After p → After (m.after (body c) p))
+      → ((p : P) → Before p → Before (m.reset p)) → ((p : P) → After p → After (m.reset p))
+      → Fits m (c ∷ []) Before After
   one_fits c Before After does again anew anew_again = record {
     front = λ p i b. fronts p i b;
     again = λ p i a. agains p i a;
@@ -39,7 +41,8 @@ module _ {P : Type 0} (m : Device P) where
     anew_again = anew_again;
   }
     where
-      fronts : (p : P) (i : ℕ) → Before p → Before (after_commands m i (c ∷ []) p) ⊎ After (after_commands m i (c ∷ []) p)
+      fronts : (p : P) (i : ℕ) → Before p → Before (after_commands m i (c ∷ []) p)
+          ⊎ After (after_commands m i (c ∷ []) p)
       fronts p zero b = inl b
       fronts p (suc i) b = inr (subst After (sym (obeyed_none i (m.after (body c) p))) (does p b))
 
@@ -48,9 +51,12 @@ module _ {P : Type 0} (m : Device P) where
       agains p (suc i) a = subst After (sym (obeyed_none i (m.after (body c) p))) (again p a)
 
   -- a step of two
-  pub two_fits : (c d : Command) (Before After : P → Type 0) → ((p : P) → Before p → Before (m.after (body c) p)) → ((p : P) → After p → After (m.after (body c) p))
-      → ((p : P) → Before p → After (m.after (body d) (m.after (body c) p))) → ((p : P) → After p → After (m.after (body d) (m.after (body c) p)))
-      → ((p : P) → Before p → Before (m.reset p)) → ((p : P) → After p → After (m.reset p)) → Fits m (c ∷ d ∷ []) Before After
+  pub two_fits : (c d : Command) (Before After : P → Type 0) → ((p : P) → Before p → Before (m.after (body c) p))
+      → ((p : P) → After p → After (m.after (body c) p))
+      → ((p : P) → Before p → After (m.after (body d) (m.after (body c) p)))
+      → ((p : P) → After p → After (m.after (body d) (m.after (body c) p)))
+      → ((p : P) → Before p → Before (m.reset p)) → ((p : P) → After p → After (m.reset p))
+      → Fits m (c ∷ d ∷ []) Before After
   two_fits c d Before After first first_again does again anew anew_again = record {
     front = λ p i b. fronts p i b;
     again = λ p i a. agains p i a;
@@ -59,10 +65,12 @@ module _ {P : Type 0} (m : Device P) where
     anew_again = anew_again;
   }
     where
-      fronts : (p : P) (i : ℕ) → Before p → Before (after_commands m i (c ∷ d ∷ []) p) ⊎ After (after_commands m i (c ∷ d ∷ []) p)
+      fronts : (p : P) (i : ℕ) → Before p → Before (after_commands m i (c ∷ d ∷ []) p)
+          ⊎ After (after_commands m i (c ∷ d ∷ []) p)
       fronts p zero b = inl b
       fronts p (suc zero) b = inl (first p b)
-      fronts p (suc (suc i)) b = inr (subst After (sym (obeyed_none i (m.after (body d) (m.after (body c) p)))) (does p b))
+      fronts p (suc (suc i)) b = inr (subst After (sym (obeyed_none i (m.after (body d) (m.after (body c) p))))
+          (does p b))
 
       agains : (p : P) (i : ℕ) → After p → After (after_commands m i (c ∷ d ∷ []) p)
       agains p zero a = a
@@ -74,12 +82,19 @@ abbrev pub steady : Device Programmer
 steady = record { answer = device.answer; after = device.after; reset = λ p. p }
 
 -- its steps
-pub one_steady : (c : Command) (Before After : Programmer → Type 0) → ((p : Programmer) → Before p → After (device.after (body c) p)) → ((p : Programmer) → After p → After (device.after (body c) p)) → Fits steady (c ∷ []) Before After
+pub one_steady : (c : Command) (Before After : Programmer → Type 0)
+    → ((p : Programmer) → Before p → After (device.after (body c) p))
+    → ((p : Programmer) → After p → After (device.after (body c) p)) → Fits steady (c ∷ []) Before After
 one_steady c Before After does again = one_fits steady c Before After does again (λ p b. b) (λ p a. a)
 
-pub two_steady : (c d : Command) (Before After : Programmer → Type 0) → ((p : Programmer) → Before p → Before (device.after (body c) p)) → ((p : Programmer) → After p → After (device.after (body c) p))
-    → ((p : Programmer) → Before p → After (device.after (body d) (device.after (body c) p))) → ((p : Programmer) → After p → After (device.after (body d) (device.after (body c) p))) → Fits steady (c ∷ d ∷ []) Before After
-two_steady c d Before After first first_again does again = two_fits steady c d Before After first first_again does again (λ p b. b) (λ p a. a)
+pub two_steady : (c d : Command) (Before After : Programmer → Type 0)
+    → ((p : Programmer) → Before p → Before (device.after (body c) p))
+    → ((p : Programmer) → After p → After (device.after (body c) p))
+    → ((p : Programmer) → Before p → After (device.after (body d) (device.after (body c) p)))
+    → ((p : Programmer) → After p → After (device.after (body d) (device.after (body c) p)))
+    → Fits steady (c ∷ d ∷ []) Before After
+two_steady c d Before After first first_again does again =
+    two_fits steady c d Before After first first_again does again (λ p b. b) (λ p a. a)
 
 -- a command of programming mode, in it
 pub in_mode_is : (p : Programmer) (x y : Response) → p.mode ≡ true → (cond p.mode x y).1 ≡ x.1
@@ -97,10 +112,24 @@ module _ (part : Part) where
 
   -- what is ready is settled, and what is settled is ready in programming mode
   pub ready_settled : (m : Memories) (p : Programmer) → Ready part m p → Settled part m p
-  ready_settled m p s = record { memories = s.memories; part_is = s.part_is; flash_buffer = s.flash_buffer; eeprom_buffer = s.eeprom_buffer; extended = s.extended }
+  ready_settled m p s = record {
+    memories = s.memories;
+    part_is = s.part_is;
+    flash_buffer = s.flash_buffer;
+    eeprom_buffer = s.eeprom_buffer;
+    extended = s.extended;
+  }
 
   pub settled_ready : (m : Memories) (p : Programmer) → p.mode ≡ true → Settled part m p → Ready part m p
-  settled_ready m p mode s = record { memories = s.memories; part_is = s.part_is; mode = mode; flash_buffer = s.flash_buffer; eeprom_buffer = s.eeprom_buffer; extended = s.extended }
+  settled_ready m p mode s = record {
+    memories = s.memories;
+    part_is = s.part_is;
+    mode = mode;
+    flash_buffer =
+        s.flash_buffer;
+    eeprom_buffer = s.eeprom_buffer;
+    extended = s.extended;
+  }
 
   pub ready_idle : (m : Memories) (p : Programmer) → Ready part m p → Idle part m p
   ready_idle m p s = settled_idle m p (ready_settled m p s)
@@ -143,40 +172,58 @@ module _ (part : Part) where
   }
 
   pub leave_keeps : (m : Memories) (p : Programmer) → Idle part m p → Idle part m (device.after (body leave) p)
-  leave_keeps m p s = record { memories = s.memories; part_is = s.part_is; flash_buffer = s.flash_buffer; eeprom_buffer = s.eeprom_buffer }
+  leave_keeps m p s = record {
+    memories = s.memories;
+    part_is = s.part_is;
+    flash_buffer = s.flash_buffer;
+    eeprom_buffer = s.eeprom_buffer;
+  }
 
-  pub load_keeps : (address : ℕ) (m : Memories) (p : Programmer) → address < 2 ^ 32 → Ready part m p → Ready part m (device.after (body (LoadAddress address)) p)
+  pub load_keeps : (address : ℕ) (m : Memories) (p : Programmer) → address < 2 ^ 32 → Ready part m p
+      → Ready part m (device.after (body (LoadAddress address)) p)
   load_keeps address m p fits s = subst (λ z. Ready part m z) (sym (ap (λ z. z.1) (obeys (LoadAddress address) p fits)))
-      (record { memories = s.memories; part_is = s.part_is; mode = s.mode; flash_buffer = s.flash_buffer; eeprom_buffer = s.eeprom_buffer; extended = s.extended })
+      (record {
+        memories = s.memories;
+        part_is = s.part_is;
+        mode = s.mode;
+        flash_buffer = s.flash_buffer;
+        eeprom_buffer = s.eeprom_buffer;
+        extended = s.extended;
+      })
 
   -- the fuses
-  pub fuse_does : (f : Fuse) (v : ℕ) (m : Memories) (p : Programmer) → Ready part m p → Ready part (struck part (program_fuse f v ∷ []) m) (device.after (body (program_fuse f v)) p)
-  fuse_does Low v m p s = subst (Ready part (struck part (program_fuse Low v ∷ []) m)) (sym (in_mode_is p _ _ s.mode)) (record {
-    memories = ap (struck part (program_fuse Low v ∷ [])) s.memories;
-    part_is = s.part_is;
-    mode = s.mode;
-    flash_buffer = s.flash_buffer;
-    eeprom_buffer = s.eeprom_buffer;
-    extended = s.extended;
-  })
-  fuse_does High v m p s = subst (Ready part (struck part (program_fuse High v ∷ []) m)) (sym (in_mode_is p _ _ s.mode)) (record {
-    memories = ap (struck part (program_fuse High v ∷ [])) s.memories;
-    part_is = s.part_is;
-    mode = s.mode;
-    flash_buffer = s.flash_buffer;
-    eeprom_buffer = s.eeprom_buffer;
-    extended = s.extended;
-  })
-  fuse_does Extended v m p s = subst (Ready part (struck part (program_fuse Extended v ∷ []) m)) (sym (in_mode_is p _ _ s.mode)) (record {
-    memories = ap (struck part (program_fuse Extended v ∷ [])) s.memories;
-    part_is = s.part_is;
-    mode = s.mode;
-    flash_buffer = s.flash_buffer;
-    eeprom_buffer = s.eeprom_buffer;
-    extended = s.extended;
-  })
+  pub fuse_does : (f : Fuse) (v : ℕ) (m : Memories) (p : Programmer) → Ready part m p
+      → Ready part (struck part (program_fuse f v ∷ []) m) (device.after (body (program_fuse f v)) p)
+  fuse_does Low v m p s = subst (Ready part (struck part (program_fuse Low v ∷ []) m)) (sym (in_mode_is p _ _ s.mode))
+      (record {
+        memories = ap (struck part (program_fuse Low v ∷ [])) s.memories;
+        part_is = s.part_is;
+        mode = s.mode;
+        flash_buffer = s.flash_buffer;
+        eeprom_buffer = s.eeprom_buffer;
+        extended = s.extended;
+      })
+  fuse_does High v m p s = subst (Ready part (struck part (program_fuse High v ∷ []) m)) (sym (in_mode_is p _ _ s.mode))
+      (record {
+        memories = ap (struck part (program_fuse High v ∷ [])) s.memories;
+        part_is = s.part_is;
+        mode = s.mode;
+        flash_buffer = s.flash_buffer;
+        eeprom_buffer = s.eeprom_buffer;
+        extended = s.extended;
+      })
+  fuse_does Extended v m p s = subst (Ready part (struck part (program_fuse Extended v ∷ []) m))
+      (sym (in_mode_is p _ _ s.mode)) (record {
+        memories = ap (struck part (program_fuse Extended v ∷ [])) s.memories;
+        part_is = s.part_is;
+        mode = s.mode;
+        flash_buffer = s.flash_buffer;
+        eeprom_buffer = s.eeprom_buffer;
+        extended = s.extended;
+      })
 
-  pub lock_does : (v : ℕ) (m : Memories) (p : Programmer) → Ready part m p → Ready part (struck part (program_lock v ∷ []) m) (device.after (body (program_lock v)) p)
+  pub lock_does : (v : ℕ) (m : Memories) (p : Programmer) → Ready part m p
+      → Ready part (struck part (program_lock v ∷ []) m) (device.after (body (program_lock v)) p)
   lock_does v m p s = subst (Ready part (struck part (program_lock v ∷ []) m)) (sym (in_mode_is p _ _ s.mode)) (record {
     memories = ap (struck part (program_lock v ∷ [])) s.memories;
     part_is = s.part_is;
@@ -187,10 +234,12 @@ module _ (part : Part) where
   })
 
   -- the EESAVE bit is the part's
-  erase_memories : (s : chip.ChipState) → s.part ≡ part → memories_of (chip.with_erased s) ≡ struck part (erase ∷ []) (memories_of s)
+  erase_memories : (s : chip.ChipState) → s.part ≡ part
+      → memories_of (chip.with_erased s) ≡ struck part (erase ∷ []) (memories_of s)
   erase_memories s e = ap (λ (q : Part). struck q (erase ∷ []) (memories_of s)) e
 
-  pub erase_does : (m : Memories) (p : Programmer) → Ready part m p → Ready part (struck part (erase ∷ []) m) (device.after (body erase) p)
+  pub erase_does : (m : Memories) (p : Programmer) → Ready part m p
+      → Ready part (struck part (erase ∷ []) m) (device.after (body erase) p)
   erase_does m p s = subst (Ready part (struck part (erase ∷ []) m)) (sym (in_mode_is p _ _ s.mode)) (record {
     memories = erase_memories p.chip s.part_is ∙ ap (struck part (erase ∷ [])) s.memories;
     part_is = s.part_is;
@@ -209,7 +258,8 @@ fuse_read_after Extended p e = in_mode_is p _ _ e
 pub lock_read_after : (p : Programmer) → p.mode ≡ true → device.after (body read_lock) p ≡ p
 lock_read_after p e = in_mode_is p _ _ e
 
-pub signature_read_after : (place : ℕ) (p : Programmer) → p.mode ≡ true → device.after (body (read_signature place)) p ≡ p
+pub signature_read_after : (place : ℕ) (p : Programmer) → p.mode ≡ true
+    → device.after (body (read_signature place)) p ≡ p
 signature_read_after place p e = in_mode_is p _ _ e
 
 pub calibration_read_after : (p : Programmer) → p.mode ≡ true → device.after (body read_calibration) p ≡ p

@@ -26,10 +26,12 @@ further_zero (Some (body, used)) = ap (λ n. Some (body, n)) (omega arith)
 none_good : (n : ℕ) (pieces : List (List ℕ)) → filter is_good pieces ≡ [] → first_answer n pieces ≡ None
 none_good n [] e = refl
 none_good n (piece ∷ pieces) e = elim (cases_Bool (is_good piece)) [
-  | inl good ↦ let f = sym (chosen (is_good piece) (piece ∷ filter is_good pieces) (filter is_good pieces) good) ∙ e in cc
+  | inl good ↦ let f = sym (chosen (is_good piece) (piece ∷ filter is_good pieces) (filter is_good pieces) good) ∙ e in
+      cc
   | inr bad ↦
       refused (is_answer n piece) _ _ (and_left (is_good piece) _ bad)
-      ∙ ap (further (length piece)) (none_good n pieces (sym (refused (is_good piece) (piece ∷ filter is_good pieces) (filter is_good pieces) bad) ∙ e))
+      ∙ ap (further (length piece)) (none_good n pieces
+      (sym (refused (is_good piece) (piece ∷ filter is_good pieces) (filter is_good pieces) bad) ∙ e))
 ]
 
 frame_cut : (n : ℕ) (bytes more : List ℕ) → IsBody bytes → cut (frame n bytes ++ more) ≡ frame n bytes ∷ cut more
@@ -59,7 +61,8 @@ none_skipped n = record { first = λ more. further_zero (first_answer n (cut mor
 
 frame_skipped : (n seq : ℕ) (bytes : List ℕ) → seq ≢ n → IsBody bytes → Skipped n (frame seq bytes)
 frame_skipped n seq bytes other carried = record {
-  first = λ more. ap (first_answer n) (frame_cut seq bytes more carried) ∙ refused (is_answer n (frame seq bytes)) _ _ (other_frame n seq bytes other);
+  first = λ more. ap (first_answer n) (frame_cut seq bytes more carried)
+      ∙ refused (is_answer n (frame seq bytes)) _ _ (other_frame n seq bytes other);
 }
 
 both_skipped : (n : ℕ) (x y : List ℕ) → Skipped n x → Skipped n y → Skipped n (x ++ y)
@@ -75,7 +78,8 @@ both_skipped n x y f g = record {
 -- an answer to a frame before this one
 late_skipped : (k n : ℕ) (late : List ℕ) → ((seq : ℕ) → later k seq ≡ n → seq ≢ n) → IsPast k n late → Skipped n late
 late_skipped k n late other (inl e) = subst (Skipped n) (sym e) (none_skipped n)
-late_skipped k n late other (inr l) = subst (Skipped n) (sym l.is) (frame_skipped n l.seq l.bytes (other l.seq l.before) l.carried)
+late_skipped k n late other (inr l) = subst (Skipped n) (sym l.is)
+    (frame_skipped n l.seq l.bytes (other l.seq l.before) l.carried)
 
 late_length : (k n : ℕ) (late : List ℕ) → IsPast k n late → length late ≤ 281
 late_length k n late (inl e) = rw e (omega arith)
@@ -94,7 +98,8 @@ three_before n seq e = omega (arith, e)
 clear_skipped : (n : ℕ) (late : Late) → IsClear n late → Skipped n (waiting late)
 clear_skipped n late c =
     both_skipped n late.first (late.second ++ late.third) (late_skipped 3 n late.first (three_before n) c.first)
-    (both_skipped n late.second late.third (late_skipped 2 n late.second (two_before n) c.second) (late_skipped 1 n late.third (one_before n) c.third))
+    (both_skipped n late.second late.third (late_skipped 2 n late.second (two_before n) c.second)
+    (late_skipped 1 n late.third (one_before n) c.third))
 
 clear_length : (n : ℕ) (late : Late) → IsClear n late → length (waiting late) ≤ 843
 clear_length n late c =
@@ -104,13 +109,15 @@ clear_length n late c =
     rw (length-append late.first (late.second ++ late.third), length-append late.second late.third) (omega arith)
 
 -- the answer itself
-found_frame : (n : ℕ) (bytes : List ℕ) → IsBody bytes → first_answer n (cut (frame n bytes)) ≡ Some (bytes, length (frame n bytes))
+found_frame : (n : ℕ) (bytes : List ℕ) → IsBody bytes
+    → first_answer n (cut (frame n bytes)) ≡ Some (bytes, length (frame n bytes))
 found_frame n bytes b =
     ap (first_answer n) (cut_whole (frame n bytes) (frame_is_piece n bytes b.some b.few))
     ∙ (chosen (is_answer n (frame n bytes)) _ _ (own_frame n bytes b)
     ∙ ap (λ x. Some (x, length (frame n bytes))) (body_of_frame n bytes))
 
-reads_frame : (n : ℕ) (front bytes : List ℕ) (more : Tape) → Skipped n front → length front ≤ 843 → IsBody bytes → answer n ((on_tape front ++ on_tape (frame n bytes)) ++ more) ≡ Some (Answered bytes, more)
+reads_frame : (n : ℕ) (front bytes : List ℕ) (more : Tape) → Skipped n front → length front ≤ 843 → IsBody bytes
+    → answer n ((on_tape front ++ on_tape (frame n bytes)) ++ more) ≡ Some (Answered bytes, more)
 reads_frame n front bytes more skipped short b =
     let found : first_answer n (cut (front ++ frame n bytes)) ≡ Some (bytes, length (front ++ frame n bytes)) =
     skipped.first (frame n bytes)
@@ -122,14 +129,18 @@ reads_frame n front bytes more skipped short b =
     ap (λ t. answer n (t ++ more)) (sym (on_tape_append front (frame n bytes)))
     ∙ answer_found n (front ++ frame n bytes) more bytes found few
 
-reads_silence : (n : ℕ) (front noise : List ℕ) (more : Tape) → Skipped n front → length front ≤ 843 → IsLawful noise → answer n ((on_tape front ++ (on_tape noise ++ Silence ∷ [])) ++ more) ≡ Some (Silent, more)
+reads_silence : (n : ℕ) (front noise : List ℕ) (more : Tape) → Skipped n front → length front ≤ 843 → IsLawful noise
+    → answer n ((on_tape front ++ (on_tape noise ++ Silence ∷ [])) ++ more) ≡ Some (Silent, more)
 reads_silence n front noise more skipped short lawful =
     let none : first_answer n (cut (front ++ noise)) ≡ None =
     skipped.first noise ∙ ap (further (length front)) (none_good n (cut noise) lawful.no_frame) in
     let few : length (front ++ noise) < limit =
     let f = lawful.few in
     rw (length-append front noise) (omega arith) in
-    ap (answer n) (append_assoc (on_tape front) (on_tape noise ++ Silence ∷ []) more ∙ (ap (λ t. on_tape front ++ t) (append_assoc (on_tape noise) (Silence ∷ []) more) ∙ (sym (append_assoc (on_tape front) (on_tape noise) (Silence ∷ more)) ∙ ap (λ t. t ++ Silence ∷ more) (sym (on_tape_append front noise)))))
+    ap (answer n) (append_assoc (on_tape front) (on_tape noise ++ Silence ∷ []) more
+    ∙ (ap (λ t. on_tape front ++ t) (append_assoc (on_tape noise) (Silence ∷ []) more)
+    ∙ (sym (append_assoc (on_tape front) (on_tape noise) (Silence ∷ more))
+    ∙ ap (λ t. t ++ Silence ∷ more) (sym (on_tape_append front noise)))))
     ∙ answer_silent n (front ++ noise) more none few
 
 no_noise : IsLawful []
@@ -138,33 +149,49 @@ no_noise = record { few = omega arith; no_frame = refl }
 refusal_is_body : IsBody refusal
 refusal_is_body = record { some = omega arith; few = omega arith }
 
-reads_back : (n : ℕ) (fate : Fate) (late : Late) (bytes : List ℕ) (more : Tape) → IsClear n late → IsLawfulFate fate → IsBody bytes
-    → answer n ((on_tape (let_go fate late) ++ back fate (frame n bytes) (frame n refusal)) ++ more) ≡ Some (turn_reading (turn_of fate) bytes, more)
-reads_back n Good late bytes more clear lawful b = reads_frame n (waiting late) bytes more (clear_skipped n late clear) (clear_length n late clear) b
-reads_back n LostCommand late bytes more clear lawful b = reads_silence n (waiting late) [] more (clear_skipped n late clear) (clear_length n late clear) no_noise
-reads_back n LostAnswer late bytes more clear lawful b = reads_silence n (waiting late) [] more (clear_skipped n late clear) (clear_length n late clear) no_noise
-reads_back n LateAnswer late bytes more clear lawful b = reads_silence n (waiting late) [] more (clear_skipped n late clear) (clear_length n late clear) no_noise
-reads_back n HeldAnswer late bytes more clear lawful b = reads_silence n [] [] more (none_skipped n) (omega arith) no_noise
-reads_back n Reset late bytes more clear lawful b = reads_silence n (waiting late) [] more (clear_skipped n late clear) (clear_length n late clear) no_noise
-reads_back n CommandRefused late bytes more clear lawful b = reads_frame n (waiting late) refusal more (clear_skipped n late clear) (clear_length n late clear) refusal_is_body
-reads_back n (AnswerSpoiled noise) late bytes more clear lawful b = reads_silence n (waiting late) noise.items more (clear_skipped n late clear) (clear_length n late clear) lawful
+reads_back : (n : ℕ) (fate : Fate) (late : Late) (bytes : List ℕ) (more : Tape) → IsClear n late → IsLawfulFate fate
+    → IsBody bytes
+    → answer n ((on_tape (let_go fate late) ++ back fate (frame n bytes) (frame n refusal)) ++ more)
+    ≡ Some (turn_reading (turn_of fate) bytes, more)
+reads_back n Good late bytes more clear lawful b =
+    reads_frame n (waiting late) bytes more (clear_skipped n late clear) (clear_length n late clear) b
+reads_back n LostCommand late bytes more clear lawful b =
+    reads_silence n (waiting late) [] more (clear_skipped n late clear) (clear_length n late clear) no_noise
+reads_back n LostAnswer late bytes more clear lawful b =
+    reads_silence n (waiting late) [] more (clear_skipped n late clear) (clear_length n late clear) no_noise
+reads_back n LateAnswer late bytes more clear lawful b =
+    reads_silence n (waiting late) [] more (clear_skipped n late clear) (clear_length n late clear) no_noise
+reads_back n HeldAnswer late bytes more clear lawful b =
+    reads_silence n [] [] more (none_skipped n) (omega arith) no_noise
+reads_back n Reset late bytes more clear lawful b =
+    reads_silence n (waiting late) [] more (clear_skipped n late clear) (clear_length n late clear) no_noise
+reads_back n CommandRefused late bytes more clear lawful b =
+    reads_frame n (waiting late) refusal more (clear_skipped n late clear) (clear_length n late clear) refusal_is_body
+reads_back n (AnswerSpoiled noise) late bytes more clear lawful b =
+    reads_silence n (waiting late) noise.items more (clear_skipped n late clear) (clear_length n late clear) lawful
 
--- The segment: of a frame of sequence n it is read whole, and nothing else; the answer is the programmer's, the refusal, or a silence.
-pub segment_read : {P : Type 0} (m : Device P) (n : ℕ) (bytes : List ℕ) (w : Wire P) (more : Tape) → IsBody bytes → IsBody (m.answer bytes w.programmer) → IsClear n w.late → IsLawfulFate (first_fate w.fates)
-    → answer n (segment m (frame n bytes) w ++ more) ≡ Some (turn_reading (turn_of (first_fate w.fates)) (m.answer bytes w.programmer), more)
+-- The segment: of a frame of sequence n it is read whole, and nothing else; the answer is the programmer's, the
+-- refusal, or a silence.
+pub segment_read : {P : Type 0} (m : Device P) (n : ℕ) (bytes : List ℕ) (w : Wire P) (more : Tape) → IsBody bytes
+    → IsBody (m.answer bytes w.programmer) → IsClear n w.late → IsLawfulFate (first_fate w.fates)
+    → answer n (segment m (frame n bytes) w ++ more)
+    ≡ Some (turn_reading (turn_of (first_fate w.fates)) (m.answer bytes w.programmer), more)
 segment_read m n bytes w more b a clear lawful =
     let good : is_good (frame n bytes) ≡ true = frame_is_good n bytes b.some in
     let body_is : answer_body m (frame n bytes) w.programmer ≡ m.answer bytes w.programmer =
     chosen (is_good (frame n bytes)) _ _ good ∙ ap (λ x. m.answer x w.programmer) (body_of_frame n bytes) in
-    ap (λ x. answer n ((on_tape (let_go (first_fate w.fates) w.late) ++ back (first_fate w.fates) (frame n x) (frame n refusal)) ++ more)) body_is
+    ap (λ x. answer n ((on_tape (let_go (first_fate w.fates) w.late)
+    ++ back (first_fate w.fates) (frame n x) (frame n refusal)) ++ more)) body_is
     ∙ reads_back n (first_fate w.fates) w.late (m.answer bytes w.programmer) more clear lawful a
 
 -- and the programmer behind it
 pub segment_leaves : {P : Type 0} (m : Device P) (n : ℕ) (bytes : List ℕ) (w : Wire P) → IsBody bytes
-    → (wire_behind m (frame n bytes) w).programmer ≡ after_turn (turn_of (first_fate w.fates)) (m.after bytes w.programmer) w.programmer m.reset
+    → (wire_behind m (frame n bytes) w).programmer
+    ≡ after_turn (turn_of (first_fate w.fates)) (m.after bytes w.programmer) w.programmer m.reset
 segment_leaves m n bytes w b =
     let good : is_good (frame n bytes) ≡ true = frame_is_good n bytes b.some in
-    ap (λ q. after_turn (turn_of (first_fate w.fates)) q w.programmer m.reset) (chosen (is_good (frame n bytes)) _ _ good ∙ ap (λ x. m.after x w.programmer) (body_of_frame n bytes))
+    ap (λ q. after_turn (turn_of (first_fate w.fates)) q w.programmer m.reset)
+    (chosen (is_good (frame n bytes)) _ _ good ∙ ap (λ x. m.after x w.programmer) (body_of_frame n bytes))
 
 -- nothing waits
 pub none_clear : (n : ℕ) → IsClear n none_late
@@ -173,10 +200,12 @@ none_clear n = record { first = inl refl; second = inl refl; third = inl refl }
 -- for the next frame an answer is one more back
 more_past : (k n : ℕ) (late : List ℕ) → IsPast k n late → IsPast (suc k) (next n) late
 more_past k n late (inl e) = inl e
-more_past k n late (inr l) = inr (record { seq = l.seq; before = ap next l.before; bytes = l.bytes; carried = l.carried; is = l.is })
+more_past k n late (inr l) = inr (record
+    { seq = l.seq; before = ap next l.before; bytes = l.bytes; carried = l.carried; is = l.is })
 
 -- one more waits behind them
-behind_clear : (n : ℕ) (late : Late) (bytes : List ℕ) → IsBody bytes → IsClear n late → IsClear (next n) (behind_late late (frame n bytes))
+behind_clear : (n : ℕ) (late : Late) (bytes : List ℕ) → IsBody bytes → IsClear n late
+    → IsClear (next n) (behind_late late (frame n bytes))
 behind_clear n late bytes b c = record {
   first = more_past 2 n late.second c.second;
   second = more_past 1 n late.third c.third;
@@ -184,7 +213,8 @@ behind_clear n late bytes b c = record {
 }
 
 -- what comes late has the sequence of its frame
-late_is : (n : ℕ) (fate : Fate) (bytes : List ℕ) (late : Late) → IsBody bytes → IsClear n late → IsClear (next n) (late_of fate (frame n bytes) late)
+late_is : (n : ℕ) (fate : Fate) (bytes : List ℕ) (late : Late) → IsBody bytes → IsClear n late
+    → IsClear (next n) (late_of fate (frame n bytes) late)
 late_is n Good bytes late b c = none_clear (next n)
 late_is n LostCommand bytes late b c = none_clear (next n)
 late_is n LostAnswer bytes late b c = none_clear (next n)
@@ -194,9 +224,11 @@ late_is n Reset bytes late b c = none_clear (next n)
 late_is n CommandRefused bytes late b c = none_clear (next n)
 late_is n (AnswerSpoiled noise) bytes late b c = none_clear (next n)
 
-pub segment_late : {P : Type 0} (m : Device P) (n : ℕ) (bytes : List ℕ) (w : Wire P) → IsBody bytes → IsBody (m.answer bytes w.programmer) → IsClear n w.late → IsClear (next n) (wire_behind m (frame n bytes) w).late
+pub segment_late : {P : Type 0} (m : Device P) (n : ℕ) (bytes : List ℕ) (w : Wire P) → IsBody bytes
+    → IsBody (m.answer bytes w.programmer) → IsClear n w.late → IsClear (next n) (wire_behind m (frame n bytes) w).late
 segment_late m n bytes w b a clear =
     let good : is_good (frame n bytes) ≡ true = frame_is_good n bytes b.some in
     let body_is : answer_body m (frame n bytes) w.programmer ≡ m.answer bytes w.programmer =
     chosen (is_good (frame n bytes)) _ _ good ∙ ap (λ x. m.answer x w.programmer) (body_of_frame n bytes) in
-    subst (λ x. IsClear (next n) (late_of (first_fate w.fates) (frame n x) w.late)) (sym body_is) (late_is n (first_fate w.fates) (m.answer bytes w.programmer) w.late a clear)
+    subst (λ x. IsClear (next n) (late_of (first_fate w.fates) (frame n x) w.late)) (sym body_is)
+    (late_is n (first_fate w.fates) (m.answer bytes w.programmer) w.late a clear)

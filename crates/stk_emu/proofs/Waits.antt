@@ -8,21 +8,13 @@ use Rattle.stk_host.proofs.Tapes.{on_tape_append}
 use Rattle.stk_emu.specs.Waiting.{item_of, tape_in, BeginsSilent}
 
 -- three pieces of bytes, put one behind another
-pub three_put : (t x y z : Tape) (a b c : List ℕ) → t ≡ [] → x ≡ t ++ on_tape a → y ≡ x ++ on_tape b → z ≡ y ++ on_tape c → z ≡ on_tape (a ++ (b ++ c))
+pub three_put : (t x y z : Tape) (a b c : List ℕ) → t ≡ [] → x ≡ t ++ on_tape a → y ≡ x ++ on_tape b
+    → z ≡ y ++ on_tape c → z ≡ on_tape (a ++ (b ++ c))
 three_put t x y z a b c e f g h =
     h
     ∙ (ap (λ s. s ++ on_tape c) (g ∙ ap (λ s. s ++ on_tape b) (f ∙ ap (λ s. s ++ on_tape a) e))
-    ∙ (append_assoc (on_tape a) (on_tape b) (on_tape c) ∙ (ap (λ s. on_tape a ++ s) (sym (on_tape_append b c)) ∙ sym (on_tape_append a (b ++ c)))))
-
--- one byte more is put behind
-pub put_on : (start segment new : List (Option ℕ)) (bytes : List ℕ) (i : ℕ) → i < length bytes → tape_in segment ≡ tape_in start ++ on_tape (take i bytes)
-    → new ≡ segment ++ Some (get_or bytes i 0) ∷ [] → tape_in new ≡ tape_in start ++ on_tape (take (i + 1) bytes)
-put_on start segment new bytes i h so_far is =
-    ap tape_in is
-    ∙ (map_push item_of segment (Some (get_or bytes i 0))
-    ∙ (ap (λ t. t ++ Byte (get_or bytes i 0) ∷ []) so_far
-    ∙ (append_assoc (tape_in start) (on_tape (take i bytes)) (Byte (get_or bytes i 0) ∷ [])
-    ∙ ap (λ t. tape_in start ++ t) (sym (ap on_tape (take_more bytes i 0 h) ∙ map_push Byte (take i bytes) (get_or bytes i 0))))))
+    ∙ (append_assoc (on_tape a) (on_tape b) (on_tape c)
+    ∙ (ap (λ s. on_tape a ++ s) (sym (on_tape_append b c)) ∙ sym (on_tape_append a (b ++ c)))))
 
 item_at : (items : List (Option ℕ)) (i : ℕ) → get_or (tape_in items) i Silence ≡ item_of (get_or items i None)
 item_at [] i = refl
@@ -30,31 +22,26 @@ item_at (x ∷ items) zero = refl
 item_at (x ∷ items) (suc i) = item_at items i
 
 -- one byte more is taken
-pub taken_next : (items : List (Option ℕ)) (buffer : List ℕ) (count b : ℕ) → count < length buffer → count < length items → get_or items count None ≡ Some b
-    → on_tape (take count buffer) ≡ take count (tape_in items) → on_tape (take (count + 1) (set buffer count b)) ≡ take (count + 1) (tape_in items)
+pub taken_next : (items : List (Option ℕ)) (buffer : List ℕ) (count b : ℕ) → count < length buffer
+    → count < length items → get_or items count None ≡ Some b
+    → on_tape (take count buffer) ≡ take count (tape_in items)
+    → on_tape (take (count + 1) (set buffer count b)) ≡ take (count + 1) (tape_in items)
 taken_next items buffer count b h k is taken =
     let inside : count < length (tape_in items) = rw (length-map items item_of) k in
     ap on_tape (take_more_set buffer count b h)
     ∙ (map_push Byte (take count buffer) b
     ∙ (ap (λ t. t ++ Byte b ∷ []) taken
-    ∙ sym (take_more (tape_in items) count Silence inside ∙ ap (λ x. take count (tape_in items) ++ x ∷ []) (item_at items count ∙ ap item_of is))))
-
--- no byte comes first
-pub quiet_first : (items : List (Option ℕ)) → get_or items 0 None ≡ None → BeginsSilent items
-quiet_first [] e = tt
-quiet_first (Some b ∷ items) e = absurd (cc)
-quiet_first (None ∷ items) e = tt
-
-pub quiet_none : (items : List (Option ℕ)) → length items ≤ 0 → BeginsSilent items
-quiet_none [] e = tt
-quiet_none (x ∷ items) e = absurd (omega arith)
+    ∙ sym (take_more (tape_in items) count Silence inside
+    ∙ ap (λ x. take count (tape_in items) ++ x ∷ []) (item_at items count ∙ ap item_of is))))
 
 -- what is left where so many are heard
-pub left_on : (items old : List (Option ℕ)) (at next count : ℕ) → drop next items ≡ drop count (drop at old) → tape_in (drop next items) ≡ drop count (tape_in (drop at old))
+pub left_on : (items old : List (Option ℕ)) (at next count : ℕ) → drop next items ≡ drop count (drop at old)
+    → tape_in (drop next items) ≡ drop count (tape_in (drop at old))
 left_on items old at next count e = ap tape_in e ∙ sym (drop-map item_of count (drop at old))
 
 -- more waits, behind what waited
-pub grown : (waits new brought : List (Option ℕ)) (at : ℕ) (tape : Tape) → at ≤ length waits → new ≡ waits ++ brought → tape_in brought ≡ tape
+pub grown : (waits new brought : List (Option ℕ)) (at : ℕ) (tape : Tape) → at ≤ length waits → new ≡ waits ++ brought
+    → tape_in brought ≡ tape
     → tape_in (drop at new) ≡ tape_in (drop at waits) ++ tape
 grown waits new brought at tape le is brings =
     ap (λ w. tape_in (drop at w)) is

@@ -39,7 +39,7 @@ pub record AppendsAnswers (old : Machine) (bytes : List ℕ) (new : Machine) (be
   pub obeyed : new.programmer ≡ after_frames device found old.programmer
 
 -- It was fed a front of these bytes and not all of them, and all answers to that front were appended.
-pub record AppendsFront (old : Machine) (bytes : List ℕ) (new : Machine) (before after : List ℕ) : Type 0 where
+pub record AnswersFront (old : Machine) (bytes : List ℕ) (new : Machine) (before after : List ℕ) : Type 0 where
   pub used : List ℕ
   pub unused : List ℕ
   pub bytes_are : bytes ≡ used ++ unused

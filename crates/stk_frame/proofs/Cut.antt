@@ -49,7 +49,8 @@ size_stays [] y whole = absurd (omega arith)
 size_stays (a ∷ []) y whole = let e = short a 1 (omega arith) whole in rw (start_only a y e, e) refl
 size_stays (a ∷ b ∷ []) y whole = let e = short a 2 (omega arith) whole in rw (start_only a (b ∷ y) e, e) refl
 size_stays (a ∷ b ∷ c ∷ []) y whole = let e = short a 3 (omega arith) whole in rw (start_only a (b ∷ c ∷ y) e, e) refl
-size_stays (a ∷ b ∷ c ∷ d ∷ []) y whole = let e = short a 4 (omega arith) whole in rw (start_only a (b ∷ c ∷ d ∷ y) e, e) refl
+size_stays (a ∷ b ∷ c ∷ d ∷ []) y whole = let e = short a 4 (omega arith) whole in
+    rw (start_only a (b ∷ c ∷ d ∷ y) e, e) refl
 size_stays (a ∷ b ∷ c ∷ d ∷ e ∷ more) y whole = refl
 
 -- a choice whose test is known
@@ -64,7 +65,8 @@ drop_one zero b bs positive = absurd (omega arith)
 drop_one (suc n) b bs positive = ap (λ m. drop m bs) (omega arith)
 
 -- a whole piece in front
-pub cut_piece : (bytes : List ℕ) → has_piece bytes ≡ true → cut bytes ≡ take (piece_size bytes) bytes ∷ cut (drop (piece_size bytes) bytes)
+pub cut_piece : (bytes : List ℕ) → has_piece bytes ≡ true
+    → cut bytes ≡ take (piece_size bytes) bytes ∷ cut (drop (piece_size bytes) bytes)
 cut_piece [] whole = absurd (false≢true whole)
 cut_piece (b ∷ bs) whole =
     chosen (has_piece (b ∷ bs)) _ _ whole
@@ -75,7 +77,8 @@ pub rest_piece : (bytes : List ℕ) → has_piece bytes ≡ true → rest bytes 
 rest_piece [] whole = absurd (false≢true whole)
 rest_piece (b ∷ bs) whole =
     chosen (has_piece (b ∷ bs)) _ _ whole
-    ∙ (rest_behind_is (piece_size (b ∷ bs) - 1) bs ∙ ap rest (drop_one (piece_size (b ∷ bs)) b bs (size_positive (b ∷ bs))))
+    ∙ (rest_behind_is (piece_size (b ∷ bs) - 1) bs
+    ∙ ap rest (drop_one (piece_size (b ∷ bs)) b bs (size_positive (b ∷ bs))))
 
 -- no piece in front
 pub cut_none : (bytes : List ℕ) → has_piece bytes ≡ false → cut bytes ≡ []
@@ -92,7 +95,8 @@ stays_whole x y whole =
     le-leb (piece_size (x ++ y)) (length (x ++ y)) (rw (size_stays x y le, length-append) (omega arith))
 
 -- bytes are cut as their front is, and then what it leaves with the bytes behind
-behind_append : (n : ℕ) (x y : List ℕ) → n ≤ length x → cut_behind n (x ++ y) ≡ cut_behind n x ++ cut (rest_behind n x ++ y)
+behind_append : (n : ℕ) (x y : List ℕ) → n ≤ length x
+    → cut_behind n (x ++ y) ≡ cut_behind n x ++ cut (rest_behind n x ++ y)
 behind_append zero [] y le = refl
 behind_append (suc n) [] y le = absurd (omega arith)
 behind_append (suc n) (b ∷ x) y le = behind_append n x y (omega arith)
@@ -104,8 +108,10 @@ behind_append zero (b ∷ x) y le = elim (cases_Bool (has_piece (b ∷ x))) [
       ∙ (ap (λ n. take n (b ∷ (x ++ y)) ∷ cut_behind (n - 1) (x ++ y)) size
       ∙ (ap (λ p. p ∷ cut_behind (piece_size (b ∷ x) - 1) (x ++ y)) (take-append-le (piece_size (b ∷ x)) (b ∷ x) y fits)
       ∙ (ap (λ ps. take (piece_size (b ∷ x)) (b ∷ x) ∷ ps) (behind_append (piece_size (b ∷ x) - 1) x y (omega arith))
-      ∙ (ap (λ ps. ps ++ cut (rest_behind (piece_size (b ∷ x) - 1) x ++ y)) (sym (chosen (has_piece (b ∷ x)) _ [] whole))
-      ∙ ap (λ r. cut_behind 0 (b ∷ x) ++ cut (r ++ y)) (sym (chosen (has_piece (b ∷ x)) (rest_behind (piece_size (b ∷ x) - 1) x) (b ∷ x) whole))))))
+      ∙ (ap (λ ps. ps ++ cut (rest_behind (piece_size (b ∷ x) - 1) x ++ y))
+      (sym (chosen (has_piece (b ∷ x)) _ [] whole))
+      ∙ ap (λ r. cut_behind 0 (b ∷ x) ++ cut (r ++ y))
+      (sym (chosen (has_piece (b ∷ x)) (rest_behind (piece_size (b ∷ x) - 1) x) (b ∷ x) whole))))))
   | inr part ↦ rw part refl
 ]
 
@@ -123,7 +129,8 @@ rest_behind_append zero (b ∷ x) y le = elim (cases_Bool (has_piece (b ∷ x)))
       chosen (has_piece ((b ∷ x) ++ y)) _ _ (stays_whole (b ∷ x) y whole)
       ∙ (ap (λ n. rest_behind (n - 1) (x ++ y)) size
       ∙ (rest_behind_append (piece_size (b ∷ x) - 1) x y (omega arith)
-      ∙ ap (λ r. rest (r ++ y)) (sym (chosen (has_piece (b ∷ x)) (rest_behind (piece_size (b ∷ x) - 1) x) (b ∷ x) whole))))
+      ∙ ap (λ r. rest (r ++ y)) (sym (chosen (has_piece (b ∷ x)) (rest_behind (piece_size (b ∷ x) - 1) x) (b ∷ x)
+      whole))))
   | inr part ↦ rw part refl
 ]
 
@@ -139,9 +146,13 @@ joined_behind zero (b ∷ x) le = elim (cases_Bool (has_piece (b ∷ x))) [
   | inl whole ↦
       let fits : piece_size (b ∷ x) ≤ length (b ∷ x) = leb-true (piece_size (b ∷ x)) (length (b ∷ x)) whole in
       ap (λ ps. concat ps ++ rest_behind 0 (b ∷ x)) (chosen (has_piece (b ∷ x)) _ _ whole)
-      ∙ (ap (λ r. (take (piece_size (b ∷ x)) (b ∷ x) ++ concat (cut_behind (piece_size (b ∷ x) - 1) x)) ++ r) (chosen (has_piece (b ∷ x)) (rest_behind (piece_size (b ∷ x) - 1) x) (b ∷ x) whole)
-      ∙ (append_assoc (take (piece_size (b ∷ x)) (b ∷ x)) (concat (cut_behind (piece_size (b ∷ x) - 1) x)) (rest_behind (piece_size (b ∷ x) - 1) x)
-      ∙ (ap (λ y. take (piece_size (b ∷ x)) (b ∷ x) ++ y) (joined_behind (piece_size (b ∷ x) - 1) x (omega arith) ∙ drop_one (piece_size (b ∷ x)) b x (size_positive (b ∷ x)))
+      ∙ (ap (λ r. (take (piece_size (b ∷ x)) (b ∷ x) ++ concat (cut_behind (piece_size (b ∷ x) - 1) x)) ++ r)
+      (chosen (has_piece (b ∷ x)) (rest_behind (piece_size (b ∷ x) - 1) x) (b ∷ x) whole)
+      ∙ (append_assoc (take (piece_size (b ∷ x)) (b ∷ x)) (concat (cut_behind (piece_size (b ∷ x) - 1) x))
+      (rest_behind (piece_size (b ∷ x) - 1) x)
+      ∙ (ap (λ y. take (piece_size (b ∷ x)) (b ∷ x) ++ y)
+      (joined_behind (piece_size (b ∷ x) - 1) x (omega arith)
+      ∙ drop_one (piece_size (b ∷ x)) b x (size_positive (b ∷ x)))
       ∙ take-append-drop (piece_size (b ∷ x)) (b ∷ x))))
   | inr part ↦ rw part refl
 ]
@@ -150,8 +161,10 @@ pub cut_joined : (x : List ℕ) → concat (cut x) ++ rest x ≡ x
 cut_joined x = joined_behind 0 x (omega arith)
 
 -- a piece taken off has its own size
-one_taken : (a : ℕ) (y : List ℕ) → (a == 27) ≡ false → piece_size (take (piece_size (a ∷ y)) (a ∷ y)) ≡ piece_size (a ∷ y)
-one_taken a y e = ap (λ n. piece_size (take n (a ∷ y))) (start_only a y e) ∙ (start_only a [] e ∙ sym (start_only a y e))
+one_taken : (a : ℕ) (y : List ℕ) → (a == 27) ≡ false
+    → piece_size (take (piece_size (a ∷ y)) (a ∷ y)) ≡ piece_size (a ∷ y)
+one_taken a y e = ap (λ n. piece_size (take n (a ∷ y))) (start_only a y e)
+    ∙ (start_only a [] e ∙ sym (start_only a y e))
 
 pub taken_size : (y : List ℕ) → piece_size y ≤ length y → piece_size (take (piece_size y) y) ≡ piece_size y
 taken_size [] whole = absurd (omega arith)
@@ -163,7 +176,8 @@ taken_size (a ∷ b ∷ c ∷ d ∷ e ∷ more) whole = elim (cases_Bool (a == 2
   | inl start ↦
       let y : List ℕ = a ∷ b ∷ c ∷ d ∷ e ∷ more in
       let five : 5 ≤ piece_size y = long_size a b c d e more start in
-      ap (λ n. piece_size (take n y)) (let is : piece_size y ≡ suc (suc (suc (suc (suc (piece_size y - 5))))) = omega arith in is)
+      ap (λ n. piece_size (take n y)) (let is : piece_size y ≡ suc (suc (suc (suc (suc (piece_size y - 5))))) =
+      omega arith in is)
   | inr other ↦ one_taken a (b ∷ c ∷ d ∷ e ∷ more) other
 ]
 
@@ -174,7 +188,8 @@ pieces_whole (suc n) (b ∷ x) = pieces_whole n x
 pieces_whole zero (b ∷ x) = elim (cases_Bool (has_piece (b ∷ x))) [
   | inl whole ↦
       let fits : piece_size (b ∷ x) ≤ length (b ∷ x) = leb-true (piece_size (b ∷ x)) (length (b ∷ x)) whole in
-      All-same IsPiece (cut_behind 0 (b ∷ x)) (take (piece_size (b ∷ x)) (b ∷ x) ∷ cut_behind (piece_size (b ∷ x) - 1) x) (chosen (has_piece (b ∷ x)) _ _ whole)
+      All-same IsPiece (cut_behind 0 (b ∷ x)) (take (piece_size (b ∷ x)) (b ∷ x)
+      ∷ cut_behind (piece_size (b ∷ x) - 1) x) (chosen (has_piece (b ∷ x)) _ _ whole)
       (All-cons IsPiece (take (piece_size (b ∷ x)) (b ∷ x)) (cut_behind (piece_size (b ∷ x) - 1) x)
       (taken_size (b ∷ x) fits ∙ sym (length-take-le (piece_size (b ∷ x)) (b ∷ x) fits))
       (pieces_whole (piece_size (b ∷ x) - 1) x))
@@ -186,8 +201,12 @@ rest_is_part zero [] = omega arith
 rest_is_part (suc n) [] = omega arith
 rest_is_part (suc n) (b ∷ x) = rest_is_part n x
 rest_is_part zero (b ∷ x) = elim (cases_Bool (has_piece (b ∷ x))) [
-  | inl whole ↦ subst (λ r. length r < piece_size r) (sym (chosen (has_piece (b ∷ x)) (rest_behind (piece_size (b ∷ x) - 1) x) (b ∷ x) whole)) (rest_is_part (piece_size (b ∷ x) - 1) x)
-  | inr part ↦ subst (λ r. length r < piece_size r) (sym (refused (has_piece (b ∷ x)) (rest_behind (piece_size (b ∷ x) - 1) x) (b ∷ x) part)) (leb-false (piece_size (b ∷ x)) (length (b ∷ x)) part)
+  | inl whole ↦ subst (λ r. length r < piece_size r)
+      (sym (chosen (has_piece (b ∷ x)) (rest_behind (piece_size (b ∷ x) - 1) x) (b ∷ x) whole))
+      (rest_is_part (piece_size (b ∷ x) - 1) x)
+  | inr part ↦ subst (λ r. length r < piece_size r)
+      (sym (refused (has_piece (b ∷ x)) (rest_behind (piece_size (b ∷ x) - 1) x) (b ∷ x) part))
+      (leb-false (piece_size (b ∷ x)) (length (b ∷ x)) part)
 ]
 
 pub cut_is : (x : List ℕ) → Cuts x (cut x) (rest x)

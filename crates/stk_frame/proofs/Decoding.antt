@@ -25,24 +25,36 @@ read_back (SetParameter number value) fits = refl
 read_back (GetParameter number) fits = refl
 read_back (LoadAddress address) fits = ap (λ n. Some (LoadAddress n)) (big_number-reads_back 4 address [] fits)
 read_back (EnterProgmode f) fits =
-    of_four (λ xs. command_of (body (EnterProgmode (record f { instruction = xs }))) ≡ Some (EnterProgmode (record f { instruction = xs }))) (λ a b c d. refl) f.instruction fits
+    of_four (λ xs. command_of (body (EnterProgmode (record f { instruction = xs })))
+    ≡ Some (EnterProgmode (record f { instruction = xs }))) (λ a b c d. refl) f.instruction fits
 read_back (LeaveProgmode pre_delay post_delay) fits = refl
 read_back (ChipErase erase_delay poll_method xs) fits =
-    of_four (λ xs. command_of (body (ChipErase erase_delay poll_method xs)) ≡ Some (ChipErase erase_delay poll_method xs)) (λ a b c d. refl) xs fits
-read_back (ProgramFlash f) fits = ap (λ n. Some (ProgramFlash (record f { count = n }))) (big_number-reads_back 2 f.count [] fits)
-read_back (ReadFlash f) fits = ap (λ n. Some (ReadFlash (record f { count = n }))) (big_number-reads_back 2 f.count [] fits)
-read_back (ProgramEeprom f) fits = ap (λ n. Some (ProgramEeprom (record f { count = n }))) (big_number-reads_back 2 f.count [] fits)
-read_back (ReadEeprom f) fits = ap (λ n. Some (ReadEeprom (record f { count = n }))) (big_number-reads_back 2 f.count [] fits)
-read_back (ProgramFuse xs) fits = of_four (λ xs. command_of (body (ProgramFuse xs)) ≡ Some (ProgramFuse xs)) (λ a b c d. refl) xs fits
+    of_four (λ xs. command_of (body (ChipErase erase_delay poll_method xs))
+    ≡ Some (ChipErase erase_delay poll_method xs)) (λ a b c d. refl) xs fits
+read_back (ProgramFlash f) fits = ap (λ n. Some (ProgramFlash (record f { count = n })))
+    (big_number-reads_back 2 f.count [] fits)
+read_back (ReadFlash f) fits = ap (λ n. Some (ReadFlash (record f { count = n })))
+    (big_number-reads_back 2 f.count [] fits)
+read_back (ProgramEeprom f) fits = ap (λ n. Some (ProgramEeprom (record f { count = n })))
+    (big_number-reads_back 2 f.count [] fits)
+read_back (ReadEeprom f) fits = ap (λ n. Some (ReadEeprom (record f { count = n })))
+    (big_number-reads_back 2 f.count [] fits)
+read_back (ProgramFuse xs) fits = of_four (λ xs. command_of (body (ProgramFuse xs)) ≡ Some (ProgramFuse xs))
+    (λ a b c d. refl) xs fits
 read_back (ReadFuse f) fits =
-    of_four (λ xs. command_of (body (ReadFuse (record f { instruction = xs }))) ≡ Some (ReadFuse (record f { instruction = xs }))) (λ a b c d. refl) f.instruction fits
-read_back (ProgramLock xs) fits = of_four (λ xs. command_of (body (ProgramLock xs)) ≡ Some (ProgramLock xs)) (λ a b c d. refl) xs fits
+    of_four (λ xs. command_of (body (ReadFuse (record f { instruction = xs })))
+    ≡ Some (ReadFuse (record f { instruction = xs }))) (λ a b c d. refl) f.instruction fits
+read_back (ProgramLock xs) fits = of_four (λ xs. command_of (body (ProgramLock xs)) ≡ Some (ProgramLock xs))
+    (λ a b c d. refl) xs fits
 read_back (ReadLock f) fits =
-    of_four (λ xs. command_of (body (ReadLock (record f { instruction = xs }))) ≡ Some (ReadLock (record f { instruction = xs }))) (λ a b c d. refl) f.instruction fits
+    of_four (λ xs. command_of (body (ReadLock (record f { instruction = xs })))
+    ≡ Some (ReadLock (record f { instruction = xs }))) (λ a b c d. refl) f.instruction fits
 read_back (ReadSignature f) fits =
-    of_four (λ xs. command_of (body (ReadSignature (record f { instruction = xs }))) ≡ Some (ReadSignature (record f { instruction = xs }))) (λ a b c d. refl) f.instruction fits
+    of_four (λ xs. command_of (body (ReadSignature (record f { instruction = xs })))
+    ≡ Some (ReadSignature (record f { instruction = xs }))) (λ a b c d. refl) f.instruction fits
 read_back (ReadOsccal f) fits =
-    of_four (λ xs. command_of (body (ReadOsccal (record f { instruction = xs }))) ≡ Some (ReadOsccal (record f { instruction = xs }))) (λ a b c d. refl) f.instruction fits
+    of_four (λ xs. command_of (body (ReadOsccal (record f { instruction = xs })))
+    ≡ Some (ReadOsccal (record f { instruction = xs }))) (λ a b c d. refl) f.instruction fits
 read_back (SpiMulti send_count receive_count receive_start bytes) fits = refl
 
 -- What was read is a command of exactly this body.
@@ -64,7 +76,8 @@ pair_back a b e f =
 pair_fits : (a b : ℕ) → a < 256 → b < 256 → big_number 2 (a ∷ b ∷ []) < 65536
 pair_fits a b e f = omega arith
 
-four_back : (a b c d : ℕ) → a < 256 → b < 256 → c < 256 → d < 256 → big_bytes 4 (big_number 4 (a ∷ b ∷ c ∷ d ∷ [])) ≡ a ∷ b ∷ c ∷ d ∷ []
+four_back : (a b c d : ℕ) → a < 256 → b < 256 → c < 256 → d < 256
+    → big_bytes 4 (big_number 4 (a ∷ b ∷ c ∷ d ∷ [])) ≡ a ∷ b ∷ c ∷ d ∷ []
 four_back a b c d e f g h =
     let first : (a * 16777216 + (b * 65536 + (c * 256 + (d * 1 + 0)))) / 16777216 % 256 ≡ a = omega arith in
     let second : (a * 16777216 + (b * 65536 + (c * 256 + (d * 1 + 0)))) / 65536 % 256 ≡ b = omega arith in
@@ -89,7 +102,12 @@ get_parameter_sound _ = record { says = tt }
 
 load_address_sound : (fields : List ℕ) → Below fields → Sound 0x06 fields (load_address_of fields)
 load_address_sound (a ∷ b ∷ c ∷ d ∷ []) below =
-    record { says = (ap (λ bytes. 0x06 ∷ bytes) (four_back a b c d (below 0) (below 1) (below 2) (below 3)), four_fits a b c d (below 0) (below 1) (below 2) (below 3)) }
+    record {
+      says = (
+        ap (λ bytes. 0x06 ∷ bytes) (four_back a b c d (below 0) (below 1) (below 2) (below 3)),
+        four_fits a b c d (below 0) (below 1) (below 2) (below 3),
+      );
+    }
 load_address_sound _ below = record { says = tt }
 
 enter_progmode_sound : (fields : List ℕ) → Sound 0x10 fields (option_map EnterProgmode (enter_progmode_of fields))
@@ -104,24 +122,48 @@ chip_erase_sound : (fields : List ℕ) → Sound 0x12 fields (chip_erase_of fiel
 chip_erase_sound (e ∷ p ∷ a ∷ b ∷ c ∷ d ∷ []) = record { says = (refl, refl) }
 chip_erase_sound _ = record { says = tt }
 
-program_flash_sound : (fields : List ℕ) → Below fields → Sound 0x13 fields (option_map ProgramFlash (program_block_of fields))
+program_flash_sound : (fields : List ℕ) → Below fields
+    → Sound 0x13 fields (option_map ProgramFlash (program_block_of fields))
 program_flash_sound (h ∷ l ∷ m ∷ d ∷ x ∷ y ∷ z ∷ p ∷ q ∷ bytes) below =
-    record { says = (ap (λ count. 0x13 ∷ (count ++ m ∷ d ∷ x ∷ y ∷ z ∷ p ∷ q ∷ bytes)) (pair_back h l (below 0) (below 1)), pair_fits h l (below 0) (below 1)) }
+    record {
+      says = (
+        ap (λ count. 0x13 ∷ (count ++ m ∷ d ∷ x ∷ y ∷ z ∷ p ∷ q ∷ bytes))
+            (pair_back h l (below 0) (below 1)),
+        pair_fits h l (below 0) (below 1),
+      );
+    }
 program_flash_sound _ below = record { says = tt }
 
 read_flash_sound : (fields : List ℕ) → Below fields → Sound 0x14 fields (option_map ReadFlash (read_block_of fields))
 read_flash_sound (h ∷ l ∷ x ∷ []) below =
-    record { says = (ap (λ count. 0x14 ∷ (count ++ x ∷ [])) (pair_back h l (below 0) (below 1)), pair_fits h l (below 0) (below 1)) }
+    record {
+      says = (
+        ap (λ count. 0x14 ∷ (count ++ x ∷ [])) (pair_back h l (below 0) (below 1)),
+        pair_fits h l (below 0) (below 1),
+      );
+    }
 read_flash_sound _ below = record { says = tt }
 
-program_eeprom_sound : (fields : List ℕ) → Below fields → Sound 0x15 fields (option_map ProgramEeprom (program_block_of fields))
+program_eeprom_sound : (fields : List ℕ) → Below fields
+    → Sound 0x15 fields (option_map ProgramEeprom (program_block_of fields))
 program_eeprom_sound (h ∷ l ∷ m ∷ d ∷ x ∷ y ∷ z ∷ p ∷ q ∷ bytes) below =
-    record { says = (ap (λ count. 0x15 ∷ (count ++ m ∷ d ∷ x ∷ y ∷ z ∷ p ∷ q ∷ bytes)) (pair_back h l (below 0) (below 1)), pair_fits h l (below 0) (below 1)) }
+    record {
+      says = (
+        ap (λ count. 0x15 ∷ (count ++ m ∷ d ∷ x ∷ y ∷ z ∷ p ∷ q ∷ bytes))
+            (pair_back h l (below 0) (below 1)),
+        pair_fits h l (below 0) (below 1),
+      );
+    }
 program_eeprom_sound _ below = record { says = tt }
 
 read_eeprom_sound : (fields : List ℕ) → Below fields → Sound 0x16 fields (option_map ReadEeprom (read_block_of fields))
 read_eeprom_sound (h ∷ l ∷ x ∷ []) below =
-    record { says = (ap (λ count. 0x16 ∷ (count ++ x ∷ [])) (pair_back h l (below 0) (below 1)), pair_fits h l (below 0) (below 1)) }
+    record {
+      says = (
+        ap (λ count. 0x16 ∷ (count ++ x ∷ [])) (pair_back h l (below 0) (below 1)),
+        pair_fits h l (below 0) (below 1),
+      );
+    }
 read_eeprom_sound _ below = record { says = tt }
 
 program_fuse_sound : (fields : List ℕ) → Sound 0x17 fields (option_map ProgramFuse (instruction fields))
@@ -153,9 +195,11 @@ spi_multi_sound (a ∷ b ∷ c ∷ bytes) = record { says = (refl, tt) }
 spi_multi_sound _ = record { says = tt }
 
 -- one row of the table
-row : (own code : ℕ) (fields : List ℕ) (read others : Option Command) → Sound own fields read → Sound code fields others → Sound code fields (cond (code == own) read others)
+row : (own code : ℕ) (fields : List ℕ) (read others : Option Command) → Sound own fields read → Sound code fields others
+    → Sound code fields (cond (code == own) read others)
 row own code fields read others is other = elim (cases_Bool (code == own)) [
-  | inl same ↦ subst (λ r. Sound code fields r) (sym (chosen (code == own) read others same)) (subst (λ n. Sound n fields read) (sym (eqb-true code own same)) is)
+  | inl same ↦ subst (λ r. Sound code fields r) (sym (chosen (code == own) read others same))
+      (subst (λ n. Sound n fields read) (sym (eqb-true code own same)) is)
   | inr differs ↦ subst (λ r. Sound code fields r) (sym (refused (code == own) read others differs)) other
 ]
 
@@ -180,12 +224,14 @@ with_fields_sound code fields below =
     (row 0x1C code fields _ _ (read_osccal_sound fields)
     (row 0x1D code fields _ _ (spi_multi_sound fields) (none_sound code fields))))))))))))))))))
 
-pub only_body : (bytes : List ℕ) → Below bytes → MatchOption (command_of bytes) (Unit {0}) (λ c. (body c ≡ bytes) × FieldsFit c)
+pub only_body : (bytes : List ℕ) → Below bytes
+    → MatchOption (command_of bytes) (Unit {0}) (λ c. (body c ≡ bytes) × FieldsFit c)
 only_body [] below = tt
 only_body (code ∷ fields) below = (with_fields_sound code fields (λ i. below (suc i))).says
 
 -- These bytes are read as exactly the command whose body they are.
-pub is_read : (bytes : List ℕ) → Below bytes → (c : Command) → FieldsFit c → (command_of bytes ≡ Some c) ↔ (body c ≡ bytes)
+pub is_read : (bytes : List ℕ) → Below bytes → (c : Command) → FieldsFit c
+    → (command_of bytes ≡ Some c) ↔ (body c ≡ bytes)
 is_read bytes below c fits = (
   λ e. (subst (λ r. MatchOption r (Unit {0}) (λ c. (body c ≡ bytes) × FieldsFit c)) e (only_body bytes below)).0,
   λ e. ap command_of (sym e) ∙ read_back c fits,

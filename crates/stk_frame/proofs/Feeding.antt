@@ -32,7 +32,8 @@ cut_whole h whole =
     ∙ ap (λ r. h ∷ cut r) (drop_all (piece_size h) h (omega arith)))
 
 -- what the part that is left and the bytes give, every text gives
-pub fed_from : (old used new : List ℕ) (skipped found : List (List ℕ)) → filter is_frame skipped ≡ [] → cut (rest old ++ used) ≡ skipped ++ found → rest (rest old ++ used) ≡ rest new → Fed old used new found
+pub fed_from : (old used new : List ℕ) (skipped found : List (List ℕ)) → filter is_frame skipped ≡ []
+    → cut (rest old ++ used) ≡ skipped ++ found → rest (rest old ++ used) ≡ rest new → Fed old used new found
 fed_from old used new skipped found none p r = record {
   skipped = skipped;
   no_frames = none;
@@ -51,13 +52,17 @@ fed_none held = record {
 pub fed_on : (a x b y c : List ℕ) (found : List (List ℕ)) → Fed a x b [] → Fed b y c found → Fed a (x ++ y) c found
 fed_on a x b y c found f g = record {
   skipped = f.skipped ++ g.skipped;
-  no_frames = filter-append is_frame f.skipped g.skipped ∙ (ap (λ ps. ps ++ filter is_frame g.skipped) f.no_frames ∙ g.no_frames);
-  pieces = λ t s. ap cut (sym (append_assoc t x y)) ∙ (g.pieces (t ++ x) (f.stands t s) ∙ (ap (λ ps. ps ++ (g.skipped ++ found)) (f.pieces t s ∙ ap (λ ps. cut t ++ ps) (append-nil f.skipped)) ∙ simp append_assoc));
+  no_frames = filter-append is_frame f.skipped g.skipped
+      ∙ (ap (λ ps. ps ++ filter is_frame g.skipped) f.no_frames ∙ g.no_frames);
+  pieces = λ t s. ap cut (sym (append_assoc t x y))
+      ∙ (g.pieces (t ++ x) (f.stands t s) ∙ (ap (λ ps. ps ++ (g.skipped ++ found))
+      (f.pieces t s ∙ ap (λ ps. cut t ++ ps) (append-nil f.skipped)) ∙ simp append_assoc));
   stands = λ t s. ap rest (sym (append_assoc t x y)) ∙ g.stands (t ++ x) (f.stands t s);
 }
 
 -- a whole frame is done with when the next byte comes
-pub fed_cleared : (held used new : List ℕ) (found : List (List ℕ)) → IsPiece held → Fed [] used new found → Fed held used new found
+pub fed_cleared : (held used new : List ℕ) (found : List (List ℕ)) → IsPiece held → Fed [] used new found
+    → Fed held used new found
 fed_cleared held used new found whole f = record {
   skipped = f.skipped;
   no_frames = f.no_frames;
@@ -92,26 +97,33 @@ fed_noise_byte : (b : ℕ) → (b == 27) ≡ false → Fed [] (b ∷ []) [] []
 fed_noise_byte b other = fed_skip [] (b ∷ []) (omega arith) (rw other refl) (omega arith)
 
 -- bytes without a start byte
-pub fed_noise : (n : ℕ) (bytes : List ℕ) → n ≤ length bytes → ((i : ℕ) → i < n → (slice_index bytes i == 27) ≡ false) → Fed [] (take n bytes) [] []
+pub fed_noise : (n : ℕ) (bytes : List ℕ) → n ≤ length bytes → ((i : ℕ) → i < n → (slice_index bytes i == 27) ≡ false)
+    → Fed [] (take n bytes) [] []
 fed_noise zero bytes within none = fed_none []
 fed_noise (suc n) [] within none = absurd (omega arith)
 fed_noise (suc n) (b ∷ bytes) within none =
-    fed_on [] (b ∷ []) [] (take n bytes) [] [] (fed_noise_byte b (none 0 (omega arith))) (fed_noise n bytes (omega arith) (λ i below. none (suc i) (omega arith)))
+    fed_on [] (b ∷ []) [] (take n bytes) [] [] (fed_noise_byte b (none 0 (omega arith)))
+    (fed_noise n bytes (omega arith) (λ i below. none (suc i) (omega arith)))
 
 not_true : (b : Bool) → ¬ (b ≡ true) → b ≡ false
 not_true true h = absurd (h refl)
 not_true false h = refl
 
 -- bytes up to the first start byte, or all of them
-pub fed_up_to : (bytes : List ℕ) (place : Option ℕ) → IsFirstByte (is_byte 27) bytes place → Fed [] (take (unwrap_or place (length bytes)) bytes) [] []
-fed_up_to bytes None none = fed_noise (length bytes) bytes (omega arith) (λ i below. not_true _ (none i (omega arith) below))
-fed_up_to bytes (Some n) first = fed_noise n bytes (let high = first.0.high in omega arith) (λ i below. not_true _ (first.0.before i (omega arith) below))
+pub fed_up_to : (bytes : List ℕ) (place : Option ℕ) → IsFirstByte (is_byte 27) bytes place
+    → Fed [] (take (unwrap_or place (length bytes)) bytes) [] []
+fed_up_to bytes None none = fed_noise (length bytes) bytes (omega arith)
+    (λ i below. not_true _ (none i (omega arith) below))
+fed_up_to bytes (Some n) first = fed_noise n bytes (let high = first.0.high in omega arith)
+    (λ i below. not_true _ (first.0.before i (omega arith) below))
 
 -- the same of a list that is known to be the part and the bytes
-pub from_part : (h u held : List ℕ) → length h < piece_size h → held ≡ h ++ u → length held < piece_size held → Fed h u held []
+pub from_part : (h u held : List ℕ) → length h < piece_size h → held ≡ h ++ u → length held < piece_size held
+    → Fed h u held []
 from_part h u held part is more = rw is (fed_part h u part (rw is at more))
 
-pub from_skip : (h u held : List ℕ) → length h < piece_size h → held ≡ h ++ u → IsPiece held → length held ≤ 5 → Fed h u [] []
+pub from_skip : (h u held : List ℕ) → length h < piece_size h → held ≡ h ++ u → IsPiece held → length held ≤ 5
+    → Fed h u [] []
 from_skip h u held part is whole few = fed_skip h u part (rw is at whole) (rw is at few)
 
 pub from_frame : (h u held : List ℕ) → length h < piece_size h → held ≡ h ++ u → IsPiece held → Fed h u held (held ∷ [])
@@ -121,11 +133,15 @@ from_frame h u held part is whole = rw is (fed_frame h u part (rw is at whole))
 rest_of : (piece : List ℕ) (used : ℕ) → take (length piece - used) (drop used piece) ≡ drop used piece
 rest_of piece used = take_all (length piece - used) (drop used piece) (omega (arith, length-drop used piece))
 
-pub within_span : (piece : List ℕ) (used taken : ℕ) → used ≤ length piece → taken ≤ length (take (length piece - used) (drop used piece)) → used + taken ≤ length piece
+pub within_span : (piece : List ℕ) (used taken : ℕ) → used ≤ length piece
+    → taken ≤ length (take (length piece - used) (drop used piece)) → used + taken ≤ length piece
 within_span piece used taken within few =
     let at_most : taken ≤ length (drop used piece) = rw (rest_of piece used) at few in
     omega (arith, length-drop used piece)
 
-pub fed_span : (a b c piece : List ℕ) (used taken : ℕ) (found : List (List ℕ)) → Fed a (take used piece) b [] → Fed b (take taken (take (length piece - used) (drop used piece))) c found → Fed a (take (used + taken) piece) c found
+pub fed_span : (a b c piece : List ℕ) (used taken : ℕ) (found : List (List ℕ)) → Fed a (take used piece) b []
+    → Fed b (take taken (take (length piece - used) (drop used piece))) c found
+    → Fed a (take (used + taken) piece) c found
 fed_span a b c piece used taken found first second =
-    rw take-add (fed_on a (take used piece) b (take taken (drop used piece)) c found first (rw (rest_of piece used) at second))
+    rw take-add (fed_on a (take used piece) b (take taken (drop used piece)) c found first
+    (rw (rest_of piece used) at second))

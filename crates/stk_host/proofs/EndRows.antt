@@ -13,10 +13,12 @@ use Rattle.stk_host.specs.Calls.{EndsCall}
 use Rattle.stk_host.proofs.Leading.{bytes_append}
 
 -- what broke off in a frame has sent less than its play sends
-pub sent_less : {E R : Type 0} {dialog : Dialog E R} {before : Position} {talk : Talk} {shown : List (Event E)} → BreaksSending dialog before talk shown
+pub sent_less : {E R : Type 0} {dialog : Dialog E R} {before : Position} {talk : Talk} {shown : List (Event E)}
+    → BreaksSending dialog before talk shown
     → length (sent talk) < length (bytes_sent (played_over dialog before talk).events)
 sent_less {dialog = dialog} {before = before} {talk = talk} f =
-    let all : bytes_sent (played_over dialog before talk).events ≡ bytes_sent f.whole ++ ((f.part ++ f.unsent) ++ bytes_sent f.later) =
+    let all : bytes_sent (played_over dialog before talk).events
+    ≡ bytes_sent f.whole ++ ((f.part ++ f.unsent) ++ bytes_sent f.later) =
     ap bytes_sent f.events_are ∙ bytes_append f.whole (Frame (f.part ++ f.unsent) ∷ f.later) in
     let some : sent talk ≡ bytes_sent f.whole ++ (f.part ++ []) =
     sym f.all_sent ∙ (ap bytes_sent f.shown_is ∙ bytes_append f.whole (Frame f.part ∷ [])) in
@@ -44,7 +46,9 @@ abbrev showing : Talk → LinkView
 showing talk = record { talk = talk; failures = 0 }
 
 -- nor does a call over it
-pub never_either : {R : Type 0} (dialog : Dialog ⊥ R) (before : Position) (talk : Talk) → FailsOver broken.Send dialog before (showing []) (showing talk) → FailsOver broken.Recv dialog before (showing []) (showing talk) → ⊥
+pub never_either : {R : Type 0} (dialog : Dialog ⊥ R) (before : Position) (talk : Talk)
+    → FailsOver broken.Send dialog before (showing []) (showing talk)
+    → FailsOver broken.Recv dialog before (showing []) (showing talk) → ⊥
 never_either dialog before talk f g =
     never_both
     (subst (λ t. BreaksSending dialog before t f.shown) (sym f.grows) f.breaks)
@@ -67,7 +71,8 @@ unheard = record {
 }
 
 -- which is no failure to send it
-pub not_unsent : (after : Position) → EndsCall closing sixth (showing []) (showing (Sent leaving ∷ [])) (Err SendFailed) after → ⊥
+pub not_unsent : (after : Position) → EndsCall closing sixth (showing []) (showing (Sent leaving ∷ [])) (Err SendFailed)
+    after → ⊥
 not_unsent after f = never_either closing sixth (Sent leaving ∷ []) f unheard
 
 -- two bytes of it were sent
@@ -91,7 +96,8 @@ unsent = record {
 }
 
 -- which is no failure to hear its answer
-pub not_unheard : (after : Position) → EndsCall closing sixth (showing []) (showing (Sent (0x1B ∷ 0x06 ∷ []) ∷ [])) (Err RecvFailed) after → ⊥
+pub not_unheard : (after : Position) → EndsCall closing sixth (showing []) (showing (Sent (0x1B ∷ 0x06 ∷ []) ∷ []))
+    (Err RecvFailed) after → ⊥
 not_unheard after f = never_either closing sixth (Sent (0x1B ∷ 0x06 ∷ []) ∷ []) unsent f
 
 -- nothing was sent at all, and nothing heard
@@ -101,7 +107,18 @@ unsent_at_all = record {
   during = [];
   shown = Frame [] ∷ [];
   grows = refl;
-  breaks = record { whole = []; part = []; unsent = leaving; later = []; shown_is = refl; events_are = refl; not_whole = omega arith; all_sent = refl; in_turn = tt };
+  breaks = record {
+    whole = [];
+    part = [];
+    unsent = leaving;
+    later = [];
+    shown_is = refl;
+    events_are = refl;
+    not_whole =
+        omega arith;
+    all_sent = refl;
+    in_turn = tt;
+  };
 }
 
 pub not_unasked : (after : Position) → EndsCall closing sixth (showing []) (showing []) (Err RecvFailed) after → ⊥

@@ -27,46 +27,60 @@ played_bind (Done a) go_on seq tape = refl
 played_bind (Say e dialog) go_on seq tape = ap (behind (Said e ∷ [])) (played_bind dialog go_on seq tape)
 played_bind (Ask body answered) go_on seq tape =
     ap (behind (Frame (frame seq body) ∷ []))
-    (elim (answer seq tape) as (λ o. by_answer (λ r. played (answered r >>= go_on) (next seq)) o ≡ followed (by_answer (λ r. played (answered r) (next seq)) o) (λ a. played (go_on a))) [
+    (elim (answer seq tape) as (λ o. by_answer (λ r. played (answered r >>= go_on) (next seq)) o
+    ≡ followed (by_answer (λ r. played (answered r) (next seq)) o) (λ a. played (go_on a))) [
       | None ↦ refl
       | Some got ↦ played_bind (answered got.0) go_on (next seq) got.1
     ])
 
 pub bytes_append : {E : Type 0} (x y : List (Event E)) → bytes_sent (x ++ y) ≡ bytes_sent x ++ bytes_sent y
 bytes_append [] y = refl
-bytes_append (Frame bytes ∷ x) y = ap (λ bs. bytes ++ bs) (bytes_append x y) ∙ sym (append_assoc bytes (bytes_sent x) (bytes_sent y))
+bytes_append (Frame bytes ∷ x) y = ap (λ bs. bytes ++ bs) (bytes_append x y)
+    ∙ sym (append_assoc bytes (bytes_sent x) (bytes_sent y))
 bytes_append (Said e ∷ x) y = bytes_append x y
 
 behind_behind : {E R : Type 0} (x y : List (Event E)) (p : Played E R) → behind x (behind y p) ≡ behind (x ++ y) p
 behind_behind x y p = ap (λ es. record { events = es; outcome = p.outcome }) (sym (append_assoc x y p.events))
 
-followed_behind : {E A B : Type 0} (events : List (Event E)) (p : Played E A) (go_on : A → ℕ → Tape → Played E B) → followed (behind events p) go_on ≡ behind events (followed p go_on)
+followed_behind : {E A B : Type 0} (events : List (Event E)) (p : Played E A) (go_on : A → ℕ → Tape → Played E B)
+    → followed (behind events p) go_on ≡ behind events (followed p go_on)
 followed_behind events p go_on = sym (behind_behind events p.events (continued p.outcome go_on))
 
 -- turns
 
-turns_quiet : {E R : Type 0} (dialog : Dialog E R) (seq : ℕ) (tape : Tape) (bytes : List ℕ) (talk : Talk) → IsQuiet talk → TurnsFrom dialog seq tape bytes talk
+turns_quiet : {E R : Type 0} (dialog : Dialog E R) (seq : ℕ) (tape : Tape) (bytes : List ℕ) (talk : Talk) → IsQuiet talk
+    → TurnsFrom dialog seq tape bytes talk
 turns_quiet dialog seq tape bytes [] quiet = tt
 turns_quiet dialog seq tape bytes (Sent more ∷ talk) quiet = turns_quiet dialog seq tape (bytes ++ more) talk quiet
 turns_quiet dialog seq tape bytes (Got items ∷ talk) quiet = absurd quiet
 
 -- one talk after another
 pub turns_append : {E R : Type 0} (dialog : Dialog E R) (seq : ℕ) (tape : Tape) (bytes : List ℕ) (x y : Talk)
-    → TurnsFrom dialog seq tape bytes x → TurnsFrom dialog seq (tape ++ heard x) (bytes ++ sent x) y → TurnsFrom dialog seq tape bytes (x ++ y)
+    → TurnsFrom dialog seq tape bytes x → TurnsFrom dialog seq (tape ++ heard x) (bytes ++ sent x) y
+    → TurnsFrom dialog seq tape bytes (x ++ y)
 turns_append dialog seq tape bytes [] y f g =
-    subst (λ t. TurnsFrom dialog seq t bytes y) (append-nil tape) (subst (λ s. TurnsFrom dialog seq (tape ++ []) s y) (append-nil bytes) g)
+    subst (λ t. TurnsFrom dialog seq t bytes y) (append-nil tape)
+    (subst (λ s. TurnsFrom dialog seq (tape ++ []) s y) (append-nil bytes) g)
 turns_append dialog seq tape bytes (Sent more ∷ x) y f g =
-    turns_append dialog seq tape (bytes ++ more) x y f (subst (λ s. TurnsFrom dialog seq (tape ++ heard x) s y) (sym (append_assoc bytes more (sent x))) g)
-turns_append dialog seq tape bytes (Got items ∷ x) y f g =
-    (f.0, turns_append dialog seq (tape ++ items) bytes x y f.1 (subst (λ t. TurnsFrom dialog seq t (bytes ++ sent x) y) (sym (append_assoc tape items (heard x))) g))
+    turns_append dialog seq tape (bytes ++ more) x y f
+    (subst (λ s. TurnsFrom dialog seq (tape ++ heard x) s y) (sym (append_assoc bytes more (sent x))) g)
+turns_append dialog seq tape bytes (Got items ∷ x) y f g = (
+  f.0,
+  turns_append dialog seq (tape ++ items) bytes x y f.1
+      (subst (λ t. TurnsFrom dialog seq t (bytes ++ sent x) y) (sym (append_assoc tape items (heard x))) g),
+)
 
 -- where the one is due whenever the other is
-turns_lift : {E F A B : Type 0} (dialog : Dialog E A) (inner : Dialog F B) (m n : ℕ) (tape inner_tape : Tape) (before : List ℕ)
-    → ((x : Tape) (bytes : List ℕ) → IsDue inner n (inner_tape ++ x) bytes → IsDue dialog m (tape ++ x) (before ++ bytes))
-    → (x : Tape) (bytes : List ℕ) (talk : Talk) → TurnsFrom inner n (inner_tape ++ x) bytes talk → TurnsFrom dialog m (tape ++ x) (before ++ bytes) talk
+turns_lift : {E F A B : Type 0} (dialog : Dialog E A) (inner : Dialog F B) (m n : ℕ) (tape inner_tape : Tape)
+    (before : List ℕ)
+    → ((x : Tape) (bytes : List ℕ) → IsDue inner n (inner_tape ++ x) bytes
+    → IsDue dialog m (tape ++ x) (before ++ bytes))
+    → (x : Tape) (bytes : List ℕ) (talk : Talk) → TurnsFrom inner n (inner_tape ++ x) bytes talk
+    → TurnsFrom dialog m (tape ++ x) (before ++ bytes) talk
 turns_lift dialog inner m n tape inner_tape before due x bytes [] f = tt
 turns_lift dialog inner m n tape inner_tape before due x bytes (Sent more ∷ talk) f =
-    subst (λ s. TurnsFrom dialog m (tape ++ x) s talk) (sym (append_assoc before bytes more)) (turns_lift dialog inner m n tape inner_tape before due x (bytes ++ more) talk f)
+    subst (λ s. TurnsFrom dialog m (tape ++ x) s talk) (sym (append_assoc before bytes more))
+    (turns_lift dialog inner m n tape inner_tape before due x (bytes ++ more) talk f)
 turns_lift dialog inner m n tape inner_tape before due x bytes (Got items ∷ talk) f = (
   due x bytes f.0,
   subst (λ t. TurnsFrom dialog m t (before ++ bytes) talk) (sym (append_assoc tape x items))
@@ -75,8 +89,10 @@ turns_lift dialog inner m n tape inner_tape before due x bytes (Got items ∷ ta
 )
 
 -- the same from the start
-pub turns_behind : {E F A B : Type 0} (dialog : Dialog E A) (inner : Dialog F B) (m n : ℕ) (tape inner_tape : Tape) (before : List ℕ)
-    → ((x : Tape) (bytes : List ℕ) → IsDue inner n (inner_tape ++ x) bytes → IsDue dialog m (tape ++ x) (before ++ bytes))
+pub turns_behind : {E F A B : Type 0} (dialog : Dialog E A) (inner : Dialog F B) (m n : ℕ) (tape inner_tape : Tape)
+    (before : List ℕ)
+    → ((x : Tape) (bytes : List ℕ) → IsDue inner n (inner_tape ++ x) bytes
+    → IsDue dialog m (tape ++ x) (before ++ bytes))
     → (talk : Talk) → TurnsFrom inner n inner_tape [] talk → TurnsFrom dialog m tape before talk
 turns_behind dialog inner m n tape inner_tape before due talk f =
     subst (λ t. TurnsFrom dialog m t before talk) (append-nil tape)
@@ -85,28 +101,34 @@ turns_behind dialog inner m n tape inner_tape before due talk f =
     (subst (λ t. TurnsFrom inner n t [] talk) (sym (append-nil inner_tape)) f)))
 
 -- what is due behind a talk
-due_behind : {E R : Type 0} {a b : Dialog E R} {m n : Position} {talk : Talk} {events : List (Event E)} (f : TalkLeads a m talk events b n) (x : Tape) (bytes : List ℕ)
-    → IsDue b n.next (on_tape n.unread ++ x) bytes → IsDue a m.next ((on_tape m.unread ++ heard talk) ++ x) (sent talk ++ bytes)
+due_behind : {E R : Type 0} {a b : Dialog E R} {m n : Position} {talk : Talk} {events : List (Event E)}
+    (f : TalkLeads a m talk events b n) (x : Tape) (bytes : List ℕ)
+    → IsDue b n.next (on_tape n.unread ++ x) bytes
+    → IsDue a m.next ((on_tape m.unread ++ heard talk) ++ x) (sent talk ++ bytes)
 due_behind {a = a} {b = b} {m = m} {n = n} {talk = talk} {events = events} f x bytes due =
-    let e : played a m.next ((on_tape m.unread ++ heard talk) ++ x) ≡ behind events (played b n.next (on_tape n.unread ++ x)) =
+    let e : played a m.next ((on_tape m.unread ++ heard talk) ++ x)
+    ≡ behind events (played b n.next (on_tape n.unread ++ x)) =
     ap (played a m.next) (append_assoc (on_tape m.unread) (heard talk) x) ∙ f.goes_on x in
     record {
       waits = ap (λ p. p.outcome) e ∙ due.waits;
       all_sent =
           ap (λ p. bytes_sent p.events) e
           ∙ (bytes_append events (played b n.next (on_tape n.unread ++ x)).events
-          ∙ (ap (λ bs. bs ++ bytes_sent (played b n.next (on_tape n.unread ++ x)).events) f.all_sent ∙ ap (λ bs. sent talk ++ bs) due.all_sent));
+          ∙ (ap (λ bs. bs ++ bytes_sent (played b n.next (on_tape n.unread ++ x)).events) f.all_sent
+          ∙ ap (λ bs. sent talk ++ bs) due.all_sent));
     }
 
 -- a play that waits, whatever follows its dialog
-waits_bind : {E A B : Type 0} (dialog : Dialog E A) (go_on : A → Dialog E B) (seq : ℕ) (x : Tape) → (played dialog seq x).outcome ≡ None
+waits_bind : {E A B : Type 0} (dialog : Dialog E A) (go_on : A → Dialog E B) (seq : ℕ) (x : Tape)
+    → (played dialog seq x).outcome ≡ None
     → played (dialog >>= go_on) seq x ≡ record { events = (played dialog seq x).events; outcome = None }
 waits_bind dialog go_on seq x waits =
     played_bind dialog go_on seq x
     ∙ (ap (λ o. behind (played dialog seq x).events (continued o (λ a. played (go_on a)))) waits
     ∙ ap (λ es. record { events = es; outcome = None }) (append-nil (played dialog seq x).events))
 
-due_bind : {E A B : Type 0} (dialog : Dialog E A) (go_on : A → Dialog E B) (seq : ℕ) (x : Tape) (bytes : List ℕ) → IsDue dialog seq x bytes → IsDue (dialog >>= go_on) seq x bytes
+due_bind : {E A B : Type 0} (dialog : Dialog E A) (go_on : A → Dialog E B) (seq : ℕ) (x : Tape) (bytes : List ℕ)
+    → IsDue dialog seq x bytes → IsDue (dialog >>= go_on) seq x bytes
 due_bind dialog go_on seq x bytes due =
     let e = waits_bind dialog go_on seq x due.waits in
     record {
@@ -114,29 +136,38 @@ due_bind dialog go_on seq x bytes due =
       all_sent = ap (λ p. bytes_sent p.events) e ∙ due.all_sent;
     }
 
-turns_bind : {E A B : Type 0} (dialog : Dialog E A) (go_on : A → Dialog E B) (m : Position) (talk : Talk) → InTurn dialog m talk → InTurn (dialog >>= go_on) m talk
+turns_bind : {E A B : Type 0} (dialog : Dialog E A) (go_on : A → Dialog E B) (m : Position) (talk : Talk)
+    → InTurn dialog m talk → InTurn (dialog >>= go_on) m talk
 turns_bind dialog go_on m talk f =
-    turns_behind (dialog >>= go_on) dialog m.next m.next (on_tape m.unread) (on_tape m.unread) [] (λ x bytes. due_bind dialog go_on m.next (on_tape m.unread ++ x) bytes) talk f
+    turns_behind (dialog >>= go_on) dialog m.next m.next (on_tape m.unread) (on_tape m.unread) []
+    (λ x bytes. due_bind dialog go_on m.next (on_tape m.unread ++ x) bytes) talk f
 
 -- while the answer is awaited it is in turn to listen
-due_asking : {E R : Type 0} (body : List ℕ) (answered : Reading → Dialog E R) (seq : ℕ) (tape : Tape) → answer seq tape ≡ None → IsDue (Ask body answered) seq tape (frame seq body)
+due_asking : {E R : Type 0} (body : List ℕ) (answered : Reading → Dialog E R) (seq : ℕ) (tape : Tape)
+    → answer seq tape ≡ None → IsDue (Ask body answered) seq tape (frame seq body)
 due_asking body answered seq tape none = record {
   waits = ap (λ o. (by_answer (λ r. played (answered r) (next seq)) o).outcome) none;
-  all_sent = ap (λ o. frame seq body ++ bytes_sent (by_answer (λ r. played (answered r) (next seq)) o).events) none ∙ append-nil (frame seq body);
+  all_sent = ap (λ o. frame seq body ++ bytes_sent (by_answer (λ r. played (answered r) (next seq)) o).events) none
+      ∙ append-nil (frame seq body);
 }
 
-turns_waiting : {E R : Type 0} (body : List ℕ) (answered : Reading → Dialog E R) (seq : ℕ) (tape : Tape) (talk : Talk) → WaitsFrom seq tape talk → TurnsFrom (Ask body answered) seq tape (frame seq body) talk
+turns_waiting : {E R : Type 0} (body : List ℕ) (answered : Reading → Dialog E R) (seq : ℕ) (tape : Tape) (talk : Talk)
+    → WaitsFrom seq tape talk → TurnsFrom (Ask body answered) seq tape (frame seq body) talk
 turns_waiting body answered seq tape [] waits = tt
 turns_waiting body answered seq tape (Sent bytes ∷ talk) waits = absurd waits
-turns_waiting body answered seq tape (Got items ∷ talk) waits = (due_asking body answered seq tape waits.0, turns_waiting body answered seq (tape ++ items) talk waits.1)
+turns_waiting body answered seq tape (Got items ∷ talk) waits =
+    (due_asking body answered seq tape waits.0, turns_waiting body answered seq (tape ++ items) talk waits.1)
 
 -- a frame was sent whole, and its answer awaited
 turns_asking : {E R : Type 0} (body : List ℕ) (answered : Reading → Dialog E R) (seq : ℕ) (u : List ℕ) (x y : Talk)
-    → IsQuiet x → sent x ≡ frame seq body → WaitsFrom seq (on_tape u) y → InTurn (Ask body answered) (position seq u) (x ++ y)
+    → IsQuiet x → sent x ≡ frame seq body → WaitsFrom seq (on_tape u) y
+    → InTurn (Ask body answered) (position seq u) (x ++ y)
 turns_asking body answered seq u x y quiet is waits =
     turns_append (Ask body answered) seq (on_tape u) [] x y (turns_quiet (Ask body answered) seq (on_tape u) [] x quiet)
-    (subst (λ t. TurnsFrom (Ask body answered) seq t (sent x) y) (sym (append-nil (on_tape u)) ∙ ap (λ t. on_tape u ++ t) (sym (heard_quiet x quiet)))
-    (subst (λ bs. TurnsFrom (Ask body answered) seq (on_tape u) bs y) (sym is) (turns_waiting body answered seq (on_tape u) y waits)))
+    (subst (λ t. TurnsFrom (Ask body answered) seq t (sent x) y)
+    (sym (append-nil (on_tape u)) ∙ ap (λ t. on_tape u ++ t) (sym (heard_quiet x quiet)))
+    (subst (λ bs. TurnsFrom (Ask body answered) seq (on_tape u) bs y) (sym is)
+    (turns_waiting body answered seq (on_tape u) y waits)))
 
 -- leading
 
@@ -151,12 +182,15 @@ leads_on {a = a} {b = b} {c = c} {l = l} {m = m} {n = n} {x = x} {y = y} {xs = x
       ∙ (f.goes_on (heard y ++ more)
       ∙ (ap (behind xs) (g.goes_on more)
       ∙ behind_behind xs ys (played c n.next (on_tape n.unread ++ more))));
-  all_sent = bytes_append xs ys ∙ (ap (λ bs. bs ++ bytes_sent ys) f.all_sent ∙ (ap (λ bs. sent x ++ bs) g.all_sent ∙ sym (sent_append x y)));
+  all_sent = bytes_append xs ys ∙ (ap (λ bs. bs ++ bytes_sent ys) f.all_sent
+      ∙ (ap (λ bs. sent x ++ bs) g.all_sent ∙ sym (sent_append x y)));
   in_turn = turns_append a l.next (on_tape l.unread) [] x y f.in_turn
-      (turns_behind a b l.next m.next (on_tape l.unread ++ heard x) (on_tape m.unread) (sent x) (due_behind f) y g.in_turn);
+      (turns_behind a b l.next m.next (on_tape l.unread ++ heard x) (on_tape m.unread) (sent x) (due_behind f) y
+      g.in_turn);
 }
 
-pub leads_bind : {E A B : Type 0} {a b : Dialog E A} {m n : Position} {talk : Talk} {events : List (Event E)} (go_on : A → Dialog E B)
+pub leads_bind : {E A B : Type 0} {a b : Dialog E A} {m n : Position} {talk : Talk} {events : List (Event E)}
+    (go_on : A → Dialog E B)
     → TalkLeads a m talk events b n → TalkLeads (a >>= go_on) m talk events (b >>= go_on) n
 leads_bind {a = a} {b = b} {m = m} {n = n} {talk = talk} {events = events} go_on f = record {
   goes_on = λ more.
@@ -169,19 +203,26 @@ leads_bind {a = a} {b = b} {m = m} {n = n} {talk = talk} {events = events} go_on
 }
 
 -- something is said beside the line
-pub leads_say : {E R : Type 0} (e : E) (dialog : Dialog E R) (m : Position) → TalkLeads (Say e dialog) m [] (Said e ∷ []) dialog m
+pub leads_say : {E R : Type 0} (e : E) (dialog : Dialog E R) (m : Position)
+    → TalkLeads (Say e dialog) m [] (Said e ∷ []) dialog m
 leads_say e dialog m = record { goes_on = λ more. refl; all_sent = refl; in_turn = tt }
 
 -- a command is sent and its answer read
-pub leads_ask : {E R : Type 0} (body : List ℕ) (answered : Reading → Dialog E R) (seq : ℕ) (u v : List ℕ) (x y : Talk) (reading : Reading)
+pub leads_ask : {E R : Type 0} (body : List ℕ) (answered : Reading → Dialog E R) (seq : ℕ) (u v : List ℕ) (x y : Talk)
+    (reading : Reading)
     → IsQuiet x → sent x ≡ frame seq body → WaitsFrom seq (on_tape u) y
     → ((more : Tape) → answer seq (on_tape u ++ (heard y ++ more)) ≡ Some (reading, on_tape v ++ more))
-    → TalkLeads (Ask body answered) (position seq u) (x ++ y) (Frame (frame seq body) ∷ []) (answered reading) (position (next seq) v)
+    → TalkLeads (Ask body answered) (position seq u) (x ++ y) (Frame (frame seq body) ∷ []) (answered reading)
+    (position (next seq) v)
 leads_ask body answered seq u v x y reading quiet is waits answers = record {
   goes_on = λ more.
-      ap (played (Ask body answered) seq) (heard_both (on_tape u) x y more ∙ ap (λ t. on_tape u ++ (t ++ (heard y ++ more))) (heard_quiet x quiet))
-      ∙ ap (λ o. behind (Frame (frame seq body) ∷ []) (by_answer (λ r. played (answered r) (next seq)) o)) (answers more);
-  all_sent = append-nil (frame seq body) ∙ (sym is ∙ (sym (append-nil (sent x)) ∙ (ap (λ bs. sent x ++ bs) (sym (sent_waiting seq (on_tape u) y waits)) ∙ sym (sent_append x y))));
+      ap (played (Ask body answered) seq) (heard_both (on_tape u) x y more
+      ∙ ap (λ t. on_tape u ++ (t ++ (heard y ++ more))) (heard_quiet x quiet))
+      ∙ ap (λ o. behind (Frame (frame seq body) ∷ []) (by_answer (λ r. played (answered r) (next seq)) o))
+      (answers more);
+  all_sent = append-nil (frame seq body) ∙
+      (sym is ∙ (sym (append-nil (sent x)) ∙ (ap (λ bs. sent x ++ bs) (sym (sent_waiting seq (on_tape u) y waits))
+      ∙ sym (sent_append x y))));
   in_turn = turns_asking body answered seq u x y quiet is waits;
 }
 
@@ -189,7 +230,8 @@ leads_ask body answered seq u v x y reading quiet is waits answers = record {
 pub plays_from : {E R : Type 0} {a : Dialog E R} {m n : Position} {talk : Talk} {events : List (Event E)} {result : R}
     → TalkLeads a m talk events (Done result) n → Plays a m talk events result n
 plays_from {n = n} {events = events} {result = result} f = record {
-  plays = λ more. f.goes_on more ∙ ap (λ es. record { events = es; outcome = Some (result, n.next, on_tape n.unread ++ more) }) (append-nil events);
+  plays = λ more. f.goes_on more ∙ ap (λ es. record
+      { events = es; outcome = Some (result, n.next, on_tape n.unread ++ more) }) (append-nil events);
   all_sent = f.all_sent;
   in_turn = f.in_turn;
 }
@@ -197,21 +239,24 @@ plays_from {n = n} {events = events} {result = result} f = record {
 pub leads_from : {E R : Type 0} {a : Dialog E R} {m n : Position} {talk : Talk} {events : List (Event E)} {result : R}
     → Plays a m talk events result n → TalkLeads a m talk events (Done result) n
 leads_from {n = n} {events = events} {result = result} f = record {
-  goes_on = λ more. f.plays more ∙ ap (λ es. record { events = es; outcome = Some (result, n.next, on_tape n.unread ++ more) }) (sym (append-nil events));
+  goes_on = λ more. f.plays more ∙ ap (λ es. record
+      { events = es; outcome = Some (result, n.next, on_tape n.unread ++ more) }) (sym (append-nil events));
   all_sent = f.all_sent;
   in_turn = f.in_turn;
 }
 
 -- breaking off
 
-begun_more : {E : Type 0} (SaidPart : E → E → Type 0) (begun later more : List (Event E)) → IsBegun SaidPart begun later → IsBegun SaidPart begun (later ++ more)
+begun_more : {E : Type 0} (SaidPart : E → E → Type 0) (begun later more : List (Event E)) → IsBegun SaidPart begun later
+    → IsBegun SaidPart begun (later ++ more)
 begun_more SaidPart [] later more part = tt
 begun_more SaidPart (e ∷ []) [] more part = absurd part
 begun_more SaidPart (e ∷ []) (x ∷ later) more part = part
 begun_more SaidPart (e ∷ f ∷ begun) later more part = absurd part
 
 -- a front of the events is one where more follow
-pub front_more : {E : Type 0} (SaidPart : E → E → Type 0) {shown events : List (Event E)} (more : List (Event E)) → IsFront SaidPart shown events → IsFront SaidPart shown (events ++ more)
+pub front_more : {E : Type 0} (SaidPart : E → E → Type 0) {shown events : List (Event E)} (more : List (Event E))
+    → IsFront SaidPart shown events → IsFront SaidPart shown (events ++ more)
 front_more SaidPart more f = record {
   whole = f.whole;
   begun = f.begun;
@@ -222,7 +267,8 @@ front_more SaidPart more f = record {
 }
 
 -- and one behind others that happened whole
-pub front_behind : {E : Type 0} (SaidPart : E → E → Type 0) {shown events : List (Event E)} (before : List (Event E)) → IsFront SaidPart shown events → IsFront SaidPart (before ++ shown) (before ++ events)
+pub front_behind : {E : Type 0} (SaidPart : E → E → Type 0) {shown events : List (Event E)} (before : List (Event E))
+    → IsFront SaidPart shown events → IsFront SaidPart (before ++ shown) (before ++ events)
 front_behind SaidPart before f = record {
   whole = before ++ f.whole;
   begun = f.begun;
@@ -232,19 +278,23 @@ front_behind SaidPart before f = record {
   part = f.part;
 }
 
-pub breaks_on : {E R : Type 0} (SaidPart : E → E → Type 0) {a b : Dialog E R} {m n : Position} {x y : Talk} {events shown : List (Event E)}
+pub breaks_on : {E R : Type 0} (SaidPart : E → E → Type 0) {a b : Dialog E R} {m n : Position} {x y : Talk}
+    {events shown : List (Event E)}
     → TalkLeads a m x events b n → Breaks SaidPart b n y shown → Breaks SaidPart a m (x ++ y) (events ++ shown)
 breaks_on SaidPart {a = a} {b = b} {m = m} {n = n} {x = x} {y = y} {events = events} {shown = shown} f g = record {
   front =
       subst (λ p. IsFront SaidPart (events ++ shown) p.events)
       (sym (ap (λ t. played a m.next (on_tape m.unread ++ t)) (heard_append x y) ∙ f.goes_on (heard y)))
       (front_behind SaidPart events g.front);
-  all_sent = bytes_append events shown ∙ (ap (λ bs. bs ++ bytes_sent shown) f.all_sent ∙ (ap (λ bs. sent x ++ bs) g.all_sent ∙ sym (sent_append x y)));
+  all_sent = bytes_append events shown ∙ (ap (λ bs. bs ++ bytes_sent shown) f.all_sent
+      ∙ (ap (λ bs. sent x ++ bs) g.all_sent ∙ sym (sent_append x y)));
   in_turn = turns_append a m.next (on_tape m.unread) [] x y f.in_turn
-      (turns_behind a b m.next n.next (on_tape m.unread ++ heard x) (on_tape n.unread) (sent x) (due_behind f) y g.in_turn);
+      (turns_behind a b m.next n.next (on_tape m.unread ++ heard x) (on_tape n.unread) (sent x) (due_behind f) y
+      g.in_turn);
 }
 
-pub breaks_bind : {E A B : Type 0} (SaidPart : E → E → Type 0) {a : Dialog E A} {m : Position} {talk : Talk} {shown : List (Event E)} (go_on : A → Dialog E B)
+pub breaks_bind : {E A B : Type 0} (SaidPart : E → E → Type 0) {a : Dialog E A} {m : Position} {talk : Talk}
+    {shown : List (Event E)} (go_on : A → Dialog E B)
     → Breaks SaidPart a m talk shown → Breaks SaidPart (a >>= go_on) m talk shown
 breaks_bind SaidPart {a = a} {m = m} {talk = talk} {shown = shown} go_on f = record {
   front =
@@ -256,9 +306,17 @@ breaks_bind SaidPart {a = a} {m = m} {talk = talk} {shown = shown} go_on f = rec
 }
 
 -- nothing of the dialog has happened
-pub breaks_here : {E R : Type 0} (SaidPart : E → E → Type 0) (dialog : Dialog E R) (m : Position) → Breaks SaidPart dialog m [] []
+pub breaks_here : {E R : Type 0} (SaidPart : E → E → Type 0) (dialog : Dialog E R) (m : Position)
+    → Breaks SaidPart dialog m [] []
 breaks_here SaidPart dialog m = record {
-  front = record { whole = []; begun = []; later = (played_over dialog m []).events; shown_is = refl; events_are = refl; part = tt };
+  front = record {
+    whole = [];
+    begun = [];
+    later = (played_over dialog m []).events;
+    shown_is = refl;
+    events_are = refl;
+    part = tt;
+  };
   all_sent = refl;
   in_turn = tt;
 }
@@ -266,20 +324,28 @@ breaks_here SaidPart dialog m = record {
 -- breaking off as the link fails
 
 -- what is played over a talk that leads on, and what is played from there
-led : {E R : Type 0} {a b : Dialog E R} {m n : Position} {x : Talk} {events : List (Event E)} → TalkLeads a m x events b n → (y : Talk)
+led : {E R : Type 0} {a b : Dialog E R} {m n : Position} {x : Talk} {events : List (Event E)}
+    → TalkLeads a m x events b n → (y : Talk)
     → played_over a m (x ++ y) ≡ behind events (played_over b n y)
-led {a = a} {m = m} {x = x} f y = ap (λ t. played a m.next (on_tape m.unread ++ t)) (heard_append x y) ∙ f.goes_on (heard y)
+led {a = a} {m = m} {x = x} f y = ap (λ t. played a m.next (on_tape m.unread ++ t)) (heard_append x y)
+    ∙ f.goes_on (heard y)
 
-led_turns : {E R : Type 0} {a b : Dialog E R} {m n : Position} {x : Talk} {events : List (Event E)} (f : TalkLeads a m x events b n) (y : Talk) → InTurn b n y → InTurn a m (x ++ y)
+led_turns : {E R : Type 0} {a b : Dialog E R} {m n : Position} {x : Talk} {events : List (Event E)}
+    (f : TalkLeads a m x events b n) (y : Talk) → InTurn b n y → InTurn a m (x ++ y)
 led_turns {a = a} {b = b} {m = m} {n = n} {x = x} f y in_turn =
-    turns_append a m.next (on_tape m.unread) [] x y f.in_turn (turns_behind a b m.next n.next (on_tape m.unread ++ heard x) (on_tape n.unread) (sent x) (due_behind f) y in_turn)
+    turns_append a m.next (on_tape m.unread) [] x y f.in_turn
+    (turns_behind a b m.next n.next (on_tape m.unread ++ heard x) (on_tape n.unread) (sent x) (due_behind f) y
+    in_turn)
 
-led_bytes : {E R : Type 0} {a b : Dialog E R} {m n : Position} {x : Talk} {events : List (Event E)} (f : TalkLeads a m x events b n) (y : Talk) (shown : List (Event E))
+led_bytes : {E R : Type 0} {a b : Dialog E R} {m n : Position} {x : Talk} {events : List (Event E)}
+    (f : TalkLeads a m x events b n) (y : Talk) (shown : List (Event E))
     → bytes_sent shown ≡ sent y → bytes_sent (events ++ shown) ≡ sent (x ++ y)
 led_bytes {x = x} {events = events} f y shown is =
-    bytes_append events shown ∙ (ap (λ bs. bs ++ bytes_sent shown) f.all_sent ∙ (ap (λ bs. sent x ++ bs) is ∙ sym (sent_append x y)))
+    bytes_append events shown ∙ (ap (λ bs. bs ++ bytes_sent shown) f.all_sent
+    ∙ (ap (λ bs. sent x ++ bs) is ∙ sym (sent_append x y)))
 
-pub by_on : {E R : Type 0} (by : Broken) {a b : Dialog E R} {m n : Position} {x : Talk} {events : List (Event E)} (y : Talk) (shown : List (Event E))
+pub by_on : {E R : Type 0} (by : Broken) {a b : Dialog E R} {m n : Position} {x : Talk} {events : List (Event E)}
+    (y : Talk) (shown : List (Event E))
     → TalkLeads a m x events b n → BreaksBy by b n y shown → BreaksBy by a m (x ++ y) (events ++ shown)
 by_on broken.Send {events = events} y shown f g = record {
   whole = events ++ g.whole;
@@ -289,7 +355,8 @@ by_on broken.Send {events = events} y shown f g = record {
   shown_is = ap (λ es. events ++ es) g.shown_is ∙ sym (append_assoc events g.whole (Frame g.part ∷ []));
   events_are =
       ap (λ p. p.events) (led f y)
-      ∙ (ap (λ es. events ++ es) g.events_are ∙ sym (append_assoc events g.whole (Frame (g.part ++ g.unsent) ∷ g.later)));
+      ∙ (ap (λ es. events ++ es) g.events_are ∙ sym
+      (append_assoc events g.whole (Frame (g.part ++ g.unsent) ∷ g.later)));
   not_whole = g.not_whole;
   all_sent = led_bytes f y shown g.all_sent;
   in_turn = led_turns f y g.in_turn;
@@ -301,7 +368,8 @@ by_on broken.Recv {events = events} y shown f g = record {
   in_turn = led_turns f y g.in_turn;
 }
 
-pub by_bind : {E A B : Type 0} (by : Broken) (a : Dialog E A) (m : Position) (talk : Talk) (shown : List (Event E)) (go_on : A → Dialog E B)
+pub by_bind : {E A B : Type 0} (by : Broken) (a : Dialog E A) (m : Position) (talk : Talk) (shown : List (Event E))
+    (go_on : A → Dialog E B)
     → BreaksBy by a m talk shown → BreaksBy by (a >>= go_on) m talk shown
 by_bind broken.Send a m talk shown go_on f =
     let p = played_over a m talk in
@@ -328,37 +396,11 @@ by_bind broken.Recv a m talk shown go_on f =
       in_turn = turns_bind a go_on m talk f.in_turn;
     }
 
--- whatever broke it off, it broke off
-pub by_any : {E R : Type 0} (SaidPart : E → E → Type 0) (by : Broken) (a : Dialog E R) (m : Position) (talk : Talk) (shown : List (Event E))
-    → BreaksBy by a m talk shown → Breaks SaidPart a m talk shown
-by_any SaidPart broken.Send a m talk shown f = record {
-  front = record {
-    whole = f.whole;
-    begun = Frame f.part ∷ [];
-    later = Frame (f.part ++ f.unsent) ∷ f.later;
-    shown_is = f.shown_is;
-    events_are = f.events_are;
-    part = (f.unsent, refl);
-  };
-  all_sent = f.all_sent;
-  in_turn = f.in_turn;
-}
-by_any SaidPart broken.Recv a m talk shown f = record {
-  front = record {
-    whole = shown;
-    begun = [];
-    later = [];
-    shown_is = sym (append-nil shown);
-    events_are = sym f.shown_is ∙ sym (append-nil shown);
-    part = tt;
-  };
-  all_sent = f.all_sent;
-  in_turn = f.in_turn;
-}
-
 -- a part of a frame was sent
-pub breaks_asking : {E R : Type 0} (body : List ℕ) (answered : Reading → Dialog E R) (seq : ℕ) (u part unsent : List ℕ) (x : Talk)
-    → IsQuiet x → sent x ≡ part → frame seq body ≡ part ++ unsent → 0 < length unsent → BreaksSending (Ask body answered) (position seq u) x (Frame part ∷ [])
+pub breaks_asking : {E R : Type 0} (body : List ℕ) (answered : Reading → Dialog E R) (seq : ℕ) (u part unsent : List ℕ)
+    (x : Talk)
+    → IsQuiet x → sent x ≡ part → frame seq body ≡ part ++ unsent → 0 < length unsent
+    → BreaksSending (Ask body answered) (position seq u) x (Frame part ∷ [])
 breaks_asking body answered seq u part unsent x quiet is frame_is not_whole =
     let later = (by_answer (λ r. played (answered r) (next seq)) (answer seq (on_tape u ++ heard x))).events in
     record {
@@ -374,7 +416,8 @@ breaks_asking body answered seq u part unsent x quiet is frame_is not_whole =
     }
 
 -- a frame was sent, and listening broke off
-pub breaks_listening : {E R : Type 0} (body : List ℕ) (answered : Reading → Dialog E R) (seq : ℕ) (u : List ℕ) (x y : Talk)
+pub breaks_listening : {E R : Type 0} (body : List ℕ) (answered : Reading → Dialog E R) (seq : ℕ) (u : List ℕ)
+    (x y : Talk)
     → IsQuiet x → sent x ≡ frame seq body → WaitsFrom seq (on_tape u) y → answer seq (on_tape u ++ heard y) ≡ None
     → BreaksListening (Ask body answered) (position seq u) (x ++ y) (Frame (frame seq body) ∷ [])
 breaks_listening body answered seq u x y quiet is waits none =
@@ -382,7 +425,10 @@ breaks_listening body answered seq u x y quiet is waits none =
     let unheard : answer seq (on_tape u ++ heard (x ++ y)) ≡ None = ap (λ t. answer seq (on_tape u ++ t)) all ∙ none in
     record {
       waits = ap (λ o. (by_answer (λ r. played (answered r) (next seq)) o).outcome) unheard;
-      shown_is = ap (λ o. Frame (frame seq body) ∷ (by_answer (λ r. played (answered r) (next seq)) o).events) (sym unheard);
-      all_sent = append-nil (frame seq body) ∙ (sym is ∙ (sym (append-nil (sent x)) ∙ (ap (λ bs. sent x ++ bs) (sym (sent_waiting seq (on_tape u) y waits)) ∙ sym (sent_append x y))));
+      shown_is = ap (λ o. Frame (frame seq body) ∷ (by_answer (λ r. played (answered r) (next seq)) o).events)
+          (sym unheard);
+      all_sent = append-nil (frame seq body) ∙
+          (sym is ∙ (sym (append-nil (sent x)) ∙ (ap (λ bs. sent x ++ bs) (sym (sent_waiting seq (on_tape u) y waits))
+          ∙ sym (sent_append x y))));
       in_turn = turns_asking body answered seq u x y quiet is waits;
     }

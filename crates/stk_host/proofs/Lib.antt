@@ -1,3 +1,5 @@
+-- in the order in which to read: tapes, talks and dialogs; sending and listening; attempts, steps and operations;
+-- places; bounds; worked sessions
 pub mod Tapes
 pub mod Talks
 pub mod Binding

@@ -18,12 +18,14 @@ raised (Said e ∷ events) = absurd e
 abbrev pub raised_play : {E R : Type 0} → Played ⊥ R → Played E R
 raised_play p = record { events = raised p.events; outcome = p.outcome }
 
-pub played_lifted : {E R : Type 0} (dialog : Dialog ⊥ R) (seq : ℕ) (tape : Tape) → played {E = E} (lifted dialog) seq tape ≡ raised_play (played dialog seq tape)
+pub played_lifted : {E R : Type 0} (dialog : Dialog ⊥ R) (seq : ℕ) (tape : Tape)
+    → played {E = E} (lifted dialog) seq tape ≡ raised_play (played dialog seq tape)
 played_lifted (Done r) seq tape = refl
 played_lifted (Say e dialog) seq tape = absurd e
 played_lifted {E = E} (Ask body answered) seq tape =
     ap (behind (Frame (frame seq body) ∷ []))
-    (elim (answer seq tape) as (λ o. by_answer (λ r. played {E = E} (lifted (answered r)) (next seq)) o ≡ raised_play (by_answer (λ r. played (answered r) (next seq)) o)) [
+    (elim (answer seq tape) as (λ o. by_answer (λ r. played {E = E} (lifted (answered r)) (next seq)) o
+    ≡ raised_play (by_answer (λ r. played (answered r) (next seq)) o)) [
       | None ↦ refl
       | Some got ↦ played_lifted (answered got.0) (next seq) got.1
     ])
@@ -43,25 +45,32 @@ raised_append [] y = refl
 raised_append (Frame bytes ∷ x) y = ap (λ es. Frame bytes ∷ es) (raised_append x y)
 raised_append (Said e ∷ x) y = absurd e
 
-due_lifted : {E R : Type 0} (dialog : Dialog ⊥ R) (seq : ℕ) (tape : Tape) (bytes : List ℕ) → IsDue dialog seq tape bytes → IsDue {E = E} (lifted dialog) seq tape bytes
+due_lifted : {E R : Type 0} (dialog : Dialog ⊥ R) (seq : ℕ) (tape : Tape) (bytes : List ℕ) → IsDue dialog seq tape bytes
+    → IsDue {E = E} (lifted dialog) seq tape bytes
 due_lifted {E = E} dialog seq tape bytes due = record {
   waits = ap (λ p. p.outcome) (played_lifted {E = E} dialog seq tape) ∙ due.waits;
-  all_sent = ap (λ p. bytes_sent p.events) (played_lifted {E = E} dialog seq tape) ∙ (bytes_raised E (played dialog seq tape).events ∙ due.all_sent);
+  all_sent = ap (λ p. bytes_sent p.events) (played_lifted {E = E} dialog seq tape)
+      ∙ (bytes_raised E (played dialog seq tape).events ∙ due.all_sent);
 }
 
-turns_lifted : {R : Type 0} (E : Type 0) (dialog : Dialog ⊥ R) (m : Position) (talk : Talk) → InTurn dialog m talk → InTurn {E = E} (lifted dialog) m talk
+turns_lifted : {R : Type 0} (E : Type 0) (dialog : Dialog ⊥ R) (m : Position) (talk : Talk) → InTurn dialog m talk
+    → InTurn {E = E} (lifted dialog) m talk
 turns_lifted E dialog m talk f =
-    turns_behind {E = E} (lifted dialog) dialog m.next m.next (on_tape m.unread) (on_tape m.unread) [] (λ x bytes. due_lifted {E = E} dialog m.next (on_tape m.unread ++ x) bytes) talk f
+    turns_behind {E = E} (lifted dialog) dialog m.next m.next (on_tape m.unread) (on_tape m.unread) []
+    (λ x bytes. due_lifted {E = E} dialog m.next (on_tape m.unread ++ x) bytes) talk f
 
-pub plays_lifted : {E R : Type 0} {dialog : Dialog ⊥ R} {m n : Position} {talk : Talk} {events : List (Event ⊥)} {result : R}
+pub plays_lifted : {E R : Type 0} {dialog : Dialog ⊥ R} {m n : Position} {talk : Talk} {events : List (Event ⊥)}
+    {result : R}
     → Plays dialog m talk events result n → Plays {E = E} (lifted dialog) m talk (raised events) result n
 plays_lifted {E = E} {dialog = dialog} {m = m} {talk = talk} {events = events} f = record {
-  plays = λ more. played_lifted {E = E} dialog m.next (on_tape m.unread ++ (heard talk ++ more)) ∙ ap raised_play (f.plays more);
+  plays = λ more. played_lifted {E = E} dialog m.next (on_tape m.unread ++ (heard talk ++ more))
+      ∙ ap raised_play (f.plays more);
   all_sent = bytes_raised E events ∙ f.all_sent;
   in_turn = turns_lifted E dialog m talk f.in_turn;
 }
 
-pub by_lifted : {R : Type 0} (E : Type 0) (by : Broken) (dialog : Dialog ⊥ R) (m : Position) (talk : Talk) (shown : List (Event ⊥))
+pub by_lifted : {R : Type 0} (E : Type 0) (by : Broken) (dialog : Dialog ⊥ R) (m : Position) (talk : Talk)
+    (shown : List (Event ⊥))
     → BreaksBy by dialog m talk shown → BreaksBy {E = E} by (lifted dialog) m talk (raised shown)
 by_lifted E broken.Send dialog m talk shown f = record {
   whole = raised f.whole;
@@ -78,7 +87,8 @@ by_lifted E broken.Send dialog m talk shown f = record {
 }
 by_lifted E broken.Recv dialog m talk shown f = record {
   waits = ap (λ p. p.outcome) (played_lifted {E = E} dialog m.next (on_tape m.unread ++ heard talk)) ∙ f.waits;
-  shown_is = ap raised f.shown_is ∙ sym (ap (λ p. p.events) (played_lifted {E = E} dialog m.next (on_tape m.unread ++ heard talk)));
+  shown_is = ap raised f.shown_is ∙ sym (ap (λ p. p.events)
+      (played_lifted {E = E} dialog m.next (on_tape m.unread ++ heard talk)));
   all_sent = bytes_raised E shown ∙ f.all_sent;
   in_turn = turns_lifted E dialog m talk f.in_turn;
 }

@@ -45,18 +45,22 @@ begins seq u o few = record {
 }
 
 -- where nothing is unread, the answer isn't there yet
-not_yet : {seq : ℕ} {u : List ℕ} {o : LinkView} {held : List ℕ} {count : ℕ} {p : LinkView} (l : Listening seq u o held count [] p)
+not_yet : {seq : ℕ} {u : List ℕ} {o : LinkView} {held : List ℕ} {count : ℕ} {p : LinkView}
+    (l : Listening seq u o held count [] p)
     → count < limit → answer seq (on_tape u ++ heard_in l.during) ≡ None
-not_yet {seq = seq} l few = ap (answer seq) (l.all_heard ∙ ap on_tape (append-nil l.text)) ∙ answer_waits seq l.text l.no_answer (omega (arith, l.counted))
+not_yet {seq = seq} l few = ap (answer seq) (l.all_heard ∙ ap on_tape (append-nil l.text))
+    ∙ answer_waits seq l.text l.no_answer (omega (arith, l.counted))
 
 -- and one more piece may be heard
-waits_more : {seq : ℕ} {u : List ℕ} {o : LinkView} {held : List ℕ} {count : ℕ} {p : LinkView} (l : Listening seq u o held count [] p) (items : Tape)
+waits_more : {seq : ℕ} {u : List ℕ} {o : LinkView} {held : List ℕ} {count : ℕ} {p : LinkView}
+    (l : Listening seq u o held count [] p) (items : Tape)
     → count < limit → WaitsFrom seq (on_tape u) (l.during ++ Got items ∷ [])
 waits_more {seq = seq} {u = u} l items few =
     waits_append seq (on_tape u) l.during (Got items ∷ []) l.waits (not_yet l few, tt)
 
 hears_bytes : {seq : ℕ} {u : List ℕ} {o : LinkView} {held : List ℕ} {count : ℕ} {p q : LinkView} (bytes : List ℕ)
-    → Listening seq u o held count [] p → count < limit → count + length bytes ≤ limit → Grows p.talk (Got (on_tape bytes) ∷ []) q.talk → Listening seq u o held count bytes q
+    → Listening seq u o held count [] p → count < limit → count + length bytes ≤ limit
+    → Grows p.talk (Got (on_tape bytes) ∷ []) q.talk → Listening seq u o held count bytes q
 hears_bytes {u = u} {o = o} {p = p} {q = q} bytes l few most g = record {
   text = l.text;
   stands = l.stands;
@@ -67,28 +71,45 @@ hears_bytes {u = u} {o = o} {p = p} {q = q} bytes l few most g = record {
   grows = grows_on o.talk p.talk q.talk l.during (Got (on_tape bytes) ∷ []) l.grows g;
   waits = waits_more l (on_tape bytes) few;
   all_heard =
-      ap (λ t. on_tape u ++ t) (heard_append l.during (Got (on_tape bytes) ∷ []) ∙ ap (λ t. heard_in l.during ++ t) (append-nil (on_tape bytes)))
+      ap (λ t. on_tape u ++ t) (heard_append l.during (Got (on_tape bytes) ∷ [])
+      ∙ ap (λ t. heard_in l.during ++ t) (append-nil (on_tape bytes)))
       ∙ (sym (append_assoc (on_tape u) (heard_in l.during) (on_tape bytes))
       ∙ (ap (λ t. t ++ on_tape bytes) (l.all_heard ∙ ap on_tape (append-nil l.text))
       ∙ sym (on_tape_append l.text bytes)));
 }
 
 -- how much was heard
-heard_count : {seq : ℕ} {u : List ℕ} {o : LinkView} {held : List ℕ} {count : ℕ} {left : List ℕ} {p : LinkView} (l : Listening seq u o held count left p)
+heard_count : {seq : ℕ} {u : List ℕ} {o : LinkView} {held : List ℕ} {count : ℕ} {left : List ℕ} {p : LinkView}
+    (l : Listening seq u o held count left p)
     → length u + length (heard_in l.during) ≡ count + length left
 heard_count {u = u} {left = left} l =
     let all : length (on_tape u ++ heard_in l.during) ≡ length (on_tape (l.text ++ left)) = ap length l.all_heard in
-    omega (arith, all, length-append (on_tape u) (heard_in l.during), length-map u Byte, length-map (l.text ++ left) Byte, length-append l.text left, l.counted)
+    omega (
+      arith,
+      all,
+      length-append (on_tape u) (heard_in l.during),
+      length-map u Byte,
+      length-map (l.text ++ left) Byte,
+      length-append l.text left,
+      l.counted,
+    )
 
 -- a silence or an end
-stops : {seq : ℕ} {u : List ℕ} {o : LinkView} {held : List ℕ} {count : ℕ} {p q : LinkView} (item : Item) (reading : Reading)
+stops : {seq : ℕ} {u : List ℕ} {o : LinkView} {held : List ℕ} {count : ℕ} {p q : LinkView} (item : Item)
+    (reading : Reading)
     → (l : Listening seq u o held count [] p) → count < limit → Grows p.talk (Got (item ∷ []) ∷ []) q.talk
     → ((more : Tape) → answer seq (on_tape l.text ++ item ∷ more) ≡ Some (reading, more)) → Hears seq u o q reading []
 stops {seq = seq} {u = u} {o = o} {p = p} {q = q} item reading l few g answers = record {
   during = l.during ++ Got (item ∷ []) ∷ [];
   grows = grows_on o.talk p.talk q.talk l.during (Got (item ∷ []) ∷ []) l.grows g;
   waits = waits_more l (item ∷ []) few;
-  few = omega (arith, heard_count l, few, ap length (heard_append l.during (Got (item ∷ []) ∷ [])), length-append (heard_in l.during) (item ∷ []));
+  few = omega (
+    arith,
+    heard_count l,
+    few,
+    ap length (heard_append l.during (Got (item ∷ []) ∷ [])),
+    length-append (heard_in l.during) (item ∷ []),
+  );
   answers = λ more.
       ap (answer seq)
       (heard_both (on_tape u) l.during (Got (item ∷ []) ∷ []) more
@@ -101,36 +122,50 @@ no_items : (xs : List ℕ) → length xs ≡ 0 → xs ≡ []
 no_items [] e = refl
 no_items (x ∷ xs) e = absurd (omega arith)
 
-none_left : {seq : ℕ} {u : List ℕ} {o : LinkView} {held : List ℕ} {count : ℕ} {left : List ℕ} {p : LinkView} → Listening seq u o held count left p → length left ≡ 0 → Listening seq u o held count [] p
-none_left {seq = seq} {u = u} {o = o} {held = held} {count = count} {left = left} {p = p} l none = subst (λ bs. Listening seq u o held count bs p) (no_items left none) l
+none_left : {seq : ℕ} {u : List ℕ} {o : LinkView} {held : List ℕ} {count : ℕ} {left : List ℕ} {p : LinkView}
+    → Listening seq u o held count left p → length left ≡ 0 → Listening seq u o held count [] p
+none_left {seq = seq} {u = u} {o = o} {held = held} {count = count} {left = left} {p = p} l none =
+    subst (λ bs. Listening seq u o held count bs p) (no_items left none) l
 
 -- what a piece heard comes to
 
-pub heard_bytes : {seq : ℕ} {u : List ℕ} {o : LinkView} {held : List ℕ} {count : ℕ} {left : List ℕ} {p : LinkView} (q : LinkView) (what : Heard) (n : ℕ) (new : List ℕ)
-    → Listening seq u o held count left p → length left ≡ 0 → count < limit → count + length new ≤ limit → what ≡ heard.Bytes n → HearsPiece what new p q → Listening seq u o held count new q
-heard_bytes q what n new l none few most is piece = let h = rw is at piece in hears_bytes new (none_left l none) few most h.1
+pub heard_bytes : {seq : ℕ} {u : List ℕ} {o : LinkView} {held : List ℕ} {count : ℕ} {left : List ℕ} {p : LinkView}
+    (q : LinkView) (what : Heard) (n : ℕ) (new : List ℕ)
+    → Listening seq u o held count left p → length left ≡ 0 → count < limit → count + length new ≤ limit
+    → what ≡ heard.Bytes n → HearsPiece what new p q → Listening seq u o held count new q
+heard_bytes q what n new l none few most is piece = let h = rw is at piece in
+    hears_bytes new (none_left l none) few most h.1
 
-pub heard_silence : {seq : ℕ} {u : List ℕ} {o : LinkView} {held : List ℕ} {count : ℕ} {left : List ℕ} {p : LinkView} (q : LinkView) (what : Heard) (new : List ℕ)
-    → Listening seq u o held count left p → length left ≡ 0 → count < limit → what ≡ heard.Silence → HearsPiece what new p q → Hears seq u o q Silent new
+pub heard_silence : {seq : ℕ} {u : List ℕ} {o : LinkView} {held : List ℕ} {count : ℕ} {left : List ℕ} {p : LinkView}
+    (q : LinkView) (what : Heard) (new : List ℕ)
+    → Listening seq u o held count left p → length left ≡ 0 → count < limit → what ≡ heard.Silence
+    → HearsPiece what new p q → Hears seq u o q Silent new
 heard_silence {seq = seq} {u = u} {o = o} q what new l none few is piece =
     let h = rw is at piece in
     let m = none_left l none in
-    subst (λ bs. Hears seq u o q Silent bs) (sym h.0) (stops Silence Silent m few h.1 (λ more. answer_silent seq m.text more m.no_answer (omega (arith, m.counted))))
+    subst (λ bs. Hears seq u o q Silent bs) (sym h.0)
+    (stops Silence Silent m few h.1 (λ more. answer_silent seq m.text more m.no_answer (omega (arith, m.counted))))
 
-pub heard_end : {seq : ℕ} {u : List ℕ} {o : LinkView} {held : List ℕ} {count : ℕ} {left : List ℕ} {p : LinkView} (q : LinkView) (what : Heard) (new : List ℕ)
-    → Listening seq u o held count left p → length left ≡ 0 → count < limit → what ≡ heard.End → HearsPiece what new p q → Hears seq u o q Ended new
+pub heard_end : {seq : ℕ} {u : List ℕ} {o : LinkView} {held : List ℕ} {count : ℕ} {left : List ℕ} {p : LinkView}
+    (q : LinkView) (what : Heard) (new : List ℕ)
+    → Listening seq u o held count left p → length left ≡ 0 → count < limit → what ≡ heard.End → HearsPiece what new p q
+    → Hears seq u o q Ended new
 heard_end {seq = seq} {u = u} {o = o} q what new l none few is piece =
     let h = rw is at piece in
     let m = none_left l none in
-    subst (λ bs. Hears seq u o q Ended bs) (sym h.0) (stops End Ended m few h.1 (λ more. answer_ended seq m.text more m.no_answer (omega (arith, m.counted))))
+    subst (λ bs. Hears seq u o q Ended bs) (sym h.0)
+    (stops End Ended m few h.1 (λ more. answer_ended seq m.text more m.no_answer (omega (arith, m.counted))))
 
 -- the unread bytes that a turn of reading took
 abbrev pub ReadOn : List ℕ → List ℕ → ℕ → List ℕ → List ℕ → Event → Type 0
-ReadOn left new_left n held new what = (used : List ℕ) × (length used ≡ n) × (left ≡ used ++ new_left) × Fed held used new (frames_of_event what new)
+ReadOn left new_left n held new what = (used : List ℕ) × (length used ≡ n) × (left ≡ used ++ new_left)
+    × Fed held used new (frames_of_event what new)
 
 -- bytes that bring no answer
-reads : {seq : ℕ} {u : List ℕ} {o : LinkView} {held : List ℕ} {count : ℕ} {p : LinkView} (used left new : List ℕ) (found : List (List ℕ))
-    → Listening seq u o held count (used ++ left) p → Fed held used new found → first_answer seq found ≡ None → Listening seq u o new (count + length used) left p
+reads : {seq : ℕ} {u : List ℕ} {o : LinkView} {held : List ℕ} {count : ℕ} {p : LinkView} (used left new : List ℕ)
+    (found : List (List ℕ))
+    → Listening seq u o held count (used ++ left) p → Fed held used new found → first_answer seq found ≡ None
+    → Listening seq u o new (count + length used) left p
 reads {seq = seq} used left new found l fed other = record {
   text = l.text ++ used;
   stands = fed.stands l.text l.stands;
@@ -143,14 +178,18 @@ reads {seq = seq} used left new found l fed other = record {
   all_heard = l.all_heard ∙ ap on_tape (sym (append_assoc l.text used left));
 }
 
-pub reads_on : {seq : ℕ} {u : List ℕ} {o : LinkView} {held : List ℕ} {count : ℕ} {left : List ℕ} {p : LinkView} (n : ℕ) (new_left new : List ℕ) (what : Event)
-    → Listening seq u o held count left p → ReadOn left new_left n held new what → first_answer seq (frames_of_event what new) ≡ None → Listening seq u o new (count + n) new_left p
+pub reads_on : {seq : ℕ} {u : List ℕ} {o : LinkView} {held : List ℕ} {count : ℕ} {left : List ℕ} {p : LinkView} (n : ℕ)
+    (new_left new : List ℕ) (what : Event)
+    → Listening seq u o held count left p → ReadOn left new_left n held new what
+    → first_answer seq (frames_of_event what new) ≡ None → Listening seq u o new (count + n) new_left p
 reads_on {seq = seq} {u = u} {o = o} {held = held} {count = count} {p = p} n new_left new what l read other =
     subst (λ m. Listening seq u o new (count + m) new_left p) read.1
-    (reads read.0 new_left new (frames_of_event what new) (subst (λ bs. Listening seq u o held count bs p) read.2 l) read.3 other)
+    (reads read.0 new_left new (frames_of_event what new) (subst (λ bs. Listening seq u o held count bs p) read.2 l)
+    read.3 other)
 
 -- a listening whose reading is known
-gives : {seq : ℕ} {u : List ℕ} {o : LinkView} {held : List ℕ} {count : ℕ} {left : List ℕ} {p : LinkView} (x rest_left : List ℕ) (reading : Reading)
+gives : {seq : ℕ} {u : List ℕ} {o : LinkView} {held : List ℕ} {count : ℕ} {left : List ℕ} {p : LinkView}
+    (x rest_left : List ℕ) (reading : Reading)
     → (l : Listening seq u o held count left p) → on_tape u ++ heard_in l.during ≡ on_tape (x ++ rest_left)
     → ((more : Tape) → answer seq (on_tape x ++ more) ≡ Some (reading, more)) → Hears seq u o p reading rest_left
 gives {seq = seq} {u = u} x rest_left reading l all answers = record {
@@ -167,33 +206,42 @@ gives {seq = seq} {u = u} x rest_left reading l all answers = record {
 }
 
 finds_in : {seq : ℕ} {u : List ℕ} {o : LinkView} {held : List ℕ} {count : ℕ} {p : LinkView} (used left new : List ℕ)
-    → Listening seq u o held count (used ++ left) p → Fed held used new (new ∷ []) → HoldsFrame new → is_answer seq new ≡ true → count + length used ≤ limit
+    → Listening seq u o held count (used ++ left) p → Fed held used new (new ∷ []) → HoldsFrame new
+    → is_answer seq new ≡ true → count + length used ≤ limit
     → Hears seq u o p (Answered (body_of new)) left
 finds_in {seq = seq} {u = u} used left new l fed frame good few =
     let whole : rest (l.text ++ used) ≡ [] = fed.stands l.text l.stands ∙ rest_whole new frame.whole in
     let size : length (l.text ++ used) ≤ limit = rw length-append (omega (arith, l.counted)) in
     gives (l.text ++ used) left (Answered (body_of new)) l
     (l.all_heard ∙ ap on_tape (sym (append_assoc l.text used left)))
-    (λ more. answer_found seq (l.text ++ used) more (body_of new) (now_found seq l.text used fed.skipped new l.no_answer fed.no_frames (fed.pieces l.text l.stands) good whole) size)
+    (λ more. answer_found seq (l.text ++ used) more (body_of new)
+    (now_found seq l.text used fed.skipped new l.no_answer fed.no_frames (fed.pieces l.text l.stands) good whole)
+    size)
 
-pub finds : {seq : ℕ} {u : List ℕ} {o : LinkView} {held : List ℕ} {count : ℕ} {left : List ℕ} {p : LinkView} (n : ℕ) (new_left new : List ℕ) (what : Event)
-    → Listening seq u o held count left p → ReadOn left new_left n held new what → (what ≡ event.Frame) × HoldsFrame new × (is_answer seq new ≡ true) → count + n ≤ limit
+pub finds : {seq : ℕ} {u : List ℕ} {o : LinkView} {held : List ℕ} {count : ℕ} {left : List ℕ} {p : LinkView} (n : ℕ)
+    (new_left new : List ℕ) (what : Event)
+    → Listening seq u o held count left p → ReadOn left new_left n held new what
+    → (what ≡ event.Frame) × HoldsFrame new × (is_answer seq new ≡ true) → count + n ≤ limit
     → Hears seq u o p (Answered (body_of new)) new_left
 finds {seq = seq} {u = u} {o = o} {held = held} {count = count} {p = p} n new_left new what l read is few =
     finds_in read.0 new_left new (subst (λ bs. Listening seq u o held count bs p) read.2 l)
     (subst (λ e. Fed held read.0 new (frames_of_event e new)) is.0 read.3) is.1 is.2 (omega (arith, read.1))
 
-pub babbles : {seq : ℕ} {u : List ℕ} {o : LinkView} {held : List ℕ} {count : ℕ} {left : List ℕ} {p : LinkView} → Listening seq u o held count left p → count ≡ limit → Hears seq u o p Babbled left
+pub babbles : {seq : ℕ} {u : List ℕ} {o : LinkView} {held : List ℕ} {count : ℕ} {left : List ℕ} {p : LinkView}
+    → Listening seq u o held count left p → count ≡ limit → Hears seq u o p Babbled left
 babbles {seq = seq} {left = left} l full =
     gives l.text left Babbled l l.all_heard (λ more. answer_babbled seq l.text more l.no_answer (l.counted ∙ full))
 
-pub hears_none : {seq : ℕ} {u : List ℕ} {o : LinkView} {held : List ℕ} {count : ℕ} {left : List ℕ} {p : LinkView} (q : LinkView)
-    → Listening seq u o held count left p → length left ≡ 0 → count < limit → Grows p.talk [] q.talk → HearsNone seq u o q
+pub hears_none : {seq : ℕ} {u : List ℕ} {o : LinkView} {held : List ℕ} {count : ℕ} {left : List ℕ} {p : LinkView}
+    (q : LinkView)
+    → Listening seq u o held count left p → length left ≡ 0 → count < limit → Grows p.talk [] q.talk
+    → HearsNone seq u o q
 hears_none {o = o} {p = p} q l none few g =
     let m = none_left l none in
     record {
       during = m.during;
-      grows = subst (λ d. Grows o.talk d q.talk) (append-nil m.during) (grows_on o.talk p.talk q.talk m.during [] m.grows g);
+      grows = subst (λ d. Grows o.talk d q.talk) (append-nil m.during)
+          (grows_on o.talk p.talk q.talk m.during [] m.grows g);
       waits = m.waits;
       few = omega (arith, heard_count m, m.few);
       no_answer = not_yet m few;

@@ -14,7 +14,8 @@ use Rattle.stk_host.proofs.Talks.{heard_append}
 ends_more : (a b : ℕ) → replicate a End ++ replicate b End ≡ replicate (a + b) End
 ends_more zero b = let same : b ≡ 0 + b = omega arith in ap (λ (n : ℕ). replicate n End) same
 ends_more (suc a) b =
-    let same : suc (a + b) ≡ suc a + b = omega arith in ap (λ (t : Tape). End ∷ t) (ends_more a b) ∙ ap (λ (n : ℕ). replicate n End) same
+    let same : suc (a + b) ≡ suc a + b = omega arith in
+    ap (λ (t : Tape). End ∷ t) (ends_more a b) ∙ ap (λ (n : ℕ). replicate n End) same
 
 nothing_behind : (front back : Tape) → front ++ back ≡ [] → back ≡ []
 nothing_behind [] back none = none
@@ -22,7 +23,8 @@ nothing_behind (item ∷ front) back none = absurd (cc)
 
 -- ---- a piece, and what is left of a tape behind it
 
-bytes_given : (most : ℕ) (tape : Tape) → on_tape (take most (bytes_in tape)) ++ drop (length (on_tape (take most (bytes_in tape)))) tape ≡ tape
+bytes_given : (most : ℕ) (tape : Tape) → on_tape (take most (bytes_in tape))
+    ++ drop (length (on_tape (take most (bytes_in tape)))) tape ≡ tape
 bytes_given zero tape = refl
 bytes_given (suc most) [] = refl
 bytes_given (suc most) (Byte b ∷ tape) = ap (λ (t : Tape). Byte b ∷ t) (bytes_given most tape)
@@ -34,7 +36,8 @@ abbrev ends_of : Tape → ℕ
 ends_of [] = 1
 ends_of (item ∷ tape) = 0
 
-piece_given : (most : ℕ) (tape : Tape) → next_piece most tape ++ drop (length (next_piece most tape)) tape ≡ tape ++ replicate (ends_of tape) End
+piece_given : (most : ℕ) (tape : Tape) → next_piece most tape ++ drop (length (next_piece most tape)) tape
+    ≡ tape ++ replicate (ends_of tape) End
 piece_given most [] = refl
 piece_given most (Byte b ∷ tape) = bytes_given most (Byte b ∷ tape) ∙ sym (append-nil (Byte b ∷ tape))
 piece_given most (Silence ∷ tape) = ap (λ (t : Tape). Silence ∷ t) (sym (append-nil tape))
@@ -61,14 +64,18 @@ of_tape_on a b c f g = record {
   during = f.during ++ g.during;
   grows = g.grows ∙ ap (λ (t : Talk). t ++ g.during) f.grows ∙ append_assoc a.talk f.during g.during;
   ends = f.ends + g.ends;
-  gave = ap (λ (t : Tape). t ++ c.left) (heard_append f.during g.during) ∙ append_assoc (heard f.during) (heard g.during) c.left
-      ∙ ap (λ (t : Tape). heard f.during ++ t) g.gave ∙ sym (append_assoc (heard f.during) b.left (replicate g.ends End))
-      ∙ ap (λ (t : Tape). t ++ replicate g.ends End) f.gave ∙ append_assoc a.left (replicate f.ends End) (replicate g.ends End)
+  gave = ap (λ (t : Tape). t ++ c.left) (heard_append f.during g.during)
+      ∙ append_assoc (heard f.during) (heard g.during) c.left
+      ∙ ap (λ (t : Tape). heard f.during ++ t) g.gave
+      ∙ sym (append_assoc (heard f.during) b.left (replicate g.ends End))
+      ∙ ap (λ (t : Tape). t ++ replicate g.ends End) f.gave
+      ∙ append_assoc a.left (replicate f.ends End) (replicate g.ends End)
       ∙ ap (λ (t : Tape). a.left ++ t) (ends_more f.ends g.ends);
   over = none f.ends g.ends g.gave f.over g.over;
 }
   where
-    none : (m n : ℕ) → heard g.during ++ c.left ≡ b.left ++ replicate n End → (0 < m → b.left ≡ []) → (0 < n → c.left ≡ []) → 0 < m + n → c.left ≡ []
+    none : (m n : ℕ) → heard g.during ++ c.left ≡ b.left ++ replicate n End → (0 < m → b.left ≡ [])
+        → (0 < n → c.left ≡ []) → 0 < m + n → c.left ≡ []
     none m (suc n) gave first last some = last (omega arith)
     none m zero gave first last some =
         nothing_behind (heard g.during) c.left (gave ∙ append-nil b.left ∙ first (omega (arith, some)))
@@ -85,7 +92,8 @@ same_of_tape b c left talk = since b c (record {
   over = λ some. absurd (omega (arith, some));
 })
 
-pub sent_of_tape : (bytes : List ℕ) (b c : TapeState) → c.left ≡ b.left → c.talk ≡ b.talk ++ Sent bytes ∷ [] → Stays IsOfTape b c
+pub sent_of_tape : (bytes : List ℕ) (b c : TapeState) → c.left ≡ b.left → c.talk ≡ b.talk ++ Sent bytes ∷ []
+    → Stays IsOfTape b c
 sent_of_tape bytes b c left talk = since b c (record {
   during = Sent bytes ∷ [];
   grows = talk;
@@ -94,12 +102,15 @@ sent_of_tape bytes b c left talk = since b c (record {
   over = λ some. absurd (omega (arith, some));
 })
 
-pub heard_of_tape : (result : Result Heard LinkFault) (buffer : List ℕ) (b c : TapeState) → Receives buffer (tape_view b) (tape_view c) result
+pub heard_of_tape : (result : Result Heard LinkFault) (buffer : List ℕ) (b c : TapeState)
+    → Receives buffer (tape_view b) (tape_view c) result
     → IfOk result (λ given. items_of given buffer ≡ next_piece (min b.cut (length buffer)) b.left)
-    → IfOk result (λ given. c.left ≡ drop (length (items_of given buffer)) b.left) → OnErr result (c.left ≡ b.left) → Stays IsOfTape b c
+    → IfOk result (λ given. c.left ≡ drop (length (items_of given buffer)) b.left) → OnErr result (c.left ≡ b.left)
+    → Stays IsOfTape b c
 heard_of_tape (Ok given) buffer b c receives piece left kept =
     let most : ℕ = min b.cut (length buffer) in
-    let rest : c.left ≡ drop (length (next_piece most b.left)) b.left = left ∙ ap (λ (t : Tape). drop (length t) b.left) piece in
+    let rest : c.left ≡ drop (length (next_piece most b.left)) b.left =
+    left ∙ ap (λ (t : Tape). drop (length t) b.left) piece in
     since b c (record {
       during = Got (items_of given buffer) ∷ [];
       grows = receives.ok;

@@ -16,18 +16,23 @@ use Rattle.stk_host.specs.Steps.{exchange, attempt, tries, play}
 use Rattle.stk_host.specs.Operations.{operation, writing, verifying}
 
 -- an address of flash counts words, and has bit 31 for a large part alone
-pub loads_first_word : frame 2 (body (load_flash m328p 0)) ≡ 0x1B ∷ 0x02 ∷ 0x00 ∷ 0x05 ∷ 0x0E ∷ 0x06 ∷ 0x00 ∷ 0x00 ∷ 0x00 ∷ 0x00 ∷ 0x14 ∷ []
+pub loads_first_word : frame 2 (body (load_flash m328p 0))
+    ≡ 0x1B ∷ 0x02 ∷ 0x00 ∷ 0x05 ∷ 0x0E ∷ 0x06 ∷ 0x00 ∷ 0x00 ∷ 0x00 ∷ 0x00 ∷ 0x14 ∷ []
 loads_first_word = refl
 
-pub loads_second_page : frame 9 (body (load_flash m328p 128)) ≡ 0x1B ∷ 0x09 ∷ 0x00 ∷ 0x05 ∷ 0x0E ∷ 0x06 ∷ 0x00 ∷ 0x00 ∷ 0x00 ∷ 0x40 ∷ 0x5F ∷ []
+pub loads_second_page : frame 9 (body (load_flash m328p 128))
+    ≡ 0x1B ∷ 0x09 ∷ 0x00 ∷ 0x05 ∷ 0x0E ∷ 0x06 ∷ 0x00 ∷ 0x00 ∷ 0x00 ∷ 0x40 ∷ 0x5F ∷ []
 loads_second_page = refl
 
-pub loads_extended : frame 7 (body (load_flash m2560 0x20000)) ≡ 0x1B ∷ 0x07 ∷ 0x00 ∷ 0x05 ∷ 0x0E ∷ 0x06 ∷ 0x80 ∷ 0x01 ∷ 0x00 ∷ 0x00 ∷ 0x90 ∷ []
+pub loads_extended : frame 7 (body (load_flash m2560 0x20000))
+    ≡ 0x1B ∷ 0x07 ∷ 0x00 ∷ 0x05 ∷ 0x0E ∷ 0x06 ∷ 0x80 ∷ 0x01 ∷ 0x00 ∷ 0x00 ∷ 0x90 ∷ []
 loads_extended = refl
 
 -- two pages with a byte each are programmed, and no other
-pub writes_pages : write_steps (record m328p { flash_size = 512 }) Flash ((Some 0x11 ∷ replicate 129 None) ++ (Some 0x22 ∷ []))
-    ≡ (load_flash m328p 0 ∷ program_page (0x11 ∷ replicate 127 255) ∷ []) ∷ (load_flash m328p 128 ∷ program_page (255 ∷ 255 ∷ 0x22 ∷ replicate 125 255) ∷ []) ∷ []
+pub writes_pages : write_steps (record m328p { flash_size = 512 }) Flash
+    ((Some 0x11 ∷ replicate 129 None) ++ (Some 0x22 ∷ []))
+    ≡ (load_flash m328p 0 ∷ program_page (0x11 ∷ replicate 127 255) ∷ [])
+    ∷ (load_flash m328p 128 ∷ program_page (255 ∷ 255 ∷ 0x22 ∷ replicate 125 255) ∷ []) ∷ []
 writes_pages = refl
 
 -- an image without a byte has no step
@@ -35,20 +40,27 @@ pub writes_no_page : write_steps m328p Flash [] ≡ []
 writes_no_page = refl
 
 -- a gap ends a run, and so does a page
-pub writes_runs : write_steps (record m328p { eeprom_size = 12 }) Eeprom (Some 0x11 ∷ None ∷ Some 0x33 ∷ Some 0x44 ∷ Some 0x55 ∷ [])
-    ≡ (load_eeprom 0 ∷ program_eeprom_block (0x11 ∷ []) ∷ []) ∷ (load_eeprom 2 ∷ program_eeprom_block (0x33 ∷ 0x44 ∷ []) ∷ []) ∷ (load_eeprom 4 ∷ program_eeprom_block (0x55 ∷ []) ∷ []) ∷ []
+pub writes_runs : write_steps (record m328p { eeprom_size = 12 }) Eeprom
+    (Some 0x11 ∷ None ∷ Some 0x33 ∷ Some 0x44 ∷ Some 0x55 ∷ [])
+    ≡ (load_eeprom 0 ∷ program_eeprom_block (0x11 ∷ []) ∷ [])
+    ∷ (load_eeprom 2 ∷ program_eeprom_block (0x33 ∷ 0x44 ∷ []) ∷ [])
+    ∷ (load_eeprom 4 ∷ program_eeprom_block (0x55 ∷ []) ∷ []) ∷ []
 writes_runs = refl
 
-pub writes_a_run : frame 7 (body (program_eeprom_block (0x11 ∷ []))) ≡ 0x1B ∷ 0x07 ∷ 0x00 ∷ 0x0B ∷ 0x0E ∷ 0x15 ∷ 0x00 ∷ 0x01 ∷ 0xC1 ∷ 0x0A ∷ 0xC1 ∷ 0xC2 ∷ 0xA0 ∷ 0xFF ∷ 0xFF ∷ 0x11 ∷ 0x74 ∷ []
+pub writes_a_run : frame 7 (body (program_eeprom_block (0x11 ∷ [])))
+    ≡ 0x1B ∷ 0x07 ∷ 0x00 ∷ 0x0B ∷ 0x0E ∷ 0x15 ∷ 0x00 ∷ 0x01 ∷ 0xC1 ∷ 0x0A ∷ 0xC1 ∷ 0xC2 ∷ 0xA0 ∷ 0xFF ∷ 0xFF ∷ 0x11
+    ∷ 0x74 ∷ []
 writes_a_run = refl
 
 -- four blocks of EEPROM
 pub reads_blocks : read_steps m328p Eeprom
-    ≡ (load_eeprom 0 ∷ read_eeprom_block 256 ∷ []) ∷ (load_eeprom 256 ∷ read_eeprom_block 256 ∷ []) ∷ (load_eeprom 512 ∷ read_eeprom_block 256 ∷ []) ∷ (load_eeprom 768 ∷ read_eeprom_block 256 ∷ []) ∷ []
+    ≡ (load_eeprom 0 ∷ read_eeprom_block 256 ∷ []) ∷ (load_eeprom 256 ∷ read_eeprom_block 256 ∷ [])
+    ∷ (load_eeprom 512 ∷ read_eeprom_block 256 ∷ []) ∷ (load_eeprom 768 ∷ read_eeprom_block 256 ∷ []) ∷ []
 reads_blocks = refl
 
 -- the last block is shorter
-pub reads_the_rest : read_steps (record m328p { eeprom_size = 260 }) Eeprom ≡ (load_eeprom 0 ∷ read_eeprom_block 256 ∷ []) ∷ (load_eeprom 256 ∷ read_eeprom_block 4 ∷ []) ∷ []
+pub reads_the_rest : read_steps (record m328p { eeprom_size = 260 }) Eeprom
+    ≡ (load_eeprom 0 ∷ read_eeprom_block 256 ∷ []) ∷ (load_eeprom 256 ∷ read_eeprom_block 4 ∷ []) ∷ []
 reads_the_rest = refl
 
 -- the signature can't be written
@@ -56,13 +68,23 @@ pub writes_no_signature : writing m328p Signature (Some 0x1E ∷ []) ≡ Done (E
 writes_no_signature = refl
 
 -- a fuse has another byte
-pub differs : played (verifying m328p Lfuse (Some 0xE2 ∷ [])) 1 (on_tape (0x1B ∷ 0x01 ∷ 0x00 ∷ 0x04 ∷ 0x0E ∷ 0x18 ∷ 0x00 ∷ 0x62 ∷ 0x00 ∷ 0x6A ∷ []))
-    ≡ record { events = Frame (0x1B ∷ 0x01 ∷ 0x00 ∷ 0x06 ∷ 0x0E ∷ 0x18 ∷ 0x04 ∷ 0x50 ∷ 0x00 ∷ 0x00 ∷ 0x00 ∷ 0x5E ∷ []) ∷ []; outcome = Some (Err (Differs Lfuse 0 0xE2 0x62), 2, []) }
+pub differs : played (verifying m328p Lfuse (Some 0xE2 ∷ [])) 1
+    (on_tape (0x1B ∷ 0x01 ∷ 0x00 ∷ 0x04 ∷ 0x0E ∷ 0x18 ∷ 0x00 ∷ 0x62 ∷ 0x00 ∷ 0x6A ∷ []))
+    ≡ record {
+      events = Frame (0x1B ∷ 0x01 ∷ 0x00 ∷ 0x06 ∷ 0x0E ∷ 0x18 ∷ 0x04 ∷ 0x50 ∷ 0x00 ∷ 0x00 ∷ 0x00 ∷ 0x5E ∷ [])
+          ∷ [];
+      outcome = Some (Err (Differs Lfuse 0 0xE2 0x62), 2, []);
+    }
 unfolding exchange attempt tries play answer operation
 differs = refl
 
 -- the programmer was too slow
-pub refused : played (verifying m328p Lfuse (Some 0xE2 ∷ [])) 1 (on_tape (0x1B ∷ 0x01 ∷ 0x00 ∷ 0x04 ∷ 0x0E ∷ 0x18 ∷ 0x80 ∷ 0x00 ∷ 0x00 ∷ 0x88 ∷ []))
-    ≡ record { events = Frame (0x1B ∷ 0x01 ∷ 0x00 ∷ 0x06 ∷ 0x0E ∷ 0x18 ∷ 0x04 ∷ 0x50 ∷ 0x00 ∷ 0x00 ∷ 0x00 ∷ 0x5E ∷ []) ∷ []; outcome = Some (Err (Refused 0x18 0x80), 2, []) }
+pub refused : played (verifying m328p Lfuse (Some 0xE2 ∷ [])) 1
+    (on_tape (0x1B ∷ 0x01 ∷ 0x00 ∷ 0x04 ∷ 0x0E ∷ 0x18 ∷ 0x80 ∷ 0x00 ∷ 0x00 ∷ 0x88 ∷ []))
+    ≡ record {
+      events = Frame (0x1B ∷ 0x01 ∷ 0x00 ∷ 0x06 ∷ 0x0E ∷ 0x18 ∷ 0x04 ∷ 0x50 ∷ 0x00 ∷ 0x00 ∷ 0x00 ∷ 0x5E ∷ [])
+          ∷ [];
+      outcome = Some (Err (Refused 0x18 0x80), 2, []);
+    }
 unfolding exchange attempt tries play answer operation
 refused = refl

@@ -9,7 +9,8 @@ use Rattle.stk_host.specs.Talk.{items_of, FitsBuffer}
 use Rattle.stk_host.specs.Links.{byte_of, next_piece}
 
 -- a byte behind bytes alone is one of them
-pub within_bytes : (tape : Tape) (i byte : ℕ) → i ≤ length (bytes_in tape) → byte_of (slice_get tape i) ≡ Some byte → i < length (bytes_in tape)
+pub within_bytes : (tape : Tape) (i byte : ℕ) → i ≤ length (bytes_in tape) → byte_of (slice_get tape i) ≡ Some byte
+    → i < length (bytes_in tape)
 within_bytes [] i byte le is = cc
 within_bytes (Byte b ∷ tape) zero byte le is = omega arith
 within_bytes (Byte b ∷ tape) (suc i) byte le is = omega (arith, within_bytes tape i byte (omega arith) is)
@@ -19,7 +20,8 @@ within_bytes (End ∷ tape) zero byte le is = cc
 within_bytes (End ∷ tape) (suc i) byte le is = absurd (omega arith)
 
 -- and the next of them
-pub next_byte : (tape : Tape) (i byte : ℕ) → i ≤ length (bytes_in tape) → byte_of (slice_get tape i) ≡ Some byte → take (suc i) (bytes_in tape) ≡ take i (bytes_in tape) ++ byte ∷ []
+pub next_byte : (tape : Tape) (i byte : ℕ) → i ≤ length (bytes_in tape) → byte_of (slice_get tape i) ≡ Some byte
+    → take (suc i) (bytes_in tape) ≡ take i (bytes_in tape) ++ byte ∷ []
 next_byte [] i byte le is = cc
 next_byte (Byte b ∷ tape) zero byte le is = cc
 next_byte (Byte b ∷ tape) (suc i) byte le is = ap (λ bytes. b ∷ bytes) (next_byte tape i byte (omega arith) is)
@@ -29,7 +31,8 @@ next_byte (End ∷ tape) zero byte le is = cc
 next_byte (End ∷ tape) (suc i) byte le is = absurd (omega arith)
 
 -- where no byte stands behind bytes alone, they end
-pub no_byte : (tape : Tape) (i : ℕ) → i ≤ length (bytes_in tape) → byte_of (slice_get tape i) ≡ None → length (bytes_in tape) ≡ i
+pub no_byte : (tape : Tape) (i : ℕ) → i ≤ length (bytes_in tape) → byte_of (slice_get tape i) ≡ None
+    → length (bytes_in tape) ≡ i
 no_byte [] i le is = omega arith
 no_byte (Byte b ∷ tape) zero le is = cc
 no_byte (Byte b ∷ tape) (suc i) le is = ap suc (no_byte tape i (omega arith) is)
@@ -37,26 +40,32 @@ no_byte (Silence ∷ tape) i le is = omega arith
 no_byte (End ∷ tape) i le is = omega arith
 
 -- one byte more is copied
-pub copied_more : (tape : Tape) (buffer : List ℕ) (i byte : ℕ) → i < length buffer → i ≤ length (bytes_in tape) → byte_of (slice_get tape i) ≡ Some byte
+pub copied_more : (tape : Tape) (buffer : List ℕ) (i byte : ℕ) → i < length buffer → i ≤ length (bytes_in tape)
+    → byte_of (slice_get tape i) ≡ Some byte
     → take i buffer ≡ take i (bytes_in tape) → take (i + 1) (set buffer i byte) ≡ take (i + 1) (bytes_in tape)
 copied_more tape buffer i byte room le is same =
-    take_more_set buffer i byte room ∙ ap (λ bytes. bytes ++ byte ∷ []) same ∙ sym (next_byte tape i byte le is) ∙ ap (λ n. take n (bytes_in tape)) (sym (add-one i))
+    take_more_set buffer i byte room ∙ ap (λ bytes. bytes ++ byte ∷ []) same ∙ sym (next_byte tape i byte le is)
+    ∙ ap (λ n. take n (bytes_in tape)) (sym (add-one i))
 
 -- all bytes are copied
-pub copied_all : (tape : Tape) (buffer : List ℕ) (i : ℕ) → i < length buffer → i ≤ length (bytes_in tape) → byte_of (slice_get tape i) ≡ None
+pub copied_all : (tape : Tape) (buffer : List ℕ) (i : ℕ) → i < length buffer → i ≤ length (bytes_in tape)
+    → byte_of (slice_get tape i) ≡ None
     → take i buffer ≡ take i (bytes_in tape) → take i buffer ≡ take (length buffer) (bytes_in tape)
 copied_all tape buffer i room le is same =
     let e = no_byte tape i le is in
-    same ∙ take_all i (bytes_in tape) (omega (arith, e)) ∙ sym (take_all (length buffer) (bytes_in tape) (omega (arith, e)))
+    same ∙ take_all i (bytes_in tape) (omega (arith, e))
+    ∙ sym (take_all (length buffer) (bytes_in tape) (omega (arith, e)))
 
 -- what stands behind a piece in its buffer is no part of it
-pub piece_alone : (heard : Heard) (front back : List ℕ) → FitsBuffer heard (length front) → items_of heard (front ++ back) ≡ items_of heard front
+pub piece_alone : (heard : Heard) (front back : List ℕ) → FitsBuffer heard (length front)
+    → items_of heard (front ++ back) ≡ items_of heard front
 piece_alone (heard.Bytes n) front back fits = ap on_tape (take-append-le n front back fits.1)
 piece_alone heard.Silence front back fits = refl
 piece_alone heard.End front back fits = refl
 
 -- the room for a piece, whose bytes replace the front of a buffer
-pub room_of : (front buffer : List ℕ) (cut most : ℕ) → most ≡ min cut (length buffer) → length front ≡ length (take most buffer)
+pub room_of : (front buffer : List ℕ) (cut most : ℕ) → most ≡ min cut (length buffer)
+    → length front ≡ length (take most buffer)
     → length front ≡ min cut (length (front ++ drop most buffer))
 room_of front buffer cut most is same =
     let e = length-take most buffer in
@@ -65,5 +74,7 @@ room_of front buffer cut most is same =
     omega (arith, e, f, g)
 
 -- the items from a place on, as the code cuts them off
-pub from_place : (size room at : ℕ) (given items : Tape) → size ≡ room → given ≡ items → next_piece size (take (length given - at) (drop at given)) ≡ next_piece room (drop at items)
-from_place size room at given items fits is = ap (next_piece size) (take_rest given at ∙ ap (drop at) is) ∙ ap (λ n. next_piece n (drop at items)) fits
+pub from_place : (size room at : ℕ) (given items : Tape) → size ≡ room → given ≡ items
+    → next_piece size (take (length given - at) (drop at given)) ≡ next_piece room (drop at items)
+from_place size room at given items fits is =
+    ap (next_piece size) (take_rest given at ∙ ap (drop at) is) ∙ ap (λ n. next_piece n (drop at items)) fits

@@ -13,7 +13,8 @@ says_more x y o p q says g = record {
   during = says.during ++ Sent y ∷ [];
   grows = grows_on o p q says.during (Sent y ∷ []) says.grows g;
   quiet = quiet_append says.during (Sent y ∷ []) says.quiet tt;
-  bytes_sent = sent_append says.during (Sent y ∷ []) ∙ (ap (λ bs. sent says.during ++ bs) (append-nil y) ∙ ap (λ bs. bs ++ y) says.bytes_sent);
+  bytes_sent = sent_append says.during (Sent y ∷ [])
+      ∙ (ap (λ bs. sent says.during ++ bs) (append-nil y) ∙ ap (λ bs. bs ++ y) says.bytes_sent);
 }
 
 pub says_still : (x : List ℕ) (o p q : Talk) → Says x o p → Grows p [] q → Says x o q
@@ -25,9 +26,11 @@ says_still x o p q says g = record {
 }
 
 -- one more part
-pub says_part : (bytes : List ℕ) (n m : ℕ) (part : List ℕ) (o p q : Talk) → Says (take n bytes) o p → part ≡ drop n bytes → Grows p (Sent (take m part) ∷ []) q → Says (take (n + m) bytes) o q
+pub says_part : (bytes : List ℕ) (n m : ℕ) (part : List ℕ) (o p q : Talk) → Says (take n bytes) o p
+    → part ≡ drop n bytes → Grows p (Sent (take m part) ∷ []) q → Says (take (n + m) bytes) o q
 says_part bytes n m part o p q says is g =
-    subst (λ bs. Says bs o q) (ap (λ bs. take n bytes ++ take m bs) is ∙ sym (take-add n m bytes)) (says_more (take n bytes) (take m part) o p q says g)
+    subst (λ bs. Says bs o q) (ap (λ bs. take n bytes ++ take m bs) is ∙ sym (take-add n m bytes))
+    (says_more (take n bytes) (take m part) o p q says g)
 
 -- so many bytes were sent, and not all
 pub part_of : (bytes : List ℕ) (n : ℕ) (o q : Talk) → n < length bytes → Says (take n bytes) o q → SaysPart bytes o q
@@ -40,7 +43,8 @@ part_of bytes n o q few says = record {
 }
 
 -- a link that has failed since some earlier time, when its count was the same
-pub fails_since : {A E : Type 0} (a c : LinkView) (count : ℕ) (error : E) → count ≡ a.failures → count ≤ c.failures → HasRisen count c.failures → LinkCounts {A = A} a c (Err error)
+pub fails_since : {A E : Type 0} (a c : LinkView) (count : ℕ) (error : E) → count ≡ a.failures → count ≤ c.failures
+    → HasRisen count c.failures → LinkCounts {A = A} a c (Err error)
 fails_since a c count error same counted failed = record {
   counted = omega (arith, same, counted);
   sound = tt;
@@ -54,7 +58,8 @@ range_later xs a b n le =
     ∙ (sym (drop-take n (b - (a + n)) (drop a xs))
     ∙ ap (λ m. drop n (take m (drop a xs))) (omega arith))
 
-pub range_consumed : (xs : List ℕ) (a b n : ℕ) (all : List ℕ) → a ≤ b → slice_range xs a b ≡ all → n ≤ length all → slice_range xs (a + n) b ≡ drop n all
+pub range_consumed : (xs : List ℕ) (a b n : ℕ) (all : List ℕ) → a ≤ b → slice_range xs a b ≡ all → n ≤ length all
+    → slice_range xs (a + n) b ≡ drop n all
 range_consumed xs a b n all order is le =
     let size : length all ≤ b - a = rw (← is, length-take) (omega arith) in
     range_later xs a b n (omega arith) ∙ ap (drop n) is
@@ -63,5 +68,6 @@ range_consumed xs a b n all order is le =
 pub behind : (bytes : List ℕ) (n : ℕ) → take (length bytes - n) (drop n bytes) ≡ drop n bytes
 behind bytes n = take_all (length bytes - n) (drop n bytes) (rw length-drop (omega arith))
 
-pub part_fits : (bytes : List ℕ) (n m : ℕ) → n ≤ length bytes → m ≤ length (take (length bytes - n) (drop n bytes)) → n + m ≤ length bytes
+pub part_fits : (bytes : List ℕ) (n m : ℕ) → n ≤ length bytes → m ≤ length (take (length bytes - n) (drop n bytes))
+    → n + m ≤ length bytes
 part_fits bytes n m le part = let fits = rw (behind bytes n, length-drop) at part in omega arith

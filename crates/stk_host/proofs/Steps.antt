@@ -21,38 +21,49 @@ use Rattle.stk_host.proofs.Reaching.{reaches_on, played_from, broken_on, broken_
 
 -- one command
 
-pub exchange_done : (seq then : ℕ) (command : Command) {u v : List ℕ} {o p q : LinkView} {reading : Reading} → Says (frame seq (body command)) o.talk p.talk → Hears seq u p q reading v → then ≡ next seq
-    → PlaysOver (exchange command) (record { next = seq; unread = u }) o q (reading_reply command reading) (record { next = then; unread = v })
+pub exchange_done : (seq then : ℕ) (command : Command) {u v : List ℕ} {o p q : LinkView} {reading : Reading}
+    → Says (frame seq (body command)) o.talk p.talk → Hears seq u p q reading v → then ≡ next seq
+    → PlaysOver (exchange command) (record { next = seq; unread = u }) o q (reading_reply command reading)
+    (record { next = then; unread = v })
 unfolding exchange
 exchange_done seq then command {u = u} {v = v} {o = o} {p = p} {q = q} {reading = reading} says hears is = record {
   during = says.during ++ hears.during;
   events = Frame (frame seq (body command)) ∷ [];
   grows = grows_on o.talk p.talk q.talk says.during hears.during says.grows hears.grows;
-  plays = rw is (plays_from (leads_ask (body command) (λ r. Done (reading_reply command r)) seq u v says.during hears.during reading says.quiet says.bytes_sent hears.waits hears.answers));
+  plays = rw is (plays_from (leads_ask (body command) (λ r. Done (reading_reply command r)) seq u v says.during
+      hears.during reading says.quiet says.bytes_sent hears.waits hears.answers));
 }
 
-pub exchange_unsent : (seq : ℕ) (command : Command) (u : List ℕ) {o p : LinkView} → SaysPart (frame seq (body command)) o.talk p.talk → FailsOver broken.Send (exchange command) (record { next = seq; unread = u }) o p
+pub exchange_unsent : (seq : ℕ) (command : Command) (u : List ℕ) {o p : LinkView}
+    → SaysPart (frame seq (body command)) o.talk p.talk
+    → FailsOver broken.Send (exchange command) (record { next = seq; unread = u }) o p
 unfolding exchange
 exchange_unsent seq command u says = record {
   during = says.says.during;
   shown = Frame says.part ∷ [];
   grows = says.says.grows;
-  breaks = breaks_asking (body command) (λ r. Done (reading_reply command r)) seq u says.part says.unsent says.says.during says.says.quiet says.says.bytes_sent says.bytes_are says.not_whole;
+  breaks = breaks_asking (body command) (λ r. Done (reading_reply command r)) seq u says.part says.unsent
+      says.says.during says.says.quiet says.says.bytes_sent says.bytes_are says.not_whole;
 }
 
-pub exchange_unheard : (seq : ℕ) (command : Command) {u : List ℕ} {o p q : LinkView} → Says (frame seq (body command)) o.talk p.talk → HearsNone seq u p q → FailsOver broken.Recv (exchange command) (record { next = seq; unread = u }) o q
+pub exchange_unheard : (seq : ℕ) (command : Command) {u : List ℕ} {o p q : LinkView}
+    → Says (frame seq (body command)) o.talk p.talk → HearsNone seq u p q
+    → FailsOver broken.Recv (exchange command) (record { next = seq; unread = u }) o q
 unfolding exchange
 exchange_unheard seq command {u = u} {o = o} {p = p} {q = q} says hears = record {
   during = says.during ++ hears.during;
   shown = Frame (frame seq (body command)) ∷ [];
   grows = grows_on o.talk p.talk q.talk says.during hears.during says.grows hears.grows;
-  breaks = breaks_listening (body command) (λ r. Done (reading_reply command r)) seq u says.during hears.during says.quiet says.bytes_sent hears.waits hears.no_answer;
+  breaks = breaks_listening (body command) (λ r. Done (reading_reply command r)) seq u says.during hears.during
+      says.quiet says.bytes_sent hears.waits hears.no_answer;
 }
 
 -- an attempt, whose next command was sent and answered
 
-attempt_on : (command : Command) (commands : List Command) (before : List ℕ) {seq n : Position} {o q : LinkView} (reply : Reply) → PlaysOver (exchange command) seq o q reply n
-    → Reaches (attempt (command ∷ commands) before) seq o (with_data (λ bytes. attempt commands (before ++ bytes)) reply) n q
+attempt_on : (command : Command) (commands : List Command) (before : List ℕ) {seq n : Position} {o q : LinkView}
+    (reply : Reply) → PlaysOver (exchange command) seq o q reply n
+    → Reaches (attempt (command ∷ commands) before) seq o
+    (with_data (λ bytes. attempt commands (before ++ bytes)) reply) n q
 unfolding attempt
 attempt_on command commands before reply f = then_reaches (with_data (λ bytes. attempt commands (before ++ bytes))) f
 
@@ -60,54 +71,74 @@ attempt_none : (before : List ℕ) → attempt [] before ≡ Done (Data before)
 unfolding attempt
 attempt_none before = refl
 
-attempt_off : {by : Broken} (command : Command) (commands : List Command) (before : List ℕ) {seq : Position} {o q : LinkView} → FailsOver by (exchange command) seq o q → FailsOver by (attempt (command ∷ commands) before) seq o q
+attempt_off : {by : Broken} (command : Command) (commands : List Command) (before : List ℕ) {seq : Position}
+    {o q : LinkView} → FailsOver by (exchange command) seq o q
+    → FailsOver by (attempt (command ∷ commands) before) seq o q
 unfolding attempt
 attempt_off command commands before f = broken_bind (with_data (λ bytes. attempt commands (before ++ bytes))) f
 
 -- a turn of the loop over the commands, as the code takes it
 
-turn : {a : Dialog ⊥ Reply} {m seq n : Position} {k o q : LinkView} (commands rest : List Command) (command : Command) (reply : Reply)
-    → Reaches a m k (attempt commands []) seq o → commands ≡ command ∷ rest → PlaysOver (exchange command) seq o q reply n
+turn : {a : Dialog ⊥ Reply} {m seq n : Position} {k o q : LinkView} (commands rest : List Command) (command : Command)
+    (reply : Reply)
+    → Reaches a m k (attempt commands []) seq o → commands ≡ command ∷ rest
+    → PlaysOver (exchange command) seq o q reply n
     → Reaches a m k (with_data (λ bytes. attempt rest ([] ++ bytes)) reply) n q
 turn {a = a} {m = m} {seq = seq} {k = k} {o = o} commands rest command reply f is g =
     reaches_on (subst (λ cs. Reaches a m k (attempt cs []) seq o) is f) (attempt_on command rest [] reply g)
 
-pub turn_data : {a : Dialog ⊥ Reply} {m seq n : Position} {k o q : LinkView} (commands rest : List Command) (command : Command) (reply : said.Reply) (bytes : List ℕ)
-    → Reaches a m k (attempt commands []) seq o → commands ≡ command ∷ rest → PlaysOver (exchange command) seq o q (reply_of reply bytes) n → reply ≡ replies.Data → bytes ≡ []
+pub turn_data : {a : Dialog ⊥ Reply} {m seq n : Position} {k o q : LinkView} (commands rest : List Command)
+    (command : Command) (reply : said.Reply) (bytes : List ℕ)
+    → Reaches a m k (attempt commands []) seq o → commands ≡ command ∷ rest
+    → PlaysOver (exchange command) seq o q (reply_of reply bytes) n → reply ≡ replies.Data → bytes ≡ []
     → Reaches a m k (attempt rest []) n q
 turn_data {seq = seq} {n = n} {o = o} {q = q} commands rest command reply bytes f is g is_data none =
     turn commands rest command (Data []) f is
-    (subst (λ bs. PlaysOver (exchange command) seq o q (Data bs) n) none (subst (λ r. PlaysOver (exchange command) seq o q (reply_of r bytes) n) is_data g))
+    (subst (λ bs. PlaysOver (exchange command) seq o q (Data bs) n) none
+    (subst (λ r. PlaysOver (exchange command) seq o q (reply_of r bytes) n) is_data g))
 
-pub turn_again : {a : Dialog ⊥ Reply} {m seq n : Position} {k o q : LinkView} (commands rest : List Command) (command : Command) (reply : said.Reply) (bytes : List ℕ) (fault : StepFault)
-    → Reaches a m k (attempt commands []) seq o → commands ≡ command ∷ rest → PlaysOver (exchange command) seq o q (reply_of reply bytes) n → reply ≡ replies.Again fault
+pub turn_again : {a : Dialog ⊥ Reply} {m seq n : Position} {k o q : LinkView} (commands rest : List Command)
+    (command : Command) (reply : said.Reply) (bytes : List ℕ) (fault : StepFault)
+    → Reaches a m k (attempt commands []) seq o → commands ≡ command ∷ rest
+    → PlaysOver (exchange command) seq o q (reply_of reply bytes) n → reply ≡ replies.Again fault
     → PlaysOver a m k q (Again fault) n
 turn_again {seq = seq} {n = n} {o = o} {q = q} commands rest command reply bytes fault f is g again =
-    played_from (turn commands rest command (Again fault) f is (subst (λ r. PlaysOver (exchange command) seq o q (reply_of r bytes) n) again g))
+    played_from (turn commands rest command (Again fault) f is
+    (subst (λ r. PlaysOver (exchange command) seq o q (reply_of r bytes) n) again g))
 
-pub turn_stop : {a : Dialog ⊥ Reply} {m seq n : Position} {k o q : LinkView} (commands rest : List Command) (command : Command) (reply : said.Reply) (bytes : List ℕ) (fault : StepFault)
-    → Reaches a m k (attempt commands []) seq o → commands ≡ command ∷ rest → PlaysOver (exchange command) seq o q (reply_of reply bytes) n → reply ≡ replies.Stop fault
+pub turn_stop : {a : Dialog ⊥ Reply} {m seq n : Position} {k o q : LinkView} (commands rest : List Command)
+    (command : Command) (reply : said.Reply) (bytes : List ℕ) (fault : StepFault)
+    → Reaches a m k (attempt commands []) seq o → commands ≡ command ∷ rest
+    → PlaysOver (exchange command) seq o q (reply_of reply bytes) n → reply ≡ replies.Stop fault
     → PlaysOver a m k q (Stop fault) n
 turn_stop {seq = seq} {n = n} {o = o} {q = q} commands rest command reply bytes fault f is g stop =
-    played_from (turn commands rest command (Stop fault) f is (subst (λ r. PlaysOver (exchange command) seq o q (reply_of r bytes) n) stop g))
+    played_from (turn commands rest command (Stop fault) f is
+    (subst (λ r. PlaysOver (exchange command) seq o q (reply_of r bytes) n) stop g))
 
 -- the last command, whatever its answer comes to
-pub turn_last : {a : Dialog ⊥ Reply} {m seq n : Position} {k o q : LinkView} (commands : List Command) (command : Command) (reply : said.Reply) (bytes : List ℕ)
-    → Reaches a m k (attempt commands []) seq o → commands ≡ command ∷ [] → PlaysOver (exchange command) seq o q (reply_of reply bytes) n
+pub turn_last : {a : Dialog ⊥ Reply} {m seq n : Position} {k o q : LinkView} (commands : List Command)
+    (command : Command) (reply : said.Reply) (bytes : List ℕ)
+    → Reaches a m k (attempt commands []) seq o → commands ≡ command ∷ []
+    → PlaysOver (exchange command) seq o q (reply_of reply bytes) n
     → PlaysOver a m k q (reply_of reply bytes) n
 turn_last {a = a} {m = m} {n = n} {k = k} {q = q} commands command replies.Data bytes f is g =
     played_from (subst (λ d. Reaches a m k d n q) (attempt_none bytes) (turn commands [] command (Data bytes) f is g))
-turn_last commands command (replies.Again fault) bytes f is g = played_from (turn commands [] command (Again fault) f is g)
-turn_last commands command (replies.Stop fault) bytes f is g = played_from (turn commands [] command (Stop fault) f is g)
+turn_last commands command (replies.Again fault) bytes f is g =
+    played_from (turn commands [] command (Again fault) f is g)
+turn_last commands command (replies.Stop fault) bytes f is g =
+    played_from (turn commands [] command (Stop fault) f is g)
 
-pub turn_breaks : {by : Broken} {a : Dialog ⊥ Reply} {m seq : Position} {k o q : LinkView} (commands rest : List Command) (command : Command)
-    → Reaches a m k (attempt commands []) seq o → commands ≡ command ∷ rest → FailsOver by (exchange command) seq o q → FailsOver by a m k q
+pub turn_breaks : {by : Broken} {a : Dialog ⊥ Reply} {m seq : Position} {k o q : LinkView}
+    (commands rest : List Command) (command : Command)
+    → Reaches a m k (attempt commands []) seq o → commands ≡ command ∷ rest → FailsOver by (exchange command) seq o q
+    → FailsOver by a m k q
 turn_breaks {a = a} {m = m} {seq = seq} {k = k} {o = o} commands rest command f is g =
     broken_on (subst (λ cs. Reaches a m k (attempt cs []) seq o) is f) (attempt_off command rest [] g)
 
 -- a turn of the loop over the attempts
 
-tries_on : (more : ℕ) (commands : List Command) (last : StepFault) {seq n : Position} {o q : LinkView} (reply : Reply) → PlaysOver (attempt commands []) seq o q reply n
+tries_on : (more : ℕ) (commands : List Command) (last : StepFault) {seq n : Position} {o q : LinkView} (reply : Reply)
+    → PlaysOver (attempt commands []) seq o q reply n
     → Reaches (tries (suc more) commands last) seq o (end_or_again (tries more commands) reply) n q
 unfolding tries
 tries_on more commands last reply f = then_reaches (end_or_again (tries more commands)) f
@@ -116,40 +147,54 @@ tries_none : (commands : List Command) (last : StepFault) → tries zero command
 unfolding tries
 tries_none commands last = refl
 
-tries_off : {by : Broken} (more : ℕ) (commands : List Command) (last : StepFault) {seq : Position} {o q : LinkView} → FailsOver by (attempt commands []) seq o q → FailsOver by (tries (suc more) commands last) seq o q
+tries_off : {by : Broken} (more : ℕ) (commands : List Command) (last : StepFault) {seq : Position} {o q : LinkView}
+    → FailsOver by (attempt commands []) seq o q → FailsOver by (tries (suc more) commands last) seq o q
 unfolding tries
 tries_off more commands last f = broken_bind (end_or_again (tries more commands)) f
 
-try : {a : Dialog ⊥ Outcome} {l seq n : Position} {j o q : LinkView} (k more : ℕ) (commands : List Command) (last : StepFault) (reply : Reply)
+try : {a : Dialog ⊥ Outcome} {l seq n : Position} {j o q : LinkView} (k more : ℕ) (commands : List Command)
+    (last : StepFault) (reply : Reply)
     → k ≡ suc more → Reaches a l j (tries k commands last) seq o → PlaysOver (attempt commands []) seq o q reply n
     → Reaches a l j (end_or_again (tries more commands) reply) n q
 try {a = a} {l = l} {seq = seq} {j = j} {o = o} k more commands last reply count f g =
     reaches_on (subst (λ t. Reaches a l j (tries t commands last) seq o) count f) (tries_on more commands last reply g)
 
-pub try_again : {a : Dialog ⊥ Outcome} {l seq n : Position} {j o q : LinkView} (k more : ℕ) (commands : List Command) (last fault : StepFault) (bytes : List ℕ) (reply : said.Reply)
-    → k ≡ suc more → Reaches a l j (tries k commands last) seq o → PlaysOver (attempt commands []) seq o q (reply_of reply bytes) n → reply ≡ replies.Again fault
+pub try_again : {a : Dialog ⊥ Outcome} {l seq n : Position} {j o q : LinkView} (k more : ℕ) (commands : List Command)
+    (last fault : StepFault) (bytes : List ℕ) (reply : said.Reply)
+    → k ≡ suc more → Reaches a l j (tries k commands last) seq o
+    → PlaysOver (attempt commands []) seq o q (reply_of reply bytes) n → reply ≡ replies.Again fault
     → Reaches a l j (tries more commands fault) n q
 try_again {seq = seq} {n = n} {o = o} {q = q} k more commands last fault bytes reply count f g again =
-    try k more commands last (Again fault) count f (subst (λ r. PlaysOver (attempt commands []) seq o q (reply_of r bytes) n) again g)
+    try k more commands last (Again fault) count f
+    (subst (λ r. PlaysOver (attempt commands []) seq o q (reply_of r bytes) n) again g)
 
-pub try_data : {a : Dialog ⊥ Outcome} {l seq n : Position} {j o q : LinkView} (k more : ℕ) (commands : List Command) (last : StepFault) (bytes : List ℕ) (reply : said.Reply)
-    → k ≡ suc more → Reaches a l j (tries k commands last) seq o → PlaysOver (attempt commands []) seq o q (reply_of reply bytes) n → reply ≡ replies.Data
+pub try_data : {a : Dialog ⊥ Outcome} {l seq n : Position} {j o q : LinkView} (k more : ℕ) (commands : List Command)
+    (last : StepFault) (bytes : List ℕ) (reply : said.Reply)
+    → k ≡ suc more → Reaches a l j (tries k commands last) seq o
+    → PlaysOver (attempt commands []) seq o q (reply_of reply bytes) n → reply ≡ replies.Data
     → PlaysOver a l j q (Ok bytes) n
 try_data {seq = seq} {n = n} {o = o} {q = q} k more commands last bytes reply count f g is_data =
-    played_from (try k more commands last (Data bytes) count f (subst (λ r. PlaysOver (attempt commands []) seq o q (reply_of r bytes) n) is_data g))
+    played_from (try k more commands last (Data bytes) count f
+    (subst (λ r. PlaysOver (attempt commands []) seq o q (reply_of r bytes) n) is_data g))
 
-pub try_stop : {a : Dialog ⊥ Outcome} {l seq n : Position} {j o q : LinkView} (k more : ℕ) (commands : List Command) (last fault : StepFault) (bytes : List ℕ) (reply : said.Reply)
-    → k ≡ suc more → Reaches a l j (tries k commands last) seq o → PlaysOver (attempt commands []) seq o q (reply_of reply bytes) n → reply ≡ replies.Stop fault
+pub try_stop : {a : Dialog ⊥ Outcome} {l seq n : Position} {j o q : LinkView} (k more : ℕ) (commands : List Command)
+    (last fault : StepFault) (bytes : List ℕ) (reply : said.Reply)
+    → k ≡ suc more → Reaches a l j (tries k commands last) seq o
+    → PlaysOver (attempt commands []) seq o q (reply_of reply bytes) n → reply ≡ replies.Stop fault
     → PlaysOver a l j q (Err fault) n
 try_stop {seq = seq} {n = n} {o = o} {q = q} k more commands last fault bytes reply count f g stop =
-    played_from (try k more commands last (Stop fault) count f (subst (λ r. PlaysOver (attempt commands []) seq o q (reply_of r bytes) n) stop g))
+    played_from (try k more commands last (Stop fault) count f
+    (subst (λ r. PlaysOver (attempt commands []) seq o q (reply_of r bytes) n) stop g))
 
-pub try_breaks : {by : Broken} {a : Dialog ⊥ Outcome} {l seq : Position} {j o q : LinkView} (k more : ℕ) (commands : List Command) (last : StepFault)
-    → k ≡ suc more → Reaches a l j (tries k commands last) seq o → FailsOver by (attempt commands []) seq o q → FailsOver by a l j q
+pub try_breaks : {by : Broken} {a : Dialog ⊥ Outcome} {l seq : Position} {j o q : LinkView} (k more : ℕ)
+    (commands : List Command) (last : StepFault)
+    → k ≡ suc more → Reaches a l j (tries k commands last) seq o → FailsOver by (attempt commands []) seq o q
+    → FailsOver by a l j q
 try_breaks {a = a} {l = l} {seq = seq} {j = j} {o = o} k more commands last count f g =
     broken_on (subst (λ t. Reaches a l j (tries t commands last) seq o) count f) (tries_off more commands last g)
 
-pub try_end : {a : Dialog ⊥ Outcome} {l seq : Position} {j o : LinkView} (k : ℕ) (commands : List Command) (last : StepFault)
+pub try_end : {a : Dialog ⊥ Outcome} {l seq : Position} {j o : LinkView} (k : ℕ) (commands : List Command)
+    (last : StepFault)
     → Reaches a l j (tries k commands last) seq o → k ≡ 0 → PlaysOver a l j o (Err last) seq
 try_end {a = a} {l = l} {seq = seq} {j = j} {o = o} k commands last f is =
     played_from (subst (λ d. Reaches a l j d seq o) (ap (λ t. tries t commands last) is ∙ tries_none commands last) f)

@@ -16,8 +16,10 @@ heard_append (Sent bytes ∷ x) y = heard_append x y
 heard_append (Got tape ∷ x) y = ap (λ t. tape ++ t) (heard_append x y) ∙ sym (append_assoc tape (heard x) (heard y))
 
 -- what the whole heard is, before what follows
-pub heard_both : (u : Tape) (x y : Talk) (more : Tape) → u ++ (heard (x ++ y) ++ more) ≡ u ++ (heard x ++ (heard y ++ more))
-heard_both u x y more = ap (λ t. u ++ t) (ap (λ t. t ++ more) (heard_append x y) ∙ append_assoc (heard x) (heard y) more)
+pub heard_both : (u : Tape) (x y : Talk) (more : Tape)
+    → u ++ (heard (x ++ y) ++ more) ≡ u ++ (heard x ++ (heard y ++ more))
+heard_both u x y more = ap (λ t. u ++ t)
+    (ap (λ t. t ++ more) (heard_append x y) ∙ append_assoc (heard x) (heard y) more)
 
 pub grows_none : (old : Talk) → Grows old [] old
 grows_none old = sym (append-nil old)
@@ -42,8 +44,12 @@ sent_waiting seq tape [] waits = refl
 sent_waiting seq tape (Sent bytes ∷ talk) waits = absurd waits
 sent_waiting seq tape (Got items ∷ talk) waits = sent_waiting seq (tape ++ items) talk waits.1
 
-pub waits_append : (seq : ℕ) (tape : Tape) (x y : Talk) → WaitsFrom seq tape x → WaitsFrom seq (tape ++ heard x) y → WaitsFrom seq tape (x ++ y)
+pub waits_append : (seq : ℕ) (tape : Tape) (x y : Talk) → WaitsFrom seq tape x → WaitsFrom seq (tape ++ heard x) y
+    → WaitsFrom seq tape (x ++ y)
 waits_append seq tape [] y f g = subst (λ t. WaitsFrom seq t y) (append-nil tape) g
 waits_append seq tape (Sent bytes ∷ x) y f g = absurd f
-waits_append seq tape (Got items ∷ x) y f g =
-    (f.0, waits_append seq (tape ++ items) x y f.1 (subst (λ t. WaitsFrom seq t y) (sym (append_assoc tape items (heard x))) g))
+waits_append seq tape (Got items ∷ x) y f g = (
+  f.0,
+  waits_append seq (tape ++ items) x y f.1
+      (subst (λ t. WaitsFrom seq t y) (sym (append_assoc tape items (heard x))) g),
+)

@@ -42,34 +42,42 @@ take_over : (n : ℕ) (x y : List ℕ) → length x ≤ n → take n (x ++ y) �
 take_over n x y le = ap (λ m. take m (x ++ y)) (omega arith) ∙ take-append-add x y (n - length x)
 
 -- the answer, by the bytes looked at
-answer_by : (seq : ℕ) (tape : Tape) (bytes : List ℕ) → take limit (bytes_in tape) ≡ bytes → answer seq tape ≡ read_to (first_answer seq (cut bytes)) bytes tape
+answer_by : (seq : ℕ) (tape : Tape) (bytes : List ℕ) → take limit (bytes_in tape) ≡ bytes
+    → answer seq tape ≡ read_to (first_answer seq (cut bytes)) bytes tape
 unfolding answer
 answer_by seq tape bytes is = ap (λ bs. read_to (first_answer seq (cut bs)) bs tape) is
 
 -- no answer yet, and more may come
-stopped_at : (seq : ℕ) (x : List ℕ) (tape : Tape) → first_answer seq (cut x) ≡ None → length x < limit → bytes_in tape ≡ [] → answer seq (on_tape x ++ tape) ≡ silence_or_end tape
+stopped_at : (seq : ℕ) (x : List ℕ) (tape : Tape) → first_answer seq (cut x) ≡ None → length x < limit
+    → bytes_in tape ≡ [] → answer seq (on_tape x ++ tape) ≡ silence_or_end tape
 stopped_at seq x tape none few no_bytes =
     let bytes : take limit (bytes_in (on_tape x ++ tape)) ≡ x =
-    ap (take limit) (bytes_in_tape x tape ∙ (ap (λ bs. x ++ bs) no_bytes ∙ append-nil x)) ∙ take_all limit x (omega arith) in
+    ap (take limit) (bytes_in_tape x tape ∙ (ap (λ bs. x ++ bs) no_bytes ∙ append-nil x))
+    ∙ take_all limit x (omega arith) in
     answer_by seq (on_tape x ++ tape) x bytes
     ∙ (ap (λ o. read_to o x (on_tape x ++ tape)) none
     ∙ (refused (leb limit (length x)) _ _ (lt-leb limit (length x) few)
     ∙ ap silence_or_end (drop_tape x tape)))
 
-pub answer_silent : (seq : ℕ) (x : List ℕ) (more : Tape) → first_answer seq (cut x) ≡ None → length x < limit → answer seq (on_tape x ++ Silence ∷ more) ≡ Some (Silent, more)
+pub answer_silent : (seq : ℕ) (x : List ℕ) (more : Tape) → first_answer seq (cut x) ≡ None → length x < limit
+    → answer seq (on_tape x ++ Silence ∷ more) ≡ Some (Silent, more)
 answer_silent seq x more none few = stopped_at seq x (Silence ∷ more) none few refl
 
-pub answer_ended : (seq : ℕ) (x : List ℕ) (more : Tape) → first_answer seq (cut x) ≡ None → length x < limit → answer seq (on_tape x ++ End ∷ more) ≡ Some (Ended, more)
+pub answer_ended : (seq : ℕ) (x : List ℕ) (more : Tape) → first_answer seq (cut x) ≡ None → length x < limit
+    → answer seq (on_tape x ++ End ∷ more) ≡ Some (Ended, more)
 answer_ended seq x more none few = stopped_at seq x (End ∷ more) none few refl
 
-pub answer_waits : (seq : ℕ) (x : List ℕ) → first_answer seq (cut x) ≡ None → length x < limit → answer seq (on_tape x) ≡ None
+pub answer_waits : (seq : ℕ) (x : List ℕ) → first_answer seq (cut x) ≡ None → length x < limit
+    → answer seq (on_tape x) ≡ None
 answer_waits seq x none few = ap (answer seq) (sym (append-nil (on_tape x))) ∙ stopped_at seq x [] none few refl
 
 -- where the limit is reached
-pub answer_babbled : (seq : ℕ) (x : List ℕ) (more : Tape) → first_answer seq (cut x) ≡ None → length x ≡ limit → answer seq (on_tape x ++ more) ≡ Some (Babbled, more)
+pub answer_babbled : (seq : ℕ) (x : List ℕ) (more : Tape) → first_answer seq (cut x) ≡ None → length x ≡ limit
+    → answer seq (on_tape x ++ more) ≡ Some (Babbled, more)
 answer_babbled seq x more none full =
     let bytes : take limit (bytes_in (on_tape x ++ more)) ≡ x =
-    ap (take limit) (bytes_in_tape x more) ∙ (take-append-le limit x (bytes_in more) (omega arith) ∙ take_all limit x (omega arith)) in
+    ap (take limit) (bytes_in_tape x more) ∙
+    (take-append-le limit x (bytes_in more) (omega arith) ∙ take_all limit x (omega arith)) in
     answer_by seq (on_tape x ++ more) x bytes
     ∙ (ap (λ o. read_to o x (on_tape x ++ more)) none
     ∙ (chosen (leb limit (length x)) _ _ (le-leb limit (length x) (omega arith))
@@ -88,31 +96,41 @@ further_none a None e = refl
 further_none a (Some (body, used)) e = cc
 
 -- behind pieces without an answer
-pub first_answer_behind : (seq : ℕ) (xs ys : List (List ℕ)) → first_answer seq xs ≡ None → first_answer seq (xs ++ ys) ≡ further (length (concat xs)) (first_answer seq ys)
+pub first_answer_behind : (seq : ℕ) (xs ys : List (List ℕ)) → first_answer seq xs ≡ None
+    → first_answer seq (xs ++ ys) ≡ further (length (concat xs)) (first_answer seq ys)
 first_answer_behind seq [] ys none = further_zero (first_answer seq ys)
 first_answer_behind seq (x ∷ xs) ys none = elim (cases_Bool (is_answer seq x)) [
-  | inl is_it ↦ let e = sym (chosen (is_answer seq x) (Some (body_of x, length x)) (further (length x) (first_answer seq xs)) is_it) ∙ none in cc
+  | inl is_it ↦ let e = sym (chosen (is_answer seq x) (Some (body_of x, length x))
+      (further (length x) (first_answer seq xs)) is_it) ∙ none in cc
   | inr is_not ↦
-      let none' : first_answer seq xs ≡ None = further_none (length x) (first_answer seq xs) (sym (refused (is_answer seq x) (Some (body_of x, length x)) (further (length x) (first_answer seq xs)) is_not) ∙ none) in
+      let none' : first_answer seq xs ≡ None =
+      further_none (length x) (first_answer seq xs)
+      (sym (refused (is_answer seq x) (Some (body_of x, length x)) (further (length x) (first_answer seq xs))
+      is_not) ∙ none) in
       refused (is_answer seq x) (Some (body_of x, length x)) (further (length x) (first_answer seq (xs ++ ys))) is_not
       ∙ (ap (further (length x)) (first_answer_behind seq xs ys none')
       ∙ (further_further (length x) (length (concat xs)) (first_answer seq ys)
       ∙ ap (λ n. further n (first_answer seq ys)) (sym (length-append x (concat xs)))))
 ]
 
-some_inside : (a : ℕ) (o : Option (List ℕ × ℕ)) (v : List ℕ × ℕ) → further a o ≡ Some v → (w : List ℕ × ℕ) × (o ≡ Some w)
+some_inside : (a : ℕ) (o : Option (List ℕ × ℕ)) (v : List ℕ × ℕ) → further a o ≡ Some v
+    → (w : List ℕ × ℕ) × (o ≡ Some w)
 some_inside a None v e = absurd (none≢some v e)
 some_inside a (Some w) v e = (w, refl)
 
 -- what follows an answer doesn't matter
-pub first_answer_stays : (seq : ℕ) (xs ys : List (List ℕ)) (found : List ℕ × ℕ) → first_answer seq xs ≡ Some found → first_answer seq (xs ++ ys) ≡ Some found
+pub first_answer_stays : (seq : ℕ) (xs ys : List (List ℕ)) (found : List ℕ × ℕ) → first_answer seq xs ≡ Some found
+    → first_answer seq (xs ++ ys) ≡ Some found
 first_answer_stays seq [] ys found some = absurd (none≢some found some)
 first_answer_stays seq (x ∷ xs) ys found some = elim (cases_Bool (is_answer seq x)) [
   | inl is_it ↦
       chosen (is_answer seq x) (Some (body_of x, length x)) (further (length x) (first_answer seq (xs ++ ys))) is_it
-      ∙ (sym (chosen (is_answer seq x) (Some (body_of x, length x)) (further (length x) (first_answer seq xs)) is_it) ∙ some)
+      ∙ (sym (chosen (is_answer seq x) (Some (body_of x, length x)) (further (length x) (first_answer seq xs)) is_it)
+      ∙ some)
   | inr is_not ↦
-      let inner : further (length x) (first_answer seq xs) ≡ Some found = sym (refused (is_answer seq x) (Some (body_of x, length x)) (further (length x) (first_answer seq xs)) is_not) ∙ some in
+      let inner : further (length x) (first_answer seq xs) ≡ Some found =
+      sym (refused (is_answer seq x) (Some (body_of x, length x)) (further (length x) (first_answer seq xs)) is_not)
+      ∙ some in
       let at = some_inside (length x) (first_answer seq xs) found inner in
       refused (is_answer seq x) (Some (body_of x, length x)) (further (length x) (first_answer seq (xs ++ ys))) is_not
       ∙ (ap (further (length x)) (first_answer_stays seq xs ys at.0 at.1 ∙ sym at.1) ∙ inner)
@@ -124,12 +142,16 @@ first_answer_skipped seq [] none = refl
 first_answer_skipped seq (x ∷ xs) none = elim (cases_Bool (is_frame x)) [
   | inl is_it ↦ let e = sym (chosen (is_frame x) (x ∷ filter is_frame xs) (filter is_frame xs) is_it) ∙ none in cc
   | inr is_not ↦
-      refused (is_answer seq x) (Some (body_of x, length x)) (further (length x) (first_answer seq xs)) (and_left (is_good x) _ (and_left (is_frame x) _ is_not))
-      ∙ ap (further (length x)) (first_answer_skipped seq xs (sym (refused (is_frame x) (x ∷ filter is_frame xs) (filter is_frame xs) is_not) ∙ none))
+      refused (is_answer seq x) (Some (body_of x, length x)) (further (length x) (first_answer seq xs))
+      (and_left (is_good x) _ (and_left (is_frame x) _ is_not))
+      ∙ ap (further (length x)) (first_answer_skipped seq xs
+      (sym (refused (is_frame x) (x ∷ filter is_frame xs) (filter is_frame xs) is_not) ∙ none))
 ]
 
 -- more bytes that bring no frame, or one that is no answer
-pub still_none : (seq : ℕ) (x y : List ℕ) (skipped found : List (List ℕ)) → first_answer seq (cut x) ≡ None → filter is_frame skipped ≡ [] → cut (x ++ y) ≡ cut x ++ (skipped ++ found) → first_answer seq found ≡ None → first_answer seq (cut (x ++ y)) ≡ None
+pub still_none : (seq : ℕ) (x y : List ℕ) (skipped found : List (List ℕ)) → first_answer seq (cut x) ≡ None
+    → filter is_frame skipped ≡ [] → cut (x ++ y) ≡ cut x ++ (skipped ++ found) → first_answer seq found ≡ None
+    → first_answer seq (cut (x ++ y)) ≡ None
 still_none seq x y skipped found none no_frames pieces other =
     ap (first_answer seq) pieces
     ∙ (first_answer_behind seq (cut x) (skipped ++ found) none
@@ -138,7 +160,9 @@ still_none seq x y skipped found none no_frames pieces other =
     ∙ ap (further (length (concat skipped))) other))
 
 -- more bytes that bring the answer, and end with it
-pub now_found : (seq : ℕ) (x y : List ℕ) (skipped : List (List ℕ)) (frame : List ℕ) → first_answer seq (cut x) ≡ None → filter is_frame skipped ≡ [] → cut (x ++ y) ≡ cut x ++ (skipped ++ frame ∷ []) → is_answer seq frame ≡ true → rest (x ++ y) ≡ [] → first_answer seq (cut (x ++ y)) ≡ Some (body_of frame, length (x ++ y))
+pub now_found : (seq : ℕ) (x y : List ℕ) (skipped : List (List ℕ)) (frame : List ℕ) → first_answer seq (cut x) ≡ None
+    → filter is_frame skipped ≡ [] → cut (x ++ y) ≡ cut x ++ (skipped ++ frame ∷ []) → is_answer seq frame ≡ true
+    → rest (x ++ y) ≡ [] → first_answer seq (cut (x ++ y)) ≡ Some (body_of frame, length (x ++ y))
 now_found seq x y skipped frame none no_frames pieces is_it whole =
     let joined : concat (cut x) ++ (concat skipped ++ (frame ++ [])) ≡ x ++ y =
     ap (λ bs. concat (cut x) ++ bs) (sym (concat-append skipped (frame ∷ [])))
@@ -148,16 +172,21 @@ now_found seq x y skipped frame none no_frames pieces is_it whole =
     ∙ (ap (λ r. concat (cut (x ++ y)) ++ r) (sym whole)
     ∙ cut_joined (x ++ y))))) in
     let total : length (concat (cut x)) + (length (concat skipped) + (length frame + 0)) ≡ length (x ++ y) =
-    sym (length-append (concat (cut x)) _ ∙ ap (λ n. length (concat (cut x)) + n) (length-append (concat skipped) _ ∙ ap (λ n. length (concat skipped) + n) (length-append frame []))) ∙ ap length joined in
+    sym (length-append (concat (cut x)) _ ∙ ap (λ n. length (concat (cut x)) + n)
+    (length-append (concat skipped) _ ∙ ap (λ n. length (concat skipped) + n) (length-append frame [])))
+    ∙ ap length joined in
     ap (first_answer seq) pieces
     ∙ (first_answer_behind seq (cut x) (skipped ++ frame ∷ []) none
     ∙ (ap (further (length (concat (cut x))))
     (first_answer_behind seq skipped (frame ∷ []) (first_answer_skipped seq skipped no_frames)
-    ∙ ap (further (length (concat skipped))) (chosen (is_answer seq frame) (Some (body_of frame, length frame)) (further (length frame) None) is_it))
+    ∙ ap (further (length (concat skipped)))
+    (chosen (is_answer seq frame) (Some (body_of frame, length frame)) (further (length frame) None) is_it))
     ∙ ap (λ n. Some (body_of frame, n)) (omega (arith, total))))
 
 -- the answer, where the bytes end with it
-pub answer_found : (seq : ℕ) (x : List ℕ) (more : Tape) (body : List ℕ) → first_answer seq (cut x) ≡ Some (body, length x) → length x ≤ limit → answer seq (on_tape x ++ more) ≡ Some (Answered body, more)
+pub answer_found : (seq : ℕ) (x : List ℕ) (more : Tape) (body : List ℕ)
+    → first_answer seq (cut x) ≡ Some (body, length x) → length x ≤ limit
+    → answer seq (on_tape x ++ more) ≡ Some (Answered body, more)
 answer_found seq x more body found few =
     let bytes : take limit (bytes_in (on_tape x ++ more)) ≡ x ++ take (limit - length x) (bytes_in more) =
     ap (take limit) (bytes_in_tape x more) ∙ take_over limit x (bytes_in more) few in

@@ -16,3 +16,6 @@ pub mod Links
 pub mod Watching
 -- inside: how things are kept, and what inner functions promise one another
 pub mod Log
+-- of the crates below, what public contracts name
+pub use Rattle.avr_part.specs.Part
+pub use Rattle.ghosts.specs.Stays

@@ -6,11 +6,11 @@ use Rattle.stk_host.specs.declared.watched_link.LinkCall.{LinkCall}
 use Rattle.stk_host.specs.declared.watched_link.LinkCall.TheVariants as call
 
 -- a call of a link that is over: what it was given, and what it answered
-pub data Told : Type 0 where
-  Sent : List ℕ → Result ℕ LinkFault → Told
-  Listened : List ℕ → Result Heard LinkFault → Told
+pub data ToldOfLink : Type 0 where
+  Sent : List ℕ → Result ℕ LinkFault → ToldOfLink
+  Listened : List ℕ → Result Heard LinkFault → ToldOfLink
 
 -- the call, by the bytes that are lent with it
-abbrev pub told_of : LinkCall → Told
-told_of (call.Sent bytes answer) = Sent bytes.now answer
-told_of (call.Listened buffer answer) = Listened buffer.now answer
+abbrev pub link_told : LinkCall → ToldOfLink
+link_told (call.Sent bytes answer) = Sent bytes.now answer
+link_told (call.Listened buffer answer) = Listened buffer.now answer

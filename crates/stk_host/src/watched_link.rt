@@ -2,7 +2,7 @@
 ghost use Rattle.std.specs.Prelude.{◌<◌, length};
 ghost use Rattle.ghosts.specs.Stays.{Stays};
 ghost use Rattle.stk_host.specs.Talk.{Sends, Receives};
-ghost use Rattle.stk_host.specs.Watching.{Told, Sent, Listened, told_of};
+ghost use Rattle.stk_host.specs.Watching.{ToldOfLink, Sent, Listened, link_told};
 
 use crate::link::{Heard, Link, LinkFault};
 
@@ -21,11 +21,11 @@ pub enum LinkCall<'a> {
 /// `λ call old new. Unit {0}`.
 pub trait WatchLink {
     /// The watcher has become this by being told of this call.
-    ghost after: { Told → Self → Self → Type 0 };
+    ghost after: { ToldOfLink → Self → Self → Type 0 };
 
     /// A call is over.
     fn told(&mut self, call: &LinkCall<'_>)
-        ensures { after (told_of call.now) self.old self.new };
+        ensures { after (link_told call.now) self.old self.new };
 }
 
 /// A link and its watcher, which is told once of each call, when the link has answered it. It is a link as that within

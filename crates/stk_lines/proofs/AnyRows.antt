@@ -15,13 +15,16 @@ asks zero = Done 0
 asks (suc k) = Ask (0x05 ∷ []) (λ reading. asks k)
 
 -- A stall inside an answer: a front of it, a silence, and the rest in front of the next answer.
-pub stall_inside : AreHonest device (asks 2) 1 (on_tape (take 4 (told 1)) ++ (Silence ∷ on_tape (drop 4 (told 1) ++ told 2))) start (Obeyed ∷ Obeyed ∷ [])
+pub stall_inside : AreHonest device (asks 2) 1
+    (on_tape (take 4 (told 1)) ++ (Silence ∷ on_tape (drop 4 (told 1) ++ told 2))) start (Obeyed ∷ Obeyed ∷ [])
 unfolding answer
 stall_inside = (tt, (inl (refl, refl), tt))
 
--- A command whose size byte came spoiled: the programmer takes it and the next one for one frame, and refuses that late,
+-- A command whose size byte came spoiled: the programmer takes it and the next one for one frame, and refuses that
+-- late,
 -- under the first one's number; and the refusal comes twice.
-pub swallowed : AreHonest device (asks 3) 1 (Silence ∷ Silence ∷ on_tape (frame 1 refusal ++ (frame 1 refusal ++ told 3))) start (Kept ∷ Kept ∷ Obeyed ∷ [])
+pub swallowed : AreHonest device (asks 3) 1
+    (Silence ∷ Silence ∷ on_tape (frame 1 refusal ++ (frame 1 refusal ++ told 3))) start (Kept ∷ Kept ∷ Obeyed ∷ [])
 unfolding answer
 swallowed = (tt, (tt, (inl (refl, refl), tt)))
 
@@ -31,7 +34,9 @@ unfolding answer
 refused_late = (inr refl, tt)
 
 -- five answers that are held, of which the first comes twice
-pub five_held : AreHonest device (asks 6) 1 (Silence ∷ Silence ∷ Silence ∷ Silence ∷ Silence ∷ on_tape (told 1 ++ (told 1 ++ (told 2 ++ (told 3 ++ (told 4 ++ (told 5 ++ told 6)))))))
+pub five_held : AreHonest device (asks 6) 1
+    (Silence ∷ Silence ∷ Silence ∷ Silence ∷ Silence
+    ∷ on_tape (told 1 ++ (told 1 ++ (told 2 ++ (told 3 ++ (told 4 ++ (told 5 ++ told 6)))))))
     start (Obeyed ∷ Obeyed ∷ Obeyed ∷ Obeyed ∷ Obeyed ∷ Obeyed ∷ [])
 unfolding answer
 five_held = (tt, (tt, (tt, (tt, (tt, (inl (refl, refl), tt))))))

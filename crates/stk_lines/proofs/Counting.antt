@@ -17,39 +17,50 @@ abbrev pub AreStrokes : List (List Command) → Type 0
 AreStrokes [] = Unit {0}
 AreStrokes (commands ∷ steps) = (length (stroke_of commands) ≡ 1) × AreStrokes steps
 
-one_more : (part : Part) (items others : List Item) (steps : List (List Command)) (count : ℕ) (m : Memories) → length items ≡ 1
-    → ((n : Memories) → struck_by part count steps n ≡ effects part (take count others) n) → struck_by part count steps (effects part items m) ≡ effects part (take (suc count) (items ++ others)) m
+one_more : (part : Part) (items others : List Item) (steps : List (List Command)) (count : ℕ) (m : Memories)
+    → length items ≡ 1
+    → ((n : Memories) → struck_by part count steps n ≡ effects part (take count others) n)
+    → struck_by part count steps (effects part items m) ≡ effects part (take (suc count) (items ++ others)) m
 one_more part [] others steps count m e rest = absurd (omega arith)
 one_more part (item ∷ []) others steps count m e rest = rest (effect part item m)
 one_more part (item ∷ next ∷ items) others steps count m e rest = absurd (omega arith)
 
 -- so the memories after the first so many steps are those of the first so many strokes
-pub counted_strokes : (part : Part) (count : ℕ) (steps : List (List Command)) (m : Memories) → AreStrokes steps → struck_by part count steps m ≡ effects part (take count (strokes_of steps)) m
+pub counted_strokes : (part : Part) (count : ℕ) (steps : List (List Command)) (m : Memories) → AreStrokes steps
+    → struck_by part count steps m ≡ effects part (take count (strokes_of steps)) m
 counted_strokes part zero steps m are = refl
 counted_strokes part (suc count) [] m are = refl
 counted_strokes part (suc count) (commands ∷ steps) m are =
-    one_more part (stroke_of commands) (strokes_of steps) steps count m are.0 (λ n. counted_strokes part count steps n are.1)
+    one_more part (stroke_of commands) (strokes_of steps) steps count m are.0
+    (λ n. counted_strokes part count steps n are.1)
 
 strokes_join : (xs ys : List (List Command)) → AreStrokes xs → AreStrokes ys → AreStrokes (xs ++ ys)
 strokes_join [] ys f g = g
 strokes_join (x ∷ xs) ys f g = (f.0, strokes_join xs ys f.1 g)
 
-each_stroke : (steps_at : ℕ → List (List Command)) (place count : ℕ) → ((i : ℕ) → AreStrokes (steps_at i)) → AreStrokes (each_from steps_at place count)
+each_stroke : (steps_at : ℕ → List (List Command)) (place count : ℕ) → ((i : ℕ) → AreStrokes (steps_at i))
+    → AreStrokes (each_from steps_at place count)
 each_stroke steps_at place zero each = tt
-each_stroke steps_at place (suc count) each = strokes_join (steps_at place) (each_from steps_at (place + 1) count) (each place) (each_stroke steps_at (place + 1) count each)
+each_stroke steps_at place (suc count) each =
+    strokes_join (steps_at place) (each_from steps_at (place + 1) count) (each place)
+    (each_stroke steps_at (place + 1) count each)
 
 either_strokes : (b : Bool) (x : List (List Command)) → AreStrokes x → AreStrokes (cond b x [])
 either_strokes true x f = f
 either_strokes false x f = tt
 
-byte_strokes : (program : ℕ → Command) (o : Option ℕ) → ((v : ℕ) → length (stroke_of (program v ∷ [])) ≡ 1) → AreStrokes (byte_steps program o)
+byte_strokes : (program : ℕ → Command) (o : Option ℕ) → ((v : ℕ) → length (stroke_of (program v ∷ [])) ≡ 1)
+    → AreStrokes (byte_steps program o)
 byte_strokes program None each = tt
 byte_strokes program (Some v) each = (each v, tt)
 
 write_strokes : (part : Part) (mem : Mem) (image : Image) → AreStrokes (write_steps part mem image)
 write_strokes part Flash image =
-    each_stroke (page_steps part image) 0 (part.flash_size / part.flash_page) (λ n. either_strokes (is_used part.flash_page image (n * part.flash_page)) (page_step part image (n * part.flash_page) ∷ []) (refl, tt))
-write_strokes part Eeprom image = each_stroke (run_steps_at part image) 0 part.eeprom_size (λ a. either_strokes (begins_run part.eeprom_page image a) (run_step part image a ∷ []) (refl, tt))
+    each_stroke (page_steps part image) 0 (part.flash_size / part.flash_page)
+    (λ n. either_strokes (is_used part.flash_page image (n * part.flash_page))
+    (page_step part image (n * part.flash_page) ∷ []) (refl, tt))
+write_strokes part Eeprom image = each_stroke (run_steps_at part image) 0 part.eeprom_size
+    (λ a. either_strokes (begins_run part.eeprom_page image a) (run_step part image a ∷ []) (refl, tt))
 write_strokes part Lfuse image = byte_strokes (program_fuse Low) (byte_at image 0) (λ v. refl)
 write_strokes part Hfuse image = byte_strokes (program_fuse High) (byte_at image 0) (λ v. refl)
 write_strokes part Efuse image = byte_strokes (program_fuse Extended) (byte_at image 0) (λ v. refl)
@@ -60,7 +71,10 @@ write_strokes part Calibration image = tt
 pub all_strokes : (part : Part) (items : List Item) → AreStrokes (all_steps part items)
 all_strokes part [] = tt
 all_strokes part (Erase ∷ items) = (refl, all_strokes part items)
-all_strokes part (Write mem image ∷ items) = strokes_join (write_steps part mem image) (all_steps part items) (write_strokes part mem image) (all_strokes part items)
+all_strokes part (Write mem image ∷ items) =
+    strokes_join (write_steps part mem image) (all_steps part items) (write_strokes part mem image)
+    (all_strokes part items)
 
-pub items_counted : (part : Part) (items : List Item) (count : ℕ) (m : Memories) → struck_by part count (all_steps part items) m ≡ effects part (take count (strokes_of (all_steps part items))) m
+pub items_counted : (part : Part) (items : List Item) (count : ℕ) (m : Memories)
+    → struck_by part count (all_steps part items) m ≡ effects part (take count (strokes_of (all_steps part items))) m
 items_counted part items count m = counted_strokes part count (all_steps part items) m (all_strokes part items)

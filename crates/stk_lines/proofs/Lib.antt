@@ -1,9 +1,11 @@
--- from the lowest up: frames over any line, attempts and steps, strokes, what is given, few bad turns
+-- in the order in which to read: frames over any line, attempts and steps, strokes, what is given, few bad turns
 pub mod PlayedAlong
+pub mod Extending
 pub mod AnyTape
+pub mod WirePlayed
+pub mod Turning
 pub mod NoFrame
 pub mod AnyRows
-pub mod WirePlayed
 pub mod OnAnyTurn
 pub mod Attempts
 pub mod Climbing
@@ -17,8 +19,6 @@ pub mod RunStrokes
 pub mod ItemStrokes
 pub mod Giving
 pub mod PlayGiven
-pub mod Extending
-pub mod Turning
 pub mod SaidAlong
 pub mod LeadsOn
 pub mod FewFates

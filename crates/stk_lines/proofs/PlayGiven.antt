@@ -13,7 +13,8 @@ use Rattle.stk_emu.specs.Given.{all_given}
 use Rattle.stk_emu.proofs.Pages.{flash_address_back}
 
 -- a block, and what is behind it
-block_join : (xs : List ℕ) (start size : ℕ) → length xs ≡ size → take (min 256 (size - start)) (drop start xs) ++ drop (start + 256) xs ≡ drop start xs
+block_join : (xs : List ℕ) (start size : ℕ) → length xs ≡ size
+    → take (min 256 (size - start)) (drop start xs) ++ drop (start + 256) xs ≡ drop start xs
 block_join xs start size long =
     let ys = drop start xs in
     let left : size - start ≡ length ys = ap (λ n. n - start) (sym long) ∙ sym (length-drop start xs) in
@@ -22,7 +23,8 @@ block_join xs start size long =
     ∙ (ap (λ zs. take 256 ys ++ zs) (sym (drop-drop 256 start xs))
     ∙ take-append-drop 256 ys))
 
-pub one_by_one : (xs : List ℕ) → length xs ≡ 3 → take 1 (drop 0 xs) ++ (take 1 (drop 1 xs) ++ (take 1 (drop 2 xs) ++ [])) ≡ xs
+pub one_by_one : (xs : List ℕ) → length xs ≡ 3
+    → take 1 (drop 0 xs) ++ (take 1 (drop 1 xs) ++ (take 1 (drop 2 xs) ++ [])) ≡ xs
 one_by_one [] e = absurd (omega arith)
 one_by_one (a ∷ []) e = absurd (omega arith)
 one_by_one (a ∷ b ∷ []) e = absurd (omega arith)
@@ -30,22 +32,30 @@ one_by_one (a ∷ b ∷ c ∷ []) e = refl
 one_by_one (a ∷ b ∷ c ∷ d ∷ xs) e = absurd (omega arith)
 
 module _ (part : Part) (sound : IsPart part) (m : Memories) (f : FitsPart part m) where
-  flash_blocks : (n k : ℕ) → n + k ≡ block_count part.flash_size → all_given part (each_from (block_steps part Flash) n k) m ≡ drop (n * 256) m.flash
+  flash_blocks : (n k : ℕ) → n + k ≡ block_count part.flash_size
+      → all_given part (each_from (block_steps part Flash) n k) m ≡ drop (n * 256) m.flash
   flash_blocks n zero e = let long = f.flash in sym (drop_all (n * 256) m.flash (omega (arith, e, long)))
   flash_blocks n (suc k) e =
       let most = sound.flash_most in
       let few : n * 256 < 4294967296 = omega (arith, e) in
       let even : n * 256 % 2 ≡ 0 = omega arith in
       let next : (n + 1) * 256 ≡ n * 256 + 256 = omega arith in
-      ap (λ a. take (block_size part.flash_size (n * 256)) (drop a m.flash) ++ all_given part (each_from (block_steps part Flash) (n + 1) k) m) (flash_address_back part (n * 256) few even)
-      ∙ (ap (λ ys. take (block_size part.flash_size (n * 256)) (drop (n * 256) m.flash) ++ ys) (flash_blocks (n + 1) k (let g : n + 1 + k ≡ n + suc k = omega arith in g ∙ e) ∙ ap (λ j. drop j m.flash) next)
+      ap (λ a. take (block_size part.flash_size (n * 256)) (drop a m.flash)
+      ++ all_given part (each_from (block_steps part Flash) (n + 1) k) m)
+      (flash_address_back part (n * 256) few even)
+      ∙ (ap (λ ys. take (block_size part.flash_size (n * 256)) (drop (n * 256) m.flash) ++ ys)
+      (flash_blocks (n + 1) k (let g : n + 1 + k ≡ n + suc k = omega arith in g ∙ e)
+      ∙ ap (λ j. drop j m.flash) next)
       ∙ block_join m.flash (n * 256) part.flash_size f.flash)
 
-  eeprom_blocks : (n k : ℕ) → n + k ≡ block_count part.eeprom_size → all_given part (each_from (block_steps part Eeprom) n k) m ≡ drop (n * 256) m.eeprom
+  eeprom_blocks : (n k : ℕ) → n + k ≡ block_count part.eeprom_size
+      → all_given part (each_from (block_steps part Eeprom) n k) m ≡ drop (n * 256) m.eeprom
   eeprom_blocks n zero e = let long = f.eeprom in sym (drop_all (n * 256) m.eeprom (omega (arith, e, long)))
   eeprom_blocks n (suc k) e =
       let next : (n + 1) * 256 ≡ n * 256 + 256 = omega arith in
-      ap (λ ys. take (block_size part.eeprom_size (n * 256)) (drop (n * 256) m.eeprom) ++ ys) (eeprom_blocks (n + 1) k (let g : n + 1 + k ≡ n + suc k = omega arith in g ∙ e) ∙ ap (λ j. drop j m.eeprom) next)
+      ap (λ ys. take (block_size part.eeprom_size (n * 256)) (drop (n * 256) m.eeprom) ++ ys)
+      (eeprom_blocks (n + 1) k (let g : n + 1 + k ≡ n + suc k = omega arith in g ∙ e)
+      ∙ ap (λ j. drop j m.eeprom) next)
       ∙ block_join m.eeprom (n * 256) part.eeprom_size f.eeprom
 
   -- all blocks of a memory are the memory

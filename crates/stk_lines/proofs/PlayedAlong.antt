@@ -14,7 +14,8 @@ played_along m k (Say e d) n p turns left = behind (Said e ∷ []) (played_along
 played_along m zero (Ask bytes go_on) n p turns left = record { events = Frame (frame n bytes) ∷ []; outcome = None }
 played_along m (suc k) (Ask bytes go_on) n p turns left =
     behind (Frame (frame n bytes) ∷ [])
-    (played_along m k (go_on (turn_reading (first_turn turns) (m.answer bytes p))) (next n) (after_turn (first_turn turns) (m.after bytes p) p m.reset) (other_turns turns) left)
+    (played_along m k (go_on (turn_reading (first_turn turns) (m.answer bytes p))) (next n)
+    (after_turn (first_turn turns) (m.after bytes p) p m.reset) (other_turns turns) left)
 
 abbrev pub result_of : {R : Type 0} → R → Option (R × ℕ × Tape) → R
 result_of other None = other
@@ -37,25 +38,31 @@ pub none_some : {A : Type 0} (a : A) → None ≡ Some a → ⊥
 none_some a e = cc
 
 module _ {E R P : Type 0} (m : Device P) where
-  pub said_played : (k : ℕ) (d : Dialog E R) (n : ℕ) (p : P) (turns : List Turn) (left : Tape) → sayings (played_along m k d n p turns left).events ≡ said_along m k d p turns
+  pub said_played : (k : ℕ) (d : Dialog E R) (n : ℕ) (p : P) (turns : List Turn) (left : Tape)
+      → sayings (played_along m k d n p turns left).events ≡ said_along m k d p turns
   said_played k (Done r) n p turns left = refl
   said_played k (Say e d) n p turns left = ap (λ said. e ∷ said) (said_played k d n p turns left)
   said_played zero (Ask bytes go_on) n p turns left = refl
   said_played (suc k) (Ask bytes go_on) n p turns left =
-      said_played k (go_on (turn_reading (first_turn turns) (m.answer bytes p))) (next n) (after_turn (first_turn turns) (m.after bytes p) p m.reset) (other_turns turns) left
+      said_played k (go_on (turn_reading (first_turn turns) (m.answer bytes p))) (next n)
+      (after_turn (first_turn turns) (m.after bytes p) p m.reset) (other_turns turns) left
 
-  pub done_played : (k : ℕ) (d : Dialog E R) (n : ℕ) (p : P) (turns : List Turn) (left : Tape) (r : R) (seq : ℕ) (rest : Tape) → (played_along m k d n p turns left).outcome ≡ Some (r, seq, rest)
+  pub done_played : (k : ℕ) (d : Dialog E R) (n : ℕ) (p : P) (turns : List Turn) (left : Tape) (r : R) (seq : ℕ)
+      (rest : Tape) → (played_along m k d n p turns left).outcome ≡ Some (r, seq, rest)
       → ((along m k d p turns).dialog ≡ Done r) × (rest ≡ left)
   done_played k (Done q) n p turns left r seq rest o = (ap (λ x. Done (result_of q x)) o, sym (ap tape_left o))
   done_played k (Say e d) n p turns left r seq rest o = done_played k d n p turns left r seq rest o
   done_played zero (Ask bytes go_on) n p turns left r seq rest o = absurd (none_some (r, seq, rest) o)
   done_played (suc k) (Ask bytes go_on) n p turns left r seq rest o =
-      done_played k (go_on (turn_reading (first_turn turns) (m.answer bytes p))) (next n) (after_turn (first_turn turns) (m.after bytes p) p m.reset) (other_turns turns) left r seq rest o
+      done_played k (go_on (turn_reading (first_turn turns) (m.answer bytes p))) (next n)
+      (after_turn (first_turn turns) (m.after bytes p) p m.reset) (other_turns turns) left r seq rest o
 
-  pub waits_played : (k : ℕ) (d : Dialog E R) (n : ℕ) (p : P) (turns : List Turn) (left : Tape) → (played_along m k d n p turns left).outcome ≡ None
+  pub waits_played : (k : ℕ) (d : Dialog E R) (n : ℕ) (p : P) (turns : List Turn) (left : Tape)
+      → (played_along m k d n p turns left).outcome ≡ None
       → length (frames_in (played_along m k d n p turns left).events) ≡ suc k
   waits_played k (Done r) n p turns left none = absurd (none_some (r, n, left) (sym none))
   waits_played k (Say e d) n p turns left none = waits_played k d n p turns left none
   waits_played zero (Ask bytes go_on) n p turns left none = refl
   waits_played (suc k) (Ask bytes go_on) n p turns left none =
-      ap suc (waits_played k (go_on (turn_reading (first_turn turns) (m.answer bytes p))) (next n) (after_turn (first_turn turns) (m.after bytes p) p m.reset) (other_turns turns) left none)
+      ap suc (waits_played k (go_on (turn_reading (first_turn turns) (m.answer bytes p))) (next n)
+      (after_turn (first_turn turns) (m.after bytes p) p m.reset) (other_turns turns) left none)

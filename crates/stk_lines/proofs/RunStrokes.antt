@@ -22,21 +22,28 @@ held_byte (Some b) x e = refl
 held_byte None x e = absurd (false≢true e)
 
 -- the stroke of a run
-run_struck : (image : Image) (start end : ℕ) (old : List ℕ) → start ≤ end → ((k : ℕ) → start ≤ k → k < end → is_some (byte_at image k) ≡ true)
-    → Struck (λ b x. unwrap_or b x) image start end old (with_image (image_at start (filled_bytes image start (end - start))) old)
+run_struck : (image : Image) (start end : ℕ) (old : List ℕ) → start ≤ end
+    → ((k : ℕ) → start ≤ k → k < end → is_some (byte_at image k) ≡ true)
+    → Struck (λ b x. unwrap_or b x) image start end old
+    (with_image (image_at start (filled_bytes image start (end - start))) old)
 run_struck image start end old order held =
     let f = is_filled image start (end - start) in
     let bytes = filled_bytes image start (end - start) in
     record {
       order = order;
       long = length-laid (image_at start bytes) old;
-      before = λ i l b. get_laid (image_at start bytes) old i l ∙ ap (λ (o : Option ℕ). unwrap_or o (get_or old i 0)) (placed_before start bytes i b);
+      before = λ i l b. get_laid (image_at start bytes) old i l
+          ∙ ap (λ (o : Option ℕ). unwrap_or o (get_or old i 0)) (placed_before start bytes i b);
       within = λ i l a b.
           get_laid (image_at start bytes) old i l
-          ∙ (ap (λ (o : Option ℕ). unwrap_or o (get_or old i 0)) (placed_within start bytes i a (omega (arith, a, b, f.size)))
-          ∙ (f.byte (i - start) (omega (arith, a, b)) ∙ ap (λ (j : ℕ). or_blank (byte_at image j)) (let e : start + (i - start) ≡ i = omega (arith, a) in e)
+          ∙ (ap (λ (o : Option ℕ). unwrap_or o (get_or old i 0))
+          (placed_within start bytes i a (omega (arith, a, b, f.size)))
+          ∙ (f.byte (i - start) (omega (arith, a, b))
+          ∙ ap (λ (j : ℕ). or_blank (byte_at image j)) (let e : start + (i - start) ≡ i = omega (arith, a) in e)
           ∙ held_byte (byte_at image i) (get_or old i 0) (held i a b)));
-      behind = λ i l b. get_laid (image_at start bytes) old i l ∙ ap (λ (o : Option ℕ). unwrap_or o (get_or old i 0)) (placed_behind start bytes i (omega (arith, b, f.size)));
+      behind = λ i l b. get_laid (image_at start bytes) old i l
+          ∙ ap (λ (o : Option ℕ). unwrap_or o (get_or old i 0))
+          (placed_behind start bytes i (omega (arith, b, f.size)));
     }
 
 module _ (part : Part) (sound : IsPart part) (image : Image) where
@@ -47,7 +54,8 @@ module _ (part : Part) (sound : IsPart part) (image : Image) where
     pub written : Written (λ b x. unwrap_or b x) image from old new
 
   -- one run more in front
-  run_first : (next start end : ℕ) (steps others : List (List Command)) (m : Memories) (old : List ℕ) → are_locked m ≡ false → IsNextHeld image next start → start ≤ end
+  run_first : (next start end : ℕ) (steps others : List (List Command)) (m : Memories) (old : List ℕ)
+      → are_locked m ≡ false → IsNextHeld image next start → start ≤ end
       → end ≡ run_end image start (page_end part.eeprom_page start)
       → ((k : ℕ) → start ≤ k → k < end → is_some (byte_at image k) ≡ true) → steps ≡ run_step part image start ∷ others
       → ((mid : List ℕ) → length mid ≡ length old → Loaded others m end mid) → Loaded steps m next old
@@ -58,24 +66,32 @@ module _ (part : Part) (sound : IsPart part) (image : Image) where
       record {
         new = r.new;
         is = ap (λ ss. effects part (strokes_of ss) (record m { eeprom = old })) steps_are
-            ∙ (ap (λ (e : ℕ). effects part (strokes_of others) (effect part (Write Eeprom (image_at start (filled_bytes image start (e - start)))) (record m { eeprom = old }))) (sym end_is)
-            ∙ (ap (λ eeprom. effects part (strokes_of others) (record m { eeprom = eeprom })) (refused (are_locked m) old mid free)
+            ∙ (ap (λ (e : ℕ). effects part (strokes_of others)
+            (effect part (Write Eeprom (image_at start (filled_bytes image start (e - start))))
+            (record m { eeprom = old }))) (sym end_is)
+            ∙ (ap (λ eeprom. effects part (strokes_of others) (record m { eeprom = eeprom }))
+            (refused (are_locked m) old mid free)
             ∙ r.is));
         written = gap_first (λ b x. unwrap_or b x) image next start old r.new (λ x. refl) first.after first.gap
-            (struck_first (λ b x. unwrap_or b x) image start end old mid r.new (run_struck image start end old order held) r.written);
+            (struck_first (λ b x. unwrap_or b x) image start end old mid r.new
+            (run_struck image start end old order held) r.written);
       }
 
   -- from a border on, by the next byte that is held
   abbrev From : ℕ → Memories → List ℕ → Type 0
   From next m old = Loaded (each_from (run_steps_at part image) next (part.eeprom_size - next)) m next old
 
-  runs_from : (next : ℕ) (o : Option ℕ) (m : Memories) (old : List ℕ) → are_locked m ≡ false → length image ≤ part.eeprom_size → (next % part.eeprom_page ≡ 0) ⊎ (byte_at image next ≡ None) → first_from image next ≡ o
-      → ((end : ℕ) (mid : List ℕ) → next < end → next < part.eeprom_size → (end % part.eeprom_page ≡ 0) ⊎ (byte_at image end ≡ None) → From end m mid) → From next m old
+  runs_from : (next : ℕ) (o : Option ℕ) (m : Memories) (old : List ℕ) → are_locked m ≡ false
+      → length image ≤ part.eeprom_size → (next % part.eeprom_page ≡ 0) ⊎ (byte_at image next ≡ None)
+      → first_from image next ≡ o
+      → ((end : ℕ) (mid : List ℕ) → next < end → next < part.eeprom_size
+      → (end % part.eeprom_page ≡ 0) ⊎ (byte_at image end ≡ None) → From end m mid) → From next m old
   runs_from next None m old free fits border e others =
       let gap = none_held image next e in
       record {
         new = old;
-        is = ap (λ ss. effects part (strokes_of ss) (record m { eeprom = old })) (last_run part image next (part.eeprom_size - next) gap);
+        is = ap (λ ss. effects part (strokes_of ss) (record m { eeprom = old }))
+            (last_run part image next (part.eeprom_size - next) gap);
         written = nothing_left (λ b x. unwrap_or b x) image next old (λ x. refl) (λ i l from. gap i from);
       }
   runs_from next (Some start) m old free fits border e others =
@@ -87,36 +103,53 @@ module _ (part : Part) (sound : IsPart part) (image : Image) where
       let rest : start % page < page = omega arith in
       let whole : start ≤ page_end page start = omega (arith, here, rest) in
       let run = run_ends image start (page_end page start) whole in
-      let found : IsNextRun part image next start end = next_run part image next start end some fits border first run refl in
-      run_first next start end (each_from (run_steps_at part image) next (part.eeprom_size - next)) (each_from (run_steps_at part image) end (part.eeprom_size - end)) m old free first run.after refl run.held found.steps
+      let found : IsNextRun part image next start end =
+      next_run part image next start end some fits border first run refl in
+      run_first next start end (each_from (run_steps_at part image) next (part.eeprom_size - next))
+      (each_from (run_steps_at part image) end (part.eeprom_size - end)) m old free first run.after refl run.held
+      found.steps
       (λ mid same. others end mid found.longer (omega (arith, first.after, first.within, fits)) found.border)
 
-  runs_free : (fuel next : ℕ) (m : Memories) (old : List ℕ) → are_locked m ≡ false → length image ≤ part.eeprom_size → part.eeprom_size ≤ next + fuel
+  runs_free : (fuel next : ℕ) (m : Memories) (old : List ℕ) → are_locked m ≡ false → length image ≤ part.eeprom_size
+      → part.eeprom_size ≤ next + fuel
       → (next % part.eeprom_page ≡ 0) ⊎ (byte_at image next ≡ None) → From next m old
   runs_free zero next m old free fits enough border =
-      runs_from next (first_from image next) m old free fits border refl (λ end mid longer inside b. absurd (omega (arith, inside, enough)))
+      runs_from next (first_from image next) m old free fits border refl
+      (λ end mid longer inside b. absurd (omega (arith, inside, enough)))
   runs_free (suc fuel) next m old free fits enough border =
-      runs_from next (first_from image next) m old free fits border refl (λ end mid longer inside b. runs_free fuel end m mid free fits (omega (arith, longer, enough)) b)
+      runs_from next (first_from image next) m old free fits border refl
+      (λ end mid longer inside b. runs_free fuel end m mid free fits (omega (arith, longer, enough)) b)
 
   -- where it is locked nothing changes
-  run_locked : (addr : ℕ) (others : List (List Command)) (m : Memories) → are_locked m ≡ true → effects part (strokes_of others) m ≡ m → effects part (strokes_of (run_steps_at part image addr ++ others)) m ≡ m
+  run_locked : (addr : ℕ) (others : List (List Command)) (m : Memories) → are_locked m ≡ true
+      → effects part (strokes_of others) m ≡ m
+      → effects part (strokes_of (run_steps_at part image addr ++ others)) m ≡ m
   run_locked addr others m lock rest = elim (cases_Bool (begins_run part.eeprom_page image addr)) [
     | inl begins ↦
-        ap (λ ss. effects part (strokes_of (ss ++ others)) m) (chosen (begins_run part.eeprom_page image addr) (run_step part image addr ∷ []) [] begins)
-        ∙ (ap (λ eeprom. effects part (strokes_of others) (record m { eeprom = eeprom })) (chosen (are_locked m) m.eeprom _ lock) ∙ rest)
-    | inr none ↦ ap (λ ss. effects part (strokes_of (ss ++ others)) m) (refused (begins_run part.eeprom_page image addr) (run_step part image addr ∷ []) [] none) ∙ rest
+        ap (λ ss. effects part (strokes_of (ss ++ others)) m)
+        (chosen (begins_run part.eeprom_page image addr) (run_step part image addr ∷ []) [] begins)
+        ∙ (ap (λ eeprom. effects part (strokes_of others) (record m { eeprom = eeprom }))
+        (chosen (are_locked m) m.eeprom _ lock) ∙ rest)
+    | inr none ↦ ap (λ ss. effects part (strokes_of (ss ++ others)) m)
+        (refused (begins_run part.eeprom_page image addr) (run_step part image addr ∷ []) [] none) ∙ rest
   ]
 
-  runs_locked : (addr count : ℕ) (m : Memories) → are_locked m ≡ true → effects part (strokes_of (each_from (run_steps_at part image) addr count)) m ≡ m
+  runs_locked : (addr count : ℕ) (m : Memories) → are_locked m ≡ true
+      → effects part (strokes_of (each_from (run_steps_at part image) addr count)) m ≡ m
   runs_locked addr zero m lock = refl
-  runs_locked addr (suc count) m lock = run_locked addr (each_from (run_steps_at part image) (addr + 1) count) m lock (runs_locked (addr + 1) count m lock)
+  runs_locked addr (suc count) m lock = run_locked addr (each_from (run_steps_at part image) (addr + 1) count) m lock
+      (runs_locked (addr + 1) count m lock)
 
   -- the runs of an image do what its write does
-  pub runs_effect : (m : Memories) → length image ≤ part.eeprom_size → effects part (strokes_of (each_from (run_steps_at part image) 0 part.eeprom_size)) m ≡ effect part (Write Eeprom image) m
+  pub runs_effect : (m : Memories) → length image ≤ part.eeprom_size
+      → effects part (strokes_of (each_from (run_steps_at part image) 0 part.eeprom_size)) m
+      ≡ effect part (Write Eeprom image) m
   runs_effect m fits = elim (cases_Bool (are_locked m)) [
-    | inl lock ↦ runs_locked 0 part.eeprom_size m lock ∙ ap (λ e. record m { eeprom = e }) (sym (chosen (are_locked m) m.eeprom (with_image image m.eeprom) lock))
+    | inl lock ↦ runs_locked 0 part.eeprom_size m lock
+        ∙ ap (λ e. record m { eeprom = e }) (sym (chosen (are_locked m) m.eeprom (with_image image m.eeprom) lock))
     | inr free ↦
-        let r : Loaded (each_from (run_steps_at part image) 0 (part.eeprom_size - 0)) m 0 m.eeprom = runs_free part.eeprom_size 0 m m.eeprom free fits (omega arith) (inl (zero_border part.eeprom_page)) in
+        let r : Loaded (each_from (run_steps_at part image) 0 (part.eeprom_size - 0)) m 0 m.eeprom =
+        runs_free part.eeprom_size 0 m m.eeprom free fits (omega arith) (inl (zero_border part.eeprom_page)) in
         let all : part.eeprom_size ≡ part.eeprom_size - 0 = omega arith in
         ap (λ count. effects part (strokes_of (each_from (run_steps_at part image) 0 count)) m) all
         ∙ (r.is

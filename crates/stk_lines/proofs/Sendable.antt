@@ -38,19 +38,35 @@ module _ (part : Part) (sound : IsPart part) where
       let size = is.whole in
       let some = sound.flash_page in
       let most = page_most part.flash_page (omega arith) sound.flash_fits in
-      by_commands _ commands e (record { some = omega arith; few = omega arith }, (record { some = omega arith; few = omega arith }, tt))
+      by_commands _ commands e (
+        record { some = omega arith; few = omega arith },
+        (record { some = omega arith; few = omega arith }, tt),
+      )
   sendable commands (ProgramsRun address bytes is e) =
       let size = is.within in
       let most = page_most part.eeprom_page sound.eeprom_page sound.eeprom_fits in
-      by_commands _ commands e (record { some = omega arith; few = omega arith }, (record { some = omega arith; few = omega arith }, tt))
+      by_commands _ commands e (
+        record { some = omega arith; few = omega arith },
+        (record { some = omega arith; few = omega arith }, tt),
+      )
   sendable commands (ProgramsFuse f v e) = by_commands _ commands e (fuse_sendable f v)
   sendable commands (ProgramsLock v e) = by_commands _ commands e (record { some = omega arith; few = omega arith }, tt)
-  sendable commands (ReadsFlash start count is words e) = by_commands _ commands e (record { some = omega arith; few = omega arith }, (record { some = omega arith; few = omega arith }, tt))
-  sendable commands (ReadsEeprom start count is e) = by_commands _ commands e (record { some = omega arith; few = omega arith }, (record { some = omega arith; few = omega arith }, tt))
+  sendable commands (ReadsFlash start count is words e) =
+      by_commands _ commands e (
+        record { some = omega arith; few = omega arith },
+        (record { some = omega arith; few = omega arith }, tt),
+      )
+  sendable commands (ReadsEeprom start count is e) =
+      by_commands _ commands e (
+        record { some = omega arith; few = omega arith },
+        (record { some = omega arith; few = omega arith }, tt),
+      )
   sendable commands (ReadsFuse f e) = by_commands _ commands e (fuse_read_sendable f)
   sendable commands (ReadsLock e) = by_commands _ commands e (record { some = omega arith; few = omega arith }, tt)
-  sendable commands (ReadsSignature place few e) = by_commands _ commands e (record { some = omega arith; few = omega arith }, tt)
-  sendable commands (ReadsCalibration e) = by_commands _ commands e (record { some = omega arith; few = omega arith }, tt)
+  sendable commands (ReadsSignature place few e) =
+      by_commands _ commands e (record { some = omega arith; few = omega arith }, tt)
+  sendable commands (ReadsCalibration e) =
+      by_commands _ commands e (record { some = omega arith; few = omega arith }, tt)
 
   pub all_sendable : (steps : List (List Command)) → AreSteps part steps → EachSendable steps
   all_sendable [] are = tt

@@ -42,72 +42,104 @@ first_true true b e = refl
 first_true false b e = e
 
 frame_whole : (n : ℕ) (body : List ℕ) → IsBody body → IsWhole (frame n body)
-frame_whole n body b = record { piece = frame_is_piece n body b.some b.few; frame = first_true _ _ (frame_is_good n body b.some) }
+frame_whole n body b = record {
+  piece = frame_is_piece n body b.some b.few;
+  frame =
+      first_true _ _ (frame_is_good n body b.some);
+}
 
 frame_first : (f bytes : List ℕ) → IsWhole f → frames (f ++ bytes) ≡ f ∷ frames bytes
-frame_first f bytes w = ap (filter is_frame) (cut_first f bytes w.piece) ∙ chosen (is_frame f) (f ∷ filter is_frame (cut bytes)) (filter is_frame (cut bytes)) w.frame
+frame_first f bytes w = ap (filter is_frame) (cut_first f bytes w.piece)
+    ∙ chosen (is_frame f) (f ∷ filter is_frame (cut bytes)) (filter is_frame (cut bytes)) w.frame
 
-whole_by : {E R : Type 0} (go_on : Reading → Tape → Played E R) (o : Option (Reading × Tape)) → ((reading : Reading) (left : Tape) → AreWhole (frames_in (go_on reading left).events)) → AreWhole (frames_in (by_answer go_on o).events)
+whole_by : {E R : Type 0} (go_on : Reading → Tape → Played E R) (o : Option (Reading × Tape))
+    → ((reading : Reading) (left : Tape) → AreWhole (frames_in (go_on reading left).events))
+    → AreWhole (frames_in (by_answer go_on o).events)
 whole_by go_on None each = tt
 whole_by go_on (Some (reading, left)) each = each reading left
 
 -- a play sends whole frames
-pub sends_whole : {E R : Type 0} (d : Dialog E R) (n : ℕ) (t : Tape) → AsksBodies d → AreWhole (frames_in (played d n t).events)
+pub sends_whole : {E R : Type 0} (d : Dialog E R) (n : ℕ) (t : Tape) → AsksBodies d
+    → AreWhole (frames_in (played d n t).events)
 sends_whole (Done r) n t asks = tt
 sends_whole (Say e d) n t asks = sends_whole d n t asks
 sends_whole (Ask bytes go_on) n t asks = (
   frame_whole n bytes asks.0,
-  whole_by (λ reading. played (go_on reading) (next n)) (answer n t) (λ reading left. sends_whole (go_on reading) (next n) left (asks.1 reading)),
+  whole_by (λ reading. played (go_on reading) (next n)) (answer n t)
+      (λ reading left. sends_whole (go_on reading) (next n) left (asks.1 reading)),
 )
 
 -- the frames of all bytes of whole frames are these
-pub frames_sent : {E : Type 0} (events : List (Event E)) → AreWhole (frames_in events) → frames (bytes_sent events) ≡ frames_in events
+pub frames_sent : {E : Type 0} (events : List (Event E)) → AreWhole (frames_in events)
+    → frames (bytes_sent events) ≡ frames_in events
 frames_sent [] whole = refl
-frames_sent (Frame f ∷ events) whole = frame_first f (bytes_sent events) whole.0 ∙ ap (λ fs. f ∷ fs) (frames_sent events whole.1)
+frames_sent (Frame f ∷ events) whole = frame_first f (bytes_sent events) whole.0
+    ∙ ap (λ fs. f ∷ fs) (frames_sent events whole.1)
 frames_sent (Said e ∷ events) whole = frames_sent events whole
 
 -- where something is heard, it was due
-pub due_at : {E R : Type 0} (d : Dialog E R) (n : ℕ) (tape : Tape) (bytes : List ℕ) (before after : Talk) (items : Tape) → TurnsFrom d n tape bytes (before ++ Got items ∷ after) → IsDue d n (tape ++ heard before) (bytes ++ sent before)
-due_at d n tape bytes [] after items turns = subst (λ t. IsDue d n t (bytes ++ [])) (sym (append-nil tape)) (subst (IsDue d n tape) (sym (append-nil bytes)) turns.0)
+pub due_at : {E R : Type 0} (d : Dialog E R) (n : ℕ) (tape : Tape) (bytes : List ℕ) (before after : Talk) (items : Tape)
+    → TurnsFrom d n tape bytes (before ++ Got items ∷ after) → IsDue d n (tape ++ heard before) (bytes ++ sent before)
+due_at d n tape bytes [] after items turns =
+    subst (λ t. IsDue d n t (bytes ++ [])) (sym (append-nil tape))
+    (subst (IsDue d n tape) (sym (append-nil bytes)) turns.0)
 due_at d n tape bytes (Sent more ∷ before) after items turns =
-    subst (IsDue d n (tape ++ heard before)) (append_assoc bytes more (sent before)) (due_at d n tape (bytes ++ more) before after items turns)
+    subst (IsDue d n (tape ++ heard before)) (append_assoc bytes more (sent before))
+    (due_at d n tape (bytes ++ more) before after items turns)
 due_at d n tape bytes (Got got ∷ before) after items turns =
-    subst (λ t. IsDue d n t (bytes ++ sent before)) (append_assoc tape got (heard before)) (due_at d n (tape ++ got) bytes before after items turns.1)
+    subst (λ t. IsDue d n t (bytes ++ sent before)) (append_assoc tape got (heard before))
+    (due_at d n (tape ++ got) bytes before after items turns.1)
 
 -- a talk in turn never listens where nothing waits: of a play over all that was brought each question was answered
-pub never_idle : {E R : Type 0} (d : Dialog E R) (n : ℕ) (p : Programmer) (fates : List Fate) (talk : Talk) → AsksBodies d → AreLawful fates → InTurn d (position n []) talk → NeverIdle p fates talk
+pub never_idle : {E R : Type 0} (d : Dialog E R) (n : ℕ) (p : Programmer) (fates : List Fate) (talk : Talk)
+    → AsksBodies d → AreLawful fates → InTurn d (position n []) talk → NeverIdle p fates talk
 never_idle d n p fates talk asks lawful turns before after items split same =
-    let due : IsDue d n (heard before) (sent before) = due_at d n [] [] before after items (subst (TurnsFrom d n [] []) split turns) in
-    let here : IsDue d n (brought p fates (sent before)) (sent before) = subst (λ t. IsDue d n t (sent before)) (sym same) due in
+    let due : IsDue d n (heard before) (sent before) =
+    due_at d n [] [] before after items (subst (TurnsFrom d n [] []) split turns) in
+    let here : IsDue d n (brought p fates (sent before)) (sent before) =
+    subst (λ t. IsDue d n t (sent before)) (sym same) due in
     let play = played d n (brought p fates (sent before)) in
-    let gone : frames_in play.events ≡ frames (sent before) = sym (frames_sent play.events (sends_whole d n (brought p fates (sent before)) asks)) ∙ ap frames here.all_sent in
-    let goes = over_wire device answers_bodies d n (fresh_wire p fates) (frames (sent before)) [] asks (none_clear n) lawful (gone ∙ sym (append-nil (frames (sent before)))) in
-    let one_more = waits_played device (length (frames (sent before))) d n p (turns_of fates) [] (sym (ap (λ x. x.outcome) goes.play) ∙ here.waits) in
+    let gone : frames_in play.events ≡ frames (sent before) =
+    sym (frames_sent play.events (sends_whole d n (brought p fates (sent before)) asks))
+    ∙ ap frames here.all_sent in
+    let goes = over_wire device answers_bodies d n (fresh_wire p fates) (frames (sent before)) [] asks (none_clear n)
+    lawful (gone ∙ sym (append-nil (frames (sent before)))) in
+    let one_more = waits_played device (length (frames (sent before))) d n p (turns_of fates) []
+    (sym (ap (λ x. x.outcome) goes.play) ∙ here.waits) in
     let as_many = sym (ap length gone) ∙ ap (λ x. length (frames_in x.events)) goes.play in
     absurd (omega (arith, one_more, as_many))
 
 -- more of the tape, more frames behind those sent
 abbrev Goes : {E R : Type 0} → Dialog E R → ℕ → Tape → Tape → Type 0
-Goes d n t u = (more : List (List ℕ)) × (frames_in (played d n (t ++ u)).events ≡ frames_in (played d n t).events ++ more)
+Goes d n t u = (more : List (List ℕ)) × (frames_in (played d n (t ++ u)).events
+    ≡ frames_in (played d n t).events ++ more)
 
-goes_asking : {E R : Type 0} (bytes : List ℕ) (go_on : Reading → Dialog E R) (n : ℕ) (t u : Tape) (o : Option (Reading × Tape)) → answer n t ≡ o
+goes_asking : {E R : Type 0} (bytes : List ℕ) (go_on : Reading → Dialog E R) (n : ℕ) (t u : Tape)
+    (o : Option (Reading × Tape)) → answer n t ≡ o
     → ((reading : Reading) (left : Tape) → Goes (go_on reading) (next n) left u) → Goes (Ask bytes go_on) n t u
 goes_asking bytes go_on n t u None e each =
     let whole = played (Ask bytes go_on) n (t ++ u) in
-    let rest = by_answer (λ reading. played (go_on reading) (next n)) (answer n (t ++ u)) in
-    (frames_in rest.events, ap (λ o. frame n bytes ∷ (frames_in (by_answer (λ reading. played (go_on reading) (next n)) o).events ++ frames_in rest.events)) (sym e))
+    let rest = by_answer (λ reading. played (go_on reading) (next n)) (answer n (t ++ u)) in (
+      frames_in rest.events,
+      ap (λ o. frame n bytes
+          ∷ (frames_in (by_answer (λ reading. played (go_on reading) (next n)) o).events ++ frames_in rest.events))
+          (sym e),
+    )
 goes_asking bytes go_on n t u (Some (reading, left)) e each =
     let g = each reading left in (
       g.0,
-      ap (λ o. frame n bytes ∷ frames_in (by_answer (λ reading. played (go_on reading) (next n)) o).events) (answer_extends n t u reading left e)
+      ap (λ o. frame n bytes ∷ frames_in (by_answer (λ reading. played (go_on reading) (next n)) o).events)
+          (answer_extends n t u reading left e)
           ∙ (ap (λ fs. frame n bytes ∷ fs) g.1
-          ∙ ap (λ o. frame n bytes ∷ (frames_in (by_answer (λ reading. played (go_on reading) (next n)) o).events ++ g.0)) (sym e)),
+          ∙ ap (λ o. frame n bytes ∷ (frames_in (by_answer (λ reading. played (go_on reading) (next n)) o).events
+          ++ g.0)) (sym e)),
     )
 
 pub played_goes : {E R : Type 0} (d : Dialog E R) (n : ℕ) (t u : Tape) → Goes d n t u
 played_goes (Done r) n t u = ([], refl)
 played_goes (Say e d) n t u = played_goes d n t u
-played_goes (Ask bytes go_on) n t u = goes_asking bytes go_on n t u (answer n t) refl (λ reading left. played_goes (go_on reading) (next n) left u)
+played_goes (Ask bytes go_on) n t u = goes_asking bytes go_on n t u (answer n t) refl
+    (λ reading left. played_goes (go_on reading) (next n) left u)
 
 -- a part of a frame has no frame
 part_none : (x y : List ℕ) → 0 < length y → IsPiece (x ++ y) → frames x ≡ []
@@ -121,39 +153,62 @@ none_before [] y e = (refl, e)
 none_before (a ∷ x) y e = (cc, cc)
 
 -- bytes that are a front of those of events have a front of their frames
-pub frames_front : {E : Type 0} (events : List (Event E)) (bytes back : List ℕ) → AreWhole (frames_in events) → bytes ++ back ≡ bytes_sent events → (others : List (List ℕ)) × (frames_in events ≡ frames bytes ++ others)
-frames_front [] bytes back whole e = ([], ap frames (sym (none_before bytes back e).0) ∙ sym (append-nil (frames bytes)))
+pub frames_front : {E : Type 0} (events : List (Event E)) (bytes back : List ℕ) → AreWhole (frames_in events)
+    → bytes ++ back ≡ bytes_sent events → (others : List (List ℕ)) × (frames_in events ≡ frames bytes ++ others)
+frames_front [] bytes back whole e = (
+  [],
+  ap frames (sym (none_before bytes back e).0) ∙ sym (append-nil (frames bytes)),
+)
 frames_front (Said s ∷ events) bytes back whole e = frames_front events bytes back whole e
 frames_front (Frame f ∷ events) bytes back whole e = elim (cases_lt (length bytes) (length f)) [
   | inl lt ↦
       let split : f ≡ bytes ++ drop (length bytes) f =
       sym (take-append-drop (length bytes) f) ∙ ap (λ x. x ++ drop (length bytes) f)
-      (sym (take-append-le (length bytes) f (bytes_sent events) (omega arith)) ∙ (sym (ap (take (length bytes)) e) ∙ (take-append-le (length bytes) bytes back (omega arith) ∙ take_all (length bytes) bytes (omega arith)))) in
-      let rest : 0 < length (drop (length bytes) f) = let g = ap length split in omega (arith, g, length-append bytes (drop (length bytes) f)) in
-      (f ∷ frames_in events, ap (λ x. x ++ f ∷ frames_in events) (sym (part_none bytes (drop (length bytes) f) rest (subst IsPiece split whole.0.piece))))
+      (sym (take-append-le (length bytes) f (bytes_sent events) (omega arith))
+      ∙ (sym (ap (take (length bytes)) e) ∙ (take-append-le (length bytes) bytes back (omega arith)
+      ∙ take_all (length bytes) bytes (omega arith)))) in
+      let rest : 0 < length (drop (length bytes) f) = let g = ap length split in
+      omega (arith, g, length-append bytes (drop (length bytes) f)) in (
+        f ∷ frames_in events,
+        ap (λ x. x ++ f ∷ frames_in events)
+            (sym (part_none bytes (drop (length bytes) f) rest (subst IsPiece split whole.0.piece))),
+      )
   | inr ge ↦
-      let front : take (length f) bytes ≡ f = sym (take-append-le (length f) bytes back ge) ∙ (ap (take (length f)) e ∙ (take-append-le (length f) f (bytes_sent events) (omega arith) ∙ take_all (length f) f (omega arith))) in
-      let split : bytes ≡ f ++ drop (length f) bytes = sym (take-append-drop (length f) bytes) ∙ ap (λ x. x ++ drop (length f) bytes) front in
+      let front : take (length f) bytes ≡ f = sym (take-append-le (length f) bytes back ge)
+      ∙ (ap (take (length f)) e ∙ (take-append-le (length f) f (bytes_sent events) (omega arith)
+      ∙ take_all (length f) f (omega arith))) in
+      let split : bytes ≡ f ++ drop (length f) bytes =
+      sym (take-append-drop (length f) bytes) ∙ ap (λ x. x ++ drop (length f) bytes) front in
       let later : drop (length f) bytes ++ back ≡ bytes_sent events =
-      sym (drop-append-le (length f) bytes back ge) ∙ (ap (drop (length f)) e ∙ (drop-append-le (length f) f (bytes_sent events) (omega arith) ∙ ap (λ x. x ++ bytes_sent events) (drop_all (length f) f (omega arith)))) in
-      let inner = frames_front events (drop (length f) bytes) back whole.1 later in
-      (inner.0, ap (λ gs. f ∷ gs) inner.1 ∙ ap (λ x. x ++ inner.0) (sym (ap frames split ∙ frame_first f (drop (length f) bytes) whole.0)))
+      sym (drop-append-le (length f) bytes back ge)
+      ∙ (ap (drop (length f)) e ∙ (drop-append-le (length f) f (bytes_sent events) (omega arith)
+      ∙ ap (λ x. x ++ bytes_sent events) (drop_all (length f) f (omega arith)))) in
+      let inner = frames_front events (drop (length f) bytes) back whole.1 later in (
+        inner.0,
+        ap (λ gs. f ∷ gs) inner.1 ∙ ap (λ x. x ++ inner.0)
+            (sym (ap frames split ∙ frame_first f (drop (length f) bytes) whole.0)),
+      )
 ]
 
 -- what happened of a talk that broke off is a front of the bytes
-begun_front : {E : Type 0} (SaidPart : E → E → Type 0) (begun later : List (Event E)) → IsBegun SaidPart begun later → IsPrefixOf (bytes_sent begun) (bytes_sent later)
+begun_front : {E : Type 0} (SaidPart : E → E → Type 0) (begun later : List (Event E)) → IsBegun SaidPart begun later
+    → IsPrefixOf (bytes_sent begun) (bytes_sent later)
 begun_front SaidPart [] later part = (bytes_sent later, refl)
 begun_front SaidPart (Frame x ∷ []) [] part = absurd part
 begun_front SaidPart (Said x ∷ []) [] part = absurd part
-begun_front SaidPart (Frame x ∷ []) (Frame y ∷ later) part =
-    (part.0 ++ bytes_sent later, ap (λ bs. bs ++ (part.0 ++ bytes_sent later)) (append-nil x) ∙ (sym (append_assoc x part.0 (bytes_sent later)) ∙ ap (λ bs. bs ++ bytes_sent later) part.1))
+begun_front SaidPart (Frame x ∷ []) (Frame y ∷ later) part = (
+  part.0 ++ bytes_sent later,
+  ap (λ bs. bs ++ (part.0 ++ bytes_sent later)) (append-nil x)
+      ∙ (sym (append_assoc x part.0 (bytes_sent later)) ∙ ap (λ bs. bs ++ bytes_sent later) part.1),
+)
 begun_front SaidPart (Frame x ∷ []) (Said y ∷ later) part = absurd part
 begun_front SaidPart (Said x ∷ []) (Frame y ∷ later) part = absurd part
 begun_front SaidPart (Said x ∷ []) (Said y ∷ later) part = (bytes_sent later, refl)
 begun_front SaidPart (Frame x ∷ e ∷ begun) later part = absurd part
 begun_front SaidPart (Said x ∷ e ∷ begun) later part = absurd part
 
-pub shown_front : {E : Type 0} (SaidPart : E → E → Type 0) (shown events : List (Event E)) → IsFront SaidPart shown events → IsPrefixOf (bytes_sent shown) (bytes_sent events)
+pub shown_front : {E : Type 0} (SaidPart : E → E → Type 0) (shown events : List (Event E))
+    → IsFront SaidPart shown events → IsPrefixOf (bytes_sent shown) (bytes_sent events)
 shown_front SaidPart shown events f =
     let g = begun_front SaidPart f.begun f.later f.part in (
       g.0,
@@ -163,7 +218,9 @@ shown_front SaidPart shown events f =
           ∙ (sym (bytes_append f.whole f.later) ∙ ap bytes_sent (sym f.events_are)))),
     )
 
-module _ {E R : Type 0} (d : Dialog E R) (n : ℕ) (p : Programmer) (fates : List Fate) (w : WiredState) (asks : AsksBodies d) (lawful : AreLawful fates) (keeps : Keeps p fates w) (turns : InTurn d (position n []) w.talk) where
+module _ {E R : Type 0} (d : Dialog E R) (n : ℕ) (p : Programmer) (fates : List Fate) (w : WiredState)
+    (asks : AsksBodies d) (lawful : AreLawful fates) (keeps : Keeps p fates w)
+    (turns : InTurn d (position n []) w.talk) where
   brings : brought p fates (sent w.talk) ≡ heard w.talk ++ w.waits
   brings = keeps.brings (never_idle d n p fates w.talk asks lawful turns)
 
@@ -176,37 +233,48 @@ module _ {E R : Type 0} (d : Dialog E R) (n : ℕ) (p : Programmer) (fates : Lis
 
   goes_along : SendsFirst → GoesOver device d n (fresh_wire p fates) (frames (sent w.talk)) p (turns_of fates)
   goes_along front =
-      let f = frames_front (played d n (heard w.talk)).events (sent w.talk) front.0 (sends_whole d n (heard w.talk) asks) front.1 in
+      let f = frames_front (played d n (heard w.talk)).events (sent w.talk) front.0
+      (sends_whole d n (heard w.talk) asks) front.1 in
       let g = played_goes d n (heard w.talk) w.waits in
-      over_wire device answers_bodies d n (fresh_wire p fates) (frames (sent w.talk)) (f.0 ++ g.0) asks (none_clear n) lawful
-      (ap (λ t. frames_in (played d n t).events) brings ∙ (g.1 ∙ (ap (λ fs. fs ++ g.0) f.1 ∙ append_assoc (frames (sent w.talk)) f.0 g.0)))
+      over_wire device answers_bodies d n (fresh_wire p fates) (frames (sent w.talk)) (f.0 ++ g.0) asks (none_clear n)
+      lawful
+      (ap (λ t. frames_in (played d n t).events) brings
+      ∙ (g.1 ∙ (ap (λ fs. fs ++ g.0) f.1 ∙ append_assoc (frames (sent w.talk)) f.0 g.0)))
 
   -- what was heard is honest, by the fates of all frames that the play over it sends
-  pub honest_heard : SendsFirst → AreHonest device d n (heard w.talk) p (becames_of (length (frames_in (played d n (heard w.talk)).events)) fates)
+  pub honest_heard : SendsFirst → AreHonest device d n (heard w.talk) p
+      (becames_of (length (frames_in (played d n (heard w.talk)).events)) fates)
   honest_heard front =
-      let f = frames_front (played d n (heard w.talk)).events (sent w.talk) front.0 (sends_whole d n (heard w.talk) asks) front.1 in
+      let f = frames_front (played d n (heard w.talk)).events (sent w.talk) front.0
+      (sends_whole d n (heard w.talk) asks) front.1 in
       let all = length (frames_in (played d n (heard w.talk)).events) in
       let enough : count ≤ all = omega (arith, ap length f.1, length-append (frames (sent w.talk)) f.0) in
       honest_front device d n (heard w.talk) w.waits p (becames_of all fates)
       (subst (λ t. AreHonest device d n t p (becames_of all fates)) brings ((goes_along front).honest all enough))
 
   -- where the talk broke off the programmer stands along the line
-  pub broken_along : (SaidPart : E → E → Type 0) (shown : List (Event E)) → Breaks SaidPart d (position n []) w.talk shown → w.wire.programmer ≡ (along device count d p (turns_of fates)).programmer
+  pub broken_along : (SaidPart : E → E → Type 0) (shown : List (Event E))
+      → Breaks SaidPart d (position n []) w.talk shown
+      → w.wire.programmer ≡ (along device count d p (turns_of fates)).programmer
   broken_along SaidPart shown breaks =
       let front = shown_front SaidPart shown (played d n (heard w.talk)).events breaks.front in
-      ap (λ x. x.programmer) keeps.stands ∙ (goes_along (front.0, ap (λ bs. bs ++ front.0) (sym breaks.all_sent) ∙ front.1)).programmer
+      ap (λ x. x.programmer) keeps.stands ∙ (goes_along
+      (front.0, ap (λ bs. bs ++ front.0) (sym breaks.all_sent) ∙ front.1)).programmer
 
   -- where it was whole the dialog has said the same and come to the same result there, and nothing is left
-  module _ (events : List (Event E)) (r : R) (after : Position) (plays : Plays d (position n []) w.talk events r after) where
+  module _ (events : List (Event E)) (r : R) (after : Position)
+      (plays : Plays d (position n []) w.talk events r after) where
     whole_goes : GoesOver device d n (fresh_wire p fates) (frames (sent w.talk)) p (turns_of fates)
     whole_goes = goes_along (
       [],
       append-nil (sent w.talk) ∙ (sym plays.all_sent
-          ∙ sym (ap (λ t. bytes_sent (played d n t).events) (sym (append-nil (heard w.talk))) ∙ ap (λ x. bytes_sent x.events) (plays.plays []))),
+          ∙ sym (ap (λ t. bytes_sent (played d n t).events) (sym (append-nil (heard w.talk)))
+          ∙ ap (λ x. bytes_sent x.events) (plays.plays []))),
     )
 
     -- the play along the line
-    over : played_along device count d n p (turns_of fates) [] ≡ record { events = events; outcome = Some (r, after.next, on_tape after.unread ++ w.waits) }
+    over : played_along device count d n p (turns_of fates) []
+        ≡ record { events = events; outcome = Some (r, after.next, on_tape after.unread ++ w.waits) }
     over = sym whole_goes.play ∙ (ap (played d n) brings ∙ plays.plays w.waits)
 
     pub whole_said : sayings events ≡ said_along device count d p (turns_of fates)
@@ -214,7 +282,8 @@ module _ {E R : Type 0} (d : Dialog E R) (n : ℕ) (p : Programmer) (fates : Lis
 
     pub whole_along : GoesAlong d p (turns_of fates) w r after.unread
     whole_along =
-        let o = done_played device count d n p (turns_of fates) [] r after.next (on_tape after.unread ++ w.waits) (ap (λ x. x.outcome) over) in
+        let o = done_played device count d n p (turns_of fates) [] r after.next (on_tape after.unread ++ w.waits)
+        (ap (λ x. x.outcome) over) in
         let none = none_before (on_tape after.unread) w.waits o.1 in
         record {
           programmer = ap (λ x. x.programmer) keeps.stands ∙ whole_goes.programmer;

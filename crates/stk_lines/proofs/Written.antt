@@ -22,7 +22,8 @@ pub record Struck (f : Option ℕ → ℕ → ℕ) (image : Image) (from to : �
   pub behind : (i : ℕ) → i < length old → to ≤ i → get_or new i 0 ≡ get_or old i 0
 
 -- a stroke, and then the others
-pub struck_first : (f : Option ℕ → ℕ → ℕ) (image : Image) (from to : ℕ) (old mid new : List ℕ) → Struck f image from to old mid → Written f image to mid new → Written f image from old new
+pub struck_first : (f : Option ℕ → ℕ → ℕ) (image : Image) (from to : ℕ) (old mid new : List ℕ)
+    → Struck f image from to old mid → Written f image to mid new → Written f image from old new
 struck_first f image from to old mid new s w = record {
   long = w.long ∙ s.long;
   kept = λ i l b. w.kept i (omega (arith, l, s.long)) (omega (arith, b, s.order)) ∙ s.before i l b;
@@ -33,7 +34,8 @@ struck_first f image from to old mid new s w = record {
 }
 
 -- nothing is left to change
-pub nothing_left : (f : Option ℕ → ℕ → ℕ) (image : Image) (from : ℕ) (old : List ℕ) → ((x : ℕ) → f None x ≡ x) → ((i : ℕ) → i < length old → from ≤ i → byte_at image i ≡ None) → Written f image from old old
+pub nothing_left : (f : Option ℕ → ℕ → ℕ) (image : Image) (from : ℕ) (old : List ℕ) → ((x : ℕ) → f None x ≡ x)
+    → ((i : ℕ) → i < length old → from ≤ i → byte_at image i ≡ None) → Written f image from old old
 nothing_left f image from old none gap = record {
   long = refl;
   kept = λ i l b. refl;
@@ -41,7 +43,9 @@ nothing_left f image from old none gap = record {
 }
 
 -- a gap is passed over
-pub gap_first : (f : Option ℕ → ℕ → ℕ) (image : Image) (from to : ℕ) (old new : List ℕ) → ((x : ℕ) → f None x ≡ x) → from ≤ to → ((i : ℕ) → from ≤ i → i < to → byte_at image i ≡ None) → Written f image to old new → Written f image from old new
+pub gap_first : (f : Option ℕ → ℕ → ℕ) (image : Image) (from to : ℕ) (old new : List ℕ) → ((x : ℕ) → f None x ≡ x)
+    → from ≤ to → ((i : ℕ) → from ≤ i → i < to → byte_at image i ≡ None) → Written f image to old new
+    → Written f image from old new
 gap_first f image from to old new none order gap w = struck_first f image from to old old new (record {
   order = order;
   long = refl;
@@ -51,7 +55,8 @@ gap_first f image from to old new none order gap w = struck_first f image from t
 }) w
 
 -- all is changed
-pub all_laid : (image : Image) (old new : List ℕ) → Written (λ b x. unwrap_or b x) image 0 old new → new ≡ with_image image old
+pub all_laid : (image : Image) (old new : List ℕ) → Written (λ b x. unwrap_or b x) image 0 old new
+    → new ≡ with_image image old
 all_laid image old new w = ext_get_or 0 new (with_image image old) (w.long ∙ sym (length-laid image old))
     (λ i l. w.done i (omega (arith, l, w.long)) (omega arith) ∙ sym (get_laid image old i (omega (arith, l, w.long))))
 
@@ -64,9 +69,13 @@ all_anded image old new w = ext_get_or 0 new (and_in image old) (w.long ∙ sym 
 pub placed_before : (start : ℕ) (bytes : List ℕ) (i : ℕ) → i < start → get_or (image_at start bytes) i None ≡ None
 placed_before start bytes i l = before_part start (map Some bytes) i l
 
-pub placed_within : (start : ℕ) (bytes : List ℕ) (i : ℕ) → start ≤ i → i < start + length bytes → get_or (image_at start bytes) i None ≡ Some (get_or bytes (i - start) 0)
+pub placed_within : (start : ℕ) (bytes : List ℕ) (i : ℕ) → start ≤ i → i < start + length bytes
+    → get_or (image_at start bytes) i None ≡ Some (get_or bytes (i - start) 0)
 placed_within start bytes i from to = in_part start (map Some bytes) i from ∙ some_at bytes (i - start) (omega arith)
 
-pub placed_behind : (start : ℕ) (bytes : List ℕ) (i : ℕ) → start + length bytes ≤ i → get_or (image_at start bytes) i None ≡ None
+pub placed_behind : (start : ℕ) (bytes : List ℕ) (i : ℕ) → start + length bytes ≤ i
+    → get_or (image_at start bytes) i None ≡ None
 placed_behind start bytes i past =
-    in_part start (map Some bytes) i (omega arith) ∙ get_or_past (map Some bytes) (i - start) None (let e : length (map {B = Option ℕ} Some bytes) ≤ i - start = rw length-map (omega arith) in e)
+    in_part start (map Some bytes) i (omega arith)
+    ∙ get_or_past (map Some bytes) (i - start) None
+    (let e : length (map {B = Option ℕ} Some bytes) ≤ i - start = rw length-map (omega arith) in e)

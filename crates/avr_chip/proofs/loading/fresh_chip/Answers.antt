@@ -6,8 +6,10 @@ use Rattle.avr_chip.proofs.Chips.{went_fresh}
 use Rattle.avr_chip.proofs.loading.fresh_chip.Goals as goal
 
 pub returns-in-Ok-clause-goes : goal.returns-in-Ok-clause-goes
-returns-in-Ok-clause-goes g c = let gives = c.in-Ok.ensures in went_fresh c.args.part.now c.in-Ok.chip _ (rw c.copied.ensures.value at gives)
+returns-in-Ok-clause-goes g c = let gives = c.in-Ok.ensures in
+    went_fresh c.args.part.now c.in-Ok.chip _ (rw c.copied.ensures.value at gives)
 
 pub returns-in-Err-clause-goes : goal.returns-in-Err-clause-goes
 returns-in-Err-clause-goes g c =
-    goes_without_memory (verdict_stage (Ok (fresh_state c.args.part.now))) _ _ _ c.refuse.ensures.status (rw c.memory_message.ensures at c.refuse.ensures.told)
+    goes_without_memory (verdict_stage (Ok (fresh_state c.args.part.now))) _ _ _ c.refuse.ensures.status
+    (rw c.memory_message.ensures at c.refuse.ensures.told)

@@ -11,5 +11,6 @@ returns-in-Absent-clause-goes g c = λ old breaks rose counted.
 
 pub returns-in_default-clause-goes : goal.returns-in_default-clause-goes
 returns-in_default-clause-goes g c = λ old breaks rose counted.
-    goes_broken c.args.file.now (chip_given c.args.part.now c.args.file.now) c.args.fault old _ _ _ c.in_default.not-Absent
+    goes_broken c.args.file.now (chip_given c.args.part.now c.args.file.now) c.args.fault old _ _ _
+    c.in_default.not-Absent
     breaks rose counted c.refuse.ensures.status (rw c.file_message.ensures at c.refuse.ensures.told)

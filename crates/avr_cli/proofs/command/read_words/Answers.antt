@@ -13,5 +13,6 @@ returns-in-Ok c =
     record {
       rows = IfOk-weaker parse.result _ _ (rows_given _ avrstk words is is_simple-avrstk) parse.ensures.matches;
       taken = IfErr-weaker parse.result _ _ (λ e h t. h (ap (λ (a : App). takes a words) is ∙ t)) parse.ensures.passes;
-      refused = subst (λ (a : App). FailsBy (fault_of a words) parse.result) is (parse.ensures.kinds (ap is_simple_and_free is ∙ is_free-avrstk));
+      refused = subst (λ (a : App). FailsBy (fault_of a words) parse.result) is
+          (parse.ensures.kinds (ap is_simple_and_free is ∙ is_free-avrstk));
     }

@@ -5,4 +5,5 @@ use Rattle.avr_cli.proofs.from_options.read_updates.Given as goal
 
 abbrev pub invariant-loop-i : goal.invariant-loop-i
 invariant-loop-i l =
-    updates_from 1 (map (λ s. s.now) l.texts) ≡ onto l.updates (updates_from (l.i + 1) (map (λ s. s.now) (drop l.i l.texts)))
+    updates_from 1 (map (λ s. s.now) l.texts)
+    ≡ onto l.updates (updates_from (l.i + 1) (map (λ s. s.now) (drop l.i l.texts)))

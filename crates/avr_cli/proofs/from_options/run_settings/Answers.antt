@@ -12,7 +12,8 @@ pub returns-in_err-port-clause-tells : goal.returns-in_err-port-clause-tells
 returns-in_err-port-clause-tells c = λ told.
     let e = entries_of (rows_of (found_of c.args.matches.now)) in
     let fault = c.in_err-port.field-0.0 in
-    let tells = subst (λ (t : Option Bytes). TellsAnyway (port_given_of t) (Err fault)) c.text_of-2.ensures c.in_err-port.ensures.tells in
+    let tells = subst (λ (t : Option Bytes). TellsAnyway (port_given_of t) (Err fault)) c.text_of-2.ensures
+    c.in_err-port.ensures.tells in
     let p = err_from_is_err_and c.from_residual-in_err-port.result c.from_residual-in_err-port.ensures.1 in
     rw (p.1, p.2) (port_is_told c.args.part.now e fault tells told)
 
@@ -20,5 +21,6 @@ pub returns-in_err-updates-clause-tells : goal.returns-in_err-updates-clause-tel
 returns-in_err-updates-clause-tells c = λ told.
     let e = entries_of (rows_of (found_of c.args.matches.now)) in
     let port = c.in_ok-port.port in
-    let gives = subst (λ (t : Option Bytes). GivesOrMemory (port_given_of t) (Ok port)) c.text_of-2.ensures c.in_ok-port.ensures.gives in
+    let gives = subst (λ (t : Option Bytes). GivesOrMemory (port_given_of t) (Ok port)) c.text_of-2.ensures
+    c.in_ok-port.ensures.gives in
     absurd (nothing_behind_port c.args.part.now e port gives told)

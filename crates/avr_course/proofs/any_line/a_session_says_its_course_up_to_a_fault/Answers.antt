@@ -2,13 +2,16 @@ use Rattle.avr_course.proofs.SaidToFault.{foretold_now, foretold_end, foretold_o
 use Rattle.avr_course.proofs.any_line.a_session_says_its_course_up_to_a_fault.Goals as goal
 
 pub returns-clause-moment : goal.returns-clause-moment
-returns-clause-moment c = λ plan m k p turns sound fitted sizes idle. foretold_now plan sound fitted m sizes k p turns idle
+returns-clause-moment c = λ plan m k p turns sound fitted sizes idle. foretold_now plan sound fitted m sizes k p turns
+    idle
 
 pub returns-clause-end : goal.returns-clause-end
-returns-clause-end c = λ plan m k status p turns sound fitted sizes idle e. foretold_end plan sound fitted m sizes k status p turns idle e
+returns-clause-end c = λ plan m k status p turns sound fitted sizes idle e. foretold_end plan sound fitted m sizes k
+    status p turns idle e
 
 pub returns-clause-tape : goal.returns-clause-tape
-returns-clause-tape c = λ plan m p tape becames sound fitted sizes idle honest. foretold_on_tape plan sound fitted m sizes p tape becames idle honest
+returns-clause-tape c = λ plan m p tape becames sound fitted sizes idle honest. foretold_on_tape plan sound fitted m
+    sizes p tape becames idle honest
 
 pub returns-clause-front : goal.returns-clause-front
 returns-clause-front c = first_front

@@ -9,5 +9,6 @@ use Rattle.avr_course.proofs.any_line.what_is_told_over_any_line_is_true.Goals a
 
 pub returns : goal.returns
 returns c = λ plan m p tape becames sound fitted sizes idle honest.
-    told_any device (λ q saying. IsTrue plan m (memories_of q.chip) saying) (session plan) 1 tape p becames (session_asks plan sound fitted)
+    told_any device (λ q saying. IsTrue plan m (memories_of q.chip) saying) (session plan) 1 tape p becames
+    (session_asks plan sound fitted)
     (λ k turns. session_tells plan sound m sizes fitted k p turns idle) honest

@@ -15,9 +15,14 @@ loop-piece-preserved g c =
     let i = c.loop-piece.piece-index in
     let d : Piece = Text (record { ref_ptr = (0, 0); now = [] }) in
     record {
-      sent = sent_next Messages _ _ _ (all_text (take i ps)) (text_of (get_or ps i d)) c.loop-piece.invariant.sent c.in-Ok.ensures.all
-          ∙ ap (λ (b : List ℕ). after_err b (g.D.Desk.view c.args.desk.now).kept) (sym (all_text_more ps i d c.loop-piece-test.true));
-      counted = (c.in-Ok.ensures.counts.1.0 ∙ c.loop-piece.invariant.counted.0, c.in-Ok.ensures.counts.1.1 ∙ c.loop-piece.invariant.counted.1);
+      sent = sent_next Messages _ _ _ (all_text (take i ps)) (text_of (get_or ps i d)) c.loop-piece.invariant.sent
+          c.in-Ok.ensures.all
+          ∙ ap (λ (b : List ℕ). after_err b (g.D.Desk.view c.args.desk.now).kept)
+          (sym (all_text_more ps i d c.loop-piece-test.true));
+      counted = (
+        c.in-Ok.ensures.counts.1.0 ∙ c.loop-piece.invariant.counted.0,
+        c.in-Ok.ensures.counts.1.1 ∙ c.loop-piece.invariant.counted.1,
+      );
       stays = λ start of. c.in-Ok.ensures.stays start (c.loop-piece.invariant.stays start of);
     }
 
@@ -26,6 +31,8 @@ returns-in-Err-clause-part g c =
     let ps = c.args.pieces.now in
     let i = c.loop-piece.piece-index in
     let d : Piece = Text (record { ref_ptr = (0, 0); now = [] }) in
-    let P : List ℕ → Type 0 = λ b. SendsPart Messages (g.D.Desk.view c.args.desk.now) (g.D.Desk.view c.write_piece.new.desk) b in
+    let P : List ℕ → Type 0 = λ b. SendsPart Messages (g.D.Desk.view c.args.desk.now)
+    (g.D.Desk.view c.write_piece.new.desk) b in
     subst P (sym (all_text_at ps i d c.loop-piece-test.true))
-    (sent_next_part Messages _ _ _ (all_text (take i ps)) (text_of (get_or ps i d)) (all_text (drop (i + 1) ps)) c.loop-piece.invariant.sent c.in-Err.ensures.part)
+    (sent_next_part Messages _ _ _ (all_text (take i ps)) (text_of (get_or ps i d)) (all_text (drop (i + 1) ps))
+    c.loop-piece.invariant.sent c.in-Err.ensures.part)

@@ -7,7 +7,8 @@ use Rattle.avr_desk.proofs.line.write_pieces.Given as goal
 
 abbrev pub invariant-loop-piece : goal.invariant-loop-piece
 invariant-loop-piece g l = record {
-  sent : (g.D.Desk.view l.desk).kept ≡ after_err (all_text (take l.piece-index l.pieces)) (g.D.Desk.view l.initial.desk).kept;
+  sent : (g.D.Desk.view l.desk).kept ≡ after_err (all_text (take l.piece-index l.pieces))
+      (g.D.Desk.view l.initial.desk).kept;
   counted : HasSameCounts (g.D.Desk.view l.initial.desk) (g.D.Desk.view l.desk);
   stays : Stays g.D.Desk.comes_of l.initial.desk l.desk;
 }

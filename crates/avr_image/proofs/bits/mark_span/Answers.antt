@@ -19,19 +19,24 @@ loop-at-preserved c =
     let items = c.loop-at.words.items in
     let at = c.loop-at.at in
     let inside : at / 64 < length items = omega (arith, kept.len, c.requires.within, c.loop-at-test.true) in
-    let word : c.index_mut.result.now ≡ get_or items (at / 64) 0 = c.index_mut.ensures.value ∙ same_default items (at / 64) _ 0 inside in
+    let word : c.index_mut.result.now ≡ get_or items (at / 64) 0 =
+    c.index_mut.ensures.value ∙ same_default items (at / 64) _ 0 inside in
     record {
       after = omega (arith, kept.after, c.min-stop.ensures, c.loop-at-test.true);
       within = omega (arith, c.min-stop.ensures);
       len = length-set items (at / 64) _ ∙ kept.len;
       marked = λ k.
           ap (λ (w : ℕ). is_present (set items (at / 64) (bit_or w c.ones.result)) k) word
-          ∙ span_word items at c.min-stop.result c.ones.result k (omega (arith, c.min-stop.ensures, c.loop-at-test.true)) (omega (arith, c.min-stop.ensures)) inside c.ones.ensures
+          ∙ span_word items at c.min-stop.result c.ones.result k
+          (omega (arith, c.min-stop.ensures, c.loop-at-test.true)) (omega (arith, c.min-stop.ensures)) inside
+          c.ones.ensures
           ∙ ap (λ (b : Bool). is_within at c.min-stop.result k || b) (kept.marked k)
-          ∙ spans_join c.args.from at c.min-stop.result k _ kept.after (omega (arith, c.min-stop.ensures, c.loop-at-test.true));
+          ∙ spans_join c.args.from at c.min-stop.result k _ kept.after
+          (omega (arith, c.min-stop.ensures, c.loop-at-test.true));
     }
 
 pub returns-clause-marked : goal.returns-clause-marked
 returns-clause-marked c = λ k.
     let ended : c.loop-at.at ≡ c.args.end = omega (arith, c.loop-at.invariant.within, c.loop-at-test.false) in
-    c.loop-at.invariant.marked k ∙ ap (λ (n : ℕ). is_within c.args.from n k || is_present c.args.words.now.items k) ended
+    c.loop-at.invariant.marked k ∙ ap (λ (n : ℕ). is_within c.args.from n k || is_present c.args.words.now.items k)
+    ended

@@ -17,13 +17,16 @@ loop-rest-preserved c =
     let kept = c.loop-rest.invariant in
     let next = c.loop-rest.at - 1 in
     let step : c.loop-rest.at ≡ next + 1 = omega (arith, kept.some) in
-    let left : c.loop-rest.rest / c.args.radix < 2 ^ next = digit_left c.args.radix c.loop-rest.rest c.loop-rest.at next c.requires.low step kept.small in
+    let left : c.loop-rest.rest / c.args.radix < 2 ^ next =
+    digit_left c.args.radix c.loop-rest.rest c.loop-rest.at next c.requires.low step kept.small in
     record {
       size = length-set c.loop-rest.buffer next c.glyph.result ∙ kept.size;
       bound = omega (arith, kept.bound);
       some = digit_more _ next c.if-rest-eq0.false left;
       small = left;
-      written = more_written c.args.radix c.args.byte c.loop-rest.rest c.loop-rest.at next c.glyph.result c.loop-rest.buffer kept.written step (omega (arith, kept.size, kept.bound, step)) c.glyph.ensures (ne_test _ 0 c.if-rest-eq0.false);
+      written = more_written c.args.radix c.args.byte c.loop-rest.rest c.loop-rest.at next c.glyph.result
+          c.loop-rest.buffer kept.written step (omega (arith, kept.size, kept.bound, step)) c.glyph.ensures
+          (ne_test _ 0 c.if-rest-eq0.false);
     }
 
 pub returns-then-rest-eq0-clause-written : goal.returns-then-rest-eq0-clause-written
@@ -31,4 +34,5 @@ returns-then-rest-eq0-clause-written c =
     let kept = c.loop-rest.invariant in
     let next = c.loop-rest.at - 1 in
     let step : c.loop-rest.at ≡ next + 1 = omega (arith, kept.some) in
-    all_written c.args.radix c.args.byte c.loop-rest.rest c.loop-rest.at next c.glyph.result c.loop-rest.buffer kept.written step (omega (arith, kept.size, kept.bound, step)) c.glyph.ensures (eq_test _ 0 c.if-rest-eq0.true)
+    all_written c.args.radix c.args.byte c.loop-rest.rest c.loop-rest.at next c.glyph.result c.loop-rest.buffer
+    kept.written step (omega (arith, kept.size, kept.bound, step)) c.glyph.ensures (eq_test _ 0 c.if-rest-eq0.true)

@@ -15,7 +15,8 @@ returns-in_err-lay_value-clause-laid c =
     let first : pieces rest ≡ piece ∷ pieces more =
     pieces_front rest c.piece_len-len.result c.piece_len-len.ensures.counted c.if-len-gt0.true
     ∙ ap₂ (λ (xs ys : List ℕ). xs ∷ pieces ys) (sym c.split_at.ensures.front) (sym c.split_at.ensures.back) in
-    rw (p.1, p.2) (values_from c.args.text.now c.args.image.now _ c.requires (omega (arith, kept.count, ap length first))
+    rw (p.1, p.2) (values_from c.args.text.now c.args.image.now _ c.requires
+    (omega (arith, kept.count, ap length first))
     (sym kept.onward ∙ ap (with_pieces c.loop-rest.image c.loop-rest.addr) first
     ∙ piece_bad c.loop-rest.image c.loop-rest.addr piece (pieces more) _ c.in_err-lay_value.ensures.laid))
 
@@ -39,7 +40,9 @@ loop-rest-preserved-then-len-gt0 c =
 pub returns-clause-laid : goal.returns-clause-laid
 returns-clause-laid c =
     let kept = c.loop-rest.invariant in
-    let empty_rest : length c.loop-rest.rest.now ≡ 0 = grind (arith, nat_tests, c.is_empty.ensures, c.loop-rest-test.false) in
+    let empty_rest : length c.loop-rest.rest.now ≡ 0 =
+    grind (arith, nat_tests, c.is_empty.ensures, c.loop-rest-test.false) in
     let none = no_pieces c.loop-rest.rest.now empty_rest in
-    values_from c.args.text.now c.args.image.now _ c.requires (omega (arith, kept.count, ap length none, c.if-addr-eq0.false))
+    values_from c.args.text.now c.args.image.now _ c.requires
+    (omega (arith, kept.count, ap length none, c.if-addr-eq0.false))
     (sym kept.onward ∙ ap (with_pieces c.loop-rest.image c.loop-rest.addr) none)

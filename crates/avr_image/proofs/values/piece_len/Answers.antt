@@ -5,11 +5,13 @@ use Rattle.avr_image.proofs.values.piece_len.Goals as goal
 
 pub returns-then-separates-clause-counted : goal.returns-then-separates-clause-counted
 returns-then-separates-clause-counted c =
-    sym (position_or_len_is is_separator c.args.text.now c.loop-i.i 0 (omega (arith, c.loop-i-test.true)) c.loop-i.invariant
+    sym (position_or_len_is is_separator c.args.text.now c.loop-i.i 0 (omega (arith, c.loop-i-test.true))
+    c.loop-i.invariant
     (λ l. sym c.separates.ensures ∙ c.if-separates.true))
 
 pub returns-clause-counted : goal.returns-clause-counted
 returns-clause-counted c =
     let whole : c.loop-i.i ≡ length c.args.text.now = omega (arith, c.loop-i-test.false, c.loop-i.auto.i-end) in
-    sym (position_or_len_is is_separator c.args.text.now (length c.args.text.now) 0 (omega arith) (λ k l. c.loop-i.invariant k (omega (arith, l, whole)))
+    sym (position_or_len_is is_separator c.args.text.now (length c.args.text.now) 0 (omega arith)
+    (λ k l. c.loop-i.invariant k (omega (arith, l, whole)))
     (λ l. absurd (omega (arith, l))))

@@ -15,8 +15,10 @@ loop-c-preserved c =
     let small : digit_value (get_or digits i 0) < c.args.base = omega (arith, c.in-Some.ensures.value.0, value_is) in
     record {
       small = omega (arith, c.min-value.ensures);
-      digits = digits-step c.args.base i digits l (lt_test (digit_value (get_or digits i 0)) c.args.base small) ∙ kept.digits;
+      digits = digits-step c.args.base i digits l (lt_test (digit_value (get_or digits i 0)) c.args.base small)
+          ∙ kept.digits;
       value =
           ap (λ (n : ℕ). min (digits_value_after c.args.base n (drop (i + 1) digits)) 256) c.min-value.ensures
-          ∙ value-step c.args.base c.loop-c.value c.in-Some.digit i digits (omega (arith, c.requires.low)) l (c.in-Some.ensures.value.1 ∙ value_is) ∙ kept.value;
+          ∙ value-step c.args.base c.loop-c.value c.in-Some.digit i digits (omega (arith, c.requires.low)) l
+          (c.in-Some.ensures.value.1 ∙ value_is) ∙ kept.value;
     }

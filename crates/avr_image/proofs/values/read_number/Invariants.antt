@@ -8,5 +8,6 @@ abbrev pub invariant-loop-c : goal.invariant-loop-c
 invariant-loop-c l = record {
   small : l.value ≤ 256;
   digits : list_all (is_digit_of l.base) (drop l.c-index l.digits) ≡ list_all (is_digit_of l.base) l.digits;
-  value : min (digits_value_after l.base l.value (drop l.c-index l.digits)) 256 ≡ min (digits_value l.base l.digits) 256;
+  value : min (digits_value_after l.base l.value (drop l.c-index l.digits)) 256
+      ≡ min (digits_value l.base l.digits) 256;
 }

@@ -2,7 +2,8 @@ use Rattle.std.proofs.Common.{inl, inr}
 use Rattle.avr_net.proofs.run.run_net.Goals as goal
 
 pub returns-in-Err-clause-runs : goal.returns-in-Err-clause-runs
-returns-in-Err-clause-runs g c = inr (inr (rw c.in-Err.is at c.plan.ensures.goes, rw c.in-Err.is at c.plan.ensures.bare))
+returns-in-Err-clause-runs g c = inr (inr
+    (rw c.in-Err.is at c.plan.ensures.goes, rw c.in-Err.is at c.plan.ensures.bare))
 
 pub returns-clause-runs : goal.returns-clause-runs
 returns-clause-runs g c = inl (record {

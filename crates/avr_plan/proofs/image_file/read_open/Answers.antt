@@ -10,7 +10,8 @@ returns-clause-read g c =
     let front = c.in-Ok.front.bytes.items in
     let value = c.as_slice-bytes.ensures.value in
     let intake = c.fed-intake.result in
-    let found : c.file_kind.result ≡ kind_of c.args.format front = c.file_kind.ensures ∙ ap (kind_of c.args.format) value in
+    let found : c.file_kind.result ≡ kind_of c.args.format front =
+    c.file_kind.ensures ∙ ap (kind_of c.args.format) value in
     let fed = c.fed-intake.ensures.takes c.file_kind.result c.args.size [] c.in-Ok-new.ensures.0 in
     let takes = subst (λ k. Takes k c.args.size intake front) found
     (subst (λ (b : Bytes). Takes c.file_kind.result c.args.size intake b) value fed) in

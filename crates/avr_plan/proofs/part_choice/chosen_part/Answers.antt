@@ -5,7 +5,8 @@ use Rattle.avr_desk.proofs.Played.{went_settled, goes_unsettled}
 use Rattle.avr_plan.proofs.part_choice.chosen_part.Goals as goal
 
 pub returns-in-Ok-clause-goes : goal.returns-in-Ok-clause-goes
-returns-in-Ok-clause-goes g c = went_settled _ c.in-Ok.part _ (ap (part_or_line c.args.id.now) (sym c.in-Ok.ensures.value))
+returns-in-Ok-clause-goes g c = went_settled _ c.in-Ok.part _
+    (ap (part_or_line c.args.id.now) (sym c.in-Ok.ensures.value))
 
 pub returns-in-Err-clause-goes : goal.returns-in-Err-clause-goes
 returns-in-Err-clause-goes g c =

@@ -16,22 +16,28 @@ returns-in-Err-clause-goes g c =
 
 pub returns-then-not-contents-clause-goes : goal.returns-then-not-contents-clause-goes
 returns-then-not-contents-clause-goes g c =
-    goes_long_parts c.args.file.now c.in-Ok.contents.bytes c.in-Ok.contents.ended _ _ _ _ c.in-Ok.ensures.kept c.in-Ok.ensures.whole
+    goes_long_parts c.args.file.now c.in-Ok.contents.bytes c.in-Ok.contents.ended _ _ _ _ c.in-Ok.ensures.kept
+    c.in-Ok.ensures.whole
     c.if-not-contents.true
     c.in-Ok.ensures.counts.1 c.refuse-then-not-contents.ensures.status
     (rw c.too_long_message.ensures at c.refuse-then-not-contents.ensures.told)
 
 pub returns-in-Ok-parse_parts-clause-goes : goal.returns-in-Ok-parse_parts-clause-goes
 returns-in-Ok-parse_parts-clause-goes g c =
-    let gives = subst (λ (b : Bytes). ReadsOrMemory (parts_of b) (unplaced c.parse_parts.result)) c.as_slice.ensures c.parse_parts.ensures.reads in
-    went_parts c.args.file.now c.in-Ok.contents.bytes c.in-Ok.contents.ended _ _ c.in-Ok-parse_parts.parts c.in-Ok.ensures.kept
+    let gives = subst (λ (b : Bytes). ReadsOrMemory (parts_of b) (unplaced c.parse_parts.result)) c.as_slice.ensures
+    c.parse_parts.ensures.reads in
+    went_parts c.args.file.now c.in-Ok.contents.bytes c.in-Ok.contents.ended _ _ c.in-Ok-parse_parts.parts
+    c.in-Ok.ensures.kept
     c.in-Ok.ensures.whole c.if-not-contents.false c.in-Ok.ensures.counts.1
     (rw c.in-Ok-parse_parts.is at gives)
 
 pub returns-clause-goes : goal.returns-clause-goes
 returns-clause-goes g c =
-    let gives = subst (λ (b : Bytes). ReadsOrMemory (parts_of b) (unplaced c.parse_parts.result)) c.as_slice.ensures c.parse_parts.ensures.reads in
-    goes_bad_parts c.args.file.now c.in-Ok.contents.bytes c.in-Ok.contents.ended _ _ _ _ c.in-Err-parse_parts.refused.why c.in-Ok.ensures.kept
+    let gives = subst (λ (b : Bytes). ReadsOrMemory (parts_of b) (unplaced c.parse_parts.result)) c.as_slice.ensures
+    c.parse_parts.ensures.reads in
+    goes_bad_parts c.args.file.now c.in-Ok.contents.bytes c.in-Ok.contents.ended _ _ _ _
+    c.in-Err-parse_parts.refused.why c.in-Ok.ensures.kept
     c.in-Ok.ensures.whole
     c.if-not-contents.false c.in-Ok.ensures.counts.1 (rw c.in-Err-parse_parts.is at gives)
-    c.refuse-in-Err-parse_parts.ensures.status (rw (c.part_file_message.ensures, c.fault.ensures) at c.refuse-in-Err-parse_parts.ensures.told)
+    c.refuse-in-Err-parse_parts.ensures.status
+    (rw (c.part_file_message.ensures, c.fault.ensures) at c.refuse-in-Err-parse_parts.ensures.told)

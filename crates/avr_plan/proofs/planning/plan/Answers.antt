@@ -18,11 +18,13 @@ pub returns-in_err-tasks-clause-goes : goal.returns-in_err-tasks-clause-goes
 returns-in_err-tasks-clause-goes g c =
     let p = err_from_is_err_and c.from_residual-in_err-tasks.result c.from_residual-in_err-tasks.ensures.1 in
     rw (p.1, p.2) (goes_without_tasks c.args.settings.now _ _ _ _ _ _ _ c.in_ok-parts.parts c.in_ok-part.part
-    c.as_str.ensures c.as_slice.ensures c.in_ok-parts.ensures.goes c.in_ok-part.ensures.goes c.in_err-tasks.ensures.goes)
+    c.as_str.ensures c.as_slice.ensures c.in_ok-parts.ensures.goes c.in_ok-part.ensures.goes
+    c.in_err-tasks.ensures.goes)
 
 pub returns-clause-goes : goal.returns-clause-goes
 returns-clause-goes g c =
-    went_whole_plan c.args.settings.now _ _ _ _ _ _ c.in_ok-parts.parts c.in_ok-part.part c.in_ok-tasks.tasks c.new.result
+    went_whole_plan c.args.settings.now _ _ _ _ _ _ c.in_ok-parts.parts c.in_ok-part.part c.in_ok-tasks.tasks
+    c.new.result
     c.as_str.ensures c.as_slice.ensures
     c.new.ensures c.in_ok-parts.ensures.goes c.in_ok-part.ensures.goes c.in_ok-tasks.ensures.goes
 
@@ -33,7 +35,9 @@ pub returns-in_err-part-clause-bare : goal.returns-in_err-part-clause-bare
 returns-in_err-part-clause-bare g c = λ none empty.
     let p = err_from_is_err_and c.from_residual-in_err-part.result c.from_residual-in_err-part.ensures.1 in
     let given = c.in_ok-parts.ensures.none none in
-    rw p.1 (lacks_part _ _ c.in_ok-parts.parts (g.D.Desk.view c.args.desk.now) (g.D.Desk.view c.given_parts.new.desk) (g.D.Desk.view c.chosen_part.new.desk) c.as_str.ensures given.0 given.1 c.in_err-part.ensures.refused)
+    rw p.1 (lacks_part _ _ c.in_ok-parts.parts (g.D.Desk.view c.args.desk.now) (g.D.Desk.view c.given_parts.new.desk)
+    (g.D.Desk.view c.chosen_part.new.desk) c.as_str.ensures given.0 given.1 c.in_err-part.ensures.refused)
 
 pub returns-in_err-tasks-clause-bare : goal.returns-in_err-tasks-clause-bare
-returns-in_err-tasks-clause-bare g c = λ none empty. let made = c.in_err-tasks.ensures.none (c.as_slice.ensures ∙ empty) in absurd (cc)
+returns-in_err-tasks-clause-bare g c = λ none empty. let made =
+    c.in_err-tasks.ensures.none (c.as_slice.ensures ∙ empty) in absurd (cc)

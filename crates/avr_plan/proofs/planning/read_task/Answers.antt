@@ -11,4 +11,5 @@ returns-in-Ok-clause-goes g c = λ switches part.
     (sym (c.in-Ok.ensures ∙ c.as_str.ensures)))
 
 pub returns-in-Err-clause-goes : goal.returns-in-Err-clause-goes
-returns-in-Err-clause-goes g c = λ switches part. goes_without_memory _ _ _ _ c.refuse.ensures.status (rw c.memory_message.ensures at c.refuse.ensures.told)
+returns-in-Err-clause-goes g c = λ switches part. goes_without_memory _ _ _ _ c.refuse.ensures.status
+    (rw c.memory_message.ensures at c.refuse.ensures.told)

@@ -17,13 +17,17 @@ loop-update-preserved g c =
     let i = c.loop-update.update-index in
     let u = c.update-item.result in
     let part = c.args.part.now in
-    let cut = drop_more us i u c.loop-update-test.true ∙ ap (λ (x : Update). x ∷ drop (i + 1) us) (sym c.update-item.is) in
-    let same = pushed c.push.result c.push.new.self (c.loop-update.tasks ++ c.in_ok-task.task ∷ []) c.loop-update.tasks c.push.ensures
+    let cut = drop_more us i u c.loop-update-test.true
+    ∙ ap (λ (x : Update). x ∷ drop (i + 1) us) (sym c.update-item.is) in
+    let same = pushed c.push.result c.push.new.self (c.loop-update.tasks ++ c.in_ok-task.task ∷ []) c.loop-update.tasks
+    c.push.ensures
     c.if-is_err.ensures.value in
     record {
       goes = λ new result goes. c.loop-update.invariant.goes new result
-          (goes_with_next c.args.switches part c.loop-update.tasks us i u _ _ new c.in_ok-task.task result cut c.in_ok-task.ensures.goes
-          (subst (λ (ts : List Task). Goes (tasks_stage c.args.switches part ts (drop (i + 1) us)) (g.D.Desk.view c.update_task.new.desk) new result) same goes));
+          (goes_with_next c.args.switches part c.loop-update.tasks us i u _ _ new c.in_ok-task.task result cut
+          c.in_ok-task.ensures.goes
+          (subst (λ (ts : List Task). Goes (tasks_stage c.args.switches part ts (drop (i + 1) us))
+          (g.D.Desk.view c.update_task.new.desk) new result) same goes));
       fitted = subst (λ (ts : List Task). All (IsFitted part) ts) (sym same)
           (All-append (IsFitted part) c.loop-update.tasks (c.in_ok-task.task ∷ []) c.loop-update.invariant.fitted
           (all_one (IsFitted part) c.in_ok-task.task c.in_ok-task.ensures.fitted));
@@ -35,10 +39,12 @@ returns-in_err-task-clause-goes g c =
     let us = c.args.updates.now in
     let i = c.loop-update.update-index in
     let u = c.update-item.result in
-    let cut = drop_more us i u c.loop-update-test.true ∙ ap (λ (x : Update). x ∷ drop (i + 1) us) (sym c.update-item.is) in
+    let cut = drop_more us i u c.loop-update-test.true
+    ∙ ap (λ (x : Update). x ∷ drop (i + 1) us) (sym c.update-item.is) in
     let p = err_from_is_err_and c.from_residual.result c.from_residual.ensures.1 in
     rw (p.1, p.2) (c.loop-update.invariant.goes _ (Err c.in_err-task.field-0.0)
-    (goes_without_next c.args.switches c.args.part.now c.loop-update.tasks us i u _ _ c.in_err-task.field-0.0 cut c.in_err-task.ensures.goes))
+    (goes_without_next c.args.switches c.args.part.now c.loop-update.tasks us i u _ _ c.in_err-task.field-0.0 cut
+    c.in_err-task.ensures.goes))
 
 pub returns-then-is_err-clause-goes : goal.returns-then-is_err-clause-goes
 returns-then-is_err-clause-goes g c =
@@ -46,10 +52,13 @@ returns-then-is_err-clause-goes g c =
     let i = c.loop-update.update-index in
     let u = c.update-item.result in
     let part = c.args.part.now in
-    let cut = drop_more us i u c.loop-update-test.true ∙ ap (λ (x : Update). x ∷ drop (i + 1) us) (sym c.update-item.is) in
+    let cut = drop_more us i u c.loop-update-test.true
+    ∙ ap (λ (x : Update). x ∷ drop (i + 1) us) (sym c.update-item.is) in
     c.loop-update.invariant.goes _ (Err c.refuse.result)
-    (goes_with_next c.args.switches part c.loop-update.tasks us i u _ _ _ c.in_ok-task.task (Err c.refuse.result) cut c.in_ok-task.ensures.goes
-    (goes_without_memory (tasks_stage c.args.switches part (c.loop-update.tasks ++ c.in_ok-task.task ∷ []) (drop (i + 1) us)) _ _ _
+    (goes_with_next c.args.switches part c.loop-update.tasks us i u _ _ _ c.in_ok-task.task (Err c.refuse.result) cut
+    c.in_ok-task.ensures.goes
+    (goes_without_memory (tasks_stage c.args.switches part (c.loop-update.tasks ++ c.in_ok-task.task ∷ [])
+    (drop (i + 1) us)) _ _ _
     c.refuse.ensures.status (rw c.memory_message.ensures at c.refuse.ensures.told)))
 
 pub returns-clause-goes : goal.returns-clause-goes
@@ -58,5 +67,6 @@ returns-clause-goes g c =
     let none = drop_all c.loop-update.update-index us c.loop-update-test.false in
     let d = g.D.Desk.view c.loop-update.desk in
     c.loop-update.invariant.goes d (Ok c.loop-update.tasks)
-    (subst (λ (rest : List Update). Goes (tasks_stage c.args.switches c.args.part.now c.loop-update.tasks rest) d d (Ok c.loop-update.tasks))
+    (subst (λ (rest : List Update). Goes (tasks_stage c.args.switches c.args.part.now c.loop-update.tasks rest) d d
+    (Ok c.loop-update.tasks))
     (sym none) (went_nowhere d c.loop-update.tasks))

@@ -13,5 +13,6 @@ returns-in-Ok-clause-goes g c =
 pub returns-in-Err-clause-goes : goal.returns-in-Err-clause-goes
 returns-in-Err-clause-goes g c =
     let u = c.args.update.now in
-    goes_no_further (update_image c.args.switches c.args.part.now u) (λ image. verdict_stage (Ok (Verify u.memory image))) _ _ c.in-Err.status
+    goes_no_further (update_image c.args.switches c.args.part.now u)
+    (λ image. verdict_stage (Ok (Verify u.memory image))) _ _ c.in-Err.status
     c.in-Err.ensures.goes

@@ -4,7 +4,8 @@ use Rattle.avr_plan.proofs.update_image.file_image.Goals as goal
 
 pub returns-in-Ok-warn_of_ending-clause-goes : goal.returns-in-Ok-warn_of_ending-clause-goes
 returns-in-Ok-warn_of_ending-clause-goes g c =
-    went_image c.args.switches c.args.file.now c.args.format c.args.size _ _ _ c.in-Ok.image c.in-Ok.ending c.in-Ok.ensures.read c.in-Ok.ensures.sound
+    went_image c.args.switches c.args.file.now c.args.format c.args.size _ _ _ c.in-Ok.image c.in-Ok.ending
+    c.in-Ok.ensures.read c.in-Ok.ensures.sound
     c.in-Ok-warn_of_ending.ensures.goes
 
 pub returns-in-Ok-warn_of_ending-clause-sized : goal.returns-in-Ok-warn_of_ending-clause-sized
@@ -14,12 +15,14 @@ returns-in-Ok-warn_of_ending-clause-sized g c =
 
 pub returns-in-Err-warn_of_ending-clause-goes : goal.returns-in-Err-warn_of_ending-clause-goes
 returns-in-Err-warn_of_ending-clause-goes g c =
-    goes_unwarned c.args.switches c.args.file.now c.args.format c.args.size _ _ _ c.in-Ok.image c.in-Ok.ending _ c.in-Ok.ensures.read
+    goes_unwarned c.args.switches c.args.file.now c.args.format c.args.size _ _ _ c.in-Ok.image c.in-Ok.ending _
+    c.in-Ok.ensures.read
     c.in-Ok.ensures.sound
     c.in-Err-warn_of_ending.ensures.goes
 
 pub returns-in-Err-clause-goes : goal.returns-in-Err-clause-goes
 returns-in-Err-clause-goes g c =
-    goes_without_image c.args.switches c.args.file.now c.args.format c.args.size _ _ _ c.in-Err.fault _ c.in-Err.ensures.read
+    goes_without_image c.args.switches c.args.file.now c.args.format c.args.size _ _ _ c.in-Err.fault _
+    c.in-Err.ensures.read
     c.in-Err.ensures.rises
     c.in-Err.ensures.counted c.refuse.ensures.status (rw c.image_message.ensures at c.refuse.ensures.told)

@@ -9,5 +9,6 @@ returns-in-Immediate-clause-goes g c =
 
 pub returns-in_default-clause-goes : goal.returns-in_default-clause-goes
 returns-in_default-clause-goes g c =
-    goes_of_file c.args.switches c.args.update.now.memory _ _ _ _ c.args.update.now.format _ _ c.file_image.result c.size_of-size.ensures.value
+    goes_of_file c.args.switches c.args.update.now.memory _ _ _ _ c.args.update.now.format _ _ c.file_image.result
+    c.size_of-size.ensures.value
     c.as_str-text.ensures c.in_default.not-Immediate c.file_image.ensures.goes

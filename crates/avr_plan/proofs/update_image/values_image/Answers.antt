@@ -2,9 +2,11 @@ use Rattle.avr_plan.proofs.ValueStages.{went_values, goes_bad_values}
 use Rattle.avr_plan.proofs.update_image.values_image.Goals as goal
 
 pub returns-in-Ok-clause-goes : goal.returns-in-Ok-clause-goes
-returns-in-Ok-clause-goes g c = λ switches. went_values switches c.args.memory c.args.size c.args.text.now _ c.in-Ok.image c.in-Ok.ensures.value
+returns-in-Ok-clause-goes g c = λ switches. went_values switches c.args.memory c.args.size c.args.text.now _
+    c.in-Ok.image c.in-Ok.ensures.value
 
 pub returns-in-Err-clause-goes : goal.returns-in-Err-clause-goes
 returns-in-Err-clause-goes g c = λ switches.
-    goes_bad_values switches c.args.memory c.args.size c.args.text.now _ _ _ c.in-Err.fault c.in-Err.ensures.value c.refuse.ensures.status
+    goes_bad_values switches c.args.memory c.args.size c.args.text.now _ _ _ c.in-Err.fault c.in-Err.ensures.value
+    c.refuse.ensures.status
     (rw c.values_message.ensures at c.refuse.ensures.told)

@@ -6,8 +6,10 @@ pub returns-then-not-warns-clause-goes : goal.returns-then-not-warns-clause-goes
 returns-then-not-warns-clause-goes g c = rw (← c.if-not-warns.ensures) (went_silent _)
 
 pub returns-in-Ok-clause-goes : goal.returns-in-Ok-clause-goes
-returns-in-Ok-clause-goes g c = rw (← c.if-not-warns.ensures) (went_saying _ _ (no_end_line c.args.file.now) c.in-Ok.ensures.printed c.in-Ok.ensures.counts.1)
+returns-in-Ok-clause-goes g c = rw (← c.if-not-warns.ensures)
+    (went_saying _ _ (no_end_line c.args.file.now) c.in-Ok.ensures.printed c.in-Ok.ensures.counts.1)
 
 pub returns-in-Err-clause-goes : goal.returns-in-Err-clause-goes
-returns-in-Err-clause-goes g c = rw (← c.if-not-warns.ensures) (goes_saying_part _ _ (no_end_line c.args.file.now) c.in-Err.field-0 c.in-Err.ensures.printed
+returns-in-Err-clause-goes g c = rw (← c.if-not-warns.ensures)
+    (goes_saying_part _ _ (no_end_line c.args.file.now) c.in-Err.field-0 c.in-Err.ensures.printed
     c.in-Err.ensures.fault c.in-Err.ensures.counts)

@@ -9,4 +9,5 @@ returns-in-Some-shown_unless_blank c =
 
 pub loop-line-preserved : goal.loop-line-preserved
 loop-line-preserved c =
-    sym (blank-first _ _ _ c.in-Some.ensures.0 c.in-Some.ensures.1 c.in_default-shown_unless_blank.ensures) ∙ c.loop-line.invariant
+    sym (blank-first _ _ _ c.in-Some.ensures.0 c.in-Some.ensures.1 c.in_default-shown_unless_blank.ensures)
+    ∙ c.loop-line.invariant

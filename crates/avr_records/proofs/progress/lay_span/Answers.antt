@@ -4,7 +4,8 @@ use Rattle.avr_records.proofs.progress.lay_span.Goals as goal
 
 pub returns-in-Ok-clause-laid : goal.returns-in-Ok-clause-laid
 returns-in-Ok-clause-laid c =
-    lays-span c.args.image.now c.put_slice.new.self c.args.addr c.args.bytes.now c.in-Ok.field-0 c.in-Ok.ensures.judged c.in-Ok.ensures.laid
+    lays-span c.args.image.now c.put_slice.new.self c.args.addr c.args.bytes.now c.in-Ok.field-0 c.in-Ok.ensures.judged
+    c.in-Ok.ensures.laid
 
 pub returns-in-Err-clause-laid : goal.returns-in-Err-clause-laid
 returns-in-Err-clause-laid c =

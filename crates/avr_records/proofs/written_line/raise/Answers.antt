@@ -6,4 +6,5 @@ use Rattle.avr_records.proofs.written_line.raise.Goals as goal
 pub loop-digit-preserved : goal.loop-digit-preserved
 loop-digit-preserved c =
     ap (set c.loop-digit.digits c.loop-digit.digit-index) c.make_ascii_uppercase.ensures.after
-    ∙ changed_more to_ascii_uppercase c.args.digits.now c.loop-digit.digits c.loop-digit.digit-index (omega arith) c.loop-digit.invariant
+    ∙ changed_more to_ascii_uppercase c.args.digits.now c.loop-digit.digits c.loop-digit.digit-index (omega arith)
+    c.loop-digit.invariant

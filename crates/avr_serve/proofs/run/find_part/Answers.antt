@@ -6,4 +6,5 @@ returns-in-Err-clause-goes g c = goes_without_parts c.args.settings.now _ _ c.in
 
 pub returns-clause-goes : goal.returns-clause-goes
 returns-clause-goes g c =
-    goes_with_parts c.args.settings.now _ _ _ _ c.in-Ok.parts c.chosen_part.result c.as_str.ensures c.in-Ok.ensures.goes c.chosen_part.ensures.goes
+    goes_with_parts c.args.settings.now _ _ _ _ c.in-Ok.parts c.chosen_part.result c.as_str.ensures c.in-Ok.ensures.goes
+    c.chosen_part.ensures.goes

@@ -13,8 +13,10 @@ loop-turn-init g c = record {
 pub returns-in_default : goal.returns-in_default
 returns-in_default g c = record {
   serves =
-      serves_within c.answer_next.result (c.loop-turn.turn + 1) c.args.turns _ _ _ _ c.in_default.not-TooManyReads (omega arith)
-      (serves_more c.answer_next.result c.loop-turn.turn _ _ _ _ _ _ c.loop-turn.invariant.serves c.answer_next.ensures.serves);
+      serves_within c.answer_next.result (c.loop-turn.turn + 1) c.args.turns _ _ _ _ c.in_default.not-TooManyReads
+      (omega arith)
+      (serves_more c.answer_next.result c.loop-turn.turn _ _ _ _ _ _ c.loop-turn.invariant.serves
+      c.answer_next.ensures.serves);
   counted = omega (arith, c.answer_next.ensures.counted, c.loop-turn.invariant.counted);
   failed = fails_more c.answer_next.result _ _ _ c.loop-turn.invariant.counted c.answer_next.ensures.failed;
   comes = λ start of. c.answer_next.ensures.comes start (c.loop-turn.invariant.comes start of);
@@ -22,7 +24,8 @@ returns-in_default g c = record {
 
 pub loop-turn-preserved : goal.loop-turn-preserved
 loop-turn-preserved g c = record {
-  serves = serves_more TooManyReads c.loop-turn.turn _ _ _ _ _ _ c.loop-turn.invariant.serves c.in-TooManyReads.ensures.serves;
+  serves = serves_more TooManyReads c.loop-turn.turn _ _ _ _ _ _ c.loop-turn.invariant.serves
+      c.in-TooManyReads.ensures.serves;
   counted = c.in-TooManyReads.ensures.failed ∙ c.loop-turn.invariant.counted;
   comes = λ start of. c.in-TooManyReads.ensures.comes start (c.loop-turn.invariant.comes start of);
 }

@@ -17,26 +17,42 @@ put_whole (Ok a) good put = put
 put_whole (Err e) good put = cc
 
 -- a piece was put behind what waits, of which a front may have gone before
-behind : (all done waiting piece rest sent waits next more : List ℕ) → all ≡ done ++ (waiting ++ rest) → rest ≡ piece ++ more → waiting ≡ sent ++ waits → next ≡ waits ++ piece → all ≡ (done ++ sent) ++ (next ++ more)
+behind : (all done waiting piece rest sent waits next more : List ℕ) → all ≡ done ++ (waiting ++ rest)
+    → rest ≡ piece ++ more → waiting ≡ sent ++ waits → next ≡ waits ++ piece → all ≡ (done ++ sent) ++ (next ++ more)
 behind all done waiting piece rest sent waits next more first second third fourth =
-    let last : waits ++ rest ≡ next ++ more = ap (λ (xs : List ℕ). waits ++ xs) second ∙ (sym (append_assoc waits piece more) ∙ ap (λ (xs : List ℕ). xs ++ more) (sym fourth)) in
-    let inner : waiting ++ rest ≡ sent ++ (next ++ more) = ap (λ (xs : List ℕ). xs ++ rest) third ∙ (append_assoc sent waits rest ∙ ap (λ (xs : List ℕ). sent ++ xs) last) in
+    let last : waits ++ rest ≡ next ++ more =
+    ap (λ (xs : List ℕ). waits ++ xs) second
+    ∙ (sym (append_assoc waits piece more) ∙ ap (λ (xs : List ℕ). xs ++ more) (sym fourth)) in
+    let inner : waiting ++ rest ≡ sent ++ (next ++ more) =
+    ap (λ (xs : List ℕ). xs ++ rest) third ∙
+    (append_assoc sent waits rest ∙ ap (λ (xs : List ℕ). sent ++ xs) last) in
     first ∙ (ap (λ (xs : List ℕ). done ++ xs) inner ∙ sym (append_assoc done sent (next ++ more)))
 
 -- what waits is the last
-all_sent : (s : Stream) (old now new : Record) (done waiting text : List ℕ) (r : Result (Unit {0}) DeskFault) → text ≡ done ++ waiting → now ≡ after_sent s done old → OnOk r (new ≡ after_sent s waiting now)
+all_sent : (s : Stream) (old now new : Record) (done waiting text : List ℕ) (r : Result (Unit {0}) DeskFault)
+    → text ≡ done ++ waiting → now ≡ after_sent s done old → OnOk r (new ≡ after_sent s waiting now)
     → OnOk r (new ≡ after_sent s text old)
-all_sent s old now new done waiting text (Ok ok) is before sent = sent_next s old now new done waiting before sent ∙ ap (λ (xs : List ℕ). after_sent s xs old) (sym is)
+all_sent s old now new done waiting text (Ok ok) is before sent =
+    sent_next s old now new done waiting before sent ∙ ap (λ (xs : List ℕ). after_sent s xs old) (sym is)
 all_sent s old now new done waiting text (Err fault) is before sent = tt
 
-part_sent : (s : Stream) (old now new : Record) (done waiting text : List ℕ) (r : Result (Unit {0}) DeskFault) → text ≡ done ++ waiting → now ≡ after_sent s done old → OnErr r (SendsPart s (showing now 0 0) (showing new 0 0) waiting)
+part_sent : (s : Stream) (old now new : Record) (done waiting text : List ℕ) (r : Result (Unit {0}) DeskFault)
+    → text ≡ done ++ waiting → now ≡ after_sent s done old
+    → OnErr r (SendsPart s (showing now 0 0) (showing new 0 0) waiting)
     → OnErr r (SendsPart s (showing old 0 0) (showing new 0 0) text)
 part_sent s old now new done waiting text (Ok ok) is before part = tt
-part_sent s old now new done waiting text (Err fault) is before part = subst (SendsPart s (showing old 0 0) (showing new 0 0)) (sym (is ∙ ap (λ (xs : List ℕ). done ++ xs) (sym (append-nil waiting)))) (sent_next_part s old now new done waiting [] before part)
+part_sent s old now new done waiting text (Err fault) is before part =
+    subst (SendsPart s (showing old 0 0) (showing new 0 0))
+    (sym (is ∙ ap (λ (xs : List ℕ). done ++ xs) (sym (append-nil waiting))))
+    (sent_next_part s old now new done waiting [] before part)
 
 pub pieces-init : goal.pieces-init
 pieces-init g c = record {
-  sent = ([], ap (λ (xs : List ℕ). xs ++ g.P.Pieces.rest c.args.text) (sym c.new-waiting.ensures), sent_none c.args.stream (g.D.Desk.view c.args.desk.now).kept);
+  sent = (
+    [],
+    ap (λ (xs : List ℕ). xs ++ g.P.Pieces.rest c.args.text) (sym c.new-waiting.ensures),
+    sent_none c.args.stream (g.D.Desk.view c.args.desk.now).kept,
+  );
   counted = (refl, refl);
   stays = λ start of. of;
 }
@@ -45,14 +61,21 @@ pub pieces-preserved : goal.pieces-preserved
 pieces-preserved g c =
     let i = c.pieces.invariant.sent in
     let w = c.in_ok-make_room.ensures.sent in
-    let put = put_whole c.try_extend_from_slice.result (c.try_extend_from_slice.ensures.variant.1 (rw c.as_slice.ensures.value (omega (arith, c.in_ok-make_room.ensures.room, c.len.ensures.value)))) c.try_extend_from_slice.ensures.ok in
+    let put = put_whole c.try_extend_from_slice.result
+    (c.try_extend_from_slice.ensures.variant.1
+    (rw c.as_slice.ensures.value (omega (arith, c.in_ok-make_room.ensures.room, c.len.ensures.value))))
+    c.try_extend_from_slice.ensures.ok in
     record {
       sent = (
         i.0 ++ w.0,
-        behind _ i.0 c.pieces.waiting.items c.next_piece.new.out.items _ w.0 c.make_room.new.waiting.items _ _ i.1 c.next_piece.ensures.joined w.1 (rw c.as_slice.ensures.value at put),
+        behind _ i.0 c.pieces.waiting.items c.next_piece.new.out.items _ w.0 c.make_room.new.waiting.items _ _ i.1
+            c.next_piece.ensures.joined w.1 (rw c.as_slice.ensures.value at put),
         sent_next c.args.stream _ _ _ i.0 w.0 i.2 w.2,
       );
-      counted = (c.in_ok-make_room.ensures.counts.1.0 ∙ c.pieces.invariant.counted.0, c.in_ok-make_room.ensures.counts.1.1 ∙ c.pieces.invariant.counted.1);
+      counted = (
+        c.in_ok-make_room.ensures.counts.1.0 ∙ c.pieces.invariant.counted.0,
+        c.in_ok-make_room.ensures.counts.1.1 ∙ c.pieces.invariant.counted.1,
+      );
       stays = λ start of. c.in_ok-make_room.ensures.stays start (c.pieces.invariant.stays start of);
     }
 
@@ -60,22 +83,30 @@ pub returns-in_err-make_room-clause-part : goal.returns-in_err-make_room-clause-
 returns-in_err-make_room-clause-part g c =
     let p = err_from_is_err_and c.from_residual.result c.from_residual.ensures.1 in
     let i = c.pieces.invariant.sent in
-    rw p.1 (subst (SendsPart c.args.stream (g.D.Desk.view c.args.desk.now) (g.D.Desk.view c.make_room.new.desk)) (sym i.1)
-    (sent_next_part c.args.stream _ _ _ i.0 c.pieces.waiting.items (g.P.Pieces.rest c.pieces.text) i.2 c.in_err-make_room.ensures.part))
+    rw p.1 (subst (SendsPart c.args.stream (g.D.Desk.view c.args.desk.now) (g.D.Desk.view c.make_room.new.desk))
+    (sym i.1)
+    (sent_next_part c.args.stream _ _ _ i.0 c.pieces.waiting.items (g.P.Pieces.rest c.pieces.text) i.2
+    c.in_err-make_room.ensures.part))
 
 pub returns-clause-all : goal.returns-clause-all
 returns-clause-all g c =
     let i = c.pieces.invariant.sent in
-    let none = none_left (g.P.Pieces.rest c.pieces.text) c.next_piece.result c.pieces-test.false c.next_piece.ensures.ends.1 in
+    let none = none_left (g.P.Pieces.rest c.pieces.text) c.next_piece.result c.pieces-test.false
+    c.next_piece.ensures.ends.1 in
     let waits = c.pieces.waiting.items in
-    all_sent c.args.stream _ _ _ i.0 waits _ c.write_all.result (i.1 ∙ ap (λ (xs : List ℕ). i.0 ++ xs) (ap (λ (xs : List ℕ). waits ++ xs) none ∙ append-nil waits)) i.2 (rw (← c.as_slice-rest.ensures.value) c.write_all.ensures.all)
+    all_sent c.args.stream _ _ _ i.0 waits _ c.write_all.result
+    (i.1 ∙ ap (λ (xs : List ℕ). i.0 ++ xs) (ap (λ (xs : List ℕ). waits ++ xs) none ∙ append-nil waits)) i.2
+    (rw (← c.as_slice-rest.ensures.value) c.write_all.ensures.all)
 
 pub returns-clause-part : goal.returns-clause-part
 returns-clause-part g c =
     let i = c.pieces.invariant.sent in
-    let none = none_left (g.P.Pieces.rest c.pieces.text) c.next_piece.result c.pieces-test.false c.next_piece.ensures.ends.1 in
+    let none = none_left (g.P.Pieces.rest c.pieces.text) c.next_piece.result c.pieces-test.false
+    c.next_piece.ensures.ends.1 in
     let waits = c.pieces.waiting.items in
-    part_sent c.args.stream _ _ _ i.0 waits _ c.write_all.result (i.1 ∙ ap (λ (xs : List ℕ). i.0 ++ xs) (ap (λ (xs : List ℕ). waits ++ xs) none ∙ append-nil waits)) i.2 (rw (← c.as_slice-rest.ensures.value) c.write_all.ensures.part)
+    part_sent c.args.stream _ _ _ i.0 waits _ c.write_all.result
+    (i.1 ∙ ap (λ (xs : List ℕ). i.0 ++ xs) (ap (λ (xs : List ℕ). waits ++ xs) none ∙ append-nil waits)) i.2
+    (rw (← c.as_slice-rest.ensures.value) c.write_all.ensures.part)
 
 pub returns-clause-counts : goal.returns-clause-counts
 returns-clause-counts g c =
@@ -83,4 +114,5 @@ returns-clause-counts g c =
     let last = g.D.Desk.view c.write_all.new.desk in
     let same = c.pieces.invariant.counted in
     subst (λ n. Counts c.args.stream (showing first.kept first.failures n) last c.write_all.result) same.1
-    (subst (λ n. Counts c.args.stream (showing first.kept n (g.D.Desk.view c.pieces.desk).unsaid) last c.write_all.result) same.0 c.write_all.ensures.counts)
+    (subst (λ n. Counts c.args.stream (showing first.kept n (g.D.Desk.view c.pieces.desk).unsaid) last
+    c.write_all.result) same.0 c.write_all.ensures.counts)

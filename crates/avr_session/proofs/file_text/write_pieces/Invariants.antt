@@ -7,7 +7,8 @@ use Rattle.avr_session.proofs.file_text.write_pieces.Given as goal
 
 abbrev pub invariant-pieces : goal.invariant-pieces
 invariant-pieces g l = record {
-  sent : (done : List ℕ) × (g.P.Pieces.rest l.initial.text ≡ done ++ (l.waiting.items ++ g.P.Pieces.rest l.text)) × Passes (after_sent l.initial.stream done) (g.D.Desk.view l.initial.desk) (g.D.Desk.view l.desk);
+  sent : (done : List ℕ) × (g.P.Pieces.rest l.initial.text ≡ done ++ (l.waiting.items ++ g.P.Pieces.rest l.text))
+      × Passes (after_sent l.initial.stream done) (g.D.Desk.view l.initial.desk) (g.D.Desk.view l.desk);
   counted : HasSameCounts (g.D.Desk.view l.initial.desk) (g.D.Desk.view l.desk);
   stays : Stays g.D.Desk.comes_of l.initial.desk l.desk;
 }

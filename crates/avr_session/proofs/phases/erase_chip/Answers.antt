@@ -14,8 +14,11 @@ returns-clause-performs g c =
     let part = c.args.plan.now.part in
     let s = c.args.plan.now.switches in
     let reports = rw (c.part.ensures, c.switches.ensures) at c.report_erased-reported.ensures.reports in
-    does_one c.args.plan.now EraseChip (operation_performs false erasing (erased_says s.quiet part) c.erase-erased.result c.report_erased-reported.result c.conclude.result PrintStops (print_stops_report _ _ reports)
-    c.requires.sound c.erase-erased.ensures.calls (call_ended erasing _ _ _ c.erase-erased.result _ erasing_lacks_none) reports
+    does_one c.args.plan.now EraseChip (operation_performs false erasing (erased_says s.quiet part)
+    c.erase-erased.result c.report_erased-reported.result c.conclude.result PrintStops
+    (print_stops_report _ _ reports)
+    c.requires.sound c.erase-erased.ensures.calls (call_ended erasing _ _ _ c.erase-erased.result _ erasing_lacks_none)
+    reports
     (told_of _ _ part _ c.erase-erased.result c.report_erased-reported.result reports) c.conclude.ensures)
 
 pub returns-clause-told : goal.returns-clause-told
@@ -23,4 +26,6 @@ returns-clause-told g c =
     let part = c.args.plan.now.part in
     let s = c.args.plan.now.switches in
     let reports = rw (c.part.ensures, c.switches.ensures) at c.report_erased-reported.ensures.reports in
-    told_by part (erased_says s.quiet part) PrintStops _ _ c.erase-erased.result c.report_erased-reported.result c.conclude.result _ (λ fault r. last_line [] (fault_line part fault) r) reports c.conclude.ensures c.fault_of.ensures
+    told_by part (erased_says s.quiet part) PrintStops _ _ c.erase-erased.result c.report_erased-reported.result
+    c.conclude.result _ (λ fault r. last_line [] (fault_line part fault) r) reports c.conclude.ensures
+    c.fault_of.ensures

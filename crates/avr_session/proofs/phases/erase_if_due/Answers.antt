@@ -10,8 +10,11 @@ returns-then-switches-2-clause-performs g c =
     let is_dry = rw c.switches-switches.ensures at c.if-switches.true in
     let is_asked = rw c.switches-switches.ensures at c.if-switches-2.true in
     let leaves = rw c.switches-switches.ensures at c.leave_out_erase.ensures.leaves_out in
-    let due : LeaveErase ∷ [] ≡ erase_actions c.args.plan.now.switches c.args.plan.now.tasks = rw (is_dry, is_asked) refl in
-    does_same c.args.plan.now _ _ due (does_one c.args.plan.now LeaveErase (left_out_performs false (left_out_erase c.args.plan.now.switches.quiet) c.leave_out_erase.result c.requires.sound leaves))
+    let due : LeaveErase ∷ [] ≡ erase_actions c.args.plan.now.switches c.args.plan.now.tasks =
+    rw (is_dry, is_asked) refl in
+    does_same c.args.plan.now _ _ due (does_one c.args.plan.now LeaveErase
+    (left_out_performs false (left_out_erase c.args.plan.now.switches.quiet) c.leave_out_erase.result
+    c.requires.sound leaves))
 
 pub returns-then-switches-clause-performs : goal.returns-then-switches-clause-performs
 returns-then-switches-clause-performs g c =
@@ -23,9 +26,11 @@ returns-then-switches-clause-performs g c =
 pub returns-clause-performs : goal.returns-clause-performs
 returns-clause-performs g c =
     let is_not_dry = rw c.switches-switches.ensures at c.if-switches.false in
-    let is_not_due = rw (c.is_erase_due.ensures, c.switches-switches.ensures, c.tasks.ensures.value) at c.if-is_erase_due.false in
+    let is_not_due = rw (c.is_erase_due.ensures, c.switches-switches.ensures, c.tasks.ensures.value) at
+    c.if-is_erase_due.false in
     let none : [] ≡ erase_actions c.args.plan.now.switches c.args.plan.now.tasks = rw (is_not_dry, is_not_due) refl in
     does_same c.args.plan.now _ _ none (does_nothing c.args.plan.now _ _ c.requires.sound)
 
 pub returns-then-switches-2-clause-told : goal.returns-then-switches-2-clause-told
-returns-then-switches-2-clause-told g c = left_out_told _ _ _ c.leave_out_erase.result c.leave_out_erase.ensures.leaves_out
+returns-then-switches-2-clause-told g c =
+    left_out_told _ _ _ c.leave_out_erase.result c.leave_out_erase.ensures.leaves_out

@@ -1,4 +1,9 @@
 use Rattle.avr_session.proofs.phases.leave_out_write.Goals as goal
 
 pub returns-clause-leaves_out : goal.returns-clause-leaves_out
-returns-clause-leaves_out g c = record { told = c.report_bytes-said.result; reports = rw (c.switches.ensures, c.len.ensures) at c.report_bytes-said.ensures.reports; result_is = c.fine_if_said.ensures }
+returns-clause-leaves_out g c = record {
+  told = c.report_bytes-said.result;
+  reports =
+      rw (c.switches.ensures, c.len.ensures) at c.report_bytes-said.ensures.reports;
+  result_is = c.fine_if_said.ensures;
+}

@@ -14,8 +14,12 @@ returns-clause-performs g c =
     let s = c.args.plan.now.switches in
     let operation = opening part.signature s.force in
     let reports = rw (c.part.ensures, c.switches-switches.ensures) at c.report_opening-reported.ensures.reports in
-    does_one c.args.plan.now OpenSession (operation_performs false operation (opening_says s.quiet part) c.open-opened.result c.report_opening-reported.result c.conclude.result PrintStops (print_stops_report _ _ reports)
-    c.requires.sound c.open-opened.ensures.calls (λ ends. call_ended operation _ _ _ c.open-opened.result _ (opening_lacks_none part.signature s.force) (rw (c.requires.part, c.switches-switches.ensures) at ends)) reports
+    does_one c.args.plan.now OpenSession (operation_performs false operation (opening_says s.quiet part)
+    c.open-opened.result c.report_opening-reported.result c.conclude.result PrintStops
+    (print_stops_report _ _ reports)
+    c.requires.sound c.open-opened.ensures.calls
+    (λ ends. call_ended operation _ _ _ c.open-opened.result _ (opening_lacks_none part.signature s.force)
+    (rw (c.requires.part, c.switches-switches.ensures) at ends)) reports
     (opening_told _ _ s.quiet part c.open-opened.result c.report_opening-reported.result reports) c.conclude.ensures)
 
 pub returns-clause-told : goal.returns-clause-told
@@ -23,4 +27,5 @@ returns-clause-told g c =
     let part = c.args.plan.now.part in
     let s = c.args.plan.now.switches in
     let reports = rw (c.part.ensures, c.switches-switches.ensures) at c.report_opening-reported.ensures.reports in
-    told_by part (opening_says s.quiet part) PrintStops _ _ c.open-opened.result c.report_opening-reported.result c.conclude.result _ (opening_last s.quiet part) reports c.conclude.ensures c.fault_of.ensures
+    told_by part (opening_says s.quiet part) PrintStops _ _ c.open-opened.result c.report_opening-reported.result
+    c.conclude.result _ (opening_last s.quiet part) reports c.conclude.ensures c.fault_of.ensures

@@ -26,9 +26,13 @@ returns-clause-performs g c =
     let good = read_says s c.args.mem format file in
     let reports = rw c.as_slice.ensures.value at c.report_read-reported.ensures.reports in
     does_one c.args.plan.now (SaveMemory c.args.mem format file)
-    (operation_performs true operation (fault_or part good) outcome told c.conclude.result (ReadStops c.read-outcome.result) (read_stops_report part s c.args.mem format file items c.read-outcome.result _ _ reports)
-    c.requires.sound c.read-outcome.ensures.calls (λ ends. lack_ended operation _ _ _ outcome _ (rw c.requires.part at ends)) reports
-    (given_told items good _ _ part c.read-outcome.result told reports) (c.conclude.ensures ∙ sym (given_concluded items c.read-outcome.result told)))
+    (operation_performs true operation (fault_or part good) outcome told c.conclude.result
+    (ReadStops c.read-outcome.result) (read_stops_report part s c.args.mem format file items c.read-outcome.result _
+    _ reports)
+    c.requires.sound c.read-outcome.ensures.calls
+    (λ ends. lack_ended operation _ _ _ outcome _ (rw c.requires.part at ends)) reports
+    (given_told items good _ _ part c.read-outcome.result told reports)
+    (c.conclude.ensures ∙ sym (given_concluded items c.read-outcome.result told)))
 
 pub returns-clause-told : goal.returns-clause-told
 returns-clause-told g c =
@@ -37,4 +41,6 @@ returns-clause-told g c =
     let items = c.read-outcome.new.out.items in
     let good = read_says s c.args.mem c.args.target.format c.args.target.file.now in
     let reports = rw c.as_slice.ensures.value at c.report_read-reported.ensures.reports in
-    told_by part (λ outcome. fault_or part good (given_or_fault items outcome)) (ReadStops c.read-outcome.result) _ _ c.read-outcome.result c.report_read-reported.result c.conclude.result _ (λ fault r. last_line [] (fault_line part fault) r) reports c.conclude.ensures c.fault_of.ensures
+    told_by part (λ outcome. fault_or part good (given_or_fault items outcome)) (ReadStops c.read-outcome.result) _ _
+    c.read-outcome.result c.report_read-reported.result c.conclude.result _
+    (λ fault r. last_line [] (fault_line part fault) r) reports c.conclude.ensures c.fault_of.ensures

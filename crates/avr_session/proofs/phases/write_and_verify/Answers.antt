@@ -10,9 +10,11 @@ pub returns-then-switches-clause-performs : goal.returns-then-switches-clause-pe
 returns-then-switches-clause-performs g c =
     let s = c.args.plan.now.switches in
     let is_dry = rw c.switches.ensures at c.if-switches.true in
-    let due : LeaveWrite c.args.mem c.args.image.now ∷ [] ≡ write_actions s c.args.mem c.args.image.now = rw is_dry refl in
+    let due : LeaveWrite c.args.mem c.args.image.now ∷ [] ≡ write_actions s c.args.mem c.args.image.now =
+    rw is_dry refl in
     does_same c.args.plan.now _ _ due (does_one c.args.plan.now (LeaveWrite c.args.mem c.args.image.now)
-    (left_out_performs false (left_out_write s.quiet c.args.mem c.args.image.now) c.leave_out_write.result c.requires.sound c.leave_out_write.ensures.leaves_out))
+    (left_out_performs false (left_out_write s.quiet c.args.mem c.args.image.now) c.leave_out_write.result
+    c.requires.sound c.leave_out_write.ensures.leaves_out))
 
 pub returns-in_err-fault-clause-performs : goal.returns-in_err-fault-clause-performs
 returns-in_err-fault-clause-performs g c =
@@ -21,7 +23,8 @@ returns-in_err-fault-clause-performs g c =
     let write = WriteImage c.args.mem c.args.image.now ∷ [] in
     let more = read_back_actions c.args.plan.now.switches c.args.mem c.args.image.now in
     let due : write ++ more ≡ write_actions c.args.plan.now.switches c.args.mem c.args.image.now = rw is_not_dry refl in
-    rw p.1 (does_same c.args.plan.now _ _ due (does_last c.args.plan.now write more (Err p.0) (λ e. cc) c.in_err-fault.ensures.performs))
+    rw p.1 (does_same c.args.plan.now _ _ due
+    (does_last c.args.plan.now write more (Err p.0) (λ e. cc) c.in_err-fault.ensures.performs))
 
 pub returns-in-Fine-clause-performs : goal.returns-in-Fine-clause-performs
 returns-in-Fine-clause-performs g c =
@@ -29,7 +32,8 @@ returns-in-Fine-clause-performs g c =
     let write = WriteImage c.args.mem c.args.image.now ∷ [] in
     let more = read_back_actions c.args.plan.now.switches c.args.mem c.args.image.now in
     let due : write ++ more ≡ write_actions c.args.plan.now.switches c.args.mem c.args.image.now = rw is_not_dry refl in
-    does_same c.args.plan.now _ _ due (does_then c.args.plan.now write more c.read_back.result (rw c.in-Fine.is at c.in_ok-fault.ensures.performs) c.read_back.ensures.performs)
+    does_same c.args.plan.now _ _ due (does_then c.args.plan.now write more c.read_back.result
+    (rw c.in-Fine.is at c.in_ok-fault.ensures.performs) c.read_back.ensures.performs)
 
 pub returns-in_default-clause-performs : goal.returns-in_default-clause-performs
 returns-in_default-clause-performs g c =
@@ -37,7 +41,9 @@ returns-in_default-clause-performs g c =
     let write = WriteImage c.args.mem c.args.image.now ∷ [] in
     let more = read_back_actions c.args.plan.now.switches c.args.mem c.args.image.now in
     let due : write ++ more ≡ write_actions c.args.plan.now.switches c.args.mem c.args.image.now = rw is_not_dry refl in
-    does_same c.args.plan.now _ _ due (does_last c.args.plan.now write more (Ok c.in_ok-fault.fault) (λ e. c.in_default.not-Fine cc) c.in_ok-fault.ensures.performs)
+    does_same c.args.plan.now _ _ due (does_last c.args.plan.now write more (Ok c.in_ok-fault.fault)
+    (λ e. c.in_default.not-Fine cc) c.in_ok-fault.ensures.performs)
 
 pub returns-then-switches-clause-told : goal.returns-then-switches-clause-told
-returns-then-switches-clause-told g c = left_out_told _ _ _ c.leave_out_write.result c.leave_out_write.ensures.leaves_out
+returns-then-switches-clause-told g c = left_out_told _ _ _ c.leave_out_write.result
+    c.leave_out_write.ensures.leaves_out

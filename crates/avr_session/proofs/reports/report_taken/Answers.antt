@@ -6,10 +6,13 @@ use Rattle.avr_session.proofs.reports.report_taken.Goals as goal
 
 pub returns-clause-reports : goal.returns-clause-reports
 returns-clause-reports g c =
-    reports_then _ (g.D.Desk.view c.report_found.new.desk) _ (signature_says c.args.quiet c.args.found) (warns_of_signature c.args.quiet c.args.part.now c.args.found) c.warn_of_signature.result
+    reports_then _ (g.D.Desk.view c.report_found.new.desk) _ (signature_says c.args.quiet c.args.found)
+    (warns_of_signature c.args.quiet c.args.part.now c.args.found) c.warn_of_signature.result
     c.in_ok-report_found.ensures.reports c.warn_of_signature.ensures.reports
 
 pub returns-in_err-report_found-clause-reports : goal.returns-in_err-report_found-clause-reports
 returns-in_err-report_found-clause-reports g c =
     let p = err_from_is_err_and c.from_residual.result c.from_residual.ensures.1 in
-    rw p.1 (reports_until PrintStops PrintStops (signature_says c.args.quiet c.args.found) (warns_of_signature c.args.quiet c.args.part.now c.args.found) p.0 (λ cause told stops. stops) c.in_err-report_found.ensures.reports)
+    rw p.1 (reports_until PrintStops PrintStops (signature_says c.args.quiet c.args.found)
+    (warns_of_signature c.args.quiet c.args.part.now c.args.found) p.0 (λ cause told stops. stops)
+    c.in_err-report_found.ensures.reports)

@@ -12,7 +12,9 @@ pub returns-clause-reports : goal.returns-clause-reports
 returns-clause-reports g c =
     let kept = c.kept_of-kept.result.now in
     rw (← c.kept_of-kept.ensures)
-    (saves_then _ (g.D.Desk.view c.save.new.desk) _ c.args.target.file.now (saving_says c.args.target.file.now (file_text c.args.target.format kept)) (bytes_say c.args.switches.quiet c.args.mem (length kept) (codes " bytes read")) c.report_bytes.result
+    (saves_then _ (g.D.Desk.view c.save.new.desk) _ c.args.target.file.now
+    (saving_says c.args.target.file.now (file_text c.args.target.format kept))
+    (bytes_say c.args.switches.quiet c.args.mem (length kept) (codes " bytes read")) c.report_bytes.result
     c.in_ok-save.ensures.reports c.report_bytes.ensures.reports)
 
 pub returns-in_err-save-clause-reports : goal.returns-in_err-save-clause-reports
@@ -20,5 +22,8 @@ returns-in_err-save-clause-reports g c =
     let p = err_from_is_err_and c.from_residual.result c.from_residual.ensures.1 in
     let kept = c.kept_of-kept.result.now in
     rw (p.1, ← c.kept_of-kept.ensures)
-    (reports_until (SaveStops c.args.target.file.now) DeskStops (saving_says c.args.target.file.now (file_text c.args.target.format kept)) (bytes_say c.args.switches.quiet c.args.mem (length kept) (codes " bytes read")) p.0
-    (save_is_desk c.args.target.file.now (g.D.Desk.view c.args.desk.now) (g.D.Desk.view c.save.new.desk)) c.in_err-save.ensures.reports)
+    (reports_until (SaveStops c.args.target.file.now) DeskStops
+    (saving_says c.args.target.file.now (file_text c.args.target.format kept))
+    (bytes_say c.args.switches.quiet c.args.mem (length kept) (codes " bytes read")) p.0
+    (save_is_desk c.args.target.file.now (g.D.Desk.view c.args.desk.now) (g.D.Desk.view c.save.new.desk))
+    c.in_err-save.ensures.reports)

@@ -13,8 +13,10 @@ returns-clause-performs g c =
     let part = c.args.plan.now.part in
     let s = c.args.plan.now.switches in
     let reports = rw (c.part.ensures, c.switches.ensures) at c.report_closing-reported.ensures.reports in
-    operation_performs false closing (closed_says s.quiet part) c.close-closed.result c.report_closing-reported.result c.conclude.result PrintStops (print_stops_report _ _ reports)
-    c.requires c.close-closed.ensures.calls (call_ended closing _ _ _ c.close-closed.result _ closing_lacks_none) reports
+    operation_performs false closing (closed_says s.quiet part) c.close-closed.result c.report_closing-reported.result
+    c.conclude.result PrintStops (print_stops_report _ _ reports)
+    c.requires c.close-closed.ensures.calls (call_ended closing _ _ _ c.close-closed.result _ closing_lacks_none)
+    reports
     (told_of _ _ part _ c.close-closed.result c.report_closing-reported.result reports) c.conclude.ensures
 
 pub returns-clause-told : goal.returns-clause-told
@@ -22,4 +24,6 @@ returns-clause-told g c =
     let part = c.args.plan.now.part in
     let s = c.args.plan.now.switches in
     let reports = rw (c.part.ensures, c.switches.ensures) at c.report_closing-reported.ensures.reports in
-    told_by part (closed_says s.quiet part) PrintStops _ _ c.close-closed.result c.report_closing-reported.result c.conclude.result _ (λ fault r. last_line [] (fault_line part fault) r) reports c.conclude.ensures c.fault_of.ensures
+    told_by part (closed_says s.quiet part) PrintStops _ _ c.close-closed.result c.report_closing-reported.result
+    c.conclude.result _ (λ fault r. last_line [] (fault_line part fault) r) reports c.conclude.ensures
+    c.fault_of.ensures

@@ -2,4 +2,5 @@ use Rattle.avr_session.proofs.Outcomes.{comes_runs}
 use Rattle.avr_session.proofs.session.drive.Goals as goal
 
 pub returns-clause-runs : goal.returns-clause-runs
-returns-clause-runs g c = rw c.status.ensures (comes_runs c.args.plan.now _ _ c.drive_outcome.result c.drive_outcome.ensures.comes_to)
+returns-clause-runs g c = rw c.status.ensures
+    (comes_runs c.args.plan.now _ _ c.drive_outcome.result c.drive_outcome.ensures.comes_to)

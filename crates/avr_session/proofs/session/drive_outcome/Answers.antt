@@ -7,10 +7,12 @@ pub returns-in-Ok-clause-comes_to : goal.returns-in-Ok-clause-comes_to
 returns-in-Ok-clause-comes_to g c =
     let performs = rw c.in-Ok.is at c.play.ensures.performs in
     let told = rw c.in-Ok.is at c.play.ensures.told in
-    rw c.outcome_of.ensures (session_comes c.args.plan.now _ _ (ap (λ host. host.progress) c.new-host.ensures) performs told)
+    rw c.outcome_of.ensures (session_comes c.args.plan.now _ _ (ap (λ host. host.progress) c.new-host.ensures) performs
+    told)
 
 pub returns-in-Err-clause-comes_to : goal.returns-in-Err-clause-comes_to
-returns-in-Err-clause-comes_to g c = session_stopped c.args.plan.now _ (ap (λ host. host.progress) c.new-host.ensures) (rw c.in-Err.is at c.play.ensures.performs)
+returns-in-Err-clause-comes_to g c = session_stopped c.args.plan.now _ (ap (λ host. host.progress) c.new-host.ensures)
+    (rw c.in-Err.is at c.play.ensures.performs)
 
 pub returns-in-Ok-clause-follows : goal.returns-in-Ok-clause-follows
 returns-in-Ok-clause-follows g c = c.play.ensures.performs.desk

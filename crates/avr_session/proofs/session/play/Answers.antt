@@ -9,9 +9,12 @@ use Rattle.avr_session.proofs.session.play.Goals as goal
 pub returns-clause-performs : goal.returns-clause-performs
 returns-clause-performs g c =
     let plan = c.args.plan.now in
-    performs_on (takes_memory plan) false (ending plan.part plan.switches) _ c.end.result (λ e. absurd (cc)) (phases_foretells plan.part plan.switches (actions plan)) c.in_ok-standing.ensures.performs (λ during shown never. let e = never.0 in absurd (cc)) c.end.ensures.performs
+    performs_on (takes_memory plan) false (ending plan.part plan.switches) _ c.end.result (λ e. absurd (cc))
+    (phases_foretells plan.part plan.switches (actions plan)) c.in_ok-standing.ensures.performs
+    (λ during shown never. let e = never.0 in absurd (cc)) c.end.ensures.performs
 
 pub returns-in_err-standing-clause-performs : goal.returns-in_err-standing-clause-performs
 returns-in_err-standing-clause-performs g c =
     let p = err_from_is_err_and c.from_residual.result c.from_residual.ensures.1 in
-    rw p.1 (performs_until (ending c.args.plan.now.part c.args.plan.now.switches) p.0 c.in_err-standing.ensures.performs)
+    rw p.1 (performs_until (ending c.args.plan.now.part c.args.plan.now.switches) p.0
+    c.in_err-standing.ensures.performs)

@@ -17,14 +17,22 @@ returns-in-Err-clause-runs g c =
     record {
       between = c.plan.new.desk;
       stays = c.plan.ensures.stays;
-      runs = inr (record { refused = goes.1; bare = rw c.in-Err.is at c.plan.ensures.bare; same = refl; status_is = goes.0 });
+      runs = inr (record {
+        refused = goes.1;
+        bare = rw c.in-Err.is at c.plan.ensures.bare;
+        same = refl;
+        status_is =
+            goes.0;
+      });
     }
 
 pub returns-in-Ok-clause-follows : goal.returns-in-Ok-clause-follows
 returns-in-Ok-clause-follows g c =
     follows_on (g.D.Desk.view c.args.desk.now) (g.D.Desk.view c.plan.new.desk) (g.D.Desk.view c.drive.new.desk)
-    (goes_follows (planned c.args.settings.now) (g.D.Desk.view c.args.desk.now) (g.D.Desk.view c.plan.new.desk) c.plan.result c.plan.ensures.goes) c.drive.ensures.follows
+    (goes_follows (planned c.args.settings.now) (g.D.Desk.view c.args.desk.now) (g.D.Desk.view c.plan.new.desk)
+    c.plan.result c.plan.ensures.goes) c.drive.ensures.follows
 
 pub returns-in-Err-clause-follows : goal.returns-in-Err-clause-follows
 returns-in-Err-clause-follows g c =
-    goes_follows (planned c.args.settings.now) (g.D.Desk.view c.args.desk.now) (g.D.Desk.view c.plan.new.desk) c.plan.result c.plan.ensures.goes
+    goes_follows (planned c.args.settings.now) (g.D.Desk.view c.args.desk.now) (g.D.Desk.view c.plan.new.desk)
+    c.plan.result c.plan.ensures.goes

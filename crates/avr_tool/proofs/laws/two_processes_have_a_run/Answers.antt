@@ -5,4 +5,5 @@ use Rattle.avr_tool.proofs.PerfectRun.{has_run}
 use Rattle.avr_tool.proofs.laws.two_processes_have_a_run.Goals as goal
 
 pub returns : goal.returns
-returns c = λ plan s file sound part fitted. has_run plan s file (session_asks plan (subst IsPart part sound.part) fitted)
+returns c = λ plan s file sound part fitted. has_run plan s file
+    (session_asks plan (subst IsPart part sound.part) fitted)

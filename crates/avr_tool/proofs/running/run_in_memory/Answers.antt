@@ -4,4 +4,5 @@ use Rattle.avr_tool.proofs.running.run_in_memory.Goals as goal
 
 pub returns-clause-leaves : goal.returns-clause-leaves
 returns-clause-leaves c =
-    run_is_over_tape c.args.settings.now _ _ _ _ _ _ c.requires.unused (c.run.ensures.comes _ (of_tape_now _)) c.run.ensures.runs.stays c.run.ensures.stays c.run.ensures.runs.runs
+    run_is_over_tape c.args.settings.now _ _ _ _ _ _ c.requires.unused (c.run.ensures.comes _ (of_tape_now _))
+    c.run.ensures.runs.stays c.run.ensures.stays c.run.ensures.runs.runs

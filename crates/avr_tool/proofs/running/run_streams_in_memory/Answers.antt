@@ -3,7 +3,8 @@ use Rattle.avr_tool.proofs.InMemory.{run_is_over_streams}
 use Rattle.avr_tool.proofs.running.run_streams_in_memory.Goals as goal
 
 pub returns-clause-tells : goal.returns-clause-tells
-returns-clause-tells g c = c.run.ensures.comes c.args.streams.now (true_now g.R.Read.remaining g.W.Write.contents c.args.streams.now)
+returns-clause-tells g c = c.run.ensures.comes c.args.streams.now
+    (true_now g.R.Read.remaining g.W.Write.contents c.args.streams.now)
 
 pub returns-clause-leaves : goal.returns-clause-leaves
 returns-clause-leaves g c =

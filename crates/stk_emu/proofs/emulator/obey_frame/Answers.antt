@@ -5,5 +5,6 @@ use Rattle.stk_emu.proofs.emulator.obey_frame.Goals as goal
 
 pub put_frame-requires-clause-some : goal.put_frame-requires-clause-some
 put_frame-requires-clause-some c =
-    let e : c.as_slice.result.now ≡ (obey c.body.result.now c.args.programmer.now).0 = c.as_slice.ensures.value ∙ ap (λ d. d.0) c.obey.ensures in
+    let e : c.as_slice.result.now ≡ (obey c.body.result.now c.args.programmer.now).0 =
+    c.as_slice.ensures.value ∙ ap (λ d. d.0) c.obey.ensures in
     rw e (obey_body c.body.result.now c.args.programmer.now).some

@@ -4,4 +4,5 @@ use Rattle.stk_emu.proofs.flash.load_in_turn.Given as goal
 
 abbrev pub invariant-loop-i : goal.invariant-loop-i
 invariant-loop-i l =
-    sent_to (flash_loads l.wide l.command l.address l.i (drop l.i l.bytes)) l.chip ≡ sent_to (flash_loads l.wide l.command l.address 0 l.bytes) l.initial.chip
+    sent_to (flash_loads l.wide l.command l.address l.i (drop l.i l.bytes)) l.chip
+    ≡ sent_to (flash_loads l.wide l.command l.address 0 l.bytes) l.initial.chip

@@ -4,4 +4,5 @@ use Rattle.stk_host.proofs.comparing.compare_run.Goals as goal
 
 pub loop-i-preserved : goal.loop-i-preserved
 loop-i-preserved c =
-    c.loop-i.invariant ∙ run_goes_on c.args.addr c.loop-i.i c.args.run.now c.args.bytes.now (omega arith) (omega (arith, c.requires.there)) (eq-eqb _ _ c.if-found-want.false)
+    c.loop-i.invariant ∙ run_goes_on c.args.addr c.loop-i.i c.args.run.now c.args.bytes.now (omega arith)
+    (omega (arith, c.requires.there)) (eq-eqb _ _ c.if-found-want.false)

@@ -4,7 +4,8 @@ use Rattle.stk_host.proofs.Going.{counted_data, goes_with, stops_with}
 use Rattle.stk_host.proofs.conversation.read_step.Goals as goal
 
 pub append-requires : goal.append-requires
-append-requires g c = rw c.data_read.ensures (rw (counted_data _ _ c.requires.brings.counted c.in_ok-step.ensures.sized) c.requires.room)
+append-requires g c = rw c.data_read.ensures
+    (rw (counted_data _ _ c.requires.brings.counted c.in_ok-step.ensures.sized) c.requires.room)
 
 pub returns-in_err-step-clause-asks : goal.returns-in_err-step-clause-asks
 returns-in_err-step-clause-asks g c = record {
@@ -23,4 +24,9 @@ returns-clause-asks g c = record {
 }
 
 pub returns-clause-size : goal.returns-clause-size
-returns-clause-size g c = rw (c.append.ensures.items, c.data_read.ensures, length-append, counted_data _ _ c.requires.brings.counted c.in_ok-step.ensures.sized) refl
+returns-clause-size g c = rw (
+  c.append.ensures.items,
+  c.data_read.ensures,
+  length-append,
+  counted_data _ _ c.requires.brings.counted c.in_ok-step.ensures.sized,
+) refl

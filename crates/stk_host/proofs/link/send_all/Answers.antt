@@ -8,22 +8,28 @@ returns-in_err-count-clause-sends g c =
     let p = err_from_is_err_and c.from_residual.result c.from_residual.ensures.1 in
     rw p.1 (record {
       ok = tt;
-      err = part_of c.args.bytes.now c.loop-done.done _ _ (omega arith) (says_still _ _ _ _ c.loop-done.invariant.says c.in_err-count.ensures.sends.err);
-      counts = fails_since _ _ _ _ c.loop-done.invariant.counted c.in_err-count.ensures.sends.counted c.in_err-count.ensures.sends.failed;
+      err = part_of c.args.bytes.now c.loop-done.done _ _ (omega arith)
+          (says_still _ _ _ _ c.loop-done.invariant.says c.in_err-count.ensures.sends.err);
+      counts = fails_since _ _ _ _ c.loop-done.invariant.counted c.in_err-count.ensures.sends.counted
+          c.in_err-count.ensures.sends.failed;
     })
 
 pub returns-then-count-eq0-clause-sends : goal.returns-then-count-eq0-clause-sends
 returns-then-count-eq0-clause-sends g c = record {
   ok = tt;
   err = part_of c.args.bytes.now (c.loop-done.done + c.in_ok-count.count) _ _ (omega arith)
-      (says_part c.args.bytes.now c.loop-done.done c.in_ok-count.count _ _ _ _ c.loop-done.invariant.says (behind c.args.bytes.now c.loop-done.done) c.in_ok-count.ensures.sends.ok);
-  counts = fails_since _ _ _ _ c.loop-done.invariant.counted c.in_ok-count.ensures.sends.counted (c.in_ok-count.ensures.sends.stuck (omega arith) (omega arith));
+      (says_part c.args.bytes.now c.loop-done.done c.in_ok-count.count _ _ _ _ c.loop-done.invariant.says
+      (behind c.args.bytes.now c.loop-done.done) c.in_ok-count.ensures.sends.ok);
+  counts = fails_since _ _ _ _ c.loop-done.invariant.counted c.in_ok-count.ensures.sends.counted
+      (c.in_ok-count.ensures.sends.stuck (omega arith) (omega arith));
 }
 
 pub loop-done-preserved : goal.loop-done-preserved
 loop-done-preserved g c = record {
-  in_range = part_fits c.args.bytes.now c.loop-done.done c.in_ok-count.count c.loop-done.invariant.in_range c.in_ok-count.ensures.sends.within;
-  says = says_part c.args.bytes.now c.loop-done.done c.in_ok-count.count _ _ _ _ c.loop-done.invariant.says (behind c.args.bytes.now c.loop-done.done) c.in_ok-count.ensures.sends.ok;
+  in_range = part_fits c.args.bytes.now c.loop-done.done c.in_ok-count.count c.loop-done.invariant.in_range
+      c.in_ok-count.ensures.sends.within;
+  says = says_part c.args.bytes.now c.loop-done.done c.in_ok-count.count _ _ _ _ c.loop-done.invariant.says
+      (behind c.args.bytes.now c.loop-done.done) c.in_ok-count.ensures.sends.ok;
   counted = omega (arith, c.in_ok-count.ensures.sends.sound (omega arith), c.loop-done.invariant.counted);
   comes = λ start of. c.in_ok-count.ensures.comes start (c.loop-done.invariant.comes start of);
 }

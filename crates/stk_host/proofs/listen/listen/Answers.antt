@@ -8,14 +8,16 @@ pub loop-count-init : goal.loop-count-init
 loop-count-init g c = record {
   in_range = omega arith;
   fits = c.requires.few;
-  listening = rw c.reset.ensures (begins c.args.seq c.args.unread.now (g.L.Link.view c.args.link.now) (omega (arith, c.requires.few)));
+  listening = rw c.reset.ensures (begins c.args.seq c.args.unread.now (g.L.Link.view c.args.link.now)
+      (omega (arith, c.requires.few)));
   counted = refl;
   comes = λ start of. of;
 }
 
 pub returns-in-Silence-clause-hears : goal.returns-in-Silence-clause-hears
 returns-in-Silence-clause-hears g c = record {
-  ok = heard_silence _ _ _ c.loop-count.invariant.listening (c.is_empty.ensures.0 c.if-is_empty.true) (omega arith) c.in-Silence.is c.in_ok-hear.ensures.hears.ok;
+  ok = heard_silence _ _ _ c.loop-count.invariant.listening (c.is_empty.ensures.0 c.if-is_empty.true) (omega arith)
+      c.in-Silence.is c.in_ok-hear.ensures.hears.ok;
   holds = search rules;
   err = search rules;
   counts = search rules;
@@ -24,7 +26,8 @@ returns-in-Silence-clause-hears g c = record {
 
 pub returns-in-End-clause-hears : goal.returns-in-End-clause-hears
 returns-in-End-clause-hears g c = record {
-  ok = heard_end _ _ _ c.loop-count.invariant.listening (c.is_empty.ensures.0 c.if-is_empty.true) (omega arith) c.in-End.is c.in_ok-hear.ensures.hears.ok;
+  ok = heard_end _ _ _ c.loop-count.invariant.listening (c.is_empty.ensures.0 c.if-is_empty.true) (omega arith)
+      c.in-End.is c.in_ok-hear.ensures.hears.ok;
   holds = search rules;
   err = search rules;
   counts = search rules;
@@ -37,7 +40,8 @@ returns-in_err-hear-clause-hears g c = record {
   holds = search rules;
   err =
       let p = err_from_is_err_and c.from_residual.result c.from_residual.ensures.1 in
-      rw p.1 (hears_none _ c.loop-count.invariant.listening (c.is_empty.ensures.0 c.if-is_empty.true) (omega arith) c.in_err-hear.ensures.hears.err);
+      rw p.1 (hears_none _ c.loop-count.invariant.listening (c.is_empty.ensures.0 c.if-is_empty.true) (omega arith)
+      c.in_err-hear.ensures.hears.err);
   counts = search rules;
   fits = search rules;
 }
@@ -45,12 +49,17 @@ returns-in_err-hear-clause-hears g c = record {
 pub returns-then-is_answer-clause-hears : goal.returns-then-is_answer-clause-hears
 returns-then-is_answer-clause-hears g c = record {
   ok =
-      let l : Listening c.args.seq c.args.unread.now (g.L.Link.view c.args.link.now) c.loop-count.reader c.loop-count.count c.if-is_empty.unread (g.L.Link.view c.if-is_empty.link) =
+      let l : Listening c.args.seq c.args.unread.now (g.L.Link.view c.args.link.now) c.loop-count.reader
+      c.loop-count.count c.if-is_empty.unread (g.L.Link.view c.if-is_empty.link) =
       elim c.if-is_empty.branch [
-        | then-is_empty+in_ok-hear+in-Bytes w ↦ rw (w.unread-is, w.link-is) (heard_bytes _ _ _ _ c.loop-count.invariant.listening (c.is_empty.ensures.0 w.if-is_empty.true) (omega arith) (omega (arith, w.in_ok-hear.ensures.hears.within)) w.in-Bytes.is w.in_ok-hear.ensures.hears.ok)
+        | then-is_empty+in_ok-hear+in-Bytes w ↦ rw (w.unread-is, w.link-is)
+            (heard_bytes _ _ _ _ c.loop-count.invariant.listening (c.is_empty.ensures.0 w.if-is_empty.true)
+            (omega arith) (omega (arith, w.in_ok-hear.ensures.hears.within)) w.in-Bytes.is
+            w.in_ok-hear.ensures.hears.ok)
         | else-is_empty w ↦ rw (w.unread-is, w.link-is) c.loop-count.invariant.listening
       ] in
-      finds _ _ _ _ l c.read_on-used.ensures.fed (c.is_answer.ensures.yes c.if-is_answer.true) (omega (arith, c.read_on-used.ensures.within));
+      finds _ _ _ _ l c.read_on-used.ensures.fed (c.is_answer.ensures.yes c.if-is_answer.true)
+      (omega (arith, c.read_on-used.ensures.within));
   holds = search rules;
   err = search rules;
   counts = search rules;
@@ -59,9 +68,12 @@ returns-then-is_answer-clause-hears g c = record {
 
 pub loop-count-preserved : goal.loop-count-preserved
 loop-count-preserved g c =
-    let l : Listening c.args.seq c.args.unread.now (g.L.Link.view c.args.link.now) c.loop-count.reader c.loop-count.count c.if-is_empty.unread (g.L.Link.view c.if-is_empty.link) =
+    let l : Listening c.args.seq c.args.unread.now (g.L.Link.view c.args.link.now) c.loop-count.reader
+    c.loop-count.count c.if-is_empty.unread (g.L.Link.view c.if-is_empty.link) =
     elim c.if-is_empty.branch [
-      | then-is_empty+in_ok-hear+in-Bytes w ↦ rw (w.unread-is, w.link-is) (heard_bytes _ _ _ _ c.loop-count.invariant.listening (c.is_empty.ensures.0 w.if-is_empty.true) (omega arith) (omega (arith, w.in_ok-hear.ensures.hears.within)) w.in-Bytes.is w.in_ok-hear.ensures.hears.ok)
+      | then-is_empty+in_ok-hear+in-Bytes w ↦ rw (w.unread-is, w.link-is)
+          (heard_bytes _ _ _ _ c.loop-count.invariant.listening (c.is_empty.ensures.0 w.if-is_empty.true) (omega arith)
+          (omega (arith, w.in_ok-hear.ensures.hears.within)) w.in-Bytes.is w.in_ok-hear.ensures.hears.ok)
       | else-is_empty w ↦ rw (w.unread-is, w.link-is) c.loop-count.invariant.listening
     ] in
     record {
@@ -69,11 +81,13 @@ loop-count-preserved g c =
       fits = c.read_on-used.ensures.fits;
       listening = reads_on _ _ _ _ l c.read_on-used.ensures.fed (c.is_answer.ensures.no c.if-is_answer.false);
       counted = elim c.if-is_empty.branch [
-        | then-is_empty+in_ok-hear+in-Bytes w ↦ rw w.link-is (omega (arith, w.in_ok-hear.ensures.hears.counts.sound, c.loop-count.invariant.counted))
+        | then-is_empty+in_ok-hear+in-Bytes w ↦ rw w.link-is
+            (omega (arith, w.in_ok-hear.ensures.hears.counts.sound, c.loop-count.invariant.counted))
         | else-is_empty w ↦ rw w.link-is c.loop-count.invariant.counted
       ];
       comes = elim c.if-is_empty.branch [
-        | then-is_empty+in_ok-hear+in-Bytes w ↦ rw w.link-is (λ start of. w.in_ok-hear.ensures.comes start (c.loop-count.invariant.comes start of))
+        | then-is_empty+in_ok-hear+in-Bytes w ↦ rw w.link-is
+            (λ start of. w.in_ok-hear.ensures.comes start (c.loop-count.invariant.comes start of))
         | else-is_empty w ↦ rw w.link-is c.loop-count.invariant.comes
       ];
     }

@@ -8,7 +8,8 @@ use Rattle.stk_host.proofs.reading.read_blocks.Goals as goal
 
 pub loop-block-init : goal.loop-block-init
 loop-block-init g c = record {
-  reaches = rw c.requires.empty (begins_at (block_steps c.args.part.now c.args.mem) (block_count (size_of c.args.mem c.args.part.now)) [] _ _);
+  reaches = rw c.requires.empty (begins_at (block_steps c.args.part.now c.args.mem)
+      (block_count (size_of c.args.mem c.args.part.now)) [] _ _);
   size = omega (arith, ap length c.requires.empty);
   room = c.requires.room;
   counted = refl;
@@ -22,7 +23,8 @@ returns-in_err-read_step-clause-asks g c = record {
       let p = err_from_is_err_and c.from_residual.result c.from_residual.ensures.1 in
       let before = rw c.size_of-size.ensures.value at c.loop-block-test.true in
       rw (p.1, p.2) (stops_next _ _ _ _ _ _ [] _ c.loop-block.invariant.reaches
-      (next_block_is _ _ _ _ _ _ _ _ before c.load_block-load.ensures.value c.read_block-read.ensures.value c.block_size.ensures c.size_of-size.ensures.value) c.in_err-read_step.ensures.asks.played);
+      (next_block_is _ _ _ _ _ _ _ _ before c.load_block-load.ensures.value c.read_block-read.ensures.value
+      c.block_size.ensures c.size_of-size.ensures.value) c.in_err-read_step.ensures.asks.played);
   counted = search rules;
   bound = search rules;
 }
@@ -32,8 +34,17 @@ loop-block-preserved g c =
     let before = rw c.size_of-size.ensures.value at c.loop-block-test.true in
     record {
       reaches = reaches_next _ _ _ _ _ c.loop-block.invariant.reaches
-          (next_block_is _ _ _ _ _ _ _ _ before c.load_block-load.ensures.value c.read_block-read.ensures.value c.block_size.ensures c.size_of-size.ensures.value) c.in_ok-read_step.ensures.asks.played;
-      size = omega (arith, c.in_ok-read_step.ensures.size, c.read_block-read.ensures.size, c.block_size.ensures, c.size_of-size.ensures.value, c.loop-block.invariant.size, c.loop-block-test.true);
+          (next_block_is _ _ _ _ _ _ _ _ before c.load_block-load.ensures.value c.read_block-read.ensures.value
+          c.block_size.ensures c.size_of-size.ensures.value) c.in_ok-read_step.ensures.asks.played;
+      size = omega (
+        arith,
+        c.in_ok-read_step.ensures.size,
+        c.read_block-read.ensures.size,
+        c.block_size.ensures,
+        c.size_of-size.ensures.value,
+        c.loop-block.invariant.size,
+        c.loop-block-test.true,
+      );
       room = omega (arith, c.read_step.ensures.room, c.loop-block.invariant.room);
       counted = omega (arith, c.in_ok-read_step.ensures.asks.counted.1, c.loop-block.invariant.counted);
       comes = λ start of. c.read_step.ensures.comes start (c.loop-block.invariant.comes start of);

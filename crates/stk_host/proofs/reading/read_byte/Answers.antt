@@ -4,7 +4,8 @@ use Rattle.stk_host.proofs.reading.read_byte.Goals as goal
 
 pub returns-clause-asks : goal.returns-clause-asks
 returns-clause-asks g c = record {
-  played = alone_first (c.args.command.now ∷ []) _ c.read_step.new.out.items _ _ _ _ _ c.requires.empty c.read_step.ensures.asks.played;
+  played = alone_first (c.args.command.now ∷ []) _ c.read_step.new.out.items _ _ _ _ _ c.requires.empty
+      c.read_step.ensures.asks.played;
   counted = search rules;
   bound = search rules;
 }

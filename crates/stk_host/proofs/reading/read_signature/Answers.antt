@@ -20,7 +20,9 @@ pub returns-in_err-read_step-clause-asks : goal.returns-in_err-read_step-clause-
 returns-in_err-read_step-clause-asks g c = record {
   played =
       let p = err_from_is_err_and c.from_residual.result c.from_residual.ensures.1 in
-      rw (p.1, p.2) (stops_next _ _ _ _ _ _ [] _ c.loop-place.invariant.reaches (next_signature _ _ c.loop-place-test.true c.read_signature.ensures.value) c.in_err-read_step.ensures.asks.played);
+      rw (p.1, p.2) (stops_next _ _ _ _ _ _ [] _ c.loop-place.invariant.reaches
+      (next_signature _ _ c.loop-place-test.true c.read_signature.ensures.value)
+      c.in_err-read_step.ensures.asks.played);
   counted = search rules;
   bound = search rules;
 }
@@ -29,7 +31,9 @@ pub loop-place-preserved : goal.loop-place-preserved
 loop-place-preserved g c =
     let one = rw c.read_signature.ensures.value at c.in_ok-read_step.ensures.size in
     record {
-      reaches = reaches_next _ _ _ _ _ c.loop-place.invariant.reaches (next_signature _ _ c.loop-place-test.true c.read_signature.ensures.value) c.in_ok-read_step.ensures.asks.played;
+      reaches = reaches_next _ _ _ _ _ c.loop-place.invariant.reaches
+          (next_signature _ _ c.loop-place-test.true c.read_signature.ensures.value)
+          c.in_ok-read_step.ensures.asks.played;
       size = omega (arith, one, c.loop-place.invariant.size);
       room = omega (arith, c.read_step.ensures.room, c.loop-place.invariant.room);
       counted = omega (arith, c.in_ok-read_step.ensures.asks.counted.1, c.loop-place.invariant.counted);

@@ -10,7 +10,8 @@ use Rattle.stk_host.proofs.reading.read_signature.Given as goal
 abbrev pub invariant-loop-place : goal.invariant-loop-place
 invariant-loop-place g l = record {
   reaches : Reaches (play signature_steps []) l.fn.conversation.progress (g.L.Link.view l.fn.link)
-      (play (each_from signature_step l.place (3 - l.place)) l.out.items) l.conversation.progress (g.L.Link.view l.link);
+      (play (each_from signature_step l.place (3 - l.place)) l.out.items) l.conversation.progress
+      (g.L.Link.view l.link);
   size : length l.out.items ≡ l.place;
   room : 3 ≤ vec_capacity l.out;
   counted : (g.L.Link.view l.link).failures ≡ (g.L.Link.view l.fn.link).failures;

@@ -23,29 +23,39 @@ overflow_add-start g c =
 
 pub program_run-requires-clause-fits : goal.program_run-requires-clause-fits
 program_run-requires-clause-fits g c =
-    let walk = walks_to_run c.args.part.now c.args.image.now c.loop-start.next c.in-Some.start c.run_from-end.result c.page_size-size.result c.page_size-size.ensures.is_part c.page_size-size.ensures.value c.requires c.loop-start.invariant.border (sym c.first_from.ensures ∙ c.in-Some.is) c.run_from-end.ensures in
+    let walk = walks_to_run c.args.part.now c.args.image.now c.loop-start.next c.in-Some.start c.run_from-end.result
+    c.page_size-size.result c.page_size-size.ensures.is_part c.page_size-size.ensures.value c.requires
+    c.loop-start.invariant.border (sym c.first_from.ensures ∙ c.in-Some.is) c.run_from-end.ensures in
     walk.short
 
 pub returns-in_err-program_run-clause-asks : goal.returns-in_err-program_run-clause-asks
 returns-in_err-program_run-clause-asks g c = record {
   played =
-      let walk = walks_to_run c.args.part.now c.args.image.now c.loop-start.next c.in-Some.start c.run_from-end.result c.page_size-size.result c.page_size-size.ensures.is_part c.page_size-size.ensures.value c.requires c.loop-start.invariant.border (sym c.first_from.ensures ∙ c.in-Some.is) c.run_from-end.ensures in
+      let walk = walks_to_run c.args.part.now c.args.image.now c.loop-start.next c.in-Some.start c.run_from-end.result
+      c.page_size-size.result c.page_size-size.ensures.is_part c.page_size-size.ensures.value c.requires
+      c.loop-start.invariant.border (sym c.first_from.ensures ∙ c.in-Some.is) c.run_from-end.ensures in
       let p = err_from_is_err_and c.from_residual.result c.from_residual.ensures.1 in
-      rw (p.1, p.2) (stops_next _ _ _ _ _ _ [] _ c.loop-start.invariant.reaches walk.steps c.in_err-program_run.ensures.asks.played);
+      rw (p.1, p.2) (stops_next _ _ _ _ _ _ [] _ c.loop-start.invariant.reaches walk.steps
+      c.in_err-program_run.ensures.asks.played);
   counted = search rules;
   bound = search rules;
 }
 
 pub loop-start-smaller : goal.loop-start-smaller
 loop-start-smaller g c =
-    let walk = walks_to_run c.args.part.now c.args.image.now c.loop-start.next c.in-Some.start c.run_from-end.result c.page_size-size.result c.page_size-size.ensures.is_part c.page_size-size.ensures.value c.requires c.loop-start.invariant.border (sym c.first_from.ensures ∙ c.in-Some.is) c.run_from-end.ensures in
+    let walk = walks_to_run c.args.part.now c.args.image.now c.loop-start.next c.in-Some.start c.run_from-end.result
+    c.page_size-size.result c.page_size-size.ensures.is_part c.page_size-size.ensures.value c.requires
+    c.loop-start.invariant.border (sym c.first_from.ensures ∙ c.in-Some.is) c.run_from-end.ensures in
     omega (arith, walk.longer, walk.within)
 
 pub loop-start-preserved : goal.loop-start-preserved
 loop-start-preserved g c =
-    let walk = walks_to_run c.args.part.now c.args.image.now c.loop-start.next c.in-Some.start c.run_from-end.result c.page_size-size.result c.page_size-size.ensures.is_part c.page_size-size.ensures.value c.requires c.loop-start.invariant.border (sym c.first_from.ensures ∙ c.in-Some.is) c.run_from-end.ensures in
+    let walk = walks_to_run c.args.part.now c.args.image.now c.loop-start.next c.in-Some.start c.run_from-end.result
+    c.page_size-size.result c.page_size-size.ensures.is_part c.page_size-size.ensures.value c.requires
+    c.loop-start.invariant.border (sym c.first_from.ensures ∙ c.in-Some.is) c.run_from-end.ensures in
     record {
-      reaches = reaches_next _ _ _ _ _ c.loop-start.invariant.reaches walk.steps c.in_ok-program_run.ensures.asks.played;
+      reaches = reaches_next _ _ _ _ _ c.loop-start.invariant.reaches walk.steps
+          c.in_ok-program_run.ensures.asks.played;
       within = walk.within;
       border = walk.border;
       counted = omega (arith, c.in_ok-program_run.ensures.asks.counted.1, c.loop-start.invariant.counted);
@@ -55,7 +65,8 @@ loop-start-preserved g c =
 
 pub returns-clause-asks : goal.returns-clause-asks
 returns-clause-asks g c = record {
-  played = plays_all _ _ c.loop-start.invariant.reaches (walked_runs c.args.part.now c.args.image.now c.loop-start.next _ (sym c.first_from.ensures ∙ c.in_default.is));
+  played = plays_all _ _ c.loop-start.invariant.reaches
+      (walked_runs c.args.part.now c.args.image.now c.loop-start.next _ (sym c.first_from.ensures ∙ c.in_default.is));
   counted = search rules;
   bound = search rules;
 }

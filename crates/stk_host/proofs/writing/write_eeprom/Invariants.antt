@@ -11,7 +11,8 @@ use Rattle.stk_host.proofs.writing.write_eeprom.Given as goal
 abbrev pub invariant-loop-start : goal.invariant-loop-start
 invariant-loop-start g l = record {
   reaches : Reaches (play (write_steps l.part Eeprom l.image) []) l.fn.conversation.progress (g.L.Link.view l.fn.link)
-      (play (each_from (run_steps_at l.part l.image) l.next (l.part.eeprom_size - l.next)) []) l.conversation.progress (g.L.Link.view l.link);
+      (play (each_from (run_steps_at l.part l.image) l.next (l.part.eeprom_size - l.next)) []) l.conversation.progress
+      (g.L.Link.view l.link);
   within : l.next ≤ l.part.eeprom_size;
   border : (l.next % l.part.eeprom_page ≡ 0) ⊎ (byte_at l.image l.next ≡ None);
   counted : (g.L.Link.view l.link).failures ≡ (g.L.Link.view l.fn.link).failures;

@@ -7,7 +7,8 @@ use Rattle.stk_host.proofs.writing.write_flash.Goals as goal
 
 pub loop-addr-init : goal.loop-addr-init
 loop-addr-init g c = record {
-  reaches = begins_at (page_steps c.args.part.now c.args.image.now) (c.args.part.now.flash_size / c.args.part.now.flash_page) [] _ _;
+  reaches = begins_at (page_steps c.args.part.now c.args.image.now)
+      (c.args.part.now.flash_size / c.args.part.now.flash_page) [] _ _;
   within = omega arith;
   counted = refl;
   comes = λ start of. of;
@@ -16,29 +17,39 @@ loop-addr-init g c = record {
 
 pub program_page-requires : goal.program_page-requires
 program_page-requires g c =
-    let walk = walks_to_page c.args.part.now c.args.image.now c.loop-addr.next c.in-Some.addr c.page_size-size.result c.page_size-size.ensures.is_part c.page_size-size.ensures.value c.requires (sym c.first_from.ensures ∙ c.in-Some.is) in
+    let walk = walks_to_page c.args.part.now c.args.image.now c.loop-addr.next c.in-Some.addr c.page_size-size.result
+    c.page_size-size.ensures.is_part c.page_size-size.ensures.value c.requires
+    (sym c.first_from.ensures ∙ c.in-Some.is) in
     walk.small
 
 pub returns-in_err-program_page-clause-asks : goal.returns-in_err-program_page-clause-asks
 returns-in_err-program_page-clause-asks g c = record {
   played =
-      let walk = walks_to_page c.args.part.now c.args.image.now c.loop-addr.next c.in-Some.addr c.page_size-size.result c.page_size-size.ensures.is_part c.page_size-size.ensures.value c.requires (sym c.first_from.ensures ∙ c.in-Some.is) in
+      let walk = walks_to_page c.args.part.now c.args.image.now c.loop-addr.next c.in-Some.addr c.page_size-size.result
+      c.page_size-size.ensures.is_part c.page_size-size.ensures.value c.requires
+      (sym c.first_from.ensures ∙ c.in-Some.is) in
       let p = err_from_is_err_and c.from_residual.result c.from_residual.ensures.1 in
-      rw (p.1, p.2) (stops_next _ _ _ _ _ _ [] _ c.loop-addr.invariant.reaches walk.steps c.in_err-program_page.ensures.asks.played);
+      rw (p.1, p.2) (stops_next _ _ _ _ _ _ [] _ c.loop-addr.invariant.reaches walk.steps
+      c.in_err-program_page.ensures.asks.played);
   counted = search rules;
   bound = search rules;
 }
 
 pub loop-addr-smaller : goal.loop-addr-smaller
 loop-addr-smaller g c =
-    let walk = walks_to_page c.args.part.now c.args.image.now c.loop-addr.next c.in-Some.addr c.page_size-size.result c.page_size-size.ensures.is_part c.page_size-size.ensures.value c.requires (sym c.first_from.ensures ∙ c.in-Some.is) in
+    let walk = walks_to_page c.args.part.now c.args.image.now c.loop-addr.next c.in-Some.addr c.page_size-size.result
+    c.page_size-size.ensures.is_part c.page_size-size.ensures.value c.requires
+    (sym c.first_from.ensures ∙ c.in-Some.is) in
     omega (arith, walk.after, walk.within)
 
 pub loop-addr-preserved : goal.loop-addr-preserved
 loop-addr-preserved g c =
-    let walk = walks_to_page c.args.part.now c.args.image.now c.loop-addr.next c.in-Some.addr c.page_size-size.result c.page_size-size.ensures.is_part c.page_size-size.ensures.value c.requires (sym c.first_from.ensures ∙ c.in-Some.is) in
+    let walk = walks_to_page c.args.part.now c.args.image.now c.loop-addr.next c.in-Some.addr c.page_size-size.result
+    c.page_size-size.ensures.is_part c.page_size-size.ensures.value c.requires
+    (sym c.first_from.ensures ∙ c.in-Some.is) in
     record {
-      reaches = reaches_next _ _ _ _ _ c.loop-addr.invariant.reaches walk.steps c.in_ok-program_page.ensures.asks.played;
+      reaches = reaches_next _ _ _ _ _ c.loop-addr.invariant.reaches walk.steps
+          c.in_ok-program_page.ensures.asks.played;
       within = omega (arith, walk.within);
       counted = omega (arith, c.in_ok-program_page.ensures.asks.counted.1, c.loop-addr.invariant.counted);
       comes = λ start of. c.program_page.ensures.comes start (c.loop-addr.invariant.comes start of);
@@ -47,7 +58,9 @@ loop-addr-preserved g c =
 
 pub returns-clause-asks : goal.returns-clause-asks
 returns-clause-asks g c = record {
-  played = plays_all _ _ c.loop-addr.invariant.reaches (walked_pages c.args.part.now c.args.image.now c.loop-addr.next c.page_size-size.result _ c.page_size-size.ensures.value (sym c.first_from.ensures ∙ c.in_default.is));
+  played = plays_all _ _ c.loop-addr.invariant.reaches
+      (walked_pages c.args.part.now c.args.image.now c.loop-addr.next c.page_size-size.result _
+      c.page_size-size.ensures.value (sym c.first_from.ensures ∙ c.in_default.is));
   counted = search rules;
   bound = search rules;
 }

@@ -5,7 +5,8 @@ use Rattle.stk_host.proofs.writing.write_lock.Goals as goal
 
 pub returns-in-Some-clause-asks : goal.returns-in-Some-clause-asks
 returns-in-Some-clause-asks g c = record {
-  played = rw c.in-Some.is (alone (program_lock c.in-Some.value ∷ []) [] [] _ _ _ _ _ (rw c.program_lock.ensures.value at c.play_step.ensures.asks.played));
+  played = rw c.in-Some.is (alone (program_lock c.in-Some.value ∷ []) [] [] _ _ _ _ _
+      (rw c.program_lock.ensures.value at c.play_step.ensures.asks.played));
   counted = search rules;
   bound = search rules;
 }

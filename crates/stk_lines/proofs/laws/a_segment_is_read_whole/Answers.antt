@@ -4,4 +4,5 @@ use Rattle.stk_emu.proofs.Segments.{segment_read}
 use Rattle.stk_lines.proofs.laws.a_segment_is_read_whole.Goals as goal
 
 pub returns : goal.returns
-returns c = λ n bytes w more b clear lawful. segment_read device n bytes w more b (answers_bodies bytes w.programmer b) clear lawful
+returns c = λ n bytes w more b clear lawful. segment_read device n bytes w more b (answers_bodies bytes w.programmer b)
+    clear lawful

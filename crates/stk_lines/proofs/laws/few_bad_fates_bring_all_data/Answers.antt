@@ -3,13 +3,15 @@ use Rattle.stk_host.specs.Steps.{step}
 use Rattle.stk_lines.proofs.laws.few_bad_fates_bring_all_data.Goals as goal
 
 pub returns-clause-step : goal.returns-clause-step
-returns-clause-step c = λ part commands m k p fates sound is f s few le. step_comes part sound commands m k p fates is f s few le
+returns-clause-step c = λ part commands m k p fates sound is f s few le. step_comes part sound commands m k p fates is f
+    s few le
 
 pub returns-clause-rest : goal.returns-clause-rest
 returns-clause-rest c = λ k commands p fates few. few_left k (step commands) p fates few
 
 pub returns-clause-play : goal.returns-clause-play
-returns-clause-play c = λ part steps m k before p fates o sound are f s few e. play_few part sound steps m k before p fates o are f s few e
+returns-clause-play c = λ part steps m k before p fates o sound are f s few e. play_few part sound steps m k before p
+    fates o are f s few e
 
 pub returns-clause-good : goal.returns-clause-good
 returns-clause-good c = good_few

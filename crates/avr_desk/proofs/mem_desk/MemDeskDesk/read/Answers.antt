@@ -5,4 +5,6 @@ use Rattle.avr_desk.proofs.mem_desk.MemDeskDesk.read.Goals as goal
 pub returns-clause-stays : goal.returns-clause-stays
 returns-clause-stays c =
     from_inside _ _ _ c.self.view_is
-    (read_true _ _ _ _ _ _ _ _ _ c.as_slice.ensures c.given.ensures c.next_bytes-next.ensures c.copy_front-count.ensures.count c.copy_front-count.ensures.front c.is_end-ends.ensures refl refl refl _ c.read_on.ensures)
+    (read_true _ _ _ _ _ _ _ _ _ c.as_slice.ensures c.given.ensures c.next_bytes-next.ensures
+    c.copy_front-count.ensures.count c.copy_front-count.ensures.front c.is_end-ends.ensures refl refl refl _
+    c.read_on.ensures)

@@ -16,4 +16,5 @@ returns-in-Ok-clause-stays g c =
 pub returns-in-Err-clause-stays : goal.returns-in-Err-clause-stays
 returns-in-Err-clause-stays g c =
     from_inside g.O.Write.contents g.E.Write.contents _ _ _ c.self.view_is
-    (open_true g.O.Write.contents g.E.Write.contents _ (Err NotFound) _ _ refl refl c.then-self-inside-in-Err.ensures refl)
+    (open_true g.O.Write.contents g.E.Write.contents _ (Err NotFound) _ _ refl refl c.then-self-inside-in-Err.ensures
+    refl)

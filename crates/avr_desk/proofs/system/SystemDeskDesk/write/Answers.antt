@@ -6,15 +6,20 @@ use Rattle.avr_desk.specs.Standing.{is_output}
 use Rattle.avr_desk.proofs.system.SystemDeskDesk.write.Goals as goal
 
 pub returns-in-Err-write_through-clause-output : goal.returns-in-Err-write_through-clause-output
-returns-in-Err-write_through-clause-output g c = λ to_output. subst (λ (w : g.row.O.Denot). AppendsFront (g.O.Write.contents w) (g.O.Write.contents c.write_through.new.to) c.args.bytes.now) (ap (λ d. d.output) c.self.view_is)
-    (took_front (g.O.Write.contents c.self.inside.output) (g.O.Write.contents c.write_through.new.to) c.in-Err-write_through.ensures.taken.0 c.args.bytes.now c.in-Err-write_through.ensures.taken.2.1)
+returns-in-Err-write_through-clause-output g c =
+    λ to_output. subst (λ (w : g.row.O.Denot). AppendsFront (g.O.Write.contents w)
+    (g.O.Write.contents c.write_through.new.to) c.args.bytes.now) (ap (λ d. d.output) c.self.view_is)
+    (took_front (g.O.Write.contents c.self.inside.output) (g.O.Write.contents c.write_through.new.to)
+    c.in-Err-write_through.ensures.taken.0 c.args.bytes.now c.in-Err-write_through.ensures.taken.2.1)
 
 pub returns-in-Ok-write_through-clause-stays : goal.returns-in-Ok-write_through-clause-stays
 returns-in-Ok-write_through-clause-stays g c =
     from_inside g.O.Write.contents g.E.Write.contents _ _ _ c.self.view_is
-    (write_out_true g.O.Write.contents g.E.Write.contents _ _ _ _ refl (ap is_output c.in-Output.is) refl c.write_through.ensures.taken)
+    (write_out_true g.O.Write.contents g.E.Write.contents _ _ _ _ refl (ap is_output c.in-Output.is) refl
+    c.write_through.ensures.taken)
 
 pub returns-in-Err-write_through-clause-stays : goal.returns-in-Err-write_through-clause-stays
 returns-in-Err-write_through-clause-stays g c =
     from_inside g.O.Write.contents g.E.Write.contents _ _ _ c.self.view_is
-    (write_out_true g.O.Write.contents g.E.Write.contents _ _ _ _ refl (ap is_output c.in-Output.is) refl c.write_through.ensures.taken)
+    (write_out_true g.O.Write.contents g.E.Write.contents _ _ _ _ refl (ap is_output c.in-Output.is) refl
+    c.write_through.ensures.taken)

@@ -4,10 +4,15 @@ use Rattle.avr_image.proofs.image.Image.as_slice.Goals as goal
 
 pub returns-clause-filled : goal.returns-clause-filled
 returns-clause-filled c =
-    c.as_slice.ensures.value ∙ kept_whole c.self.inside.words.items c.self.inside.bytes.items c.self.view_is c.self.invariant.blank
+    c.as_slice.ensures.value ∙ kept_whole c.self.inside.words.items c.self.inside.bytes.items c.self.view_is
+    c.self.invariant.blank
 
 pub returns-clause-image : goal.returns-clause-image
 returns-clause-image c = record {
-  short = omega (arith, sized c.self.inside.words.items c.self.inside.bytes.items c.self.view_is, c.self.invariant.below);
+  short = omega (
+    arith,
+    sized c.self.inside.words.items c.self.inside.bytes.items c.self.view_is,
+    c.self.invariant.below,
+  );
   bytes = holds_bytes c.self.inside.words.items c.self.inside.bytes.items c.self.view_is c.self.invariant.small;
 }

@@ -7,7 +7,8 @@ use Rattle.avr_image.proofs.image.Image.lay_runs.Goals as goal
 
 pub loop-addr-init : goal.loop-addr-init
 loop-addr-init c =
-    let into : c.into_iter-addr-iterator.result ≡ runs 0 c.args.other.now = cc (c.into_iter-addr-iterator.ensures.into_iter_gives, c.runs-addr-items.ensures) in
+    let into : c.into_iter-addr-iterator.result ≡ runs 0 c.args.other.now =
+    cc (c.into_iter-addr-iterator.ensures.into_iter_gives, c.runs-addr-items.ensures) in
     record {
       whole = refl;
       size = refl;
@@ -16,8 +17,10 @@ loop-addr-init c =
 
 pub returns-clause-over : goal.returns-clause-over
 returns-clause-over c =
-    let into : c.into_iter-addr-iterator.result ≡ runs 0 c.args.other.now = cc (c.into_iter-addr-iterator.ensures.into_iter_gives, c.runs-addr-items.ensures) in
-    ap (λ (left : List (ℕ × List ℕ)). laid_over c.loop-addr.self (flat_map places_of left)) (sym c.in-None.ensures.steps.0)
+    let into : c.into_iter-addr-iterator.result ≡ runs 0 c.args.other.now =
+    cc (c.into_iter-addr-iterator.ensures.into_iter_gives, c.runs-addr-items.ensures) in
+    ap (λ (left : List (ℕ × List ℕ)). laid_over c.loop-addr.self (flat_map places_of left))
+    (sym c.in-None.ensures.steps.0)
     ∙ c.loop-addr.invariant.whole
     ∙ ap (λ (left : List (ℕ × List ℕ)). laid_over c.args.self.now (flat_map places_of left)) into
     ∙ runs-over c.args.self.now c.args.other.now c.requires

@@ -7,7 +7,8 @@ use Rattle.avr_image.proofs.image.Image.lay_runs.Given as goal
 
 abbrev pub invariant-loop-addr : goal.invariant-loop-addr
 invariant-loop-addr l = record {
-  whole : laid_over l.self (flat_map places_of l.addr-iterator) ≡ laid_over l.initial.self (flat_map places_of l.initial.addr-iterator);
+  whole : laid_over l.self (flat_map places_of l.addr-iterator)
+      ≡ laid_over l.initial.self (flat_map places_of l.initial.addr-iterator);
   size : length l.self ≡ length l.initial.self;
   inside : EndBy (length l.initial.self) l.addr-iterator;
 }

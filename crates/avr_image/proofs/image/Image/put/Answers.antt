@@ -16,8 +16,10 @@ invariant_of-self c =
     rw c.mark.ensures.words (record {
       enough = omega (arith, words, bytes, c.self.invariant.enough);
       below = omega (arith, bytes, c.self.invariant.below);
-      small = small-set c.self.inside.bytes.items c.args.addr c.args.byte (omega (arith, c.ranges.byte.fits)) c.self.invariant.small;
-      blank = blank-marked c.self.inside.words.items c.self.inside.bytes.items _ _ within (omega (arith, within, c.self.invariant.enough)) c.self.invariant.blank;
+      small = small-set c.self.inside.bytes.items c.args.addr c.args.byte (omega (arith, c.ranges.byte.fits))
+          c.self.invariant.small;
+      blank = blank-marked c.self.inside.words.items c.self.inside.bytes.items _ _ within
+          (omega (arith, within, c.self.invariant.enough)) c.self.invariant.blank;
     })
 
 pub returns-clause-judged : goal.returns-clause-judged
@@ -27,8 +29,10 @@ returns-clause-judged c =
 pub returns-clause-laid : goal.returns-clause-laid
 returns-clause-laid c =
     let within : c.args.addr < length c.self.inside.bytes.items = omega (arith, c.len.ensures, c.if-at-len.false) in
-    rw (c.mark.ensures.words, ← c.self.view_is) (shown-marked c.self.inside.words.items _ _ _ within (omega (arith, within, c.self.invariant.enough)))
+    rw (c.mark.ensures.words, ← c.self.view_is)
+    (shown-marked c.self.inside.words.items _ _ _ within (omega (arith, within, c.self.invariant.enough)))
 
 pub returns-clause-size : goal.returns-clause-size
 returns-clause-size c =
-    rw (← c.self.view_is) (length_shown _ _ ∙ length-set c.self.inside.bytes.items c.args.addr c.args.byte ∙ sym (length_shown _ _))
+    rw (← c.self.view_is) (length_shown _ _ ∙ length-set c.self.inside.bytes.items c.args.addr c.args.byte
+    ∙ sym (length_shown _ _))

@@ -13,7 +13,8 @@ returns-then-bytes-saturating_sub-clause-judged c =
     let past : length c.args.self.now < c.args.addr + length c.args.bytes.now =
     omega (arith, size, c.len-size.ensures, c.saturating_sub.ensures, c.if-bytes-saturating_sub.true) in
     let some : 0 < length c.args.bytes.now = omega (arith, c.saturating_sub.ensures, c.if-bytes-saturating_sub.true) in
-    let same : c.max.result ≡ max c.args.addr (length c.args.self.now) = omega (arith, size, c.len-size.ensures, c.max.ensures) in
+    let same : c.max.result ≡ max c.args.addr (length c.args.self.now) =
+    omega (arith, size, c.len-size.ensures, c.max.ensures) in
     rw (fits_no c.args.addr c.args.bytes.now (length c.args.self.now) some past, same) refl
 
 pub invariant_of-self : goal.invariant_of-self
@@ -24,7 +25,8 @@ invariant_of-self c =
     let room : c.args.addr + length c.args.bytes.now ≤ length bytes =
     omega (arith, some, c.len-size.ensures, c.saturating_sub.ensures, c.if-bytes-saturating_sub.false) in
     rw c.paste.ensures
-    (kept-pasted words c.mark_span.new.words.items bytes c.args.bytes.now c.args.addr room c.mark_span.ensures.marked c.mark_span.ensures.len
+    (kept-pasted words c.mark_span.new.words.items bytes c.args.bytes.now c.args.addr room c.mark_span.ensures.marked
+    c.mark_span.ensures.len
     (λ i. omega (arith, c.type_inv.bytes i)) c.self.invariant)
 
 pub returns-clause-judged : goal.returns-clause-judged

@@ -6,7 +6,8 @@ use Rattle.avr_image.proofs.image.Image.remove.Goals as goal
 
 pub returns-then-place-len-clause-removed : goal.returns-then-place-len-clause-removed
 returns-then-place-len-clause-removed c =
-    removed-past c.args.self.now c.args.addr (omega (arith, sized _ _ c.self.view_is, c.len.ensures, c.if-place-len.true))
+    removed-past c.args.self.now c.args.addr
+    (omega (arith, sized _ _ c.self.view_is, c.len.ensures, c.if-place-len.true))
 
 pub invariant_of-self : goal.invariant_of-self
 invariant_of-self c =
@@ -17,14 +18,17 @@ invariant_of-self c =
       enough = omega (arith, words, bytes, c.self.invariant.enough);
       below = omega (arith, bytes, c.self.invariant.below);
       small = small-set c.self.inside.bytes.items c.args.addr 255 (omega arith) c.self.invariant.small;
-      blank = blank-removed c.self.inside.words.items c.self.inside.bytes.items _ within (omega (arith, within, c.self.invariant.enough)) c.self.invariant.blank;
+      blank = blank-removed c.self.inside.words.items c.self.inside.bytes.items _ within
+          (omega (arith, within, c.self.invariant.enough)) c.self.invariant.blank;
     })
 
 pub returns-clause-removed : goal.returns-clause-removed
 returns-clause-removed c =
     let within : c.args.addr < length c.self.inside.bytes.items = omega (arith, c.len.ensures, c.if-place-len.false) in
-    rw (c.unmark.ensures.words, ← c.self.view_is) (shown-removed c.self.inside.words.items _ _ within (omega (arith, within, c.self.invariant.enough)))
+    rw (c.unmark.ensures.words, ← c.self.view_is)
+    (shown-removed c.self.inside.words.items _ _ within (omega (arith, within, c.self.invariant.enough)))
 
 pub returns-clause-size : goal.returns-clause-size
 returns-clause-size c =
-    rw (← c.self.view_is) (length_shown _ _ ∙ length-set c.self.inside.bytes.items c.args.addr 255 ∙ sym (length_shown _ _))
+    rw (← c.self.view_is) (length_shown _ _ ∙ length-set c.self.inside.bytes.items c.args.addr 255
+    ∙ sym (length_shown _ _))

@@ -5,7 +5,8 @@ use Rattle.avr_image.proofs.image.Image.run_from.Goals as goal
 
 pub returns-then-addr-size : goal.returns-then-addr-size
 returns-then-addr-size c =
-    no_run_past c.args.self.now c.args.addr c.args.end (omega (arith, c.if-addr-size.true, c.len-size.ensures, sized _ _ c.self.view_is))
+    no_run_past c.args.self.now c.args.addr c.args.end
+    (omega (arith, c.if-addr-size.true, c.len-size.ensures, sized _ _ c.self.view_is))
 
 pub returns : goal.returns
 returns c =

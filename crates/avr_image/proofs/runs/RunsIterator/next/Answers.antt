@@ -8,12 +8,14 @@ use Rattle.avr_image.proofs.runs.RunsIterator.next.Goals as goal
 
 pub returns-in_default-clause-steps : goal.returns-in_default-clause-steps
 returns-in_default-clause-steps c =
-    let none = sym c.self.view_is ∙ walk-none c.self.inside.addr (drop c.self.inside.addr c.self.inside.image.now) (sym c.first_from.ensures ∙ c.in_default.is) in
+    let none = sym c.self.view_is ∙ walk-none c.self.inside.addr (drop c.self.inside.addr c.self.inside.image.now)
+    (sym c.first_from.ensures ∙ c.in_default.is) in
     (none, none)
 
 pub run_from-end-requires : goal.run_from-end-requires
 run_from-end-requires c =
-    let next = next_held c.self.inside.image.now c.self.inside.addr c.in-Some.addr (sym c.first_from.ensures ∙ c.in-Some.is) in
+    let next = next_held c.self.inside.image.now c.self.inside.addr c.in-Some.addr
+    (sym c.first_from.ensures ∙ c.in-Some.is) in
     omega (arith, next.within, c.size.ensures)
 
 pub slice_bounds-result-end : goal.slice_bounds-result-end
@@ -30,9 +32,11 @@ returns-clause-steps c =
     let addr : ℕ = c.in-Some.addr in
     let end : ℕ = c.run_from-end.result in
     let found : Stepped c.self.inside.addr addr end image =
-    next_run c.self.inside.addr addr end image (sym c.first_from.ensures ∙ c.in-Some.is) (c.run_from-end.ensures ∙ ap (run_end image addr) c.size.ensures) in
+    next_run c.self.inside.addr addr end image (sym c.first_from.ensures ∙ c.in-Some.is)
+    (c.run_from-end.ensures ∙ ap (run_end image addr) c.size.ensures) in
     sym c.self.view_is ∙ found.is
-    ∙ ap (λ (bytes : List ℕ). (addr, slice_range bytes addr end) ∷ runs end (drop end image)) (sym c.as_slice.ensures.filled)
+    ∙ ap (λ (bytes : List ℕ). (addr, slice_range bytes addr end) ∷ runs end (drop end image))
+    (sym c.as_slice.ensures.filled)
 
 pub returns-clause-goes : goal.returns-clause-goes
 returns-clause-goes c =

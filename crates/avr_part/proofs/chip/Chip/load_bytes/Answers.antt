@@ -12,5 +12,6 @@ returns c =
     let bytes = c.args.bytes.now in
     ap (λ (b : List ℕ). record (state_of c.self.inside) { flash_buffer = b }) c.paste.ensures.bytes
     ∙ (ap (λ (s : ChipState). record s { flash_buffer = pasted place bytes s.flash_buffer }) c.self.view_is
-    ∙ block_loaded c.args.word place bytes c.args.self.now (subst IsSoundChip c.self.view_is c.self.invariant) c.requires
+    ∙ block_loaded c.args.word place bytes c.args.self.now (subst IsSoundChip c.self.view_is c.self.invariant)
+    c.requires
     c.buffer_place-place.ensures.value)

@@ -9,4 +9,5 @@ returns-clause-bytes c =
     let page = c.args.page.now in
     rw (← c.self.view_is)
     (changed_is (byte_and_page c.args.start page) _ _ kept.same_length
-    (λ i l. anded_is c.args.start page i _ _ (λ h. kept.before i h) (λ low high. kept.within i low (omega arith)) (λ h. kept.after i (omega arith))))
+    (λ i l. anded_is c.args.start page i _ _ (λ h. kept.before i h) (λ low high. kept.within i low (omega arith))
+    (λ h. kept.after i (omega arith))))

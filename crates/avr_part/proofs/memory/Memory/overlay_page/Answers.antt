@@ -9,4 +9,5 @@ returns-clause-bytes c =
     let loads = c.args.loads.now in
     rw (← c.self.view_is)
     (changed_is (overlaid c.args.start loads) _ _ kept.same_length
-    (λ i l. overlaid_is c.args.start loads i _ _ (λ h. kept.before i h) (λ low high. kept.within i low (omega arith)) (λ h. kept.after i (omega arith))))
+    (λ i l. overlaid_is c.args.start loads i _ _ (λ h. kept.before i h) (λ low high. kept.within i low (omega arith))
+    (λ h. kept.after i (omega arith))))

@@ -12,4 +12,6 @@ returns-clause-value c =
     c.ok_or.ensures.value
     ∙ ap (λ (o : Option Part). ok_or o NoSuchPart)
     (sym (option_map_id c.find.result)
-    ∙ find_from_yields_List (has_id c.args.id.now) _ _ c.find.result c.find.ensures.ran (YieldsList-from_first (λ (x : Part). x) (λ left. left) (c.args.self.now ++ built_in_parts) c.iter.ensures) (λ x b q k. search rules))
+    ∙ find_from_yields_List (has_id c.args.id.now) _ _ c.find.result c.find.ensures.ran
+    (YieldsList-from_first (λ (x : Part). x) (λ left. left) (c.args.self.now ++ built_in_parts) c.iter.ensures)
+    (λ x b q k. search rules))

@@ -4,10 +4,12 @@ use Rattle.avr_plan.proofs.Intaking.{records-long, raw-too-long, decided-long}
 use Rattle.avr_plan.proofs.intake.Intake.exceeded.Goals as goal
 
 pub returns-in-Records : goal.returns-in-Records
-returns-in-Records c = λ found size text takes. records-long found size _ text (subst (λ s. Takes found size s text) c.in-Records.is takes)
+returns-in-Records c = λ found size text takes. records-long found size _ text
+    (subst (λ s. Takes found size s text) c.in-Records.is takes)
 
 pub returns-in-Raw : goal.returns-in-Raw
-returns-in-Raw c = λ found size text takes. raw-too-long found size _ text (subst (λ s. Takes found size s text) c.in-Raw.is takes)
+returns-in-Raw c = λ found size text takes. raw-too-long found size _ text
+    (subst (λ s. Takes found size s text) c.in-Raw.is takes)
 
 pub returns : goal.returns
 returns c = λ found size text takes.

@@ -4,4 +4,5 @@ use Rattle.avr_plan.proofs.Intaking.{decided-whole}
 use Rattle.avr_plan.proofs.intake.Intake.finish.Goals as goal
 
 pub returns-in-Faulty : goal.returns-in-Faulty
-returns-in-Faulty c = λ found size text takes. decided-whole found size _ text (subst (λ s. Takes found size s text) c.in-Faulty.is takes)
+returns-in-Faulty c = λ found size text takes. decided-whole found size _ text
+    (subst (λ s. Takes found size s text) c.in-Faulty.is takes)

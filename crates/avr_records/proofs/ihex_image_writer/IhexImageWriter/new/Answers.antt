@@ -4,4 +4,5 @@ use Rattle.avr_records.proofs.ihex_image_writer.IhexImageWriter.new.Goals as goa
 
 pub returns-clause-reads_back : goal.returns-clause-reads_back
 returns-clause-reads_back c =
-    ihex-image-reads-back c.args.image.now (omega (arith, c.as_slice.ensures.image.short)) c.as_slice.ensures.image.bytes
+    ihex-image-reads-back c.args.image.now (omega (arith, c.as_slice.ensures.image.short))
+    c.as_slice.ensures.image.bytes

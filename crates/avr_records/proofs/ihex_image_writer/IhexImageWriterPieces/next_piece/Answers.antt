@@ -58,7 +58,8 @@ returns-clause-joined c =
     c.new_upper.ensures ∙ ap (λ (a : ℕ). if a / 65536 == w.upper then none else Some (a / 65536)) c.from.ensures in
     let in_force = upper-same w.upper place c.new_upper.result asked c.in_default-new_upper.is in
     let ends : end ≡ place + row =
-    c.row_end-end.ensures ∙ ap (λ (k : ℕ). place + min k (length (lead (drop place w.image.now)))) (c.row_size.ensures ∙ ap ihex_row_size c.from-2.ensures) in
+    c.row_end-end.ensures ∙ ap (λ (k : ℕ). place + min k (length (lead (drop place w.image.now))))
+    (c.row_size.ensures ∙ ap ihex_row_size c.from-2.ensures) in
     let size : end - place ≡ row = omega (arith, ends) in
     let there : place + (end - place) ≡ end = omega (arith, ends) in
     let piece : List ℕ = c.put_row.new.out.items in
@@ -83,6 +84,8 @@ slice_bounds-row-end c =
     let w = c.self.inside in
     let place : ℕ = c.in-Some.place in
     let ends : c.row_end-end.result ≡ place + min (ihex_row_size place) (length (lead (drop place w.image.now))) =
-    c.row_end-end.ensures ∙ ap (λ (k : ℕ). place + min k (length (lead (drop place w.image.now)))) (c.row_size.ensures ∙ ap ihex_row_size c.from-2.ensures) in
-    let part = row-part w.addr place (ihex_row_size place) c.row_end-end.result w.bytes.now w.image.now (sym c.first_from.ensures ∙ c.in-Some.is) ends c.self.invariant in
+    c.row_end-end.ensures ∙ ap (λ (k : ℕ). place + min k (length (lead (drop place w.image.now))))
+    (c.row_size.ensures ∙ ap ihex_row_size c.from-2.ensures) in
+    let part = row-part w.addr place (ihex_row_size place) c.row_end-end.result w.bytes.now w.image.now
+    (sym c.first_from.ensures ∙ c.in-Some.is) ends c.self.invariant in
     omega (arith, part.within, part.size)

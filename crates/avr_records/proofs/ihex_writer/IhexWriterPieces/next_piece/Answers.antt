@@ -38,6 +38,8 @@ returns-clause-joined c =
     sym c.self.view_is
     ∙ ap (λ (ended : Bool). ihex_rest ended w.upper w.addr w.bytes.now) c.if-self.false
     ∙ ihex_rest-row w.upper w.addr n w.bytes.now some in_force size
-    ∙ ap (λ (front : List ℕ). front ++ ihex_rest false w.upper (w.addr + n) (drop n w.bytes.now)) (sym c.put_row.ensures.text)
+    ∙ ap (λ (front : List ℕ). front ++ ihex_rest false w.upper (w.addr + n) (drop n w.bytes.now))
+    (sym c.put_row.ensures.text)
     ∙ ap (λ (bytes : List ℕ). piece ++ ihex_rest false w.upper (w.addr + n) bytes) (sym (take_rest w.bytes.now n))
-    ∙ ap (λ (ended : Bool). piece ++ ihex_rest ended w.upper (w.addr + n) (take (length w.bytes.now - n) (drop n w.bytes.now))) (sym c.if-self.false)
+    ∙ ap (λ (ended : Bool). piece ++ ihex_rest ended w.upper (w.addr + n)
+    (take (length w.bytes.now - n) (drop n w.bytes.now))) (sym c.if-self.false)

@@ -9,8 +9,10 @@ invariant-loop-line l = record {
   size : length l.self.progress.image ≡ length l.initial.self.progress.image;
   range : InRange l.initial.self.kind (progress_of l.self.progress);
   room : l.self.progress.lines + length l.rest < 2 ^ 32;
-  count : l.self.progress.lines + least_length l.self.part + length l.rest ≤ l.initial.self.progress.lines + least_length l.initial.self.part + length l.piece;
-  carries : Carries l.initial.self.kind (progress_of l.initial.self.progress) l.initial.self.part (progress_of l.self.progress) l.self.part l.piece l.rest;
+  count : l.self.progress.lines + least_length l.self.part + length l.rest ≤ l.initial.self.progress.lines +
+      least_length l.initial.self.part + length l.piece;
+  carries : Carries l.initial.self.kind (progress_of l.initial.self.progress) l.initial.self.part
+      (progress_of l.self.progress) l.self.part l.piece l.rest;
 }
 
 abbrev pub decreases-loop-line : goal.decreases-loop-line

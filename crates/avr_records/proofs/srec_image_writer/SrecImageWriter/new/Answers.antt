@@ -5,4 +5,5 @@ use Rattle.avr_records.proofs.srec_image_writer.SrecImageWriter.new.Goals as goa
 pub returns-clause-reads_back : goal.returns-clause-reads_back
 returns-clause-reads_back c =
     rw (c.address_size_of-address_size.ensures.size, c.last_held_of.ensures)
-    (srec-image-reads-back c.args.image.now (omega (arith, c.as_slice.ensures.image.short)) c.as_slice.ensures.image.bytes)
+    (srec-image-reads-back c.args.image.now (omega (arith, c.as_slice.ensures.image.short))
+    c.as_slice.ensures.image.bytes)

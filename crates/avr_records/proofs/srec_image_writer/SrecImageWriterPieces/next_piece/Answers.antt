@@ -31,7 +31,8 @@ returns-clause-joined c =
     let there : place + (end - place) ≡ end = omega (arith, ends) in
     let piece : List ℕ = c.put_row.new.out.items in
     let part = row-part w.addr place 32 end w.bytes.now w.image.now found ends c.self.invariant.whole in
-    let row_is : srec_record (w.address_size - 1) (low_bytes w.address_size place ++ filled_bytes w.image.now place (end - place)) ≡ piece =
+    let row_is : srec_record (w.address_size - 1)
+    (low_bytes w.address_size place ++ filled_bytes w.image.now place (end - place)) ≡ piece =
     ap (λ (row : List ℕ). srec_record (w.address_size - 1) (low_bytes w.address_size place ++ row)) (sym part.part)
     ∙ sym c.put_row.ensures.text in
     sym c.self.view_is
@@ -49,6 +50,7 @@ pub slice_bounds-row-end : goal.slice_bounds-row-end
 slice_bounds-row-end c =
     let w = c.self.inside in
     let part =
-    row-part w.addr c.in-Some.place 32 c.row_end-end.result w.bytes.now w.image.now (sym c.first_from.ensures ∙ c.in-Some.is)
+    row-part w.addr c.in-Some.place 32 c.row_end-end.result w.bytes.now w.image.now
+    (sym c.first_from.ensures ∙ c.in-Some.is)
     c.row_end-end.ensures c.self.invariant.whole in
     omega (arith, part.within, part.size)

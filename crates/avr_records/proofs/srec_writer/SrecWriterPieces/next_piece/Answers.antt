@@ -14,6 +14,9 @@ returns-clause-joined c =
     sym c.self.view_is
     ∙ ap (λ (ended : Bool). srec_rest ended w.address_size w.addr w.bytes.now) c.if-self.false
     ∙ srec_rest-row w.address_size w.addr n w.bytes.now some c.min-n.ensures
-    ∙ ap (λ (front : List ℕ). front ++ srec_rest false w.address_size (w.addr + n) (drop n w.bytes.now)) (sym c.put_row.ensures.text)
-    ∙ ap (λ (bytes : List ℕ). piece ++ srec_rest false w.address_size (w.addr + n) bytes) (sym (take_rest w.bytes.now n))
-    ∙ ap (λ (ended : Bool). piece ++ srec_rest ended w.address_size (w.addr + n) (take (length w.bytes.now - n) (drop n w.bytes.now))) (sym c.if-self.false)
+    ∙ ap (λ (front : List ℕ). front ++ srec_rest false w.address_size (w.addr + n) (drop n w.bytes.now))
+    (sym c.put_row.ensures.text)
+    ∙ ap (λ (bytes : List ℕ). piece ++ srec_rest false w.address_size (w.addr + n) bytes)
+    (sym (take_rest w.bytes.now n))
+    ∙ ap (λ (ended : Bool). piece ++ srec_rest ended w.address_size (w.addr + n)
+    (take (length w.bytes.now - n) (drop n w.bytes.now))) (sym c.if-self.false)

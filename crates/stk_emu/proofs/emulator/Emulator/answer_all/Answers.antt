@@ -9,12 +9,15 @@ loop-used-init c = record { within = omega arith; appends = appends_none c.args.
 
 pub loop-used-preserved : goal.loop-used-preserved
 loop-used-preserved c = record {
-  within = part_fits c.args.bytes.now c.loop-used.used c.in_ok-used.field-0 c.loop-used.invariant.within c.in_ok-used.ensures.within;
-  appends = appends_on c.args.bytes.now _ c.loop-used.used c.in_ok-used.field-0 _ _ _ _ _ _ c.loop-used.invariant.appends (behind c.args.bytes.now c.loop-used.used) c.in_ok-used.ensures.appends;
+  within = part_fits c.args.bytes.now c.loop-used.used c.in_ok-used.field-0 c.loop-used.invariant.within
+      c.in_ok-used.ensures.within;
+  appends = appends_on c.args.bytes.now _ c.loop-used.used c.in_ok-used.field-0 _ _ _ _ _ _
+      c.loop-used.invariant.appends (behind c.args.bytes.now c.loop-used.used) c.in_ok-used.ensures.appends;
 }
 
 pub returns-clause-appends : goal.returns-clause-appends
-returns-clause-appends c = rw (take_all c.loop-used.used c.args.bytes.now c.loop-used-test.false) at c.loop-used.invariant.appends
+returns-clause-appends c = rw (take_all c.loop-used.used c.args.bytes.now c.loop-used-test.false) at
+    c.loop-used.invariant.appends
 
 pub returns-clause-fed : goal.returns-clause-fed
 returns-clause-fed c = λ p text f. appends_fed _ _ _ _ _ p text (returns-clause-appends c) f

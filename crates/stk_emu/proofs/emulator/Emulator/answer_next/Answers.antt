@@ -6,4 +6,5 @@ pub returns-clause-appends : goal.returns-clause-appends
 returns-clause-appends c =
     appends_one _ _ _ c.feed-used.new.out.items c.args.answers.now.items _ c.feed-used.ensures.one
     (c.push_all.ensures
-    ∙ (ap (λ o. o ++ c.as_slice.result.now) c.reserve.ensures.items ∙ ap (λ o. c.args.answers.now.items ++ o) c.as_slice.ensures.value))
+    ∙ (ap (λ o. o ++ c.as_slice.result.now) c.reserve.ensures.items
+    ∙ ap (λ o. c.args.answers.now.items ++ o) c.as_slice.ensures.value))

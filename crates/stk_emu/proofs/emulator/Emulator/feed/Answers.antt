@@ -4,7 +4,9 @@ use Rattle.stk_emu.proofs.Answering.{found_frames, found_few, answer_ends, is_fe
 use Rattle.stk_emu.proofs.emulator.Emulator.feed.Goals as goal
 
 pub returns-clause-all : goal.returns-clause-all
-returns-clause-all c = λ e. c.feed-used.ensures.all (none_found c.feed-used.result.1 c.feed-used.new.self c.self.inside.programmer (sym c.answer_event.ensures.answers ∙ e))
+returns-clause-all c = λ e. c.feed-used.ensures.all
+    (none_found c.feed-used.result.1 c.feed-used.new.self c.self.inside.programmer
+    (sym c.answer_event.ensures.answers ∙ e))
 
 pub returns-clause-one : goal.returns-clause-one
 returns-clause-one c =
@@ -13,7 +15,8 @@ returns-clause-one c =
       few = found_few c.feed-used.result.1 c.feed-used.new.self;
       are_frames = found_frames c.feed-used.result.1 c.feed-used.new.self c.feed-used.ensures.tells;
       fed = c.feed-used.ensures.fed;
-      ends = answer_ends c.feed-used.result.1 c.feed-used.new.self _ c.self.inside.programmer c.feed-used.ensures.tells c.answer_event.ensures.answers;
+      ends = answer_ends c.feed-used.result.1 c.feed-used.new.self _ c.self.inside.programmer c.feed-used.ensures.tells
+          c.answer_event.ensures.answers;
       answered = c.answer_event.ensures.answers;
       obeyed = c.answer_event.ensures.after;
     })

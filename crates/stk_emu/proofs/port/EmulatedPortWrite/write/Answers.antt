@@ -8,7 +8,8 @@ returns-clause-answers c =
     rw (← c.self.view_is)
     (appends_one _ _ _ c.feed-used.new.out.items c.self.inside.waits.items _ c.feed-used.ensures.one
     (c.push_all.ensures
-    ∙ (ap (λ o. o ++ c.as_slice.result.now) c.reserve.ensures.items ∙ ap (λ o. c.self.inside.waits.items ++ o) c.as_slice.ensures.value)))
+    ∙ (ap (λ o. o ++ c.as_slice.result.now) c.reserve.ensures.items
+    ∙ ap (λ o. c.self.inside.waits.items ++ o) c.as_slice.ensures.value)))
 
 pub returns-clause-passed : goal.returns-clause-passed
 returns-clause-passed c = λ p written given passed. passed_in _ _ _ p written given (returns-clause-answers c) passed

@@ -7,7 +7,10 @@ use Rattle.stk_emu.proofs.segment.Late.put.Goals as goal
 pub returns-clause-items : goal.returns-clause-items
 returns-clause-items c =
     rw (← c.self.view_is) (
-    three_put _ _ _ _ c.self.inside.first.items c.self.inside.second.items c.self.inside.third.items (ap tape_in c.requires)
+    three_put _ _ _ _ c.self.inside.first.items c.self.inside.second.items c.self.inside.third.items
+    (ap tape_in c.requires)
     (c.put_bytes.ensures.items ∙ ap (λ b. tape_in c.args.out.now.items ++ on_tape b) c.as_slice.ensures.value)
-    (c.put_bytes-2.ensures.items ∙ ap (λ b. tape_in c.put_bytes.new.segment.items ++ on_tape b) c.as_slice-2.ensures.value)
-    (c.put_bytes-3.ensures.items ∙ ap (λ b. tape_in c.put_bytes-2.new.segment.items ++ on_tape b) c.as_slice-3.ensures.value))
+    (c.put_bytes-2.ensures.items ∙ ap (λ b. tape_in c.put_bytes.new.segment.items ++ on_tape b)
+    c.as_slice-2.ensures.value)
+    (c.put_bytes-3.ensures.items ∙ ap (λ b. tape_in c.put_bytes-2.new.segment.items ++ on_tape b)
+    c.as_slice-3.ensures.value))

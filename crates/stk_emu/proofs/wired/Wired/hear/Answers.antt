@@ -13,7 +13,10 @@ use Rattle.stk_emu.proofs.wired.Wired.hear.Goals as goal
 pub returns-clause-ok : goal.returns-clause-ok
 returns-clause-ok c =
     rw (← c.self.view_is) (
-    heard_state (wired_state c.self.inside) c.hear.new.self.talk (tape_in (drop c.consume-self-inside.result c.consume-self-inside.new.waits.items)) (on_tape c.args.bytes.now)
-    (c.in_ok-hear.ensures.ok ∙ ap (λ bs. c.self.inside.log.talk ++ talk.Got (on_tape bs) ∷ []) (take-length c.args.bytes.now))
-    (left_on c.consume-self-inside.new.waits.items c.self.inside.waits.items c.self.inside.at c.consume-self-inside.result (length c.args.bytes.now) c.consume-self-inside.ensures.left
+    heard_state (wired_state c.self.inside) c.hear.new.self.talk
+    (tape_in (drop c.consume-self-inside.result c.consume-self-inside.new.waits.items)) (on_tape c.args.bytes.now)
+    (c.in_ok-hear.ensures.ok ∙ ap (λ bs. c.self.inside.log.talk ++ talk.Got (on_tape bs) ∷ [])
+    (take-length c.args.bytes.now))
+    (left_on c.consume-self-inside.new.waits.items c.self.inside.waits.items c.self.inside.at
+    c.consume-self-inside.result (length c.args.bytes.now) c.consume-self-inside.ensures.left
     ∙ ap (λ n. drop n (wired_state c.self.inside).waits) (sym (length-map c.args.bytes.now item.Byte))))

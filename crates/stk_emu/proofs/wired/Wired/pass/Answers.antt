@@ -7,7 +7,10 @@ use Rattle.stk_emu.proofs.Keeping.{keeps_passing}
 use Rattle.stk_emu.proofs.wired.Wired.pass.Goals as goal
 
 pub invariant_of-self-2 : goal.invariant_of-self-2
-invariant_of-self-2 c = record { at = rw (c.keep.ensures.waits, c.in_ok-make_room.ensures.waits, length-append) (omega (arith, c.self.invariant.at)) }
+invariant_of-self-2 c = record {
+  at = rw (c.keep.ensures.waits, c.in_ok-make_room.ensures.waits, length-append)
+      (omega (arith, c.self.invariant.at));
+}
 
 pub returns-clause-passes : goal.returns-clause-passes
 returns-clause-passes c = record {
@@ -19,12 +22,15 @@ returns-clause-passes c = record {
         are_frames = found_frames c.feed-used.result.1 c.feed-used.new.self c.feed-used.ensures.tells;
         fed = c.feed-used.ensures.fed;
         waits = grown c.self.inside.waits.items _ c.pass_event.new.out.items c.self.inside.at _ c.self.invariant.at
-            (c.keep.ensures.waits ∙ ap (λ w. w ++ c.pass_event.new.out.items) c.in_ok-make_room.ensures.waits) c.pass_event.ensures.items;
+            (c.keep.ensures.waits ∙ ap (λ w. w ++ c.pass_event.new.out.items) c.in_ok-make_room.ensures.waits)
+            c.pass_event.ensures.items;
         wire = c.pass_event.ensures.wire;
-        talk = c.keep.ensures.talk ∙ ap (λ t. t ++ talk.Sent (take c.feed-used.result.0 c.args.bytes.now) ∷ []) c.in_ok-make_room.ensures.talk;
+        talk = c.keep.ensures.talk ∙ ap (λ t. t ++ talk.Sent (take c.feed-used.result.0 c.args.bytes.now) ∷ [])
+            c.in_ok-make_room.ensures.talk;
       });
 }
 
 pub returns-clause-comes : goal.returns-clause-comes
 returns-clause-comes c = λ start keeps.
-    keeps_passing c.args.self.now _ (take c.feed-used.result.0 c.args.bytes.now) start.programmer start.fates (returns-clause-passes c).passes keeps
+    keeps_passing c.args.self.now _ (take c.feed-used.result.0 c.args.bytes.now) start.programmer start.fates
+    (returns-clause-passes c).passes keeps

@@ -4,11 +4,13 @@ use Rattle.stk_frame.specs.Decoding.{command_of, with_fields}
 use Rattle.stk_frame.proofs.Decoding.{is_read}
 use Rattle.stk_frame.proofs.command.Command.read.Goals as goal
 
-apart : (bytes : List ℕ) → 1 ≤ length bytes → command_of bytes ≡ with_fields (slice_index bytes 0) (take (length bytes - 1) (drop 1 bytes))
+apart : (bytes : List ℕ) → 1 ≤ length bytes
+    → command_of bytes ≡ with_fields (slice_index bytes 0) (take (length bytes - 1) (drop 1 bytes))
 apart [] some = absurd (omega arith)
 apart (code ∷ fields) some = ap (with_fields code) (sym (take_all (length (code ∷ fields) - 1) fields (omega arith)))
 
 pub returns-in-len1-up-clause-body : goal.returns-in-len1-up-clause-body
 returns-in-len1-up-clause-body c command fits =
-    let value : c.with_fields.result ≡ command_of c.args.bytes.now = c.with_fields.ensures ∙ sym (apart c.args.bytes.now c.in-len1-up.len_at_least) in
+    let value : c.with_fields.result ≡ command_of c.args.bytes.now =
+    c.with_fields.ensures ∙ sym (apart c.args.bytes.now c.in-len1-up.len_at_least) in
     rw value (is_read c.args.bytes.now (λ i. omega (arith, c.type_inv.bytes i)) command fits)

@@ -22,7 +22,8 @@ returns-in_default-listen-clause-replies g c = record {
 
 pub returns-clause-replies : goal.returns-clause-replies
 returns-clause-replies g c = record {
-  ok = rw (← c.self.view_is) (rw c.reply_to.ensures.reply (exchange_done _ _ _ c.in-Ok.ensures.sends.ok c.in-Ok-listen.ensures.hears.ok refl));
+  ok = rw (← c.self.view_is) (rw c.reply_to.ensures.reply
+      (exchange_done _ _ _ c.in-Ok.ensures.sends.ok c.in-Ok-listen.ensures.hears.ok refl));
   err = search rules;
   sized = search rules;
   counts = search rules;

@@ -38,10 +38,17 @@ heard_spec 𝓤 𝓛 𝓜 𝓡 wired =
     )
     f.Key.name code.function (code.unfolded 𝓤 𝓛.H 𝓜 𝓡 wired)
     (λ κs. (shr_vals, (shr_vals, (shr_slice_vals, tt))))
-    (λ κs. (shr_Tells (named 0) κs.0 R, (shr_Tells (named 1) κs.1.0 Heard.the_row, (shr_slice_Tells (named 2) κs.1.1.0 u8, tt)))) (λ κs qs bounds a g are.
+    (λ κs. (
+      shr_Tells (named 0) κs.0 R,
+      (
+        shr_Tells (named 1) κs.1.0 Heard.the_row,
+        (shr_slice_Tells (named 2) κs.1.1.0 u8, tt),
+      ),
+    )) (λ κs qs bounds a g are.
     let y : W.Ghost = ((κs, qs, bounds, a, (shr_vals a.0, (shr_vals a.1.0, (shr_slice_vals a.1.1.0, tt)))), g) in
     let made : R.Denot = record { items = a.0.now.items ++ Got (items_of a.1.0.now a.1.1.0.now) ∷ [] } in
-    qed 𝓛 ((raw (alive 𝓛 f.signature κs qs) ⊛ ‵ (owns (types_at f.signature.params κs) a y.0.4)) ∷ raw ((c κs a).requires g) ∷ []) ∵
+    qed 𝓛 ((raw (alive 𝓛 f.signature κs qs) ⊛ ‵ (owns (types_at f.signature.params κs) a y.0.4))
+    ∷ raw ((c κs a).requires g) ∷ []) ∵
     keep ! (0 ∷ []) $ split ! $ keep ! (0 ∷ []) $
     enter ! _ _ _ _ _ $ alloc_all ! (λ l. pass_all ! refl
     ((tt, tt), ((tt, tt), ((tt, (tt, (record { fits = are.1.1.0.0.1.0 }, tt))), tt))) $

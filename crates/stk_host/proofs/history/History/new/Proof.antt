@@ -27,7 +27,8 @@ new_spec 𝓤 𝓛 𝓜 𝓡 wired =
     (λ κs. tt) (λ κs. tt) (λ κs qs bounds a g are.
     let y : W.Ghost = ((κs, qs, bounds, a, tt), g) in
     let made : R.Denot = record { items = [] } in
-    qed 𝓛 ((raw (alive 𝓛 f.signature κs qs) ⊛ ‵ (owns (types_at f.signature.params κs) a y.0.4)) ∷ raw ((c κs a).requires g) ∷ []) ∵
+    qed 𝓛 ((raw (alive 𝓛 f.signature κs qs) ⊛ ‵ (owns (types_at f.signature.params κs) a y.0.4))
+    ∷ raw ((c κs a).requires g) ∷ []) ∵
     keep ! (0 ∷ []) $ split ! $ keep ! (0 ∷ []) $
     enter ! _ _ _ _ _ $ alloc_all ! (λ l. pass_all ! refl tt $
     sets ! (agg ! (no_more !)) refl (tt, tt) $

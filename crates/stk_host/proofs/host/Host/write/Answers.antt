@@ -5,7 +5,8 @@ use Rattle.stk_host.proofs.host.Host.write.Goals as goal
 pub returns-then-not-writable-clause-calls : goal.returns-then-not-writable-clause-calls
 returns-then-not-writable-clause-calls g c = record {
   stays = search rules;
-  played = λ sound. writes_nothing c.args.self.now.part c.args.mem c.args.image.now _ _ (sym c.writable.ensures ∙ c.if-not-writable.true);
+  played = λ sound. writes_nothing c.args.self.now.part c.args.mem c.args.image.now _ _
+      (sym c.writable.ensures ∙ c.if-not-writable.true);
   lasts = search rules;
   part = search rules;
   failed = search rules;
@@ -17,7 +18,9 @@ returns-then-not-writable-clause-calls g c = record {
 pub returns-clause-calls : goal.returns-clause-calls
 returns-clause-calls g c = record {
   stays = search rules;
-  played = λ sound. rw (← c.self.view_is) (rw c.judge_end-outcome.ensures (writing_ends c.self.inside.part c.args.mem c.args.image.now c.write_memory-written.result _ _ _ _ (sym c.writable.ensures ∙ c.if-not-writable.false) c.write_memory-written.ensures.asks.played));
+  played = λ sound. rw (← c.self.view_is) (rw c.judge_end-outcome.ensures
+      (writing_ends c.self.inside.part c.args.mem c.args.image.now c.write_memory-written.result _ _ _ _
+      (sym c.writable.ensures ∙ c.if-not-writable.false) c.write_memory-written.ensures.asks.played));
   lasts = search rules;
   part = search rules;
   failed = search rules;

@@ -13,5 +13,7 @@ returns-in-Ok-clause-comes g c = λ start since.
       talk = c.heard-self-inside.result.items;
     } in
     true_on g.R.Read.remaining g.W.Write.contents start c.args.self.now after since
-    (subst (λ (mid : StreamState g.row.R.Denot g.row.W.Denot). IsTrueSince g.R.Read.remaining g.W.Write.contents mid after) c.self.view_is
-    (true_of_heard g.R.Read.remaining g.W.Write.contents _ after c.in-Ok.heard c.hear_bytes.new.buffer refl refl c.heard-self-inside.ensures c.in-Ok.ensures.ok))
+    (subst (λ (mid : StreamState g.row.R.Denot g.row.W.Denot). IsTrueSince g.R.Read.remaining g.W.Write.contents mid
+    after) c.self.view_is
+    (true_of_heard g.R.Read.remaining g.W.Write.contents _ after c.in-Ok.heard c.hear_bytes.new.buffer refl refl
+    c.heard-self-inside.ensures c.in-Ok.ensures.ok))

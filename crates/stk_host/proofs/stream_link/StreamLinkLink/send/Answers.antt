@@ -14,5 +14,7 @@ returns-in-Ok-clause-comes g c = λ start since.
     } in
     let bytes = take c.in-Ok.count c.args.bytes.now in
     true_on g.R.Read.remaining g.W.Write.contents start c.args.self.now after since
-    (subst (λ (mid : StreamState g.row.R.Denot g.row.W.Denot). IsTrueSince g.R.Read.remaining g.W.Write.contents mid after) c.self.view_is
-    (true_of_sent g.R.Read.remaining g.W.Write.contents _ after bytes refl refl c.sent-self-inside.ensures c.in-Ok.ensures.ok))
+    (subst (λ (mid : StreamState g.row.R.Denot g.row.W.Denot). IsTrueSince g.R.Read.remaining g.W.Write.contents mid
+    after) c.self.view_is
+    (true_of_sent g.R.Read.remaining g.W.Write.contents _ after bytes refl refl c.sent-self-inside.ensures
+    c.in-Ok.ensures.ok))

@@ -1,5 +1,5 @@
 use Rattle.std.proofs.Common.{length}
-use Rattle.image_tests.proofs.record_writers.srec_of.Given as goal
+use Rattle.test_image.proofs.record_writers.srec_of.Given as goal
 
 abbrev pub decreases-loop-writer : goal.decreases-loop-writer
 decreases-loop-writer l = length l.writer

@@ -1,5 +1,5 @@
 use Rattle.std.proofs.Common.{length}
-use Rattle.image_tests.proofs.record_examples.an_image_is_written_as_ihex.Given as goal
+use Rattle.test_image.proofs.record_examples.an_image_is_written_as_srecords.Given as goal
 
 abbrev pub decreases-loop-writer : goal.decreases-loop-writer
 decreases-loop-writer g l = length l.writer
