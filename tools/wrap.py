@@ -3,7 +3,7 @@
 
     tools/wrap.py FILE.antt ..    breaks each line of more than 120 columns, at the outermost bracket that serves, in
                                   front of an operator where there is one
-    tools/wrap.py                 the same for all files of specs/ and proofs/ that git knows of
+    tools/wrap.py                 the same for all files of specs/ and proofs/ that git knows of; `rt fmt` comes behind it
 
 Imports stay as they are, as does a line that has no place to be broken at; these are named. Run again it finds nothing
 more to do. Behind the words of a line nothing changes but where lines end, which the script asserts.

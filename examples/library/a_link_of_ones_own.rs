@@ -2,62 +2,71 @@
 //! A `Link` of one's own, for a device that the libraries don't know: here a bench with an emulated programmer, whose
 //! answers wait in a queue and are heard at most three bytes at a time.
 //!
-//! A link shows to contracts what it keeps of what passed (`talk`; this one keeps nothing) and how often it has failed,
-//! and it answers a fault only where it has counted one.
+//! A link shows to contracts what passed (`talk`; this one keeps it in a `Log`) and how often it has failed, and it
+//! answers a fault only where it has counted one. Where it has failed nothing has passed.
 //!
 //! What it prints is of the ATtiny85's data sheet: its signature, and 512 bytes of EEPROM, each FF where it is erased.
 //= signature: 1E 93 0B
 //= eeprom: 512 bytes, 512 of them FF
 #![tactic(auto)]
 
-ghost use Rattle.std.specs.Prelude.{None};
-ghost use Rattle.stk_host.specs.Talk.{LinkView};
-
 use anyhow::Result;
 use arrayvec::ArrayVec;
 use avr_part::{Chip, Mem, Parts};
 use stk_emu::Emulator;
 use stk_frame::LARGEST_FRAME;
-use stk_host::{Heard, Host, Link, LinkFault};
+use stk_host::{Heard, Host, Link, LinkFault, Log};
 
 /// How many bytes are heard at a time.
 const AT_MOST: usize = 3;
 
-/// A programmer on the bench, what it has answered, how much of that was heard, and how often memory was refused.
+/// A programmer on the bench, what it has answered, how much of that was heard, all that passed, and how often memory
+/// was refused.
 #[derive(Drop)]
 struct Bench {
     emulator: Emulator,
     answered: Vec<u8>,
     heard: usize,
+    passed: Log,
     failures: u64,
 }
 
+impl Bench {
+    /// Memory was refused.
+    fn failed<T>(&mut self) -> std::result::Result<T, LinkFault> {
+        self.failures = self.failures.saturating_add(1);
+        Err(LinkFault::Failed)
+    }
+}
+
 impl Link for Bench {
-    ghost view = { λ bench. record { talk = None; failures = bench.failures } };
+    ghost view = { λ bench. record { talk = bench.passed.talk; failures = bench.failures } };
 
     ghost Start = { Unit {0} };
 
     ghost comes_of = { λ start bench. Unit {0} };
 
     fn send(&mut self, bytes: &[u8]) -> std::result::Result<usize, LinkFault> {
+        if self.passed.reserve(bytes.len()).is_err() || self.answered.reserve(LARGEST_FRAME).is_err() {
+            return self.failed();
+        }
         let mut answer: ArrayVec<u8, LARGEST_FRAME> = ArrayVec::new();
         let used = self.emulator.feed(bytes, &mut answer);
-        if self.answered.extend_from_slice(answer.as_slice()).is_err() {
-            self.failures = self.failures.saturating_add(1);
-            return Err(LinkFault::Failed);
-        }
+        let _there_is_room = self.answered.extend_from_slice(answer.as_slice());
+        self.passed.say(&bytes[..used]);
         Ok(used)
     }
 
     fn recv(&mut self, buffer: &mut [u8]) -> std::result::Result<Heard, LinkFault> {
         let waits = &self.answered.as_slice()[self.heard..];
-        if waits.is_empty() {
-            return Ok(Heard::Silence);
-        }
         let count = buffer.len().min(waits.len()).min(AT_MOST);
         buffer[..count].copy_from_slice(&waits[..count]);
+        let heard = if count == 0 { Heard::Silence } else { Heard::Bytes(count) };
+        if self.passed.hear(heard, buffer).is_err() {
+            return self.failed();
+        }
         self.heard += count;
-        Ok(Heard::Bytes(count))
+        Ok(heard)
     }
 }
 
@@ -68,6 +77,7 @@ fn main(rt: HostRuntime) -> Result<()> {
         emulator: Emulator::new(Chip::fresh(alloc, part.copied())?),
         answered: Vec::new(alloc),
         heard: 0,
+        passed: Log::new(alloc),
         failures: 0,
     };
     let mut host = Host::new(&part);

@@ -1,5 +1,5 @@
-//! How far the bytes of lines reach that have ended, and what counts for the next line: what `progress` holds, without an
-//! image.
+//! How far the bytes of lines reach that have ended, and what counts for the next line: what `progress` holds, without
+//! an image.
 ghost use Rattle.std.specs.Prelude.{◌≡◌, ◌≤◌, ◌<◌, ◌+◌, ◌^◌, ◌++◌, length, None, Some, Ok, Err, MatchResult, IfErr, IfOk, OnOk};
 ghost use Rattle.std.specs.List.{enumerate_from};
 ghost use Rattle.avr_records.specs.Extents.{EndsAt, IsExtentOf, IsNear, fault_past, extended, ending_at, fault_past_line, extended_by, ending_said, next_extent};

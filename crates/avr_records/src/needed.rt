@@ -46,7 +46,8 @@ pub fn needed_size(kind: Kind, text: &[u8]) -> Result<u32, RecordFault>
 
 /// A file that needs so many bytes reads well into a memory exactly where the memory has as many.
 pub fn a_needed_size_is_the_least()
-    ensures enough { (kind : Kind) (text : List ℕ) (needed size : ℕ) → needed_in_text kind text ≡ Ok needed → needed ≤ size
+    ensures enough { (kind : Kind) (text : List ℕ) (needed size : ℕ)
+        → needed_in_text kind text ≡ Ok needed → needed ≤ size
         → (read : List (Option ℕ) × Ending) × (image_in_text kind text size ≡ Ok read) }
     ensures least { (kind : Kind) (text : List ℕ) (size : ℕ) (read : List (Option ℕ) × Ending) → size ≤ largest
         → image_in_text kind text size ≡ Ok read

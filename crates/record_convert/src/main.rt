@@ -4,21 +4,24 @@
 //! ```text
 //! record_convert ihex 65536 < blink.srec > blink.hex
 //! ```
+//!
+//! Without a size the memory is as large as the file needs.
 #![tactic(auto)]
 
 use anyhow::{Result, bail};
 use avr_image::{Image, Pieces};
-use avr_records::{IhexImageWriter, SrecImageWriter, detect, read_records};
+use avr_records::{IhexImageWriter, SrecImageWriter, detect, needed_size, read_records};
 use std::alloc::Global;
 use std::env;
 use std::io::{self, BufWriter, Read, Write};
 
 fn main(rt: HostRuntime) -> Result<()> {
     let words: Vec<String> = env::args(&rt)?.collect(rt.alloc())?;
-    let [_, format, size] = words.as_slice() else {
-        bail!("usage: record_convert ihex|srec SIZE");
+    let (format, size) = match words.as_slice() {
+        [_, format] => (format, None),
+        [_, format, size] => (format, Some(size.as_str().parse()?)),
+        _ => bail!("usage: record_convert ihex|srec [SIZE]"),
     };
-    let size: u32 = size.as_str().parse()?;
     let mut text = Vec::new(rt.alloc());
     rt.reader().read_to_end(&mut text)?;
     let image = read_image(rt.alloc(), size, text.as_slice())?;
@@ -32,10 +35,14 @@ fn main(rt: HostRuntime) -> Result<()> {
     Ok(())
 }
 
-/// The image of a record file of either kind, for a memory of so many bytes.
-fn read_image(alloc: Global, size: u32, text: &[u8]) -> Result<Image> {
+/// The image of a record file of either kind, for a memory of so many bytes, or as many as the file needs.
+fn read_image(alloc: Global, size: Option<u32>, text: &[u8]) -> Result<Image> {
     let Some(kind) = detect(text).kind() else {
         bail!("this is no record file");
+    };
+    let size = match size {
+        Some(size) => size,
+        None => needed_size(kind, text)?,
     };
     let (image, _) = read_records(alloc, kind, size, text)?;
     Ok(image)

@@ -1,7 +1,7 @@
 //! Calls on their happy path, and the desk of a program over real files.
 use avr_desk::{
-    Bytes, Desk, DeskFault, FailingDesk, FileFault, MemDesk, Stream, SystemDesk, read_file,
-    write_all,
+    Bytes, Desk, DeskCall, DeskFault, FailingDesk, FileFault, MemDesk, Stream, SystemDesk,
+    WatchDesk, WatchedDesk, read_file, write_all,
 };
 use std::alloc::{AllocError, Global};
 use std::io::{self, ErrorKind, Write};
@@ -103,6 +103,44 @@ fn the_third_call_fails(rt: HostRuntime) {
     assert!(rt; put(&mut desk, Stream::File, b"third") == Ok(()));
     assert!(rt; desk.inner().output() == b"first".as_slice());
     assert!(rt; desk.inner().file("x") == Some(b"third".as_slice()));
+}
+
+/// A watcher that counts the files that weren't there, and the bytes that were written.
+#[derive(Drop)]
+struct Tally {
+    absent: u32,
+    written: usize,
+}
+
+impl WatchDesk for Tally {
+    ghost after = { λ call old new. Unit {0} };
+
+    fn told(&mut self, call: &DeskCall<'_>) {
+        match call {
+            DeskCall::Opened(_, Err(DeskFault::NotFound)) => {
+                self.absent = self.absent.saturating_add(1);
+            }
+            DeskCall::Wrote(_, _, Ok(count)) => self.written = self.written.saturating_add(*count),
+            _ => {}
+        }
+    }
+}
+
+#[test]
+fn a_watcher_is_told_of_each_call(rt: HostRuntime) {
+    let watcher = Tally {
+        absent: 0,
+        written: 0,
+    };
+    let mut desk = WatchedDesk {
+        desk: MemDesk::new(rt.alloc()),
+        watcher,
+    };
+    assert!(rt; desk.open("none") == Err(DeskFault::NotFound));
+    assert!(rt; put(&mut desk, Stream::Output, b"0xe2\n") == Ok(()));
+    assert!(rt; put(&mut desk, Stream::Messages, b"done\n") == Ok(()));
+    assert!(rt; desk.watcher.absent == 1 && desk.watcher.written == 10);
+    assert!(rt; desk.desk.output() == b"0xe2\n".as_slice());
 }
 
 #[test]

@@ -1,0 +1,91 @@
+// crates: anyhow avr_tool
+//! Watches a run, as a program with a window does: a bar grows by a mark for each frame that is sent, and the messages
+//! stand between the marks, as they come.
+//!
+//! A desk and a link are each put into one that tells a watcher of its calls; the run is the same. What the watchers
+//! make of what they are told no proof asks here, so each says `Unit {0}` of it.
+//!
+//! What it prints was worked out by hand: by docs/PROTOCOL five frames open a session (SIGN_ON, ENTER_PROGMODE and three
+//! bytes of the signature), a fuse is written by one and read by one, and one leaves; the messages are those of
+//! docs/USAGE.
+//= opened fuse.hex
+//= # # # # # avrstk: device signature = 1E 95 0F
+//= # avrstk: lfuse: 1 bytes written
+//= # avrstk: lfuse: 1 bytes verified
+//= # avrstk: done
+//= status 0, 8 frames
+#![tactic(auto)]
+
+use anyhow::{Result, bail};
+use avr_tool::{
+    Chip, DeskCall, Fates, LinkCall, MemDesk, Parts, Stream, WatchDesk, WatchLink, WatchedDesk, WatchedLink, Wired,
+    asked, run,
+};
+use std::alloc::Global;
+use std::io::{self, Write};
+
+const WORDS: [&str; 7] = ["avrstk", "-P", "stdio:", "-p", "m328p", "-U", "lfuse:w:fuse.hex"];
+
+/// A bar, drawn on a writer, and how many marks it has.
+#[derive(Drop)]
+struct Bar<W> {
+    out: W,
+    frames: usize,
+}
+
+impl<W: Write> WatchLink for Bar<W> {
+    ghost after = { λ call old new. Unit {0} };
+
+    fn told(&mut self, call: &LinkCall<'_>) {
+        if let LinkCall::Sent(_, Ok(_)) = call {
+            self.frames += 1;
+            let _ = self.out.write_all(b"# ");
+        }
+    }
+}
+
+/// What is shown beside the bar.
+#[derive(Drop)]
+struct Notes<W> {
+    out: W,
+}
+
+impl<W: Write> WatchDesk for Notes<W> {
+    ghost after = { λ call old new. Unit {0} };
+
+    fn told(&mut self, call: &DeskCall<'_>) {
+        let _ = match call {
+            DeskCall::Opened(name, Ok(())) => writeln!(self.out, "opened {name}"),
+            DeskCall::Wrote(Stream::Messages, bytes, _) => self.out.write_all(bytes),
+            _ => Ok(()),
+        };
+    }
+}
+
+fn main(rt: HostRuntime) -> Result<()> {
+    let alloc = rt.alloc();
+    let mut files = MemDesk::new(alloc);
+    files.put("fuse.hex", b":01000000629D\n:00000001FF\n")?;
+    let words = words(alloc)?;
+    let Ok(settings) = asked(alloc, words.as_slice(), &mut files) else {
+        bail!("this is no command line of avrstk");
+    };
+    let chip = Chip::fresh(alloc, Parts::none().find("m328p")?)?;
+    let mut desk = WatchedDesk { desk: files, watcher: Notes { out: io::writer(&rt) } };
+    let mut link = WatchedLink {
+        link: Wired::new(alloc, chip, Fates::none(alloc)),
+        watcher: Bar { out: io::writer(&rt), frames: 0 },
+    };
+    let status = run(alloc, &settings, &mut desk, &mut link);
+    println!(rt; "status {status}, {} frames", link.watcher.frames)?;
+    Ok(())
+}
+
+/// The words, as a program has them.
+fn words(alloc: Global) -> Result<Vec<String>> {
+    let mut words = Vec::new(alloc);
+    for word in WORDS {
+        words.push(String::from_str(alloc, word)?)?;
+    }
+    Ok(words)
+}
